@@ -1,0 +1,15 @@
+//! The names that every part of the machine and its monitor shares: frames, harts, contexts, pages
+//! and spaces, the modes of a hart and the kinds of an access, what ends a run, what a hart shows as
+//! it leaves a context, the registers of a hart, and the value of a random stream with its next draw.
+//!
+//! Nothing here decides anything. The numbers are those of the bundle and the report; a physical
+//! address is `0x80000000 + 4096 * frame + offset`.
+#![tactic(auto)]
+
+mod causes;
+mod names;
+mod registers;
+
+pub use causes::{Failed, NoMemory, Shown, Stop, Violation};
+pub use names::{CtxId, Frame, HartId, Kind, Mode, PageId, SpaceId};
+pub use registers::Regs;

@@ -1,0 +1,49 @@
+ghost use Rattle.std.specs.Prelude.{◌≡◌, ◌≤◌, ◌⊎◌, ℕ, List, [], Option, length, IfOk, IfSome, OnOk, OnErr};
+ghost use Rattle.outside_io.specs.Told.{Tells, Grows, GrowsByFront, Counts, SameFiles, OtherFiles, IsCopied};
+
+use cloak_base::Failed;
+
+/// Files by name. A name that is not there is read as an empty file, and `append` makes it; neither is a
+/// fault.
+pub trait Shelf {
+    /// The bytes of the file of a name, where the shelf tells them.
+    ghost held: { Self → List ℕ → Option (List ℕ) };
+
+    /// How often reading failed, up to 2^64 - 1.
+    ghost reading_faults: { Self → ℕ };
+
+    /// How often writing failed, up to 2^64 - 1.
+    ghost writing_faults: { Self → ℕ };
+
+    /// The number of the name's bytes.
+    fn size(&mut self, name: &str) -> Result<u64, Failed>
+        ensures size { IfOk result (λ n. IfSome (held self.old name.now) (λ bytes. n ≡ length bytes)) }
+        ensures files { SameFiles (held self.old) (held self.new) }
+        ensures reading { Counts (reading_faults self.old) (reading_faults self.new) result }
+        ensures writing { writing_faults self.new ≡ writing_faults self.old };
+
+    /// Copies bytes from `at` on to the front of `into`, and answers how many. The rest of `into` stays.
+    /// After a failure the bytes of `into` may be any.
+    fn read_at(&mut self, name: &str, at: u64, into: &mut [u8]) -> Result<usize, Failed>
+        ensures count { IfOk result (λ n. n ≤ length into.old) }
+        ensures copied { IfOk result (λ n. IfSome (held self.old name.now) (λ bytes. IsCopied bytes at n into.old into.new)) }
+        ensures files { SameFiles (held self.old) (held self.new) }
+        ensures reading { Counts (reading_faults self.old) (reading_faults self.new) result }
+        ensures writing { writing_faults self.new ≡ writing_faults self.old };
+
+    /// Empties the file of this name, or makes it.
+    fn begin(&mut self, name: &str) -> Result<(), Failed>
+        ensures emptied { OnOk result (Tells (held self.new name.now) []) }
+        ensures err { OnErr result ((held self.new name.now ≡ held self.old name.now) ⊎ Tells (held self.new name.now) []) }
+        ensures others { OtherFiles name.now (held self.old) (held self.new) }
+        ensures writing { Counts (writing_faults self.old) (writing_faults self.new) result }
+        ensures reading { reading_faults self.new ≡ reading_faults self.old };
+
+    /// Adds the whole piece at the end of the file of this name. One that failed has added a front of it.
+    fn append(&mut self, name: &str, bytes: &[u8]) -> Result<(), Failed>
+        ensures ok { OnOk result (Grows (held self.old name.now) (held self.new name.now) bytes.now) }
+        ensures err { OnErr result (GrowsByFront (held self.old name.now) (held self.new name.now) bytes.now) }
+        ensures others { OtherFiles name.now (held self.old) (held self.new) }
+        ensures writing { Counts (writing_faults self.old) (writing_faults self.new) result }
+        ensures reading { reading_faults self.new ≡ reading_faults self.old };
+}
