@@ -14,5 +14,5 @@ mod instr;
 mod opcode;
 
 pub use decoder::decode;
-//pub use encoder::encode;
+pub use encoder::encode;
 pub use instr::Instr;
