@@ -1,16 +1,27 @@
 //! From instructions to words: one function for each of the manual's forms.
 
-ghost use Rattle.std.specs.Prelude.{◌%◌, ◌/◌, ◌≡◌, ◌<◌, ◌+◌, ◌*◌, ◌^◌, ◌≤◌, ◌-◌};
+ghost use Rattle.std.specs.Prelude.{ℕ, ◌%◌, ◌/◌, ◌≡◌, ◌<◌, ◌+◌, ◌*◌, ◌^◌, ◌≤◌, ◌-◌};
 ghost use Rattle.rv_isa.specs.Fields as spec;
 ghost use Rattle.rv_isa.specs.Range.{InRange, FitsSigned, IsEven};
 ghost use Rattle.rv_isa.specs.Table.{instruction};
 
 use crate::Instr;
+use crate::fields::bits;
 use crate::opcode;
 
-/// The word of an instruction whose fields are in range.
-#[tactic(auto, unfolding(crate::specs::Table::instruction, crate::specs::Table::jalr_line, crate::specs::Table::branch_line, crate::specs::Table::load_line, crate::specs::Table::store_line, crate::specs::Table::op_imm_line, crate::specs::Table::op_line, crate::specs::Table::misc_mem_line, crate::specs::Table::system_line, crate::specs::Table::privileged_line))]
+/// The one word of an instruction whose fields are in range.
+#[tactic(auto, using(crate::proofs::Spelling::one_word))]
 pub fn encode(i: &Instr) -> u32
+    requires { InRange i.now }
+    ensures table { instruction result ≡ Some i.now }
+    ensures only { (w : ℕ) → w < 2 ^ 32 → instruction w ≡ Some i.now → w ≡ result }
+{
+    spelled(i)
+}
+
+/// The word of an instruction, by the form of its opcode.
+#[tactic(auto, unfolding(crate::specs::Table::instruction, crate::specs::Table::jalr_line, crate::specs::Table::branch_line, crate::specs::Table::load_line, crate::specs::Table::store_line, crate::specs::Table::op_imm_line, crate::specs::Table::op_line, crate::specs::Table::misc_mem_line, crate::specs::Table::system_line, crate::specs::Table::privileged_line))]
+fn spelled(i: &Instr) -> u32
     requires { InRange i.now }
     ensures { instruction result ≡ Some i.now }
 {
@@ -108,7 +119,7 @@ fn i_type(opcode: u32, rd: u32, funct3: u32, rs1: u32, imm: i32) -> u32
     ensures imm { spec.imm_i result ≡ imm }
 {
     let n = low_bits(imm, 12);
-    r_type(opcode, rd, funct3, rs1, n % 32, n / 32)
+    r_type(opcode, rd, funct3, rs1, bits(n, 4, 0), bits(n, 11, 5))
 }
 
 fn s_type(opcode: u32, funct3: u32, rs1: u32, rs2: u32, imm: i32) -> u32
@@ -124,7 +135,7 @@ fn s_type(opcode: u32, funct3: u32, rs1: u32, rs2: u32, imm: i32) -> u32
     ensures imm { spec.imm_s result ≡ imm }
 {
     let n = low_bits(imm, 12);
-    r_type(opcode, n % 32, funct3, rs1, rs2, n / 32)
+    r_type(opcode, bits(n, 4, 0), funct3, rs1, rs2, bits(n, 11, 5))
 }
 
 fn b_type(opcode: u32, funct3: u32, rs1: u32, rs2: u32, imm: i32) -> u32
@@ -141,9 +152,9 @@ fn b_type(opcode: u32, funct3: u32, rs1: u32, rs2: u32, imm: i32) -> u32
     ensures imm { spec.imm_b result ≡ imm }
 {
     let n = low_bits(imm, 13);
-    let lower = n / 2 % 16 * 2 + n / 2048 % 2;
-    let upper = n / 4096 * 64 + n / 32 % 64;
-    r_type(opcode, lower, funct3, rs1, rs2, upper)
+    let rd = (bits(n, 4, 1) << 1) + bits(n, 11, 11);
+    let funct7 = (bits(n, 12, 12) << 6) + bits(n, 10, 5);
+    r_type(opcode, rd, funct3, rs1, rs2, funct7)
 }
 
 fn u_type(opcode: u32, rd: u32, imm: u32) -> u32
@@ -167,9 +178,9 @@ fn j_type(opcode: u32, rd: u32, imm: i32) -> u32
     ensures imm { spec.imm_j result ≡ imm }
 {
     let n = low_bits(imm, 21);
-    let middle = n / 2 % 16 * 2 + n / 2048 % 2;
-    let upper = n / 1_048_576 * 64 + n / 32 % 64;
-    r_type(opcode, rd, n / 4096 % 8, n / 32_768 % 32, middle, upper)
+    let rs2 = (bits(n, 4, 1) << 1) + bits(n, 11, 11);
+    let funct7 = (bits(n, 20, 20) << 6) + bits(n, 10, 5);
+    r_type(opcode, rd, bits(n, 14, 12), bits(n, 19, 15), rs2, funct7)
 }
 
 /// A CSR instruction: the number of the register in the place of rs2 and funct7.
@@ -184,7 +195,7 @@ fn csr_type(rd: u32, funct3: u32, rs1: u32, csr: u32) -> u32
     ensures rs1 { spec.rs1_of result ≡ rs1 }
     ensures csr { spec.csr_of result ≡ csr }
 {
-    r_type(opcode::SYSTEM, rd, funct3, rs1, csr % 32, csr / 32)
+    r_type(opcode::SYSTEM, rd, funct3, rs1, bits(csr, 4, 0), bits(csr, 11, 5))
 }
 
 /// A fence: all but opcode and funct3 as it is given.
