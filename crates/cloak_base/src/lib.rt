@@ -11,5 +11,5 @@ mod names;
 mod registers;
 
 pub use causes::{Failed, NoMemory, Shown, Stop, Violation};
-pub use names::{CtxId, Frame, HartId, Kind, Mode, PageId, SpaceId};
+pub use names::{CtxId, Frame, HartId, Kind, Mode, PageId, SpaceId, Start};
 pub use registers::Regs;

@@ -39,3 +39,16 @@ pub enum Mode {
     U,
     S,
 }
+
+/// How a program starts: its pages, where they lie in its address space, its first program counter and
+/// its stack pointer.
+#[derive(Clone, Copy, Debug, PartialEq, Eq)]
+pub struct Start {
+    /// 1 to 1024.
+    pub pages: u32,
+    /// A multiple of 4096.
+    pub base: u32,
+    /// A multiple of 4.
+    pub entry: u32,
+    pub sp: u32,
+}
