@@ -1,0 +1,37 @@
+use cloak_base::Regs;
+use std::marker::Model;
+
+/// A hart outside cloaked mode, in S mode with bare addresses. Its CSRs and its timer are 0.
+pub struct Hart {
+    pub regs: Regs,
+    pub pc: u32,
+}
+
+impl Model for Hart {
+    ghost use Rattle.std.specs.Prelude.{◌≡◌, ◌%◌, None};
+    ghost use Rattle.cloak_base.specs.declared.names.Mode.TheVariants.{S};
+    ghost use Rattle.cloak_model.specs.Csr.{zero_csrs};
+    ghost use Rattle.cloak_model.specs.Hart as model;
+
+    ghost Value = { model.Hart };
+
+    ghost view = { λ h. record { regs = h.regs; csrs = zero_csrs; mode = S; pc = h.pc; timer = 0; inside = None } };
+
+    ghost invariant = { λ h. h.pc % 4 ≡ 0 };
+}
+
+impl Hart {
+    ghost use Rattle.std.specs.Prelude.{◌≡◌, ◌%◌, ◌<◌};
+    ghost use Rattle.cloak_model.specs.Hart.{started};
+
+    /// A hart as a run begins.
+    #[tactic(auto, unfolding(cloak_model::specs::Hart::started))]
+    pub fn start(entry: u32, number: u32) -> Hart
+        requires { entry % 4 ≡ 0 }
+        ensures { result ≡ started entry number }
+    {
+        let mut regs = Regs::zero();
+        regs.set(10, number);
+        Hart { regs, pc: entry }
+    }
+}

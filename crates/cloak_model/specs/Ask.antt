@@ -1,0 +1,31 @@
+-- The questions that a step asks of memory.
+use Rattle.std.specs.Prelude.{ℕ, Bool, Result, Ok, Err, if◌then◌else◌}
+use Rattle.cloak_base.specs.declared.names.Kind.{Kind}
+use Rattle.cloak_base.specs.declared.names.Kind.TheVariants.{Fetch, Load, Store}
+use Rattle.cloak_base.specs.declared.names.Mode.{Mode}
+use Rattle.cloak_model.specs.Memory.{is_in_ram, word_at}
+use Rattle.cloak_model.specs.World.{World, ram_of}
+use Rattle.cloak_model.specs.Asking.{Asking, answered}
+
+-- Who accesses, where, and how.
+pub record Access : Type 0 where
+  pub mode : Mode
+  pub sum : Bool
+  pub mxr : Bool
+  pub va : ℕ
+  pub kind : Kind
+
+-- the access fault of a kind (privileged manual, scause)
+abbrev pub access_fault : Kind → ℕ
+access_fault Fetch = 1
+access_fault Load = 5
+access_fault Store = 7
+
+-- An address in RAM, or the access fault of the kind. Without paging (satp's MODE is 0) the physical
+-- address is the address itself; other tables are not built.
+unfoldable pub ask_translate : ℕ → Access → Asking (Result ℕ ℕ)
+ask_translate satp a w = if is_in_ram (ram_of w) a.va then answered (Ok a.va) w else answered (Err (access_fault a.kind)) w
+
+-- the word at an address of RAM that is a multiple of 4
+unfoldable pub ask_word : ℕ → Asking ℕ
+ask_word pa w = answered (word_at (ram_of w) pa) w

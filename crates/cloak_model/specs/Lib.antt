@@ -1,0 +1,18 @@
+-- what the parts hold
+pub mod Bits
+pub mod Bundle
+pub mod Command
+pub mod Csr
+pub mod Hart
+pub mod Parts
+-- memory and the questions that a step asks of it
+pub mod Memory
+pub mod World
+pub mod Asking
+pub mod Ask
+-- the step, the run, and what it writes
+pub mod KernelStep
+pub mod Exchange
+pub mod Report
+pub mod Joint
+pub mod Due

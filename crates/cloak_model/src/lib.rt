@@ -1,0 +1,22 @@
+//! The definitions: what a bundle, a record and a list of command words are, the joint machine and its
+//! run, and what a run writes. With them stand the plain types that the definitions and the code share.
+//!
+//! `specs/` follows the RISC-V manuals, unprivileged and privileged, and this project's own formats and
+//! rules (`docs/MACHINE.md`). The definitions speak of whole numbers, lists and finite maps, and compute
+//! on small inputs. No definition has a cache, a page state or a decryption.
+//!
+//! The joint machine has three parts: the kernel's (harts, memory, disk, console), one part for each
+//! program, and the ledger of the monitor. Everything above is proved against these definitions.
+#![tactic(auto)]
+
+mod emit;
+mod image;
+mod item;
+mod outcome;
+mod sequence;
+
+pub use emit::Emit;
+pub use image::{Bundle, KernelImage, Program, Segment};
+pub use item::Item;
+pub use outcome::Kernel;
+pub use sequence::Sequence;
