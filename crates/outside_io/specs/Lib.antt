@@ -1,1 +1,3 @@
 pub mod Told
+pub mod Memory
+pub mod Source
