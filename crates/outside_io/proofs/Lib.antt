@@ -2,3 +2,5 @@ pub mod Words
 pub mod Draws
 pub mod ToldFacts
 pub mod Pieces
+pub mod Tables
+pub mod Shelves

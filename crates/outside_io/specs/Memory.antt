@@ -1,7 +1,8 @@
 -- The values of the shelf and the sink over memory.
-use Rattle.std.specs.Prelude.{ℕ, ◌+◌, ◌-◌, ◌^◌, min, List, [], Option, unwrap_or}
+use Rattle.std.specs.Prelude.{ℕ, ◌+◌, ◌-◌, ◌^◌, min, List, [], unwrap_or, refl}
 use Rattle.std.specs.Ordering.{nat_cmp}
 use Rattle.std.specs.Cmp.Lexicographic.{slice_cmp}
+use Rattle.std.specs.Coded.{Coded, code_by, coded×, coded_ℕ, coded_list}
 use Rattle.std.specs.FinMap as map
 
 -- a count that is one higher, or stands at its last value
@@ -30,3 +31,11 @@ pub record MemoryFiles : Type 0 where
   pub calls : ℕ
   pub reading_faults : ℕ
   pub writing_faults : ℕ
+
+-- a shelf is stored as the tuple of its fields
+abbrev pub memory_files_code : Coded MemoryFiles
+memory_files_code =
+    code_by (Files × (List ℕ × (ℕ × (ℕ × ℕ)))) (coded× (map.code (coded_list coded_ℕ) (coded_list coded_ℕ)) (coded× (coded_list coded_ℕ) (coded× coded_ℕ (coded× coded_ℕ coded_ℕ))))
+    (λ s. (s.files, (s.fails, (s.calls, (s.reading_faults, s.writing_faults)))))
+    (λ p. record { files = p.0; fails = p.1.0; calls = p.1.1.0; reading_faults = p.1.1.1.0; writing_faults = p.1.1.1.1 })
+    (λ _. refl)

@@ -1,5 +1,5 @@
 -- What the private parts of a random stream stand for.
-use Rattle.std.specs.Prelude.{◌≤◌, List, ℕ, drop, length, Option, Some, None}
+use Rattle.std.specs.Prelude.{◌≤◌, ℕ, drop, length, Option, Some, None}
 use Rattle.outside_io.specs.declared.stream.Source.{Source}
 use Rattle.outside_io.specs.declared.stream.Source.TheVariants.{Handed, Numbered}
 use Rattle.cloak_base.specs.Random.{Random, handed, keyed}

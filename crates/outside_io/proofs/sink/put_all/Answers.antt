@@ -1,4 +1,4 @@
-use Rattle.outside_io.proofs.Pieces.{PutsFront-none, PutsFront-more, PutsFront-whole, PutsFront-failed, rest_after}
+use Rattle.outside_io.proofs.Pieces.{PutsFront-none, PutsFront-more, rest_after}
 use Rattle.outside_io.proofs.sink.put_all.Goals as goal
 
 pub loop-rest-init : goal.loop-rest-init

@@ -1,5 +1,4 @@
 use Rattle.std.proofs.Common.{◌∙◌, sym, ap}
-use Rattle.outside_io.specs.declared.stream.Source.{Source}
 use Rattle.outside_io.specs.declared.stream.Stream.TheInside.{Inside}
 use Rattle.outside_io.specs.Source.{random_of}
 use Rattle.outside_io.proofs.Draws.{draw-keyed, draw-handed}

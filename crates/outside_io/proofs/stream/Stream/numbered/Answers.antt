@@ -1,5 +1,5 @@
 use Rattle.std.proofs.Common.{rules}
-use Rattle.cloak_base.specs.Random.{keyed, numbered}
+use Rattle.cloak_base.specs.Random.{numbered}
 use Rattle.outside_io.proofs.stream.Stream.numbered.Goals as goal
 
 pub returns : goal.returns
