@@ -1,1 +1,4 @@
 pub mod Told
+pub mod Memory
+pub mod Source
+pub mod Table

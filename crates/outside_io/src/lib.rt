@@ -6,8 +6,16 @@
 //! no count falls: so a caller that hands a fault on can say where it came from.
 #![tactic(auto)]
 
+mod memory_shelf;
+mod memory_sink;
+mod planned;
 mod shelf;
 mod sink;
+mod stream;
+mod table;
 
+pub use memory_shelf::MemoryShelf;
+pub use memory_sink::MemorySink;
 pub use shelf::Shelf;
-pub use sink::Sink;
+pub use sink::{Sink, put_all};
+pub use stream::Stream;

@@ -1,5 +1,5 @@
-ghost use Rattle.std.specs.Prelude.{◌≡◌, ◌<◌, ◌≤◌, ℕ, List, Option, length, take, IfOk, OnErr};
-ghost use Rattle.outside_io.specs.Told.{Grows, Counts};
+ghost use Rattle.std.specs.Prelude.{◌≡◌, ◌<◌, ◌≤◌, ℕ, List, Option, length, take, IfOk, OnOk, OnErr};
+ghost use Rattle.outside_io.specs.Told.{Grows, GrowsByFront, Counts};
 
 use cloak_base::Failed;
 
@@ -19,4 +19,18 @@ pub trait Sink {
         ensures ok { IfOk result (λ n. Grows (taken self.old) (taken self.new) (take n bytes.now)) }
         ensures err { OnErr result (taken self.new ≡ taken self.old) }
         ensures faults { Counts (faults self.old) (faults self.new) result };
+}
+
+/// Puts until the whole piece is taken. One that failed has put a front of it.
+pub fn put_all<O: Sink>(out: &mut O, bytes: &[u8]) -> Result<(), Failed>
+    ensures ok { OnOk result (Grows (O.taken out.old) (O.taken out.new) bytes.now) }
+    ensures err { OnErr result (GrowsByFront (O.taken out.old) (O.taken out.new) bytes.now) }
+    ensures faults { Counts (O.faults out.old) (O.faults out.new) result }
+{
+    let mut rest = bytes;
+    while !rest.is_empty() {
+        let n = out.put(rest)?;
+        rest = &rest[n..];
+    }
+    Ok(())
 }

@@ -1,0 +1,6 @@
+pub mod Words
+pub mod Draws
+pub mod ToldFacts
+pub mod Pieces
+pub mod Tables
+pub mod Shelves

@@ -1,0 +1,46 @@
+//! Files by name, in memory.
+ghost use Rattle.std.specs.Prelude.{◌≡◌, ◌++◌, IsTrue, OnOk, OnErr, IfOk, false};
+ghost use Rattle.outside_io.specs.Memory.{bytes_of};
+ghost use Rattle.outside_io.specs.Table.{files_of};
+ghost use Rattle.std.specs.FinMap.{insert};
+
+use cloak_base::NoMemory;
+use std::alloc::Global;
+use std::collections::BTreeMap;
+
+pub type Table = BTreeMap<String, Vec<u8>>;
+
+/// The bytes of a name, none where it is not there.
+pub fn bytes<'a>(files: &'a Table, name: &str) -> &'a [u8]
+    ensures { result.now ≡ bytes_of (files_of files.now) name.now }
+{
+    match files.get(name) {
+        Some(bytes) => bytes.as_slice(),
+        None => &[],
+    }
+}
+
+/// Lays a file of these bytes in the place of any of this name.
+pub fn replace(alloc: Global, files: &mut Table, name: &str, bytes: &[u8]) -> Result<(), NoMemory>
+    ensures ok { OnOk result (files_of files.new ≡ insert (files_of files.old) name.now bytes.now) }
+    ensures err { OnErr result (files_of files.new ≡ files_of files.old) }
+{
+    let key = String::from_str(alloc, name)?;
+    let value = Vec::from_slice(alloc, bytes)?;
+    files.insert(key, value)?;
+    Ok(())
+}
+
+/// Adds a piece at the end of a file, which it makes where it is missing.
+pub fn extend(alloc: Global, files: &mut Table, name: &str, bytes: &[u8]) -> Result<(), NoMemory>
+    ensures ok { OnOk result (files_of files.new ≡ insert (files_of files.old) name.now (bytes_of (files_of files.old) name.now ++ bytes.now)) }
+    ensures err { OnErr result (files_of files.new ≡ files_of files.old) }
+{
+    match files.get_mut(name) {
+        Some(file) => {
+            file.extend_from_slice(bytes)?;
+            Ok(())
+        }
+        None => replace(alloc, files, name, bytes),
+    }
+}
