@@ -1,4 +1,4 @@
-ghost use Rattle.std.specs.Prelude.{◌≡◌, ◌<◌, slice_index};
+ghost use Rattle.std.specs.Prelude.{◌≡◌, ◌<◌, length, slice_index};
 ghost use Rattle.cloak_base.specs.Registers.{zero_registers, with_register};
 
 use std::marker::Model;
@@ -28,6 +28,14 @@ impl Regs {
         ensures { result ≡ zero_registers }
     {
         Regs { words: [0; 32] }
+    }
+
+    /// The words of all registers, that of register 0 first.
+    pub fn words(&self) -> &[u32; 32]
+        ensures value { result.now ≡ self.now }
+        ensures count { length self.now ≡ 32 }
+    {
+        &self.words
     }
 
     /// The word of register `i`.

@@ -1,1 +1,3 @@
+mod Opening
 mod PlainStep
+pub mod PutFacts

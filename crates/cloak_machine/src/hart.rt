@@ -1,7 +1,12 @@
-use cloak_base::Regs;
+ghost use Rattle.std.specs.Prelude.{◌≡◌, ◌%◌, IfOk};
+ghost use Rattle.cloak_model.specs.Joint.{started_harts};
+
+use cloak_base::{NoMemory, Regs};
+use std::alloc::Global;
 use std::marker::Model;
 
 /// A hart outside cloaked mode, in S mode with bare addresses. Its CSRs and its timer are 0.
+#[derive(Drop)]
 pub struct Hart {
     pub regs: Regs,
     pub pc: u32,
@@ -34,4 +39,16 @@ impl Hart {
         regs.set(10, number);
         Hart { regs, pc: entry }
     }
+}
+
+/// The harts of a run as it begins.
+pub fn start_all(alloc: Global, entry: u32, count: u32) -> Result<Vec<Hart>, NoMemory>
+    requires { entry % 4 ≡ 0 }
+    ensures { IfOk result (λ harts. harts.items ≡ started_harts entry count) }
+{
+    let mut harts = Vec::new(alloc);
+    for number in 0..count {
+        harts.push(Hart::start(entry, number))?;
+    }
+    Ok(harts)
 }

@@ -62,13 +62,19 @@ abbrev pub inside_text : Option ℕ → List ℕ
 inside_text None = codes "-"
 inside_text (Some ctx) = decimal ctx
 
--- a hart's number, mode, program counter, context and timer; its registers x1 to x31; its CSRs
+-- a line of a name and words
+abbrev pub words_line : List ℕ → List ℕ → List ℕ
+words_line name words = name ++ (words_text words ++ codes "\n")
+
+-- a hart's number, mode, program counter, context and timer
+abbrev pub hart_line : ℕ → Hart → List ℕ
+hart_line number h =
+    codes "hart " ++ (decimal number ++ (codes " " ++ (mode_text h.mode ++ (codes " pc " ++ (hexadecimal h.pc
+    ++ (codes " inside " ++ (inside_text h.inside ++ (codes " timer " ++ (decimal h.timer ++ codes "\n")))))))))
+
+-- a hart's line, its registers x1 to x31, and its CSRs
 abbrev pub hart_lines : ℕ → Hart → List ℕ
-hart_lines number h =
-    (codes "hart " ++ (decimal number ++ (codes " " ++ (mode_text h.mode ++ (codes " pc " ++ (hexadecimal h.pc
-    ++ (codes " inside " ++ (inside_text h.inside ++ (codes " timer " ++ (decimal h.timer ++ codes "\n"))))))))))
-    ++ ((codes "regs" ++ (words_text (drop 1 h.regs) ++ codes "\n"))
-    ++ (codes "csrs" ++ (words_text (csr_words h.csrs) ++ codes "\n")))
+hart_lines number h = hart_line number h ++ (words_line (codes "regs") (drop 1 h.regs) ++ words_line (codes "csrs") (csr_words h.csrs))
 
 -- the lines of harts, of which the first has this number
 abbrev pub harts_lines : ℕ → List Hart → List ℕ

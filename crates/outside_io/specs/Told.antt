@@ -36,3 +36,8 @@ pub record IsCopied (bytes : List ℕ) (at n : ℕ) (old new : List ℕ) : Type 
   pub within : n ≤ length (drop at bytes)
   pub copied : new ≡ take n (drop at bytes) ++ drop n old
   pub at_end : n ≡ 0 → 0 < length old → length bytes ≤ at
+
+-- what a call did that puts a text: all of it, or a front of it and a fault
+abbrev pub Puts : Option (List ℕ) → Option (List ℕ) → ℕ → ℕ → List ℕ → Result Unit Failed → Type 0
+Puts old new before now text (Ok u) = Grows old new text × (now ≡ before)
+Puts old new before now text (Err e) = GrowsByFront old new text × Rose before now

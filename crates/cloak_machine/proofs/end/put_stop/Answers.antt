@@ -1,0 +1,17 @@
+use Rattle.cloak_machine.proofs.PutFacts.{then}
+use Rattle.cloak_machine.proofs.end.put_stop.Goals as goal
+
+pub returns-in-Halt : goal.returns-in-Halt
+returns-in-Halt g c = rw c.in-Halt.is (then c.text-so_far.ensures c.decimal.ensures)
+
+pub returns-in-Budget : goal.returns-in-Budget
+returns-in-Budget g c = rw c.in-Budget.is c.text.ensures
+
+pub returns-in-Violation : goal.returns-in-Violation
+returns-in-Violation g c = rw c.in-Violation.is (then c.text-so_far-in-Violation.ensures c.put_violation.ensures)
+
+pub returns-in-NoRandom : goal.returns-in-NoRandom
+returns-in-NoRandom g c = rw c.in-NoRandom.is c.text-in-NoRandom.ensures
+
+pub returns-in-Unbuilt : goal.returns-in-Unbuilt
+returns-in-Unbuilt g c = rw c.in-Unbuilt.is (then c.text-so_far-in-Unbuilt.ensures c.decimal-in-Unbuilt.ensures)

@@ -1,0 +1,141 @@
+ghost use Rattle.std.specs.Prelude.{◌≡◌, ◌+◌, ◌<◌, ◌≤◌, [], length, All, OnOk, IfOk};
+ghost use Rattle.cloak_model.specs.Bundle.{IsInGrammar};
+ghost use Rattle.cloak_model.specs.Command.{most_steps};
+ghost use Rattle.cloak_model.specs.Joint.{Moment, joint_step};
+
+use crate::console::Console;
+use crate::end::{End, KernelLines};
+use crate::hart::{self, Hart};
+use crate::memory;
+use crate::plain_step::kernel_step;
+use cloak_base::{NoMemory, Stop};
+use cloak_model::{Bundle, Emit, Item, Kernel};
+use outside_io::Stream;
+use std::alloc::{AllocError, Global};
+
+/// Why a machine could not be opened.
+#[derive(Clone, Copy, Debug, PartialEq, Eq)]
+pub enum OpenFault {
+    /// The random stream holds fewer than 16 bytes.
+    NoKey,
+    /// A page of a program found no draw.
+    NoRandom,
+    NoMemory,
+}
+
+impl From<NoMemory> for OpenFault {
+    ghost use Rattle.cloak_machine.specs.declared.machine.OpenFault.TheVariants as fault;
+
+    ghost from_gives = { λ _ e. e ≡ fault.NoMemory };
+
+    fn from(_: NoMemory) -> OpenFault {
+        OpenFault::NoMemory
+    }
+}
+
+impl From<AllocError> for OpenFault {
+    ghost use Rattle.cloak_machine.specs.declared.machine.OpenFault.TheVariants as fault;
+
+    ghost from_gives = { λ _ e. e ≡ fault.NoMemory };
+
+    fn from(_: AllocError) -> OpenFault {
+        OpenFault::NoMemory
+    }
+}
+
+/// A machine as its run goes on.
+#[derive(Drop)]
+pub struct Machine {
+    harts: Vec<Hart>,
+    frames: Vec<[u8; 4096]>,
+    disk: Vec<u8>,
+    schedule: Vec<u8>,
+    steps: u32,
+    console: Console,
+    key: [u8; 16],
+    stream: Stream,
+    draws: u64,
+    ghost some_turns: { 0 < length schedule.items },
+    ghost turns: { All (λ h. h < length harts.items) schedule.items },
+    ghost counted: { console.count ≤ steps },
+}
+
+impl Machine {
+    ghost use Rattle.cloak_machine.specs.Standing.{Opens, StandsFor, MakesStep, EndsRun, steps_made};
+
+    /// The machine of a guest image without programs, before its first step. Its key is the first draw of
+    /// the stream.
+    pub fn open(alloc: Global, b: &Bundle, s: Stream) -> Result<Machine, OpenFault>
+        requires in_grammar { IsInGrammar b.now }
+        requires kernel_only { b.now.programs ≡ [] }
+        ensures opens { Opens b.now s result }
+        ensures no_step { IfOk result (λ machine. steps_made machine ≡ 0) }
+    {
+        let mut stream = s;
+        let Some(key) = stream.draw() else {
+            return Err(OpenFault::NoKey);
+        };
+        let k = &b.kernel;
+        let harts = hart::start_all(alloc, k.entry, k.harts)?;
+        let frames = memory::load(alloc, k.frames, k.segments.as_slice())?;
+        let disk = Vec::from_slice(alloc, k.disk.as_slice())?;
+        let schedule = Vec::from_slice(alloc, k.schedule.as_slice())?;
+        Ok(Machine {
+            harts,
+            frames,
+            disk,
+            schedule,
+            steps: 0,
+            console: Console::new(),
+            key,
+            stream,
+            draws: 0,
+        })
+    }
+
+    /// Makes the next step of the schedule, and answers why it stopped the run, if it did. No step is made
+    /// after that.
+    pub fn step<E: Emit>(&mut self, e: &mut E) -> Option<Stop>
+        requires { steps_made self.old < most_steps }
+        ensures steps { steps_made self.new ≡ steps_made self.old + 1 }
+        ensures makes { (m : Moment) → StandsFor self.old m → MakesStep E.gave e.old e.new self.new result (joint_step m) }
+    {
+        let number = self.schedule[self.steps as usize % self.schedule.len()] as usize;
+        self.steps += 1;
+        e.item(&Item::Step { number: self.steps });
+        match kernel_step(&mut self.harts[number], self.frames.as_slice()) {
+            Kernel::Stay => None,
+            Kernel::Put(b) => {
+                self.console.put(b);
+                e.console(b);
+                None
+            }
+            Kernel::Halt(value) => Some(Stop::Halt(value)),
+            Kernel::Unbuilt(pc) => Some(Stop::Unbuilt(pc)),
+        }
+    }
+
+    /// Makes the closing of a run that this stopped.
+    pub fn finish<E: Emit>(self, stop: Stop, e: &mut E) -> End
+        ensures stop { result.stop ≡ stop }
+        ensures ends { (m : Moment) → StandsFor self m → EndsRun E.gave e.old e.new result stop m }
+    {
+        e.item(&Item::Close { steps: self.steps });
+        e.item(&Item::End);
+        let Machine {
+            harts,
+            frames,
+            disk,
+            steps,
+            console,
+            draws,
+            ..
+        } = self;
+        End {
+            stop,
+            steps,
+            draws,
+            lines: KernelLines::new(console, frames.as_slice(), disk.as_slice(), harts),
+        }
+    }
+}
