@@ -1,5 +1,4 @@
-use Rattle.std.proofs.Common.{◌≡◌, ℕ, suc, ◌+◌, ◌-◌, ◌*◌, ◌/◌, ◌%◌, ◌^◌, ◌<◌, ◌==◌, ◌&&◌, ℤ, pos, negsuc, Bool, true, false, cond, refl, arith, nat_lt, ap, ◌∙◌, rules, Option, Some, None, IfSome, subst}
-use Rattle.std.proofs.lemmas.Grind.{common_steps}
+use Rattle.std.proofs.Common.{◌≡◌, ℕ, suc, ◌+◌, ◌-◌, ◌*◌, ◌^◌, ◌<◌, ℤ, pos, negsuc, Bool, true, false, cond, refl, arith, nat_lt, rules, Option, Some, IfSome, subst}
 use Rattle.rv_isa.specs.Fields.{bits, opcode, rd_of, funct3, rs1_of, rs2_of, funct7, csr_of, rest_of, sign_extended, imm_i, imm_s, imm_b, imm_u, imm_j}
 use Rattle.rv_isa.specs.Table.{jalr_line, branch_line, load_line, store_line, op_imm_line, op_line, misc_mem_line, system_line, privileged_line, instruction}
 use Rattle.rv_isa.specs.declared.instr.Instr.{Instr}
