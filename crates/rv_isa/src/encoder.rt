@@ -94,7 +94,6 @@ fn r_type(opcode: u32, rd: u32, funct3: u32, rs1: u32, rs2: u32, funct7: u32) ->
     requires rs1 { rs1 < 2 ^ 5 }
     requires rs2 { rs2 < 2 ^ 5 }
     requires funct7 { funct7 < 2 ^ 7 }
-    ensures sum { result ≡ opcode + rd * 2 ^ 7 + funct3 * 2 ^ 12 + rs1 * 2 ^ 15 + rs2 * 2 ^ 20 + funct7 * 2 ^ 25 }
     ensures opcode { spec.opcode result ≡ opcode }
     ensures rd { spec.rd_of result ≡ rd }
     ensures funct3 { spec.funct3 result ≡ funct3 }
