@@ -1,5 +1,4 @@
-use Rattle.std.proofs.Common.{◌≡◌, ℕ, suc, ◌+◌, ◌-◌, ◌*◌, ◌/◌, ◌%◌, ◌^◌, ◌<◌, ◌==◌, ◌&&◌, ℤ, pos, negsuc, Bool, true, false, cond, refl, arith, nat_lt, ap, ◌∙◌, rules, Option, Some, None, IfSome, subst}
-use Rattle.std.proofs.lemmas.Grind.{common_steps}
+use Rattle.std.proofs.Common.{◌≡◌, ℕ, suc, ◌+◌, ◌-◌, ◌*◌, ◌^◌, ◌<◌, ℤ, pos, negsuc, Bool, true, false, cond, refl, arith, nat_lt, rules, Option, Some, IfSome, subst}
 use Rattle.rv_isa.specs.Fields.{bits, opcode, rd_of, funct3, rs1_of, rs2_of, funct7, csr_of, rest_of, sign_extended, imm_i, imm_s, imm_b, imm_u, imm_j}
 use Rattle.rv_isa.specs.Table.{jalr_line, branch_line, load_line, store_line, op_imm_line, op_line, misc_mem_line, system_line, privileged_line, instruction}
 use Rattle.rv_isa.specs.declared.instr.Instr.{Instr}
@@ -13,7 +12,7 @@ low_bits count (negsuc n) = 2 ^ count - suc n
 pub low_bits-sign_extended : (count n : ℕ) → n < 2 ^ count → low_bits count (sign_extended count n) ≡ n
 low_bits-sign_extended count n below =
     elim (nat_lt n (2 ^ (count - 1))) as (λ b. low_bits count (cond b (pos n) (negsuc (2 ^ count - suc n))) ≡ n)
-        [ true ↦ refl | false ↦ omega arith ]
+    [ true ↦ refl | false ↦ omega arith ]
 
 -- The word of each form, by its fields.
 
@@ -157,7 +156,7 @@ word_of (SfenceVma rs1 rs2) = r_word 0b1110011 0b000 0b0001001 0 rs1 rs2
 pub if_line : (test : Bool) (here others : Option Instr) (P : Instr → Type 0) → (test ≡ true → IfSome here P) → (test ≡ false → IfSome others P) → IfSome (cond test here others) P
 if_line test here others P is not =
     elim test as (λ b. (b ≡ true → IfSome here P) → (b ≡ false → IfSome others P) → IfSome (cond b here others) P)
-        [ true ↦ λ h a. h refl | false ↦ λ h a. a refl ] is not
+    [ true ↦ λ h a. h refl | false ↦ λ h a. a refl ] is not
 
 -- Each line of the table has one word: that of the instruction that it gives.
 

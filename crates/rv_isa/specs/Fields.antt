@@ -25,6 +25,14 @@ rs2_of w = bits w 24 20
 abbrev pub funct7 : ℕ → ℕ
 funct7 w = bits w 31 25
 
+-- the shift amount of SLLI, SRLI and SRAI
+abbrev pub shamt_of : ℕ → ℕ
+shamt_of w = bits w 24 20
+
+-- the unsigned immediate of a CSR instruction
+abbrev pub uimm_of : ℕ → ℕ
+uimm_of w = bits w 19 15
+
 -- the number of a control and status register
 abbrev pub csr_of : ℕ → ℕ
 csr_of w = bits w 31 20

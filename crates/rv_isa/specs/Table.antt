@@ -1,10 +1,11 @@
 use Rattle.std.specs.Prelude.{ℕ, ◌==◌, ◌&&◌, Option, Some, None, if◌then◌else◌}
-use Rattle.rv_isa.specs.Fields.{opcode, rd_of, funct3, rs1_of, rs2_of, funct7, csr_of, rest_of, imm_i, imm_s, imm_b, imm_u, imm_j}
+use Rattle.rv_isa.specs.Fields.{opcode, rd_of, funct3, rs1_of, rs2_of, funct7, shamt_of, uimm_of, csr_of, rest_of, imm_i, imm_s, imm_b, imm_u, imm_j}
 use Rattle.rv_isa.specs.declared.instr.Instr.{Instr}
 use Rattle.rv_isa.specs.declared.instr.Instr.TheVariants.{Lui, Auipc, Jal, Jalr, Beq, Bne, Blt, Bge, Bltu, Bgeu, Lb, Lh, Lw, Lbu, Lhu, Sb, Sh, Sw, Addi, Slti, Sltiu, Xori, Ori, Andi, Slli, Srli, Srai, Add, Sub, Sll, Slt, Sltu, Xor, Srl, Sra, Or, And, Mul, Mulh, Mulhsu, Mulhu, Div, Divu, Rem, Remu, Fence, FenceI, Csrrw, Csrrs, Csrrc, Csrrwi, Csrrsi, Csrrci, Ecall, Ebreak, Sret, Wfi, SfenceVma}
 
--- The instruction table: RISC-V unprivileged manual (the sections named below) and privileged manual. One line an
--- instruction, grouped by opcode under the manual's names of the opcodes.
+-- The instruction table: RISC-V unprivileged manual (the sections named below, and the extensions M, Zicsr and
+-- Zifencei) and privileged manual. One line an instruction, grouped by opcode under the manual's names of the
+-- opcodes. A word that no line fits is illegal.
 
 -- JALR, opcode 1100111: "Unconditional Jumps"
 unfoldable pub jalr_line : ℕ → Option Instr
@@ -50,9 +51,9 @@ op_imm_line w =
     if funct3 w == 0b100 then Some (Xori (rd_of w) (rs1_of w) (imm_i w)) else
     if funct3 w == 0b110 then Some (Ori (rd_of w) (rs1_of w) (imm_i w)) else
     if funct3 w == 0b111 then Some (Andi (rd_of w) (rs1_of w) (imm_i w)) else
-    if (funct3 w == 0b001) && (funct7 w == 0b0000000) then Some (Slli (rd_of w) (rs1_of w) (rs2_of w)) else
-    if (funct3 w == 0b101) && (funct7 w == 0b0000000) then Some (Srli (rd_of w) (rs1_of w) (rs2_of w)) else
-    if (funct3 w == 0b101) && (funct7 w == 0b0100000) then Some (Srai (rd_of w) (rs1_of w) (rs2_of w)) else
+    if (funct3 w == 0b001) && (funct7 w == 0b0000000) then Some (Slli (rd_of w) (rs1_of w) (shamt_of w)) else
+    if (funct3 w == 0b101) && (funct7 w == 0b0000000) then Some (Srli (rd_of w) (rs1_of w) (shamt_of w)) else
+    if (funct3 w == 0b101) && (funct7 w == 0b0100000) then Some (Srai (rd_of w) (rs1_of w) (shamt_of w)) else
     None
 
 -- OP, opcode 0110011: "Integer Register-Register Operations", and the extension M with funct7 0000001
@@ -78,15 +79,17 @@ op_line w =
     if (funct3 w == 0b111) && (funct7 w == 0b0000001) then Some (Remu (rd_of w) (rs1_of w) (rs2_of w)) else
     None
 
--- MISC-MEM, opcode 0001111: "Memory Ordering Instructions", and the extension Zifencei; all other bits are ignored
+-- MISC-MEM, opcode 0001111: "Memory Ordering Instructions", and the extension Zifencei. All other bits are
+-- one field, which base implementations ignore
 unfoldable pub misc_mem_line : ℕ → Option Instr
 misc_mem_line w =
     if funct3 w == 0b000 then Some (Fence (rest_of w)) else
     if funct3 w == 0b001 then Some (FenceI (rest_of w)) else
     None
 
--- SYSTEM with funct3 000: "Environment Call and Breakpoints", and in the privileged manual "Supervisor
--- Instructions" (SRET, SFENCE.VMA) and "Wait for Interrupt"
+-- SYSTEM with funct3 000: "Environment Call and Breakpoints", and in the privileged manual "Trap-Return
+-- Instructions" (SRET), "Wait for Interrupt" (WFI) and "Supervisor Memory-Management Fence Instruction"
+-- (SFENCE.VMA). All but the last are single words.
 unfoldable pub privileged_line : ℕ → Option Instr
 privileged_line w =
     if w == 0x00000073 then Some Ecall else
@@ -103,9 +106,9 @@ system_line w =
     if funct3 w == 0b001 then Some (Csrrw (rd_of w) (rs1_of w) (csr_of w)) else
     if funct3 w == 0b010 then Some (Csrrs (rd_of w) (rs1_of w) (csr_of w)) else
     if funct3 w == 0b011 then Some (Csrrc (rd_of w) (rs1_of w) (csr_of w)) else
-    if funct3 w == 0b101 then Some (Csrrwi (rd_of w) (rs1_of w) (csr_of w)) else
-    if funct3 w == 0b110 then Some (Csrrsi (rd_of w) (rs1_of w) (csr_of w)) else
-    if funct3 w == 0b111 then Some (Csrrci (rd_of w) (rs1_of w) (csr_of w)) else
+    if funct3 w == 0b101 then Some (Csrrwi (rd_of w) (uimm_of w) (csr_of w)) else
+    if funct3 w == 0b110 then Some (Csrrsi (rd_of w) (uimm_of w) (csr_of w)) else
+    if funct3 w == 0b111 then Some (Csrrci (rd_of w) (uimm_of w) (csr_of w)) else
     None
 
 -- the line of the table for a word, or none: "RV32/64G Instruction Set Listings", restricted to RV32IM, Zicsr,

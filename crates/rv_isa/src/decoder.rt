@@ -4,9 +4,8 @@ ghost use Rattle.std.specs.Prelude.{◌≡◌, IfSome};
 ghost use Rattle.rv_isa.specs.Range.{InRange};
 ghost use Rattle.rv_isa.specs.Table.{jalr_line, branch_line, load_line, store_line, op_imm_line, op_line, misc_mem_line, system_line, privileged_line, instruction};
 
-use crate::Instr;
 use crate::fields::{bits, imm_b, imm_i, imm_j, imm_s, imm_u, rest};
-use crate::opcode;
+use crate::{Instr, opcode};
 
 /// The instruction of a word, or none where the word is illegal. Any `u32` may be given.
 #[tactic(auto, unfolding(crate::specs::Table::instruction))]
@@ -16,9 +15,18 @@ pub fn decode(word: u32) -> Option<Instr>
 {
     let rd = bits(word, 11, 7);
     match bits(word, 6, 0) {
-        opcode::LUI => Some(Instr::Lui { rd, imm: imm_u(word) }),
-        opcode::AUIPC => Some(Instr::Auipc { rd, imm: imm_u(word) }),
-        opcode::JAL => Some(Instr::Jal { rd, imm: imm_j(word) }),
+        opcode::LUI => Some(Instr::Lui {
+            rd,
+            imm: imm_u(word),
+        }),
+        opcode::AUIPC => Some(Instr::Auipc {
+            rd,
+            imm: imm_u(word),
+        }),
+        opcode::JAL => Some(Instr::Jal {
+            rd,
+            imm: imm_j(word),
+        }),
         opcode::JALR => decode_jalr(word),
         opcode::BRANCH => decode_branch(word),
         opcode::LOAD => decode_load(word),

@@ -5,9 +5,8 @@ ghost use Rattle.rv_isa.specs.Fields as spec;
 ghost use Rattle.rv_isa.specs.Range.{InRange, FitsSigned, IsEven};
 ghost use Rattle.rv_isa.specs.Table.{instruction};
 
-use crate::Instr;
 use crate::fields::bits;
-use crate::opcode;
+use crate::{Instr, opcode};
 
 /// The one word of an instruction whose fields are in range.
 #[tactic(auto, using(crate::proofs::Spelling::one_word))]
@@ -19,7 +18,7 @@ pub fn encode(i: &Instr) -> u32
     spelled(i)
 }
 
-/// The word of an instruction, by the form of its opcode.
+/// The word of an instruction by the form of its opcode.
 #[tactic(auto, unfolding(crate::specs::Table::instruction, crate::specs::Table::jalr_line, crate::specs::Table::branch_line, crate::specs::Table::load_line, crate::specs::Table::store_line, crate::specs::Table::op_imm_line, crate::specs::Table::op_line, crate::specs::Table::misc_mem_line, crate::specs::Table::system_line, crate::specs::Table::privileged_line))]
 fn spelled(i: &Instr) -> u32
     requires { InRange i.now }
@@ -95,7 +94,6 @@ fn r_type(opcode: u32, rd: u32, funct3: u32, rs1: u32, rs2: u32, funct7: u32) ->
     requires rs1 { rs1 < 2 ^ 5 }
     requires rs2 { rs2 < 2 ^ 5 }
     requires funct7 { funct7 < 2 ^ 7 }
-    ensures sum { result ≡ opcode + rd * 2 ^ 7 + funct3 * 2 ^ 12 + rs1 * 2 ^ 15 + rs2 * 2 ^ 20 + funct7 * 2 ^ 25 }
     ensures opcode { spec.opcode result ≡ opcode }
     ensures rd { spec.rd_of result ≡ rd }
     ensures funct3 { spec.funct3 result ≡ funct3 }
@@ -195,7 +193,14 @@ fn csr_type(rd: u32, funct3: u32, rs1: u32, csr: u32) -> u32
     ensures rs1 { spec.rs1_of result ≡ rs1 }
     ensures csr { spec.csr_of result ≡ csr }
 {
-    r_type(opcode::SYSTEM, rd, funct3, rs1, bits(csr, 4, 0), bits(csr, 11, 5))
+    r_type(
+        opcode::SYSTEM,
+        rd,
+        funct3,
+        rs1,
+        bits(csr, 4, 0),
+        bits(csr, 11, 5),
+    )
 }
 
 /// A fence: all but opcode and funct3 as it is given.

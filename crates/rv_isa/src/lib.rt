@@ -16,3 +16,6 @@ mod opcode;
 pub use decoder::decode;
 pub use encoder::encode;
 pub use instr::Instr;
+
+#[cfg(test)]
+mod tests;

@@ -1,4 +1,4 @@
-use Rattle.std.proofs.Common.{arith, ◌+◌, ◌-◌, ◌<◌}
+use Rattle.std.proofs.Common.{arith, ◌+◌, ◌-◌}
 use Rattle.std.proofs.lemmas.Nat.{and_mask, one_shl}
 use Rattle.rv_isa.proofs.fields.bits.Goals as goal
 
