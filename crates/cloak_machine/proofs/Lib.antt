@@ -1,3 +1,4 @@
 mod Opening
 mod PlainStep
 pub mod PutFacts
+mod StepFacts

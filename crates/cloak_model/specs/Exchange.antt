@@ -32,5 +32,5 @@ shown_bytes (recorded bytes ∷ pieces) = shown_bytes pieces
 shown_bytes (shown bytes ∷ pieces) = bytes ++ shown_bytes pieces
 
 -- Whatever the emitter was given since an earlier state, it was then given these pieces too.
-abbrev pub Emits : {E : Type 0} → (E → E → List Piece → Type 0) → E → E → List Piece → Type 0
-Emits {E} gave old new pieces = (first : E) (before : List Piece) → gave first old before → gave first new (before ++ pieces)
+pub record Emits {E : Type 0} (gave : E → E → List Piece → Type 0) (old new : E) (pieces : List Piece) : Type 0 where
+  pub more : (first : E) (before : List Piece) → gave first old before → gave first new (before ++ pieces)
