@@ -2,17 +2,11 @@
 -- in either order, as `--name value`.
 use Rattle.std.specs.Prelude.{ℕ, ◌+◌, ◌-◌, ◌*◌, ◌==◌, nat_lt, nat_le, Bool, true, false, not, ◌&&◌, ◌||◌, List, [], ◌∷◌, length, slice_index, fold, codes, Option, Some, None, if◌then◌else◌}
 use Rattle.std.specs.List.{list_any}
+use Rattle.cloak_model.specs.declared.outcome.UsageFault.{UsageFault}
+use Rattle.cloak_model.specs.declared.outcome.UsageFault.TheVariants.{NoCommand, UnknownCommand, WrongWords, NoRandomness, WrongNumber}
 use Rattle.std.specs.Str.{bytes_eq, all_ascii_digits}
 
--- what is wrong with the words
-pub data UsageFault : Type 0 where
-  NoCommand : UsageFault
-  UnknownCommand : UsageFault
-  WrongWords : UsageFault
-  NoRandomness : UsageFault
-  WrongNumber : UsageFault
-
--- the line that says so
+-- the line that says what is wrong with the words
 abbrev pub usage_line : UsageFault → List ℕ
 usage_line NoCommand = codes "usage: no command\n"
 usage_line UnknownCommand = codes "usage: unknown command\n"

@@ -1,5 +1,5 @@
 -- A whole run with a budget of steps, and all that it writes.
-use Rattle.std.specs.Prelude.{ℕ, zero, suc, List, [], ◌∷◌, ◌++◌, codes, Option, Some, None}
+use Rattle.std.specs.Prelude.{ℕ, zero, suc, List, [], ◌∷◌, ◌++◌, codes, Option, Some, None, unwrap_or}
 use Rattle.cloak_base.specs.declared.causes.Stop.{Stop}
 use Rattle.cloak_base.specs.declared.causes.Stop.TheVariants as stop
 use Rattle.cloak_model.specs.declared.item.Item.TheVariants.{Close, End}
@@ -23,8 +23,7 @@ steps_after (suc n) m = one_more (steps_after n m) (steps_after n m).stop
 
 -- why a run ends whose steps ended so: its budget is used up where no step stopped it
 abbrev pub cause_of : Option Stop → Stop
-cause_of None = stop.Budget
-cause_of (Some cause) = cause
+cause_of stopped = unwrap_or stopped stop.Budget
 
 -- the markers at the end of the record
 abbrev pub closing : Moment → List Piece

@@ -18,5 +18,5 @@ mod sequence;
 pub use emit::Emit;
 pub use image::{Bundle, KernelImage, Program, Segment};
 pub use item::Item;
-pub use outcome::Kernel;
+pub use outcome::{Kernel, UsageFault};
 pub use sequence::Sequence;

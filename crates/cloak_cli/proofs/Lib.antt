@@ -1,0 +1,3 @@
+mod NumberFacts
+pub mod OutletFacts
+pub mod RunFacts

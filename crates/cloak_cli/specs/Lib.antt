@@ -1,0 +1,4 @@
+pub mod Files
+pub mod Outlet
+pub mod Request
+pub mod Running

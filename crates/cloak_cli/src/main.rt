@@ -1,0 +1,11 @@
+//! The program `cloak`: runs a guest image, and writes console, report and record.
+#![tactic(auto)]
+
+mod files;
+mod number;
+mod outlet;
+mod request;
+mod run;
+mod status;
+
+fn main() {}

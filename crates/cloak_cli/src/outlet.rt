@@ -1,0 +1,75 @@
+//! Where a run writes: the record to a shelf, the console and the report to a sink.
+ghost use Rattle.std.specs.Prelude.{[], ◌∷◌};
+ghost use Rattle.cloak_model.specs.Exchange.{recorded, shown, Emits};
+ghost use Rattle.cloak_machine.specs.Ending.{report_of};
+
+use cloak_machine::End;
+use cloak_model::{Emit, Item};
+use outside_io::{Shelf, Sink, put_all};
+
+/// Writes pieces up to the first that fails.
+#[derive(Drop)]
+pub struct Outlet<'a, S: Shelf, O: Sink> {
+    pub shelf: &'a mut S,
+    pub name: &'a str,
+    pub out: &'a mut O,
+    pub failed: bool,
+}
+
+impl<'a, S: Shelf, O: Sink> Emit for Outlet<'a, S, O> {
+    ghost use Rattle.cloak_cli.specs.Outlet.{Gave};
+
+    ghost gave = { Gave S.held S.reading_faults S.writing_faults O.taken O.faults };
+
+    fn item(&mut self, i: &Item) {
+        match *i {
+            Item::Step { number } => {
+                let [a, b, c, d] = number.to_le_bytes();
+                self.append(&[0x10, a, b, c, d]);
+            }
+            Item::Close { steps } => {
+                let [a, b, c, d] = steps.to_le_bytes();
+                self.append(&[0x11, a, b, c, d]);
+            }
+            Item::End => self.append(&[0x12]),
+        }
+    }
+
+    fn console(&mut self, b: u8) {
+        self.show(&[b]);
+    }
+}
+
+impl<'a, S: Shelf, O: Sink> Outlet<'a, S, O> {
+    ghost use Rattle.cloak_cli.specs.Outlet.{Gave};
+
+    /// Appends a piece to the record.
+    pub fn append(&mut self, bytes: &[u8])
+        ensures { Emits (Gave S.held S.reading_faults S.writing_faults O.taken O.faults) self.old self.new (recorded bytes.now ∷ []) }
+    {
+        if self.failed {
+            return;
+        }
+        self.failed = self.shelf.append(self.name, bytes).is_err();
+    }
+
+    /// Puts a piece to the output.
+    pub fn show(&mut self, bytes: &[u8])
+        ensures { Emits (Gave S.held S.reading_faults S.writing_faults O.taken O.faults) self.old self.new (shown bytes.now ∷ []) }
+    {
+        if self.failed {
+            return;
+        }
+        self.failed = put_all(self.out, bytes).is_err();
+    }
+
+    /// Writes the report of a run to the output.
+    pub fn report(&mut self, end: &End)
+        ensures { Emits (Gave S.held S.reading_faults S.writing_faults O.taken O.faults) self.old self.new (shown (report_of end.now) ∷ []) }
+    {
+        if self.failed {
+            return;
+        }
+        self.failed = end.report(self.out).is_err();
+    }
+}
