@@ -218,3 +218,24 @@ fn read_from<F: Read + Seek + Drop>(mut file: F, at: u64, into: &mut [u8]) -> io
     file.seek(SeekFrom::Start(at))?;
     file.read(into)
 }
+
+#[cfg(test)]
+mod tests {
+    use super::*;
+    use std::test::Fail;
+
+    #[test]
+    fn appended_pieces_stand_in_the_file(rt: HostRuntime) -> Result<(), Fail> {
+        let name = "file_shelf_test.bytes";
+        let mut shelf = FileShelf::open(rt.clone()?)?;
+        shelf.begin(name)?;
+        for piece in ["hello", ", ", "world"] {
+            shelf.append(name, piece.as_bytes())?;
+        }
+        let mut into = [0u8; 8];
+        assert_eq!(rt; shelf.read_at(name, 7, &mut into), Ok(5));
+        assert_eq!(rt; into, *b"world\0\0\0");
+        fs::remove_file(&rt, name)?;
+        Ok(())
+    }
+}

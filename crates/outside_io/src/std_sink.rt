@@ -80,3 +80,68 @@ impl<P: Print + Drop> Sink for StdSink<P> {
         }
     }
 }
+
+#[cfg(test)]
+mod tests {
+    use super::*;
+    use crate::put_all;
+    use std::cell::Cell;
+    use std::fmt::Display;
+    use std::io::{Error, ErrorKind};
+    use std::test::Fail;
+
+    /// Shows two bytes a call, and fails at the second call.
+    #[derive(Drop)]
+    struct Screen<'a> {
+        calls: &'a Cell<u64>,
+        shown: &'a Cell<u64>,
+    }
+
+    impl Print for Screen<'_> {
+        fn print<D: Display + Drop>(&self, _: D) -> io::Result<()> {
+            Err(Error::from(ErrorKind::Unsupported))
+        }
+
+        fn println<D: Display + Drop>(&self, _: D) -> io::Result<()> {
+            Err(Error::from(ErrorKind::Unsupported))
+        }
+
+        fn write_all(&self, _: &[u8]) -> io::Result<()> {
+            Err(Error::from(ErrorKind::Unsupported))
+        }
+
+        fn write_some(&self, bytes: &[u8]) -> io::Result<usize> {
+            self.calls.set(self.calls.get().wrapping_add(1));
+            if self.calls.get() == 2 {
+                return Err(Error::from(ErrorKind::BrokenPipe));
+            }
+            let n = bytes.len().min(2);
+            for byte in &bytes[..n] {
+                self.shown.set((self.shown.get() << 8) | u64::from(*byte));
+            }
+            Ok(n)
+        }
+    }
+
+    /// A line shows at its end. A fault is answered by the call that meets it, and nothing is lost or shown
+    /// twice.
+    #[test]
+    fn a_line_shows_at_its_end(rt: HostRuntime) -> Result<(), Fail> {
+        let calls = Cell::new(0);
+        let shown = Cell::new(0);
+        let screen = Screen {
+            calls: &calls,
+            shown: &shown,
+        };
+        let mut sink = StdSink::open((screen, rt.alloc()))?;
+        for (piece, is_ok, on_screen) in [
+            ("hell", true, 0),
+            ("o\n", false, 0x6865),
+            ("o\n", true, 0x6865_6c6c_6f0a),
+        ] {
+            assert_eq!(rt; put_all(&mut sink, piece.as_bytes()).is_ok(), is_ok);
+            assert_eq!(rt; shown.get(), on_screen);
+        }
+        Ok(())
+    }
+}
