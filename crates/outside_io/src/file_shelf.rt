@@ -232,7 +232,10 @@ mod tests {
         for piece in ["hello", ", ", "world"] {
             shelf.append(name, piece.as_bytes())?;
         }
+        shelf.flush()?;
+        assert_eq!(rt; fs::metadata(&rt, name)?.len(), 12);
         let mut into = [0u8; 8];
+        assert_eq!(rt; shelf.size(name), Ok(12));
         assert_eq!(rt; shelf.read_at(name, 7, &mut into), Ok(5));
         assert_eq!(rt; into, *b"world\0\0\0");
         fs::remove_file(&rt, name)?;

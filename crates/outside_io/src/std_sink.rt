@@ -142,6 +142,9 @@ mod tests {
             assert_eq!(rt; put_all(&mut sink, piece.as_bytes()).is_ok(), is_ok);
             assert_eq!(rt; shown.get(), on_screen);
         }
+        put_all(&mut sink, b"!")?;
+        sink.flush()?;
+        assert_eq!(rt; shown.get(), 0x6865_6c6c_6f0a_21);
         Ok(())
     }
 }

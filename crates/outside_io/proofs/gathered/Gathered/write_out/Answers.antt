@@ -1,4 +1,4 @@
-use Rattle.std.proofs.Common.{◌≡◌, ◌∙◌, ◌<◌, ◌+◌, List, ℕ, take, drop, length, arith, false, true}
+use Rattle.std.proofs.Common.{◌≡◌, ◌+◌, arith, false, true}
 use Rattle.outside_io.proofs.Pieces.{rest_after}
 use Rattle.outside_io.proofs.Writes.{MovesFront-at, left_behind}
 use Rattle.outside_io.proofs.gathered.Gathered.write_out.Goals as goal
