@@ -4,3 +4,4 @@ pub mod ToldFacts
 pub mod Pieces
 pub mod Tables
 pub mod Shelves
+pub mod Writes

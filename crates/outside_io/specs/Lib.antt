@@ -2,3 +2,5 @@ pub mod Told
 pub mod Memory
 pub mod Source
 pub mod Table
+pub mod Pieces
+pub mod Files

@@ -6,16 +6,21 @@
 //! no count falls: so a caller that hands a fault on can say where it came from.
 #![tactic(auto)]
 
+mod file_shelf;
+mod gathered;
 mod memory_shelf;
 mod memory_sink;
 mod planned;
 mod shelf;
 mod sink;
+mod std_sink;
 mod stream;
 mod table;
 
+pub use file_shelf::FileShelf;
 pub use memory_shelf::MemoryShelf;
 pub use memory_sink::MemorySink;
 pub use shelf::Shelf;
 pub use sink::{Sink, put_all};
+pub use std_sink::StdSink;
 pub use stream::Stream;

@@ -140,3 +140,30 @@ fn copy_from(bytes: &[u8], at: u64, into: &mut [u8]) -> usize
     into[..n].copy_from_slice(&rest[..n]);
     n
 }
+
+#[cfg(test)]
+mod tests {
+    use super::*;
+    use crate::{MemorySink, put_all};
+    use std::test::Fail;
+
+    /// With ample memory only the call fails whose number is in the list.
+    #[test]
+    fn files_take_their_pieces(rt: HostRuntime) -> Result<(), Fail> {
+        let mut shelf = MemoryShelf::open(rt.alloc(), vec![in rt.alloc(); 3]?);
+        shelf.add("a", b"old")?;
+        for (call, piece) in ["one", "two", "six"].iter().enumerate() {
+            assert_eq!(rt; shelf.append("a", piece.as_bytes()).is_ok(), call < 2);
+        }
+        assert_eq!(rt; shelf.bytes("a"), b"oldonetwo".as_slice());
+        Ok(())
+    }
+
+    #[test]
+    fn a_sink_takes_its_pieces(rt: HostRuntime) -> Result<(), Fail> {
+        let mut sink = MemorySink::open(rt.alloc(), vec![in rt.alloc()]?);
+        put_all(&mut sink, b"one")?;
+        assert_eq!(rt; sink.taken(), b"one".as_slice());
+        Ok(())
+    }
+}

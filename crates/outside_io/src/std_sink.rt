@@ -1,0 +1,150 @@
+ghost use Rattle.std.specs.Prelude.{◌≡◌, None, IfOk, IsErr};
+ghost use Rattle.outside_io.specs.Told.{Counts};
+
+use crate::Sink;
+use crate::gathered::Gathered;
+use cloak_base::{Failed, NoMemory};
+use std::io;
+use std::io::Write;
+use std::marker::Model;
+
+/// Standard output. Small pieces are gathered, and written out at each line feed at the latest, and at
+/// `flush`. It tells no content.
+#[derive(Drop)]
+pub struct StdSink<P: Print + Drop> {
+    print: P,
+    gathered: Gathered,
+    faults: u64,
+}
+
+impl<P: Print + Drop> Model for StdSink<P> {
+    ghost use Rattle.std.specs.Prelude.{ℕ};
+
+    ghost Value = { ℕ };
+
+    ghost view = { λ s. s.faults };
+}
+
+impl<P: Print + Drop> StdSink<P> {
+    /// A sink with no fault yet. All memory that it needs is taken here.
+    pub fn open(print: P) -> Result<StdSink<P>, NoMemory>
+    where
+        P: AllocGlobal,
+        ensures { IfOk result (λ sink. sink ≡ 0) }
+    {
+        let gathered = Gathered::open(print.alloc())?;
+        Ok(StdSink {
+            print,
+            gathered,
+            faults: 0,
+        })
+    }
+
+    /// Writes out what is gathered.
+    pub fn flush(&mut self) -> Result<(), Failed>
+        ensures { Counts self.old self.new result }
+    {
+        if self.gathered.write_out(&mut io::writer(&self.print)) {
+            Ok(())
+        } else {
+            self.fail()
+        }
+    }
+
+    fn fail<T>(&mut self) -> Result<T, Failed>
+        ensures counted { Counts self.old self.new result }
+        ensures err { IsErr result }
+    {
+        self.faults = self.faults.saturating_add(1);
+        Err(Failed)
+    }
+}
+
+impl<P: Print + Drop> Sink for StdSink<P> {
+    ghost taken = { λ _. None };
+
+    ghost faults = { λ s. s };
+
+    /// A piece with a line feed, or with no room for it, is written behind what is gathered.
+    fn put(&mut self, bytes: &[u8]) -> Result<usize, Failed> {
+        if !bytes.contains(&b'\n') && self.gathered.gather(bytes) {
+            return Ok(bytes.len());
+        }
+        let mut out = io::writer(&self.print);
+        if !self.gathered.write_out(&mut out) {
+            return self.fail();
+        }
+        match out.write(bytes) {
+            Ok(n) if n > 0 || bytes.is_empty() => Ok(n),
+            _ => self.fail(),
+        }
+    }
+}
+
+#[cfg(test)]
+mod tests {
+    use super::*;
+    use crate::put_all;
+    use std::cell::Cell;
+    use std::fmt::Display;
+    use std::io::{Error, ErrorKind};
+    use std::test::Fail;
+
+    /// Shows two bytes a call, and fails at the second call.
+    #[derive(Drop)]
+    struct Screen<'a> {
+        calls: &'a Cell<u64>,
+        shown: &'a Cell<u64>,
+    }
+
+    impl Print for Screen<'_> {
+        fn print<D: Display + Drop>(&self, _: D) -> io::Result<()> {
+            Err(Error::from(ErrorKind::Unsupported))
+        }
+
+        fn println<D: Display + Drop>(&self, _: D) -> io::Result<()> {
+            Err(Error::from(ErrorKind::Unsupported))
+        }
+
+        fn write_all(&self, _: &[u8]) -> io::Result<()> {
+            Err(Error::from(ErrorKind::Unsupported))
+        }
+
+        fn write_some(&self, bytes: &[u8]) -> io::Result<usize> {
+            self.calls.set(self.calls.get().wrapping_add(1));
+            if self.calls.get() == 2 {
+                return Err(Error::from(ErrorKind::BrokenPipe));
+            }
+            let n = bytes.len().min(2);
+            for byte in &bytes[..n] {
+                self.shown.set((self.shown.get() << 8) | u64::from(*byte));
+            }
+            Ok(n)
+        }
+    }
+
+    /// A line shows at its end. A fault is answered by the call that meets it, and nothing is lost or shown
+    /// twice.
+    #[test]
+    fn a_line_shows_at_its_end(rt: HostRuntime) -> Result<(), Fail> {
+        let calls = Cell::new(0);
+        let shown = Cell::new(0);
+        let screen = Screen {
+            calls: &calls,
+            shown: &shown,
+        };
+        let mut sink = StdSink::open((screen, rt.alloc()))?;
+        for (piece, is_ok, on_screen) in [
+            ("hell", true, 0),
+            ("o\n", false, 0x6865),
+            ("o\n", true, 0x6865_6c6c_6f0a),
+        ] {
+            assert_eq!(rt; put_all(&mut sink, piece.as_bytes()).is_ok(), is_ok);
+            assert_eq!(rt; shown.get(), on_screen);
+        }
+        put_all(&mut sink, b"!")?;
+        sink.flush()?;
+        assert_eq!(rt; shown.get(), 0x6865_6c6c_6f0a_21);
+        Ok(())
+    }
+}
