@@ -12,5 +12,8 @@ mod fields;
 mod header;
 mod parts;
 mod reading;
+mod writing;
 
 pub use fault::BundleFault;
+pub use reading::read;
+pub use writing::write;

@@ -1,4 +1,5 @@
-ghost use Rattle.std.specs.Prelude.{◌≡◌};
+ghost use Rattle.std.specs.Prelude.{◌≡◌, IfOk};
+ghost use Rattle.cloak_model.specs.Bundle.{IsBundle};
 ghost use Rattle.guest_bundle.specs.Fields.{Gives};
 ghost use Rattle.guest_bundle.specs.Reading.{bundle_at};
 
@@ -37,4 +38,12 @@ fn bundle(alloc: Global, file: &[u8]) -> Result<Bundle, BundleFault>
         kernel,
         programs: Sequence::new(programs),
     })
+}
+
+/// The bundle of a file.
+pub fn read(alloc: Global, b: &[u8]) -> Result<Bundle, BundleFault>
+    // What is read is spelled so, and it is in the grammar.
+    ensures ok { IfOk result (λ bundle. IsBundle b.now bundle) }
+{
+    bundle(alloc, b)
 }
