@@ -1,0 +1,101 @@
+-- A file is read from left to right, each field tested as soon as it is read whole.
+use Rattle.std.specs.Prelude.{ℕ, zero, suc, ◌+◌, ◌*◌, ◌%◌, ◌^◌, ◌-◌, ◌==◌, Bool, List, [], ◌∷◌, length, slice_index, codes, Result, Ok, Err, nat_lt, nat_le, if◌then◌else◌, ◌&&◌}
+use Rattle.std.specs.Str.{bytes_eq}
+use Rattle.cloak_base.specs.declared.names.Start.{Start}
+use Rattle.cloak_model.specs.Bundle.{largest_bundle}
+use Rattle.cloak_model.specs.declared.image.Segment.{Segment}
+use Rattle.cloak_model.specs.declared.image.KernelImage.{KernelImage}
+use Rattle.cloak_model.specs.declared.image.Program.{Program}
+use Rattle.cloak_model.specs.declared.image.Bundle.{Bundle}
+use Rattle.guest_bundle.specs.declared.fault.BundleFault.{BundleFault}
+use Rattle.guest_bundle.specs.declared.fault.BundleFault.TheVariants.{Short, BadMagic, BadVersion, TooLarge, BadRange, Extra}
+use Rattle.guest_bundle.specs.declared.header.Header.{Header}
+use Rattle.guest_bundle.specs.Fields.{◌>>=◌, bytes_at, pages_at, number_at, count_at, entry_at}
+
+-- n parts of one kind and the offset after them, each part as long as its size says
+unfoldable pub parts_at : {X : Type 0} → (ℕ → Result X BundleFault) → (X → ℕ) → ℕ → ℕ → Result (List X × ℕ) BundleFault
+parts_at part_at size zero at = Ok ([], at)
+parts_at part_at size (suc n) at = do
+  first ← part_at at
+  others ← parts_at part_at size n (at + size first)
+  Ok (first ∷ others.0, others.1)
+
+-- the magic and the version
+unfoldable pub version_at : List ℕ → Result ℕ BundleFault
+version_at file = do
+  magic ← bytes_at file 0 8
+  version ← if bytes_eq magic (codes "CLOAKBND") then number_at file 8 else Err BadMagic
+  if version == 1 then Ok version else Err (BadVersion version)
+
+unfoldable pub header_at : List ℕ → Result Header BundleFault
+header_at file = do
+  version ← version_at file
+  frames ← count_at file 12 64 4096
+  harts ← count_at file 16 1 4
+  turns ← count_at file 20 1 64
+  entry ← entry_at file 24
+  segments ← count_at file 28 0 16
+  blocks ← count_at file 32 0 4096
+  programs ← count_at file 36 0 4
+  Ok (record { frames = frames; harts = harts; turns = turns; entry = entry; segments = segments; blocks = blocks; programs = programs })
+
+-- a byte of the schedule
+abbrev pub turn_at : ℕ → List ℕ → ℕ → Result ℕ BundleFault
+turn_at harts file at =
+    if nat_lt (length file - at) 1 then Err (Short at)
+    else if nat_lt (slice_index file at) harts then Ok (slice_index file at) else Err (BadRange at)
+
+abbrev pub lies_in_ram : ℕ → ℕ → ℕ → Bool
+lies_in_ram frames address size = nat_le 0x80000000 address && nat_le (address + size) (0x80000000 + 4096 * frames)
+
+unfoldable pub segment_at : ℕ → List ℕ → ℕ → Result Segment BundleFault
+segment_at frames file at = do
+  address ← number_at file at
+  size ← number_at file (at + 4)
+  bytes ← if lies_in_ram frames address size then bytes_at file (at + 8) size else Err (BadRange at)
+  Ok (record { address = address; bytes = bytes })
+
+abbrev pub segment_size : Segment → ℕ
+segment_size s = 8 + length s.bytes
+
+-- the frame of the first of some pages
+unfoldable pub place_at : ℕ → ℕ → List ℕ → ℕ → Result ℕ BundleFault
+place_at frames pages file at = do
+  place ← number_at file at
+  if nat_le (place + pages) frames then Ok place else Err (BadRange at)
+
+abbrev pub is_base_of : ℕ → ℕ → Bool
+is_base_of pages base = (base % 4096 == 0) && nat_le (base + 4096 * pages) (2 ^ 32)
+
+-- the address of the first of some pages
+unfoldable pub base_at : ℕ → List ℕ → ℕ → Result ℕ BundleFault
+base_at pages file at = do
+  base ← number_at file at
+  if is_base_of pages base then Ok base else Err (BadRange at)
+
+unfoldable pub program_at : ℕ → List ℕ → ℕ → Result Program BundleFault
+program_at frames file at = do
+  pages ← count_at file at 1 1024
+  place ← place_at frames pages file (at + 4)
+  base ← base_at pages file (at + 8)
+  entry ← entry_at file (at + 12)
+  sp ← number_at file (at + 16)
+  bytes ← pages_at file (at + 20) pages
+  Ok (record { place = place; start = record { pages = pages; base = base; entry = entry; sp = sp }; bytes = bytes })
+
+abbrev pub program_size : Program → ℕ
+program_size p = 20 + length p.bytes
+
+abbrev pub bundle_of : Header → List ℕ → List Segment → List ℕ → List Program → Bundle
+bundle_of h schedule segments disk programs =
+    let k : KernelImage = record { frames = h.frames; harts = h.harts; schedule = schedule; entry = h.entry; segments = segments; disk = disk } in
+    record { kernel = k; programs = programs }
+
+unfoldable pub bundle_at : List ℕ → Result Bundle BundleFault
+bundle_at file = do
+  h ← if nat_lt largest_bundle (length file) then Err (TooLarge 0) else header_at file
+  schedule ← parts_at (turn_at h.harts file) (λ _. 1) h.turns 40
+  segments ← parts_at (segment_at h.frames file) segment_size h.segments schedule.1
+  disk ← pages_at file segments.1 h.blocks
+  programs ← parts_at (program_at h.frames file) program_size h.programs (segments.1 + length disk)
+  if programs.1 == length file then Ok (bundle_of h schedule.0 segments.0 disk programs.0) else Err (Extra programs.1)

@@ -1,0 +1,49 @@
+ghost use Rattle.std.specs.Prelude.{◌≡◌, IfOk};
+ghost use Rattle.cloak_model.specs.Bundle.{IsBundle};
+ghost use Rattle.guest_bundle.specs.Fields.{Gives};
+ghost use Rattle.guest_bundle.specs.Reading.{bundle_at};
+
+use crate::fields::pages;
+use crate::header::read_header;
+use crate::parts::{programs, schedule, segments};
+use crate::BundleFault;
+use cloak_model::{Bundle, KernelImage, Sequence};
+use std::alloc::Global;
+
+#[tactic(auto, unfolding(crate::specs::Reading::bundle_at))]
+fn bundle(alloc: Global, file: &[u8]) -> Result<Bundle, BundleFault>
+    ensures { Gives (λ x. x) result (bundle_at file.now) }
+{
+    if file.len() > 67_108_864 {
+        return Err(BundleFault::TooLarge(0));
+    }
+    let h = read_header(file)?;
+    let (schedule, at) = schedule(alloc, file, 40, h.harts, h.turns)?;
+    let (segments, at) = segments(alloc, file, at, h.frames, h.segments)?;
+    let disk = pages(file, at, h.blocks)?;
+    let (programs, at) = programs(alloc, file, at + disk.len(), h.frames, h.programs)?;
+    if at != file.len() {
+        return Err(BundleFault::Extra(at as u64));
+    }
+    let disk = Vec::from_slice(alloc, disk)?;
+    let kernel = KernelImage {
+        frames: h.frames,
+        harts: h.harts,
+        schedule: Sequence::new(schedule),
+        entry: h.entry,
+        segments: Sequence::new(segments),
+        disk: Sequence::new(disk),
+    };
+    Ok(Bundle {
+        kernel,
+        programs: Sequence::new(programs),
+    })
+}
+
+/// The bundle of a file.
+pub fn read(alloc: Global, b: &[u8]) -> Result<Bundle, BundleFault>
+    // What is read is spelled so, and it is in the grammar.
+    ensures ok { IfOk result (λ bundle. IsBundle b.now bundle) }
+{
+    bundle(alloc, b)
+}

@@ -1,0 +1,98 @@
+ghost use Rattle.std.specs.Prelude.{◌≡◌, ◌<◌, ◌^◌, ◌++◌, length, All, OnOk, IfOk};
+ghost use Rattle.std.specs.List.{flat_map};
+ghost use Rattle.cloak_model.specs.Bits.{word};
+ghost use Rattle.cloak_model.specs.Bundle.{segment_bytes, program_bytes, bundle_bytes, IsInGrammar};
+ghost use Rattle.guest_bundle.specs.Writing.{header_bytes};
+
+use cloak_base::NoMemory;
+use cloak_model::{Bundle, Program, Segment};
+use std::alloc::Global;
+
+/// Appends numbers, each in four bytes with the lowest first.
+fn put_numbers(out: &mut Vec<u8>, numbers: &[u32]) -> Result<(), NoMemory>
+    ensures { OnOk result (out.new.items ≡ out.old.items ++ flat_map word numbers.now) }
+{
+    for n in numbers {
+        out.extend_from_slice(&n.to_le_bytes())?;
+    }
+    Ok(())
+}
+
+fn put_header(out: &mut Vec<u8>, b: &Bundle) -> Result<(), NoMemory>
+    requires { IsInGrammar b.now }
+    ensures { OnOk result (out.new.items ≡ out.old.items ++ header_bytes b.now) }
+{
+    let k = &b.kernel;
+    let blocks = k.disk.as_slice().len() / 4096;
+    out.extend_from_slice(b"CLOAKBND")?;
+    put_numbers(
+        out,
+        &[
+            1,
+            k.frames,
+            k.harts,
+            k.schedule.as_slice().len() as u32,
+            k.entry,
+            k.segments.as_slice().len() as u32,
+            blocks as u32,
+            b.programs.as_slice().len() as u32,
+        ],
+    )?;
+    Ok(())
+}
+
+fn put_segments(out: &mut Vec<u8>, segments: &[Segment]) -> Result<(), NoMemory>
+    requires { All (λ s. length s.bytes < 2 ^ 32) segments.now }
+    ensures { OnOk result (out.new.items ≡ out.old.items ++ flat_map segment_bytes segments.now) }
+{
+    for s in segments {
+        put_segment(out, s)?;
+    }
+    Ok(())
+}
+
+fn put_segment(out: &mut Vec<u8>, s: &Segment) -> Result<(), NoMemory>
+    requires { length s.now.bytes < 2 ^ 32 }
+    ensures { OnOk result (out.new.items ≡ out.old.items ++ segment_bytes s.now) }
+{
+    let bytes = s.bytes.as_slice();
+    put_numbers(out, &[s.address, bytes.len() as u32])?;
+    out.extend_from_slice(bytes)?;
+    Ok(())
+}
+
+fn put_program(out: &mut Vec<u8>, p: &Program) -> Result<(), NoMemory>
+    ensures { OnOk result (out.new.items ≡ out.old.items ++ program_bytes p.now) }
+{
+    let start = p.start;
+    put_numbers(
+        out,
+        &[start.pages, p.place, start.base, start.entry, start.sp],
+    )?;
+    out.extend_from_slice(p.bytes.as_slice())?;
+    Ok(())
+}
+
+fn put_programs(out: &mut Vec<u8>, programs: &[Program]) -> Result<(), NoMemory>
+    ensures { OnOk result (out.new.items ≡ out.old.items ++ flat_map program_bytes programs.now) }
+{
+    for p in programs {
+        put_program(out, p)?;
+    }
+    Ok(())
+}
+
+/// The one file of a bundle.
+pub fn write(alloc: Global, b: &Bundle) -> Result<Vec<u8>, NoMemory>
+    requires { IsInGrammar b.now }
+    ensures { IfOk result (λ bytes. bytes.items ≡ bundle_bytes b.now) }
+{
+    let k = &b.kernel;
+    let mut out = Vec::new(alloc);
+    put_header(&mut out, b)?;
+    out.extend_from_slice(k.schedule.as_slice())?;
+    put_segments(&mut out, k.segments.as_slice())?;
+    out.extend_from_slice(k.disk.as_slice())?;
+    put_programs(&mut out, b.programs.as_slice())?;
+    Ok(out)
+}
