@@ -1,3 +1,4 @@
+pub mod Answering
 pub mod Files
 pub mod Outlet
 pub mod Request

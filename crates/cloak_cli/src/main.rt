@@ -4,6 +4,7 @@
 mod files;
 mod number;
 mod outlet;
+mod prepare;
 mod request;
 mod run;
 mod status;
