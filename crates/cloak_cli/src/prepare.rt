@@ -1,5 +1,6 @@
 //! The machine of a run, from the file of its bundle.
-ghost use Rattle.std.specs.Prelude.{◌≡◌, IfOk, IsErrOf, OnTrue};
+ghost use Rattle.std.specs.Prelude.{◌≡◌, true, IfOk, IsErrOf};
+ghost use Rattle.std.specs.Bool.{OnTrue};
 ghost use Rattle.cloak_model.specs.Bundle.{IsBundle};
 ghost use Rattle.outside_io.specs.Told.{SameFiles};
 ghost use Rattle.cloak_cli.specs.Answering.{IsFirstForm, IsOtherForm, Prepares};
