@@ -2,3 +2,5 @@ pub mod Loop
 pub mod Steps
 pub mod Takes
 pub mod Found
+pub mod Again
+pub mod Only

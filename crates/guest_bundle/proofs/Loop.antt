@@ -1,5 +1,5 @@
 -- Reading parts one after the other, as a loop does.
-use Rattle.std.proofs.Common.{◌≡◌, ℕ, zero, suc, ◌-◌, ◌+◌, ◌≤◌, ◌<◌, List, [], ◌∷◌, ◌++◌, Result, Ok, Err, refl, sym, ap, ◌∙◌, append_assoc, arith}
+use Rattle.std.proofs.Common.{◌≡◌, ◌≢◌, ℕ, zero, suc, ◌-◌, ◌+◌, ◌≤◌, ◌<◌, List, [], ◌∷◌, ◌++◌, Result, Ok, Err, refl, sym, ap, ◌∙◌, append_assoc, arith}
 use Rattle.std.proofs.lemmas.List.{append-nil}
 use Rattle.guest_bundle.specs.declared.fault.BundleFault.{BundleFault}
 use Rattle.guest_bundle.specs.declared.fault.BundleFault.TheVariants.{Short, BadMagic, BadVersion, BadCount, TooLarge, BadRange, Extra, NoMemory}
@@ -53,3 +53,14 @@ is_done part_at size front n i at total le so_far =
     let k : n - i ≡ 0 = omega arith in
     let one : with_front front (parts_at part_at size (n - i) at) ≡ Ok (front, at) = rw k (ap (λ xs. Ok (xs, at)) (append-nil front)) in
     sym so_far ∙ one
+
+-- a fault that is not of memory is the one that reading meets
+pub failed : {Y : Type 0} (e : BundleFault) (read : Result Y BundleFault) → e ≢ NoMemory → Fails e read → read ≡ Err e
+failed NoMemory read other h = absurd (other refl)
+failed (Short at) read other h = h
+failed BadMagic read other h = h
+failed (BadVersion n) read other h = h
+failed (BadCount at) read other h = h
+failed (TooLarge at) read other h = h
+failed (BadRange at) read other h = h
+failed (Extra at) read other h = h

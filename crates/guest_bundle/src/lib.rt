@@ -17,3 +17,6 @@ mod writing;
 pub use fault::BundleFault;
 pub use reading::read;
 pub use writing::write;
+
+#[cfg(test)]
+mod tests;

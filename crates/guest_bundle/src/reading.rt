@@ -1,7 +1,10 @@
-ghost use Rattle.std.specs.Prelude.{◌≡◌, IfOk};
+ghost use Rattle.std.specs.Prelude.{◌≡◌, ◌≢◌, IfOk, IfErr};
 ghost use Rattle.cloak_model.specs.Bundle.{IsBundle};
+ghost use Rattle.cloak_model.specs.declared.image.Bundle.{Bundle};
+ghost use Rattle.guest_bundle.specs.declared.fault.BundleFault.TheVariants.{NoMemory};
 ghost use Rattle.guest_bundle.specs.Fields.{Gives};
 ghost use Rattle.guest_bundle.specs.Reading.{bundle_at};
+ghost use Rattle.guest_bundle.specs.Words.{HasWords};
 
 use crate::fields::pages;
 use crate::header::read_header;
@@ -44,6 +47,10 @@ fn bundle(alloc: Global, file: &[u8]) -> Result<Bundle, BundleFault>
 pub fn read(alloc: Global, b: &[u8]) -> Result<Bundle, BundleFault>
     // What is read is spelled so, and it is in the grammar.
     ensures ok { IfOk result (λ bundle. IsBundle b.now bundle) }
+    // What is refused is spelled by no bundle.
+    ensures err { IfErr result (λ e. e ≢ NoMemory → (bundle : Bundle) → IsBundle b.now bundle → ⊥) }
+    // A bundle that spells the file is the one that is read.
+    ensures only { (bundle : Bundle) → HasWords bundle → IsBundle b.now bundle → IfOk result (λ x. x ≡ bundle) }
 {
     bundle(alloc, b)
 }

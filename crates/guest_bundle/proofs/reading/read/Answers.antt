@@ -1,16 +1,37 @@
-use Rattle.std.proofs.Common.{◌≡◌, List, ℕ, Result, Ok, Err, IfOk, arith}
+use Rattle.std.proofs.Common.{◌≡◌, ◌≢◌, List, ℕ, Result, Ok, Err, IfOk, IfErr, sym, ◌∙◌, arith}
 use Rattle.cloak_model.specs.Bundle.{IsBundle}
 use Rattle.cloak_model.specs.declared.image.Bundle.{Bundle}
 use Rattle.guest_bundle.specs.declared.fault.BundleFault.{BundleFault}
-use Rattle.guest_bundle.specs.Fields.{Gives}
+use Rattle.guest_bundle.specs.declared.fault.BundleFault.TheVariants.{NoMemory}
+use Rattle.guest_bundle.specs.Fields.{Gives, Fails}
 use Rattle.guest_bundle.specs.Reading.{bundle_at}
-use Rattle.guest_bundle.proofs.Steps.{IsBytes}
+use Rattle.guest_bundle.specs.Words.{HasWords}
+use Rattle.guest_bundle.proofs.Loop.{failed}
+use Rattle.guest_bundle.proofs.Steps.{IsBytes, ok_is}
 use Rattle.guest_bundle.proofs.Found.{bundle_takes}
+use Rattle.guest_bundle.proofs.Only.{bundle_again, in_words, with_words}
 use Rattle.guest_bundle.proofs.reading.read.Goals as goal
 
 is_found : (file : List ℕ) (r : Result Bundle BundleFault) → IsBytes file → Gives (λ x. x) r (bundle_at file) → IfOk r (λ bundle. IsBundle file bundle)
 is_found file (Ok b) fits given = bundle_takes file b fits given
 is_found file (Err e) fits given = tt
 
-pub returns : goal.returns
-returns c = record { ok = is_found c.args.b.now c.bundle.result (λ i. omega (arith, c.type_inv.b i)) c.bundle.ensures }
+is_refused : (file : List ℕ) (r : Result Bundle BundleFault) → Gives (λ x. x) r (bundle_at file) → IfErr r (λ e. e ≢ NoMemory → (bundle : Bundle) → IsBundle file bundle → ⊥)
+is_refused file (Ok b) given = tt
+is_refused file (Err e) given = λ other bundle is.
+    let fault : bundle_at file ≡ Err e = failed e (bundle_at file) other given in
+    let read : bundle_at file ≡ Ok (in_words bundle) = bundle_again file bundle is in
+    cc
+
+is_only : (file : List ℕ) (r : Result Bundle BundleFault) → Gives (λ x. x) r (bundle_at file) → (bundle : Bundle) → HasWords bundle → IsBundle file bundle → IfOk r (λ x. x ≡ bundle)
+is_only file (Ok b) given bundle words is = ok_is b (in_words bundle) (sym given ∙ bundle_again file bundle is) ∙ with_words bundle words
+is_only file (Err e) given bundle words is = tt
+
+pub returns-clause-ok : goal.returns-clause-ok
+returns-clause-ok c = is_found c.args.b.now c.bundle.result (λ i. omega (arith, c.type_inv.b i)) c.bundle.ensures
+
+pub returns-clause-err : goal.returns-clause-err
+returns-clause-err c = is_refused c.args.b.now c.bundle.result c.bundle.ensures
+
+pub returns-clause-only : goal.returns-clause-only
+returns-clause-only c = is_only c.args.b.now c.bundle.result c.bundle.ensures

@@ -1,0 +1,74 @@
+use super::*;
+use std::test::*;
+
+/// One hart and 64 frames; a segment of four instructions: `addi x10,x0,65`, `ecall`, `addi x17,x0,4`,
+/// `ecall`.
+const SMALLEST: [u8; 65] = [
+    0x43, 0x4c, 0x4f, 0x41, 0x4b, 0x42, 0x4e, 0x44, 1, 0, 0, 0, 0x40, 0, 0, 0, 1, 0, 0, 0, 1, 0, 0, 0,
+    0, 0, 0, 0x80, 1, 0, 0, 0, 0, 0, 0, 0, 0, 0, 0, 0, 0, 0, 0, 0, 0x80, 0x10, 0, 0, 0, 0x13, 0x05, 0x10,
+    0x04, 0x73, 0, 0, 0, 0x93, 0x08, 0x40, 0, 0x73, 0, 0, 0,
+];
+
+/// The file above with another word at an offset.
+fn with_word(at: usize, word: u32) -> [u8; 65] {
+    let mut file = SMALLEST;
+    let bytes = word.to_le_bytes();
+    for (i, b) in bytes.iter().enumerate() {
+        if at + i < 65 {
+            file[at + i] = *b;
+        }
+    }
+    file
+}
+
+#[test]
+fn the_smallest_bundle_is_read_and_written(rt: HostRuntime) -> Result<(), Fail> {
+    let bundle = read(rt.alloc(), &SMALLEST).ok().ok_or("it is a bundle")?;
+    assert_eq!(rt; bundle.kernel.frames, 64);
+    assert_eq!(rt; bundle.kernel.entry, 0x8000_0000);
+    let file = write(rt.alloc(), &bundle).ok().ok_or("memory is ample")?;
+    assert_eq!(rt; file.as_slice(), SMALLEST.as_slice());
+    Ok(())
+}
+
+#[test]
+fn a_file_cut_short(rt: HostRuntime) {
+    for (len, at) in [(0, 0), (7, 0), (11, 8), (39, 36), (40, 40), (48, 45), (64, 49)] {
+        assert_eq!(rt; read(rt.alloc(), &SMALLEST[..len]).err(), Some(BundleFault::Short(at)), "{len}");
+    }
+}
+
+#[test]
+fn a_byte_more(rt: HostRuntime) {
+    let mut longer = [0; 66];
+    longer[..65].copy_from_slice(&SMALLEST);
+    assert_eq!(rt; read(rt.alloc(), &longer).err(), Some(BundleFault::Extra(65)));
+}
+
+#[test]
+fn a_damaged_file(rt: HostRuntime) {
+    let cases = [
+        (0, 0, BundleFault::BadMagic),
+        (8, 2, BundleFault::BadVersion(2)),
+        (12, 63, BundleFault::BadCount(12)),
+        (12, 4097, BundleFault::TooLarge(12)),
+        (16, 0, BundleFault::BadCount(16)),
+        (16, 5, BundleFault::TooLarge(16)),
+        (20, 0, BundleFault::BadCount(20)),
+        (20, 65, BundleFault::TooLarge(20)),
+        (24, 2, BundleFault::BadRange(24)),
+        (28, 17, BundleFault::TooLarge(28)),
+        (32, 4097, BundleFault::TooLarge(32)),
+        (32, 1, BundleFault::Short(65)),
+        (36, 5, BundleFault::TooLarge(36)),
+        (36, 1, BundleFault::Short(65)),
+        (40, 1, BundleFault::BadRange(40)),
+        (41, 0x7fff_ffff, BundleFault::BadRange(41)),
+        (45, 0x0004_0001, BundleFault::BadRange(41)),
+        (45, 17, BundleFault::Short(49)),
+        (45, 15, BundleFault::Extra(64)),
+    ];
+    for (at, word, fault) in cases {
+        assert_eq!(rt; read(rt.alloc(), &with_word(at, word)).err(), Some(fault), "{word} at {at}");
+    }
+}
