@@ -1,3 +1,5 @@
+pub mod AnswerFacts
 mod NumberFacts
 pub mod OutletFacts
+pub mod PrepareFacts
 pub mod RunFacts

@@ -3,7 +3,7 @@ use Rattle.std.proofs.Common.{◌≡◌, ◌≢◌, ℕ, Bool, true, false, List
 use Rattle.std.proofs.lemmas.List.{append-nil}
 use Rattle.cloak_base.specs.declared.causes.Failed.{Failed}
 use Rattle.outside_io.specs.Told.{Puts, Grows, GrowsByFront, Rose, Counts, OtherFiles}
-use Rattle.outside_io.proofs.ToldFacts.{Grows-append, GrowsByFront-append, GrowsByFront-first, GrowsByFront-whole}
+use Rattle.outside_io.proofs.ToldFacts.{Grows-none, Grows-append, GrowsByFront-append, GrowsByFront-first, GrowsByFront-whole}
 use Rattle.cloak_model.specs.Exchange.{Piece, recorded, shown, recorded_bytes, shown_bytes, Emits}
 use Rattle.cloak_cli.specs.declared.outlet.Outlet.{Outlet}
 use Rattle.cloak_cli.specs.Outlet.{Faults, OneRose, Writes, Wrote, Gave}
@@ -184,3 +184,24 @@ emits_same {S} {O} {held} {reading_faults} {writing_faults} {taken} {faults} {ol
         reading = w.reading;
       };
     } }
+
+-- an outlet to which nothing was given yet
+gave_start : {S O : Type 0} (held : S → List ℕ → Option (List ℕ)) (reading_faults writing_faults : S → ℕ) (taken : O → Option (List ℕ)) (faults : O → ℕ) (o : Outlet S O) →
+    Gave held reading_faults writing_faults taken faults o o []
+gave_start held reading_faults writing_faults taken faults o = record {
+  shelf = refl;
+  output = refl;
+  name = refl;
+  wrote = λ fresh. record {
+    writes = subst (λ (b : Bool). Writes b (held o.shelf.now o.name.now) (held o.shelf.now o.name.now) (taken o.out.now) (taken o.out.now)
+        (record { files = writing_faults o.shelf.now; output = faults o.out.now }) (record { files = writing_faults o.shelf.now; output = faults o.out.now }) [])
+      (sym fresh) (Grows-none (held o.shelf.now o.name.now), Grows-none (taken o.out.now), refl);
+    others = λ other apart. refl;
+    reading = refl;
+  };
+}
+
+-- what was given to an outlet from its start on
+pub gave_all : {S O : Type 0} {held : S → List ℕ → Option (List ℕ)} {reading_faults writing_faults : S → ℕ} {taken : O → Option (List ℕ)} {faults : O → ℕ} {old new : Outlet S O} {pieces : List Piece} →
+    Emits (Gave held reading_faults writing_faults taken faults) old new pieces → Gave held reading_faults writing_faults taken faults old new pieces
+gave_all {S} {O} {held} {reading_faults} {writing_faults} {taken} {faults} {old} {new} {pieces} emits = emits.more old [] (gave_start held reading_faults writing_faults taken faults old)

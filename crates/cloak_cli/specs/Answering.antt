@@ -5,6 +5,7 @@ use Rattle.outside_io.specs.Told.{Tells, Grows, Rose, SameFiles, OtherFiles}
 use Rattle.cloak_model.specs.declared.image.Bundle.{Bundle}
 use Rattle.cloak_model.specs.declared.outcome.UsageFault.{UsageFault}
 use Rattle.cloak_model.specs.Bundle.{IsBundle}
+use Rattle.guest_bundle.specs.Words.{HasWords}
 use Rattle.cloak_model.specs.Command as spec
 use Rattle.cloak_model.specs.Exchange.{recorded_bytes, shown_bytes}
 use Rattle.cloak_model.specs.Joint.{Moment, opening}
@@ -24,6 +25,7 @@ pub record IsFirstForm (b : Bundle) : Type 0 where
   pub segments : length b.kernel.segments ≡ 1
   pub disk : b.kernel.disk ≡ []
   pub programs : b.programs ≡ []
+  pub words : HasWords b
 
 -- these bytes are no bundle of the first form
 abbrev pub IsOtherForm : List ℕ → Type 0
@@ -44,6 +46,11 @@ pub record Outside : Type 0 where
   pub writing : ℕ
   pub taken : Option (List ℕ)
   pub faults : ℕ
+
+-- what this shelf and this output tell
+abbrev pub outside : {S O : Type 0} → (S → List ℕ → Option (List ℕ)) → (S → ℕ) → (S → ℕ) → (O → Option (List ℕ)) → (O → ℕ) → S → O → Outside
+outside held reading writing taken faults shelf out =
+    record { held = held shelf; reading = reading shelf; writing = writing shelf; taken = taken out; faults = faults out }
 
 -- no count rose
 pub record NothingRose (before after : Outside) : Type 0 where
@@ -92,7 +99,9 @@ pub record HasRun (asked : spec.Asked) (answer : Status) (before after : Outside
   pub number : ℕ
   pub run : asked ≡ spec.Run bundle_name record_name steps number
   pub nothing_rose : NothingRose before after
-  pub wrote : IfSome (before.held bundle_name) (λ bytes. (m : Moment) × OpensAt bytes number m × WroteRun record_name steps answer before after m)
+  pub moment : Moment
+  pub opens : IfSome (before.held bundle_name) (λ bytes. OpensAt bytes number moment)
+  pub wrote : WroteRun record_name steps answer before after moment
 
 -- Only the count of reading faults rose.
 pub record IsReadFault (before after : Outside) : Type 0 where
@@ -129,7 +138,17 @@ KeepsFiles (spec.Run bundle_name record_name steps number) held held' = OtherFil
 -- what opening the machine of a run answers: a machine before its first step at the run's opening, or why
 -- there is none
 abbrev pub Prepares : Option (List ℕ) → ℕ → ℕ → ℕ → Result Machine Refusal → Type 0
-Prepares told number before now (Ok machine) = (now ≡ before) × (steps_made machine ≡ 0) × IfSome told (λ bytes. (m : Moment) × OpensAt bytes number m × StandsFor machine m)
+Prepares told number before now (Ok machine) = (now ≡ before) × (steps_made machine ≡ 0) × ((m : Moment) × StandsFor machine m × IfSome told (λ bytes. OpensAt bytes number m))
 Prepares told number before now (Err refusal.ReadFault) = Rose before now
 Prepares told number before now (Err refusal.NoMemory) = now ≡ before
 Prepares told number before now (Err refusal.Unbuilt) = (now ≡ before) × IfSome told IsOtherForm
+
+-- what showing a line that refuses answers
+abbrev pub Refuses : Option (List ℕ) → Option (List ℕ) → ℕ → ℕ → Status → List ℕ → Status → Type 0
+Refuses told told' before now answer line given = ((given ≡ answer) × Grows told told' line × (now ≡ before)) ⊎ ((given ≡ status.WriteFault) × Rose before now)
+
+-- what writing the run of a machine at this moment answers
+pub record Records (record_name : List ℕ) (steps : ℕ) (before after : Outside) (given : Status) (m : Moment) : Type 0 where
+  pub reading : after.reading ≡ before.reading
+  pub others : OtherFiles record_name before.held after.held
+  pub outcome : (NothingRose before after × WroteRun record_name steps given before after m) ⊎ ((given ≡ status.WriteFault) × (Rose before.writing after.writing ⊎ Rose before.faults after.faults))

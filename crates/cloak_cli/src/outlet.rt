@@ -1,5 +1,5 @@
 //! Where a run writes: the record to a shelf, the console and the report to a sink.
-ghost use Rattle.std.specs.Prelude.{[], ◌∷◌};
+ghost use Rattle.std.specs.Prelude.{◌≡◌, [], ◌∷◌};
 ghost use Rattle.cloak_model.specs.Exchange.{recorded, shown, Emits};
 ghost use Rattle.cloak_machine.specs.Ending.{report_of};
 
@@ -9,14 +9,14 @@ use outside_io::{Shelf, Sink, put_all};
 
 /// Writes pieces up to the first that fails.
 #[derive(Drop)]
-pub struct Outlet<'a, S: Shelf, O: Sink> {
-    pub shelf: &'a mut S,
-    pub name: &'a str,
-    pub out: &'a mut O,
+pub struct Outlet<'s, 'n, 'o, S: Shelf, O: Sink> {
+    pub shelf: &'s mut S,
+    pub name: &'n str,
+    pub out: &'o mut O,
     pub failed: bool,
 }
 
-impl<'a, S: Shelf, O: Sink> Emit for Outlet<'a, S, O> {
+impl<'s, 'n, 'o, S: Shelf, O: Sink> Emit for Outlet<'s, 'n, 'o, S, O> {
     ghost use Rattle.cloak_cli.specs.Outlet.{Gave};
 
     ghost gave = { Gave S.held S.reading_faults S.writing_faults O.taken O.faults };
@@ -40,12 +40,14 @@ impl<'a, S: Shelf, O: Sink> Emit for Outlet<'a, S, O> {
     }
 }
 
-impl<'a, S: Shelf, O: Sink> Outlet<'a, S, O> {
+impl<'s, 'n, 'o, S: Shelf, O: Sink> Outlet<'s, 'n, 'o, S, O> {
     ghost use Rattle.cloak_cli.specs.Outlet.{Gave};
 
     /// Appends a piece to the record.
     pub fn append(&mut self, bytes: &[u8])
-        ensures { Emits (Gave S.held S.reading_faults S.writing_faults O.taken O.faults) self.old self.new (recorded bytes.now ∷ []) }
+        ensures same_shelf { self.new.shelf.ghost_name ≡ self.old.shelf.ghost_name }
+        ensures same_out { self.new.out.ghost_name ≡ self.old.out.ghost_name }
+        ensures emits { Emits (Gave S.held S.reading_faults S.writing_faults O.taken O.faults) self.old self.new (recorded bytes.now ∷ []) }
     {
         if self.failed {
             return;
@@ -55,7 +57,9 @@ impl<'a, S: Shelf, O: Sink> Outlet<'a, S, O> {
 
     /// Puts a piece to the output.
     pub fn show(&mut self, bytes: &[u8])
-        ensures { Emits (Gave S.held S.reading_faults S.writing_faults O.taken O.faults) self.old self.new (shown bytes.now ∷ []) }
+        ensures same_shelf { self.new.shelf.ghost_name ≡ self.old.shelf.ghost_name }
+        ensures same_out { self.new.out.ghost_name ≡ self.old.out.ghost_name }
+        ensures emits { Emits (Gave S.held S.reading_faults S.writing_faults O.taken O.faults) self.old self.new (shown bytes.now ∷ []) }
     {
         if self.failed {
             return;
@@ -65,7 +69,9 @@ impl<'a, S: Shelf, O: Sink> Outlet<'a, S, O> {
 
     /// Writes the report of a run to the output.
     pub fn report(&mut self, end: &End)
-        ensures { Emits (Gave S.held S.reading_faults S.writing_faults O.taken O.faults) self.old self.new (shown (report_of end.now) ∷ []) }
+        ensures same_shelf { self.new.shelf.ghost_name ≡ self.old.shelf.ghost_name }
+        ensures same_out { self.new.out.ghost_name ≡ self.old.out.ghost_name }
+        ensures emits { Emits (Gave S.held S.reading_faults S.writing_faults O.taken O.faults) self.old self.new (shown (report_of end.now) ∷ []) }
     {
         if self.failed {
             return;

@@ -29,6 +29,7 @@ fn is_first_form(b: &Bundle) -> bool
     ensures first_form { OnTrue result (IsFirstForm b.now) }
     ensures other_form { IsFirstForm b.now → result ≡ true }
 {
+    let _entry = b.kernel.entry;
     b.kernel.harts == 1
         && b.kernel.schedule.as_slice().len() == 1
         && b.kernel.segments.as_slice().len() == 1
@@ -38,7 +39,8 @@ fn is_first_form(b: &Bundle) -> bool
 
 /// The bundle of the first form that these bytes are.
 fn read_first_form(alloc: Global, bytes: &[u8]) -> Result<Bundle, Refusal>
-    ensures ok { IfOk result (λ b. IsBundle bytes.now b × IsFirstForm b) }
+    ensures ok { IfOk result (λ b. IsBundle bytes.now b) }
+    ensures first_form { IfOk result IsFirstForm }
     ensures unbuilt { IsErrOf result Refusal.Unbuilt → IsOtherForm bytes.now }
     ensures not_read { IsErrOf result Refusal.ReadFault → ⊥ }
 {
@@ -50,8 +52,10 @@ fn read_first_form(alloc: Global, bytes: &[u8]) -> Result<Bundle, Refusal>
                 Err(Refusal::Unbuilt)
             }
         }
-        Err(BundleFault::NoMemory) => Err(Refusal::NoMemory),
-        Err(_) => Err(Refusal::Unbuilt),
+        Err(fault) => match fault {
+            BundleFault::NoMemory => Err(Refusal::NoMemory),
+            _ => Err(Refusal::Unbuilt),
+        },
     }
 }
 
@@ -78,7 +82,9 @@ pub fn prepare<S: Shelf>(
     };
     match Machine::open(alloc, &bundle, Stream::numbered(number)) {
         Ok(machine) => Ok(machine),
-        Err(OpenFault::NoMemory) => Err(Refusal::NoMemory),
-        Err(_) => unreachable!(),
+        Err(fault) => match fault {
+            OpenFault::NoMemory => Err(Refusal::NoMemory),
+            OpenFault::NoKey | OpenFault::NoRandom => unreachable!(),
+        },
     }
 }

@@ -5,23 +5,14 @@ ghost use Rattle.cloak_model.specs.Command as spec;
 ghost use Rattle.cloak_cli.specs.Request.{asked_of};
 
 use crate::number::number_up_to;
+use crate::run_request::RunRequest;
 use cloak_model::UsageFault;
 
 /// The most steps of a run.
 pub const MOST_STEPS: u64 = 1_000_000_000;
 
-/// A run that is asked for.
-#[derive(Clone, Copy)]
-pub struct RunRequest<'a> {
-    pub bundle: &'a str,
-    pub record_name: &'a str,
-    pub steps: u32,
-    /// The number of the random stream.
-    pub number: u64,
-}
-
 /// What is asked for.
-#[derive(Clone, Copy)]
+#[derive(Drop)]
 pub enum Request<'a> {
     NotBuilt,
     Faulty(UsageFault),

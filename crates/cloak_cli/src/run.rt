@@ -20,11 +20,13 @@ use outside_io::{Shelf, Sink};
 fn run_steps<S: Shelf, O: Sink>(
     machine: &mut Machine,
     steps: u32,
-    outlet: &mut Outlet<'_, S, O>,
+    outlet: &mut Outlet<'_, '_, '_, S, O>,
 ) -> Option<Stop>
     requires fresh { steps_made machine.old ≡ 0 }
     requires few { steps ≤ most_steps }
-    ensures { (m : Moment) → StandsFor machine.old m →
+    ensures same_shelf { outlet.new.shelf.ghost_name ≡ outlet.old.shelf.ghost_name }
+    ensures same_out { outlet.new.out.ghost_name ≡ outlet.old.out.ghost_name }
+    ensures runs { (m : Moment) → StandsFor machine.old m →
         RunsSteps (Gave S.held S.reading_faults S.writing_faults O.taken O.faults) outlet.new.failed outlet.old outlet.new machine.new result steps m }
 {
     for made in 0..steps {
@@ -52,8 +54,10 @@ fn status(stop: &Stop) -> Status
 }
 
 /// Writes that the step at this program counter is not built.
-fn write_unbuilt<S: Shelf, O: Sink>(pc: u32, outlet: &mut Outlet<'_, S, O>)
-    ensures { Emits (Gave S.held S.reading_faults S.writing_faults O.taken O.faults) outlet.old outlet.new
+fn write_unbuilt<S: Shelf, O: Sink>(pc: u32, outlet: &mut Outlet<'_, '_, '_, S, O>)
+    ensures same_shelf { outlet.new.shelf.ghost_name ≡ outlet.old.shelf.ghost_name }
+    ensures same_out { outlet.new.out.ghost_name ≡ outlet.old.out.ghost_name }
+    ensures runs { Emits (Gave S.held S.reading_faults S.writing_faults O.taken O.faults) outlet.old outlet.new
         (shown (codes "\n") ∷ shown (stop_line (Stop.Unbuilt pc)) ∷ []) }
 {
     outlet.show(b"\n");
@@ -64,8 +68,10 @@ fn write_unbuilt<S: Shelf, O: Sink>(pc: u32, outlet: &mut Outlet<'_, S, O>)
 }
 
 /// Writes the closing of the record, the rest of the console's line, and the report.
-fn write_end<S: Shelf, O: Sink>(machine: Machine, stop: Stop, outlet: &mut Outlet<'_, S, O>)
-    ensures { (m : Moment) → StandsFor machine m →
+fn write_end<S: Shelf, O: Sink>(machine: Machine, stop: Stop, outlet: &mut Outlet<'_, '_, '_, S, O>)
+    ensures same_shelf { outlet.new.shelf.ghost_name ≡ outlet.old.shelf.ghost_name }
+    ensures same_out { outlet.new.out.ghost_name ≡ outlet.old.out.ghost_name }
+    ensures runs { (m : Moment) → StandsFor machine m →
         Emits (Gave S.held S.reading_faults S.writing_faults O.taken O.faults) outlet.old outlet.new
         (closing m ++ (shown (codes "\n") ∷ shown (report_at stop m) ∷ [])) }
 {
@@ -75,8 +81,10 @@ fn write_end<S: Shelf, O: Sink>(machine: Machine, stop: Stop, outlet: &mut Outle
 }
 
 /// Writes what comes behind the steps of a run that this stopped.
-fn conclude<S: Shelf, O: Sink>(machine: Machine, stop: Stop, outlet: &mut Outlet<'_, S, O>)
-    ensures { (m : Moment) → StandsFor machine m →
+fn conclude<S: Shelf, O: Sink>(machine: Machine, stop: Stop, outlet: &mut Outlet<'_, '_, '_, S, O>)
+    ensures same_shelf { outlet.new.shelf.ghost_name ≡ outlet.old.shelf.ghost_name }
+    ensures same_out { outlet.new.out.ghost_name ≡ outlet.old.out.ghost_name }
+    ensures runs { (m : Moment) → StandsFor machine m →
         Emits (Gave S.held S.reading_faults S.writing_faults O.taken O.faults) outlet.old outlet.new (written_last stop m) }
 {
     match stop {
@@ -89,12 +97,14 @@ fn conclude<S: Shelf, O: Sink>(machine: Machine, stop: Stop, outlet: &mut Outlet
 pub fn write_run<S: Shelf, O: Sink>(
     machine: Machine,
     steps: u32,
-    outlet: &mut Outlet<'_, S, O>,
+    outlet: &mut Outlet<'_, '_, '_, S, O>,
 ) -> Status
     requires fresh { steps_made machine ≡ 0 }
     requires few { steps ≤ most_steps }
     requires unfailed { outlet.old.failed ≡ false }
-    ensures { (m : Moment) → StandsFor machine m → WritesRun (Gave S.held S.reading_faults S.writing_faults O.taken O.faults) outlet.new.failed outlet.old outlet.new result steps m }
+    ensures same_shelf { outlet.new.shelf.ghost_name ≡ outlet.old.shelf.ghost_name }
+    ensures same_out { outlet.new.out.ghost_name ≡ outlet.old.out.ghost_name }
+    ensures runs { (m : Moment) → StandsFor machine m → WritesRun (Gave S.held S.reading_faults S.writing_faults O.taken O.faults) outlet.new.failed outlet.old outlet.new result steps m }
 {
     let mut machine = machine;
     outlet.append(b"CLOAKREC");

@@ -1,6 +1,7 @@
 ghost use Rattle.std.specs.Prelude.{◌≡◌, ◌+◌, ◌<◌, ◌≤◌, [], length, All, OnOk, IfOk};
 ghost use Rattle.cloak_model.specs.Bundle.{IsInGrammar};
 ghost use Rattle.cloak_model.specs.Command.{most_steps};
+ghost use Rattle.cloak_model.specs.Exchange.{EmitsSome};
 ghost use Rattle.cloak_model.specs.Joint.{Moment, joint_step};
 
 use crate::console::Console;
@@ -98,6 +99,7 @@ impl Machine {
     pub fn step<E: Emit>(&mut self, e: &mut E) -> Option<Stop>
         requires { steps_made self.old < most_steps }
         ensures steps { steps_made self.new ≡ steps_made self.old + 1 }
+        ensures emits_some { EmitsSome E.gave e.old e.new }
         ensures makes { (m : Moment) → StandsFor self.old m → MakesStep E.gave e.old e.new self.new result (joint_step m) }
     {
         let number = self.schedule[self.steps as usize % self.schedule.len()] as usize;
@@ -118,6 +120,7 @@ impl Machine {
     /// Makes the closing of a run that this stopped.
     pub fn finish<E: Emit>(self, stop: Stop, e: &mut E) -> End
         ensures stop { result.stop ≡ stop }
+        ensures emits_some { EmitsSome E.gave e.old e.new }
         ensures ends { (m : Moment) → StandsFor self m → EndsRun E.gave e.old e.new result stop m }
     {
         e.item(&Item::Close { steps: self.steps });

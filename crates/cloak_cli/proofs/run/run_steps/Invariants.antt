@@ -10,6 +10,8 @@ use Rattle.cloak_cli.proofs.run.run_steps.Given as goal
 -- the steps so far were emitted, and none stopped the run
 abbrev pub invariant-loop-made : goal.invariant-loop-made
 invariant-loop-made g l = record {
+  same_shelf : l.outlet.shelf.ghost_name ≡ l.fn.outlet.shelf.ghost_name;
+  same_out : l.outlet.out.ghost_name ≡ l.fn.outlet.out.ghost_name;
   made : steps_made l.machine ≡ l.made;
   runs : (m : Moment) → StandsFor l.fn.machine m →
     GoesOn (Gave g.S.Shelf.held g.S.Shelf.reading_faults g.S.Shelf.writing_faults g.O.Sink.taken g.O.Sink.faults) l.fn.outlet l.outlet l.machine l.made m;

@@ -2,9 +2,9 @@ use Rattle.std.proofs.Common.{refl}
 use Rattle.cloak_cli.proofs.OutletFacts.{emits_none, emits_shown}
 use Rattle.cloak_cli.proofs.outlet.Outlet.show.Goals as goal
 
-pub returns-then-self : goal.returns-then-self
-returns-then-self g c = emits_none _ _ _ _ _ _ _ c.if-self.true
+pub returns-then-self-clause-emits : goal.returns-then-self-clause-emits
+returns-then-self-clause-emits g c = emits_none _ _ _ _ _ _ _ c.if-self.true
 
-pub returns : goal.returns
-returns g c = emits_shown _ _ _ _ _ _ _ _ c.put_all.result c.if-self.false c.is_err-self.ensures.value refl refl refl
+pub returns-clause-emits : goal.returns-clause-emits
+returns-clause-emits g c = emits_shown _ _ _ _ _ _ _ _ c.put_all.result c.if-self.false c.is_err-self.ensures.value refl refl refl
     c.put_all.ensures.ok c.put_all.ensures.err c.put_all.ensures.faults

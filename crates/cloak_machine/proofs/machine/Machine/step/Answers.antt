@@ -54,3 +54,15 @@ returns-in-Unbuilt-clause-makes g c m stands =
     c.item.ensures
     (record { schedule = refl; steps = refl; harts = refl; frames = refl; disk = refl; key = refl; stream = refl; draws = refl })
     (shows_same _ _ stands.console)
+
+pub returns-in-Stay-clause-emits_some : goal.returns-in-Stay-clause-emits_some
+returns-in-Stay-clause-emits_some g c = (_, c.item.ensures)
+
+pub returns-in-Halt-clause-emits_some : goal.returns-in-Halt-clause-emits_some
+returns-in-Halt-clause-emits_some g c = (_, c.item.ensures)
+
+pub returns-in-Unbuilt-clause-emits_some : goal.returns-in-Unbuilt-clause-emits_some
+returns-in-Unbuilt-clause-emits_some g c = (_, c.item.ensures)
+
+pub returns-in-Put-clause-emits_some : goal.returns-in-Put-clause-emits_some
+returns-in-Put-clause-emits_some g c = (_, emits_then c.item.ensures c.console.ensures)

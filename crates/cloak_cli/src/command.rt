@@ -1,0 +1,113 @@
+//! The top call.
+ghost use Rattle.std.specs.Prelude.{◌≡◌, ◌<◌, ◌-◌, ◌^◌, map, string_bytes};
+ghost use Rattle.cloak_model.specs.Command as spec;
+ghost use Rattle.cloak_model.specs.Joint.{Moment};
+ghost use Rattle.cloak_machine.specs.Standing.{StandsFor, steps_made};
+ghost use Rattle.cloak_cli.specs.Answering.{Answers, KeepsFiles, Records, Refuses, outside};
+
+use crate::outlet::Outlet;
+use crate::prepare::{Refusal, prepare};
+use crate::request::{Request, read_words};
+use crate::run::write_run;
+use crate::run_request::RunRequest;
+use crate::status::Status;
+use cloak_machine::Machine;
+use cloak_model::UsageFault;
+use outside_io::{Shelf, Sink, put_all};
+use std::alloc::Global;
+
+/// Shows a line that refuses, and answers the status, or the write fault.
+fn refuse<O: Sink>(out: &mut O, status: Status, line: &[u8]) -> Status
+    ensures { Refuses (O.taken out.old) (O.taken out.new) (O.faults out.old) (O.faults out.new) status line.now result }
+{
+    match put_all(out, line) {
+        Ok(()) => status,
+        Err(_) => Status::WriteFault,
+    }
+}
+
+/// Shows what is wrong with the words.
+fn refuse_words<O: Sink>(out: &mut O, fault: UsageFault) -> Status
+    ensures { Refuses (O.taken out.old) (O.taken out.new) (O.faults out.old) (O.faults out.new) Status.Usage (spec.usage_line fault) result }
+{
+    match fault {
+        UsageFault::NoCommand => refuse(out, Status::Usage, b"usage: no command\n"),
+        UsageFault::UnknownCommand => refuse(out, Status::Usage, b"usage: unknown command\n"),
+        UsageFault::WrongWords => refuse(out, Status::Usage, b"usage: words\n"),
+        UsageFault::NoRandomness => refuse(out, Status::Usage, b"usage: randomness\n"),
+        UsageFault::WrongNumber => refuse(out, Status::Usage, b"usage: number\n"),
+    }
+}
+
+/// Begins the record of a run and makes it.
+fn record_run<S: Shelf, O: Sink>(
+    machine: Machine,
+    run: &RunRequest<'_>,
+    shelf: &mut S,
+    out: &mut O,
+) -> Status
+    requires { steps_made machine ≡ 0 }
+    ensures { (m : Moment) → StandsFor machine m → Records run.now.record_name.now run.now.steps
+        (outside S.held S.reading_faults S.writing_faults O.taken O.faults shelf.old out.old)
+        (outside S.held S.reading_faults S.writing_faults O.taken O.faults shelf.new out.new) result m }
+{
+    if shelf.begin(run.record_name).is_err() {
+        return Status::WriteFault;
+    }
+    let mut outlet = Outlet {
+        shelf,
+        name: run.record_name,
+        out,
+        failed: false,
+    };
+    let status = write_run(machine, run.steps, &mut outlet);
+    if outlet.failed {
+        return Status::WriteFault;
+    }
+    status
+}
+
+/// Makes the run that is asked for.
+fn run_command<S: Shelf, O: Sink>(
+    alloc: Global,
+    run: &RunRequest<'_>,
+    shelf: &mut S,
+    out: &mut O,
+) -> Status
+    requires reading { S.reading_faults shelf.old < 2 ^ 64 - 1 }
+    requires writing { S.writing_faults shelf.old < 2 ^ 64 - 1 }
+    requires output { O.faults out.old < 2 ^ 64 - 1 }
+    ensures answers { Answers (spec.Run run.now.bundle.now run.now.record_name.now run.now.steps run.now.number)
+        (outside S.held S.reading_faults S.writing_faults O.taken O.faults shelf.old out.old)
+        (outside S.held S.reading_faults S.writing_faults O.taken O.faults shelf.new out.new) result }
+    ensures kept { KeepsFiles (spec.Run run.now.bundle.now run.now.record_name.now run.now.steps run.now.number) (S.held shelf.old) (S.held shelf.new) }
+{
+    match prepare(alloc, run.bundle, run.number, shelf) {
+        Ok(machine) => record_run(machine, run, shelf, out),
+        Err(Refusal::ReadFault) => refuse(out, Status::ReadFault, b"read fault\n"),
+        Err(Refusal::NoMemory) => refuse(out, Status::NoMemory, b"no memory\n"),
+        Err(Refusal::Unbuilt) => refuse(out, Status::Unbuilt, b"unbuilt 0\n"),
+    }
+}
+
+/// Does what the words ask for, with the files of a shelf, and shows it.
+pub fn cloak<S: Shelf, O: Sink>(
+    alloc: Global,
+    words: &Vec<String>,
+    shelf: &mut S,
+    out: &mut O,
+) -> Status
+    requires reading { S.reading_faults shelf.old < 2 ^ 64 - 1 }
+    requires writing { S.writing_faults shelf.old < 2 ^ 64 - 1 }
+    requires output { O.faults out.old < 2 ^ 64 - 1 }
+    ensures answers { Answers (spec.words_of (map string_bytes words.now.items))
+        (outside S.held S.reading_faults S.writing_faults O.taken O.faults shelf.old out.old)
+        (outside S.held S.reading_faults S.writing_faults O.taken O.faults shelf.new out.new) result }
+    ensures kept { KeepsFiles (spec.words_of (map string_bytes words.now.items)) (S.held shelf.old) (S.held shelf.new) }
+{
+    match read_words(words.as_slice()) {
+        Request::NotBuilt => refuse(out, Status::Unbuilt, b"unbuilt 0\n"),
+        Request::Faulty(fault) => refuse_words(out, fault),
+        Request::Run(run) => run_command(alloc, &run, shelf, out),
+    }
+}
