@@ -3,3 +3,4 @@ pub mod Files
 pub mod Outlet
 pub mod Request
 pub mod Running
+pub mod Status

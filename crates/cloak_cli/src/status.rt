@@ -1,3 +1,6 @@
+ghost use Rattle.std.specs.Prelude.{◌≡◌};
+ghost use Rattle.cloak_cli.specs.Status.{exit_number};
+
 /// How a command ended; the program exits with its number.
 #[derive(Clone, Copy, Debug, PartialEq, Eq)]
 pub enum Status {
@@ -11,4 +14,24 @@ pub enum Status {
     NoRandom,
     BadRecord,
     Unbuilt,
+}
+
+impl Status {
+    /// The number that the program exits with.
+    pub fn number(self) -> u8
+        ensures { result ≡ exit_number self }
+    {
+        match self {
+            Status::Done => 0,
+            Status::Violation => 1,
+            Status::Usage => 2,
+            Status::BadBundle => 3,
+            Status::ReadFault => 4,
+            Status::WriteFault => 5,
+            Status::NoMemory => 6,
+            Status::NoRandom => 7,
+            Status::BadRecord => 8,
+            Status::Unbuilt => 9,
+        }
+    }
 }
