@@ -1,9 +1,9 @@
 -- What the commands answer.
-use Rattle.std.proofs.Common.{◌≡◌, ◌<◌, ◌-◌, ◌^◌, ℕ, zero, suc, Bool, true, false, List, [], ◌∷◌, ◌++◌, refl, sym, ◌∙◌, ap, subst, ◌⊎◌, inl, inr, Option, Some, None, IfSome, Result, Ok, Err, OnOk, is_err}
+use Rattle.std.proofs.Common.{◌≡◌, ◌<◌, ◌-◌, ◌^◌, ℕ, zero, suc, Bool, true, false, List, [], refl, sym, ◌∙◌, ap, subst, ◌⊎◌, inl, inr, Option, Some, None, IfSome, Result, Ok, Err, OnOk, is_err}
 use Rattle.cloak_base.specs.declared.causes.Failed.{Failed}
 use Rattle.cloak_base.specs.declared.causes.Stop.{Stop}
 use Rattle.cloak_base.specs.declared.causes.Stop.TheVariants as stop
-use Rattle.outside_io.specs.Told.{Tells, Grows, Rose, Counts, SameFiles, OtherFiles}
+use Rattle.outside_io.specs.Told.{Tells, Grows, Rose, Counts, OtherFiles}
 use Rattle.outside_io.proofs.ToldFacts.{Tells_after, Rose-below}
 use Rattle.cloak_model.specs.declared.outcome.Kernel.{Kernel}
 use Rattle.cloak_model.specs.declared.outcome.Kernel.TheVariants as kernel
@@ -49,8 +49,11 @@ records_failed : (name : List ℕ) (steps : ℕ) (before after : Outside) (held 
 records_failed name steps before after held reading writing pieces m w others same_reading same_writing = record {
   reading = w.reading ∙ same_reading;
   others = λ other apart. w.others other apart ∙ others other apart;
-  outcome = inr (refl, one_rose (record { files = before.writing; output = before.faults }) (record { files = writing; output = before.faults }) (record { files = after.writing; output = after.faults })
-    (ap (λ (n : ℕ). let f : Faults = record { files = n; output = before.faults } in f) same_writing) w.writes.2);
+  outcome = inr (
+    refl,
+    one_rose (record { files = before.writing; output = before.faults }) (record { files = writing; output = before.faults }) (record { files = after.writing; output = after.faults })
+        (ap (λ (n : ℕ). let f : Faults = record { files = n; output = before.faults } in f) same_writing) w.writes.2,
+  );
 }
 
 -- the record was begun, and the run was written whole
@@ -84,11 +87,11 @@ pub recorded_failed : {S O : Type 0} {held : S → List ℕ → Option (List ℕ
 recorded_failed {S} {O} {held} {reading_faults} {writing_faults} {taken} {faults} {first} {now} {pieces} steps old s' o' m gave fresh failed same_shelf same_out others reading writing =
     records_at held reading_faults writing_faults taken faults first.name.now steps (outside held reading_faults writing_faults taken faults old first.out.now) now.shelf.now s' now.out.now o' status.WriteFault m same_shelf same_out
     (records_failed first.name.now steps (outside held reading_faults writing_faults taken faults old first.out.now) (outside held reading_faults writing_faults taken faults now.shelf.now now.out.now)
-      (held first.shelf.now) (reading_faults first.shelf.now) (writing_faults first.shelf.now) pieces m
-      (subst (λ (b : Bool). Wrote b first.name.now (held first.shelf.now) (held now.shelf.now) (reading_faults first.shelf.now) (reading_faults now.shelf.now) (taken first.out.now) (taken now.out.now)
-          (record { files = writing_faults first.shelf.now; output = faults first.out.now }) (record { files = writing_faults now.shelf.now; output = faults now.out.now }) pieces)
-        failed (gave.wrote fresh))
-      others reading writing)
+    (held first.shelf.now) (reading_faults first.shelf.now) (writing_faults first.shelf.now) pieces m
+    (subst (λ (b : Bool). Wrote b first.name.now (held first.shelf.now) (held now.shelf.now) (reading_faults first.shelf.now) (reading_faults now.shelf.now) (taken first.out.now) (taken now.out.now)
+    (record { files = writing_faults first.shelf.now; output = faults first.out.now }) (record { files = writing_faults now.shelf.now; output = faults now.out.now }) pieces)
+    failed (gave.wrote fresh))
+    others reading writing)
 
 -- an outlet over a record that was begun, to which a whole run was given
 pub recorded_whole : {S O : Type 0} {held : S → List ℕ → Option (List ℕ)} {reading_faults writing_faults : S → ℕ} {taken : O → Option (List ℕ)} {faults : O → ℕ} {first now : Outlet S O} {pieces : List Piece} (steps : ℕ) (old s' : S) (o' : O) (given : Status) (m : Moment) →
@@ -99,11 +102,11 @@ pub recorded_whole : {S O : Type 0} {held : S → List ℕ → Option (List ℕ)
 recorded_whole {S} {O} {held} {reading_faults} {writing_faults} {taken} {faults} {first} {now} {pieces} steps old s' o' given m gave fresh well same_shelf same_out others reading writing empty whole is =
     records_at held reading_faults writing_faults taken faults first.name.now steps (outside held reading_faults writing_faults taken faults old first.out.now) now.shelf.now s' now.out.now o' given m same_shelf same_out
     (records_whole first.name.now steps (outside held reading_faults writing_faults taken faults old first.out.now) (outside held reading_faults writing_faults taken faults now.shelf.now now.out.now)
-      (held first.shelf.now) (reading_faults first.shelf.now) (writing_faults first.shelf.now) pieces given m
-      (subst (λ (b : Bool). Wrote b first.name.now (held first.shelf.now) (held now.shelf.now) (reading_faults first.shelf.now) (reading_faults now.shelf.now) (taken first.out.now) (taken now.out.now)
-          (record { files = writing_faults first.shelf.now; output = faults first.out.now }) (record { files = writing_faults now.shelf.now; output = faults now.out.now }) pieces)
-        well (gave.wrote fresh))
-      others reading writing empty whole is)
+    (held first.shelf.now) (reading_faults first.shelf.now) (writing_faults first.shelf.now) pieces given m
+    (subst (λ (b : Bool). Wrote b first.name.now (held first.shelf.now) (held now.shelf.now) (reading_faults first.shelf.now) (reading_faults now.shelf.now) (taken first.out.now) (taken now.out.now)
+    (record { files = writing_faults first.shelf.now; output = faults first.out.now }) (record { files = writing_faults now.shelf.now; output = faults now.out.now }) pieces)
+    well (gave.wrote fresh))
+    others reading writing empty whole is)
 
 -- why a step of the kernel stops a run
 IsKernelStop : Option Stop → Type 0

@@ -1,5 +1,5 @@
 -- Which words are numbers.
-use Rattle.std.proofs.Common.{◌≡◌, ◌<◌, ◌≤◌, ℕ, ◌+◌, ◌-◌, ◌*◌, Bool, true, false, ◌&&◌, nat_lt, nat_le, List, [], ◌∷◌, length, fold, get_or, drop, drop-cons, add-one, refl, sym, ◌∙◌, ap, subst, arith, Option, Some, None, if◌then◌else◌}
+use Rattle.std.proofs.Common.{◌≡◌, ◌<◌, ◌≤◌, ℕ, ◌+◌, ◌-◌, ◌*◌, Bool, true, false, ◌&&◌, nat_le, List, [], ◌∷◌, length, fold, get_or, drop, drop-cons, add-one, refl, sym, ◌∙◌, ap, arith, Some, None, if◌then◌else◌}
 use Rattle.std.proofs.lemmas.Bool.Decides.{nat_tests}
 use Rattle.std.specs.Str.{all_ascii_digits}
 use Rattle.cloak_model.specs.Command.{decimal_value, number_up_to}
@@ -22,8 +22,8 @@ pub past_limit : (limit value i : ℕ) (digits word : List ℕ) → digits ≡ w
 past_limit limit value i digits word same so_far more past =
     let split : drop i digits ≡ get_or digits i 0 ∷ drop (i + 1) digits = rw add-one (drop-cons digits i 0 more) in
     let whole : fold (λ n c. 10 * n + (c - 48)) (10 * value + (get_or digits i 0 - 48)) (drop (i + 1) digits) ≡ decimal_value digits =
-        ap (fold (λ n c. 10 * n + (c - 48)) value) (sym split) ∙ so_far in
+    ap (fold (λ n c. 10 * n + (c - 48)) value) (sym split) ∙ so_far in
     let large : limit < decimal_value word =
-        let rest = fold_le (10 * value + (get_or digits i 0 - 48)) (drop (i + 1) digits) in
-        let named = ap decimal_value same in omega (arith, rest, whole, named, past) in
+    let rest = fold_le (10 * value + (get_or digits i 0 - 48)) (drop (i + 1) digits) in
+    let named = ap decimal_value same in omega (arith, rest, whole, named, past) in
     last_fails (nat_le 1 (length word)) (nat_le (length word) 20) (all_ascii_digits word) (nat_le (decimal_value word) limit) (decimal_value word) (grind (arith, nat_tests))

@@ -1,12 +1,12 @@
 -- What an outlet wrote, piece by piece.
-use Rattle.std.proofs.Common.{◌≡◌, ◌≢◌, ℕ, Bool, true, false, List, [], ◌∷◌, ◌++◌, refl, sym, ◌∙◌, ap, subst, append_assoc, inl, inr, Option, Result, Ok, Err, OnOk, OnErr, is_err}
+use Rattle.std.proofs.Common.{◌≡◌, ℕ, Bool, true, false, List, [], ◌∷◌, ◌++◌, refl, sym, ◌∙◌, ap, subst, append_assoc, inl, inr, Option, Result, Ok, Err, OnOk, OnErr, is_err}
 use Rattle.std.proofs.lemmas.List.{append-nil}
 use Rattle.cloak_base.specs.declared.causes.Failed.{Failed}
 use Rattle.outside_io.specs.Told.{Puts, Grows, GrowsByFront, Rose, Counts, OtherFiles}
 use Rattle.outside_io.proofs.ToldFacts.{Grows-none, Grows-append, GrowsByFront-append, GrowsByFront-first, GrowsByFront-whole}
 use Rattle.cloak_model.specs.Exchange.{Piece, recorded, shown, recorded_bytes, shown_bytes, Emits}
 use Rattle.cloak_cli.specs.declared.outlet.Outlet.{Outlet}
-use Rattle.cloak_cli.specs.Outlet.{Faults, OneRose, Writes, Wrote, Gave}
+use Rattle.cloak_cli.specs.Outlet.{Faults, Writes, Wrote, Gave}
 
 pub recorded_bytes-append : (ps qs : List Piece) → recorded_bytes (ps ++ qs) ≡ recorded_bytes ps ++ recorded_bytes qs
 recorded_bytes-append [] qs = refl
@@ -72,20 +72,22 @@ writes_shown (Err e) file file' output mid output' before now faults ps bytes w 
 -- an outlet that failed takes pieces and does nothing
 pub emits_none : {S O : Type 0} (held : S → List ℕ → Option (List ℕ)) (reading_faults writing_faults : S → ℕ) (taken : O → Option (List ℕ)) (faults : O → ℕ) (o : Outlet S O) (ps : List Piece) →
     o.failed ≡ true → Emits (Gave held reading_faults writing_faults taken faults) o o ps
-emits_none {S} {O} held reading_faults writing_faults taken faults o ps failed = record { more = λ first before gave. record {
-  shelf = gave.shelf;
-  output = gave.output;
-  name = gave.name;
-  wrote = λ fresh. let w = gave.wrote fresh in record {
-    writes = subst (λ (b : Bool). Writes b (held first.shelf.now first.name.now) (held o.shelf.now first.name.now) (taken first.out.now) (taken o.out.now)
-        (record { files = writing_faults first.shelf.now; output = faults first.out.now }) (record { files = writing_faults o.shelf.now; output = faults o.out.now }) (before ++ ps))
-      (sym failed) (writes_none _ _ _ _ _ _ before ps
-        (subst (λ (b : Bool). Writes b (held first.shelf.now first.name.now) (held o.shelf.now first.name.now) (taken first.out.now) (taken o.out.now)
+emits_none {S} {O} held reading_faults writing_faults taken faults o ps failed = record {
+  more = λ first before gave. record {
+    shelf = gave.shelf;
+    output = gave.output;
+    name = gave.name;
+    wrote = λ fresh. let w = gave.wrote fresh in record {
+      writes = subst (λ (b : Bool). Writes b (held first.shelf.now first.name.now) (held o.shelf.now first.name.now) (taken first.out.now) (taken o.out.now)
+          (record { files = writing_faults first.shelf.now; output = faults first.out.now }) (record { files = writing_faults o.shelf.now; output = faults o.out.now }) (before ++ ps))
+          (sym failed) (writes_none _ _ _ _ _ _ before ps
+          (subst (λ (b : Bool). Writes b (held first.shelf.now first.name.now) (held o.shelf.now first.name.now) (taken first.out.now) (taken o.out.now)
           (record { files = writing_faults first.shelf.now; output = faults first.out.now }) (record { files = writing_faults o.shelf.now; output = faults o.out.now }) before) failed w.writes));
-    others = w.others;
-    reading = w.reading;
+      others = w.others;
+      reading = w.reading;
+    };
   };
-} }
+}
 
 -- a piece that was appended to the record
 pub emits_recorded : {S O : Type 0} (held : S → List ℕ → Option (List ℕ)) (reading_faults writing_faults : S → ℕ) (taken : O → Option (List ℕ)) (faults : O → ℕ) (old new : Outlet S O) (bytes : List ℕ) (r : Result Unit Failed) →
@@ -97,30 +99,32 @@ pub emits_recorded : {S O : Type 0} (held : S → List ℕ → Option (List ℕ)
     reading_faults new.shelf.now ≡ reading_faults old.shelf.now →
     Emits (Gave held reading_faults writing_faults taken faults) old new (recorded bytes ∷ [])
 emits_recorded {S} {O} held reading_faults writing_faults taken faults old new bytes r fresh failed shelf out name ok err others writing reading =
-  record { more = λ first before gave.
-    let same : old.name.now ≡ first.name.now = ap (λ (n : _). n.now) gave.name in
-    let start : Faults = record { files = writing_faults first.shelf.now; output = faults first.out.now } in
-    let held_first = held first.shelf.now first.name.now in
-    let held_old = held old.shelf.now first.name.now in
-    let held_new = held new.shelf.now first.name.now in
-    let pieces : List Piece = before ++ recorded bytes ∷ [] in
     record {
-      shelf = shelf ∙ gave.shelf;
-      output = ap (λ (o : _). o.ghost_name) out ∙ gave.output;
-      name = name ∙ gave.name;
-      wrote = λ begun. let w = gave.wrote begun in record {
-        writes =
-          subst (λ (b : Bool). Writes b held_first held_new (taken first.out.now) (taken new.out.now) start (record { files = writing_faults new.shelf.now; output = faults new.out.now }) pieces) (sym failed)
-          (subst (λ (o : _). Writes (is_err r) held_first held_new (taken first.out.now) (taken o.now) start (record { files = writing_faults new.shelf.now; output = faults o.now }) pieces) (sym out)
-          (writes_recorded r held_first held_old held_new (taken first.out.now) (taken old.out.now) start (record { files = writing_faults old.shelf.now; output = faults old.out.now }) (writing_faults new.shelf.now) before bytes
-            (subst (λ (b : Bool). Writes b held_first held_old (taken first.out.now) (taken old.out.now) start (record { files = writing_faults old.shelf.now; output = faults old.out.now }) before) fresh w.writes)
-            (subst (λ (n : List ℕ). OnOk r (Grows (held old.shelf.now n) (held new.shelf.now n) bytes)) same ok)
-            (subst (λ (n : List ℕ). OnErr r (GrowsByFront (held old.shelf.now n) (held new.shelf.now n) bytes)) same err)
-            writing));
-        others = λ other apart. others other (λ e. apart (e ∙ same)) ∙ w.others other apart;
-        reading = reading ∙ w.reading;
-      };
-    } }
+      more = λ first before gave.
+          let same : old.name.now ≡ first.name.now = ap (λ (n : _). n.now) gave.name in
+          let start : Faults = record { files = writing_faults first.shelf.now; output = faults first.out.now } in
+          let held_first = held first.shelf.now first.name.now in
+          let held_old = held old.shelf.now first.name.now in
+          let held_new = held new.shelf.now first.name.now in
+          let pieces : List Piece = before ++ recorded bytes ∷ [] in
+          record {
+            shelf = shelf ∙ gave.shelf;
+            output = ap (λ (o : _). o.ghost_name) out ∙ gave.output;
+            name = name ∙ gave.name;
+            wrote = λ begun. let w = gave.wrote begun in record {
+              writes =
+                  subst (λ (b : Bool). Writes b held_first held_new (taken first.out.now) (taken new.out.now) start (record { files = writing_faults new.shelf.now; output = faults new.out.now }) pieces) (sym failed)
+                  (subst (λ (o : _). Writes (is_err r) held_first held_new (taken first.out.now) (taken o.now) start (record { files = writing_faults new.shelf.now; output = faults o.now }) pieces) (sym out)
+                  (writes_recorded r held_first held_old held_new (taken first.out.now) (taken old.out.now) start (record { files = writing_faults old.shelf.now; output = faults old.out.now }) (writing_faults new.shelf.now) before bytes
+                  (subst (λ (b : Bool). Writes b held_first held_old (taken first.out.now) (taken old.out.now) start (record { files = writing_faults old.shelf.now; output = faults old.out.now }) before) fresh w.writes)
+                  (subst (λ (n : List ℕ). OnOk r (Grows (held old.shelf.now n) (held new.shelf.now n) bytes)) same ok)
+                  (subst (λ (n : List ℕ). OnErr r (GrowsByFront (held old.shelf.now n) (held new.shelf.now n) bytes)) same err)
+                  writing));
+              others = λ other apart. others other (λ e. apart (e ∙ same)) ∙ w.others other apart;
+              reading = reading ∙ w.reading;
+            };
+          };
+    }
 
 -- a piece that was put to the output
 pub emits_shown : {S O : Type 0} (held : S → List ℕ → Option (List ℕ)) (reading_faults writing_faults : S → ℕ) (taken : O → Option (List ℕ)) (faults : O → ℕ) (old new : Outlet S O) (bytes : List ℕ) (r : Result Unit Failed) →
@@ -130,26 +134,28 @@ pub emits_shown : {S O : Type 0} (held : S → List ℕ → Option (List ℕ)) (
     Counts (faults old.out.now) (faults new.out.now) r →
     Emits (Gave held reading_faults writing_faults taken faults) old new (shown bytes ∷ [])
 emits_shown {S} {O} held reading_faults writing_faults taken faults old new bytes r fresh failed out shelf name ok err counts =
-  record { more = λ first before gave.
-    let start : Faults = record { files = writing_faults first.shelf.now; output = faults first.out.now } in
-    let held_first = held first.shelf.now first.name.now in
-    let pieces : List Piece = before ++ shown bytes ∷ [] in
     record {
-      shelf = ap (λ (s : _). s.ghost_name) shelf ∙ gave.shelf;
-      output = out ∙ gave.output;
-      name = name ∙ gave.name;
-      wrote = λ begun. let w = gave.wrote begun in
-        subst (λ (s : _). Wrote new.failed first.name.now (held first.shelf.now) (held s.now) (reading_faults first.shelf.now) (reading_faults s.now) (taken first.out.now) (taken new.out.now) start (record { files = writing_faults s.now; output = faults new.out.now }) pieces) (sym shelf)
-        (record {
-          writes =
-            subst (λ (b : Bool). Writes b held_first (held old.shelf.now first.name.now) (taken first.out.now) (taken new.out.now) start (record { files = writing_faults old.shelf.now; output = faults new.out.now }) pieces) (sym failed)
-            (writes_shown r held_first (held old.shelf.now first.name.now) (taken first.out.now) (taken old.out.now) (taken new.out.now) start (record { files = writing_faults old.shelf.now; output = faults old.out.now }) (faults new.out.now) before bytes
-              (subst (λ (b : Bool). Writes b held_first (held old.shelf.now first.name.now) (taken first.out.now) (taken old.out.now) start (record { files = writing_faults old.shelf.now; output = faults old.out.now }) before) fresh w.writes)
-              ok err counts);
-          others = w.others;
-          reading = w.reading;
-        });
-    } }
+      more = λ first before gave.
+          let start : Faults = record { files = writing_faults first.shelf.now; output = faults first.out.now } in
+          let held_first = held first.shelf.now first.name.now in
+          let pieces : List Piece = before ++ shown bytes ∷ [] in
+          record {
+            shelf = ap (λ (s : _). s.ghost_name) shelf ∙ gave.shelf;
+            output = out ∙ gave.output;
+            name = name ∙ gave.name;
+            wrote = λ begun. let w = gave.wrote begun in
+                subst (λ (s : _). Wrote new.failed first.name.now (held first.shelf.now) (held s.now) (reading_faults first.shelf.now) (reading_faults s.now) (taken first.out.now) (taken new.out.now) start (record { files = writing_faults s.now; output = faults new.out.now }) pieces) (sym shelf)
+                (record {
+                  writes =
+                      subst (λ (b : Bool). Writes b held_first (held old.shelf.now first.name.now) (taken first.out.now) (taken new.out.now) start (record { files = writing_faults old.shelf.now; output = faults new.out.now }) pieces) (sym failed)
+                      (writes_shown r held_first (held old.shelf.now first.name.now) (taken first.out.now) (taken old.out.now) (taken new.out.now) start (record { files = writing_faults old.shelf.now; output = faults old.out.now }) (faults new.out.now) before bytes
+                      (subst (λ (b : Bool). Writes b held_first (held old.shelf.now first.name.now) (taken first.out.now) (taken old.out.now) start (record { files = writing_faults old.shelf.now; output = faults old.out.now }) before) fresh w.writes)
+                      ok err counts);
+                  others = w.others;
+                  reading = w.reading;
+                });
+          };
+    }
 
 -- pieces with the same bytes are written alike
 writes_same : (failed : Bool) (file file' output output' : Option (List ℕ)) (before now : Faults) (ps qs : List Piece) →
@@ -170,20 +176,22 @@ Puts-parts old new before now text (Err e) puts = (tt, puts.0, puts.1)
 pub emits_same : {S O : Type 0} {held : S → List ℕ → Option (List ℕ)} {reading_faults writing_faults : S → ℕ} {taken : O → Option (List ℕ)} {faults : O → ℕ} {old new : Outlet S O} {ps : List Piece} (qs : List Piece) →
     Emits (Gave held reading_faults writing_faults taken faults) old new ps → recorded_bytes ps ≡ recorded_bytes qs → shown_bytes ps ≡ shown_bytes qs →
     Emits (Gave held reading_faults writing_faults taken faults) old new qs
-emits_same {S} {O} {held} {reading_faults} {writing_faults} {taken} {faults} {old} {new} {ps} qs emits same_record same_output = record { more = λ first before gave.
-    let now = emits.more first before gave in
-    let rs = recorded_bytes-append before ps ∙ ap (λ (l : List ℕ). recorded_bytes before ++ l) same_record ∙ sym (recorded_bytes-append before qs) in
-    let ss = shown_bytes-append before ps ∙ ap (λ (l : List ℕ). shown_bytes before ++ l) same_output ∙ sym (shown_bytes-append before qs) in
-    record {
-      shelf = now.shelf;
-      output = now.output;
-      name = now.name;
-      wrote = λ begun. let w = now.wrote begun in record {
-        writes = writes_same _ _ _ _ _ _ _ (before ++ ps) (before ++ qs) rs ss w.writes;
-        others = w.others;
-        reading = w.reading;
+emits_same {S} {O} {held} {reading_faults} {writing_faults} {taken} {faults} {old} {new} {ps} qs emits same_record same_output = record {
+  more = λ first before gave.
+      let now = emits.more first before gave in
+      let rs = recorded_bytes-append before ps ∙ ap (λ (l : List ℕ). recorded_bytes before ++ l) same_record ∙ sym (recorded_bytes-append before qs) in
+      let ss = shown_bytes-append before ps ∙ ap (λ (l : List ℕ). shown_bytes before ++ l) same_output ∙ sym (shown_bytes-append before qs) in
+      record {
+        shelf = now.shelf;
+        output = now.output;
+        name = now.name;
+        wrote = λ begun. let w = now.wrote begun in record {
+          writes = writes_same _ _ _ _ _ _ _ (before ++ ps) (before ++ qs) rs ss w.writes;
+          others = w.others;
+          reading = w.reading;
+        };
       };
-    } }
+}
 
 -- an outlet to which nothing was given yet
 gave_start : {S O : Type 0} (held : S → List ℕ → Option (List ℕ)) (reading_faults writing_faults : S → ℕ) (taken : O → Option (List ℕ)) (faults : O → ℕ) (o : Outlet S O) →
@@ -195,7 +203,7 @@ gave_start held reading_faults writing_faults taken faults o = record {
   wrote = λ fresh. record {
     writes = subst (λ (b : Bool). Writes b (held o.shelf.now o.name.now) (held o.shelf.now o.name.now) (taken o.out.now) (taken o.out.now)
         (record { files = writing_faults o.shelf.now; output = faults o.out.now }) (record { files = writing_faults o.shelf.now; output = faults o.out.now }) [])
-      (sym fresh) (Grows-none (held o.shelf.now o.name.now), Grows-none (taken o.out.now), refl);
+        (sym fresh) (Grows-none (held o.shelf.now o.name.now), Grows-none (taken o.out.now), refl);
     others = λ other apart. refl;
     reading = refl;
   };

@@ -1,12 +1,10 @@
 -- Why there is no machine.
-use Rattle.std.proofs.Common.{◌≡◌, ◌≢◌, ℕ, Bool, true, false, List, [], Option, Some, None, Result, Ok, Err, IfOk, IfErr, ◌⊎◌, inl, inr, sym, ◌∙◌, subst}
+use Rattle.std.proofs.Common.{◌≡◌, ℕ, Bool, true, false, List, None, Err, ◌⊎◌, inl, inr, sym, ◌∙◌, subst}
 use Rattle.cloak_base.specs.Random.{Random, next_draw, numbered}
 use Rattle.cloak_model.specs.declared.image.Bundle.{Bundle}
 use Rattle.cloak_model.specs.Bundle.{IsBundle}
-use Rattle.cloak_model.specs.Joint.{Moment, opening, opened}
+use Rattle.cloak_model.specs.Joint.{opening, opened}
 use Rattle.guest_bundle.specs.Words.{HasWords}
-use Rattle.guest_bundle.specs.declared.fault.BundleFault.{BundleFault}
-use Rattle.cloak_machine.specs.declared.machine.Machine.{Machine}
 use Rattle.cloak_machine.specs.declared.machine.OpenFault.{OpenFault}
 use Rattle.cloak_machine.specs.declared.machine.OpenFault.TheVariants as fault
 use Rattle.cloak_machine.specs.Standing.{Opens}

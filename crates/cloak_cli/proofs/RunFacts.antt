@@ -1,5 +1,5 @@
 -- The steps of a run, one after another.
-use Rattle.std.proofs.Common.{◌≡◌, ◌≤◌, ◌<◌, ℕ, zero, suc, ◌+◌, ◌-◌, Bool, true, false, List, [], ◌∷◌, ◌++◌, refl, sym, ◌∙◌, ap, subst, append_assoc, add-one, arith, Option, Some, None}
+use Rattle.std.proofs.Common.{◌≡◌, ◌<◌, ℕ, zero, suc, ◌+◌, ◌-◌, Bool, true, false, List, [], ◌∷◌, ◌++◌, refl, sym, ◌∙◌, ap, subst, append_assoc, add-one, arith, Option, Some, None}
 use Rattle.std.proofs.lemmas.List.{append-nil}
 use Rattle.cloak_base.specs.declared.causes.Stop.{Stop}
 use Rattle.cloak_model.specs.Exchange.{Piece, recorded, shown, record_magic, Emits}
@@ -8,7 +8,7 @@ use Rattle.cloak_model.specs.Due.{steps_after, one_more, and_then_step, cause_of
 use Rattle.cloak_machine.specs.declared.machine.Machine.{Machine}
 use Rattle.cloak_machine.specs.Standing.{StandsFor, MakesStep}
 use Rattle.cloak_cli.specs.declared.status.Status.{Status}
-use Rattle.cloak_cli.specs.Running.{IsWhole, RunsSteps, WritesRun, status_of}
+use Rattle.cloak_cli.specs.Running.{RunsSteps, WritesRun, status_of}
 
 -- these steps were emitted, none stopped the run, and the machine stands at their end
 pub record GoesOn {E : Type 0} (gave : E → E → List Piece → Type 0) (e e' : E) (machine : Machine) (made : ℕ) (m : Moment) : Type 0 where
@@ -54,8 +54,10 @@ goes_on-start {E} gave e machine m stands = record {
 
 -- pieces, and then others
 pub emits_then : {E : Type 0} {gave : E → E → List Piece → Type 0} {e f h : E} {ps qs : List Piece} → Emits gave e f ps → Emits gave f h qs → Emits gave e h (ps ++ qs)
-emits_then {E} {gave} {e} {f} {h} {ps} {qs} first second = record { more = λ start before given.
-    subst (λ (pieces : List Piece). gave start h pieces) (append_assoc before ps qs) (second.more start (before ++ ps) (first.more start before given)) }
+emits_then {E} {gave} {e} {f} {h} {ps} {qs} first second = record {
+  more = λ start before given.
+      subst (λ (pieces : List Piece). gave start h pieces) (append_assoc before ps qs) (second.more start (before ++ ps) (first.more start before given));
+}
 
 -- one step more
 after_more : {E : Type 0} (gave : E → E → List Piece → Type 0) (e f h : E) (old new : Machine) (given : Option Stop) (n : ℕ) (m : Moment) →
@@ -133,7 +135,7 @@ writes-concluded gave mid_failed failed e f h i machine stopped given budget m f
       emits = emits_then (emits_then first runs.emits) (last s.moment w.stands);
       whole = λ unfailed. (
         subst (λ (c : Option Stop). recorded record_magic ∷ (s.pieces ++ written_last (cause_of stopped) s.moment) ≡ recorded record_magic ∷ (s.pieces ++ written_last (cause_of c) s.moment)) w.stop refl
-        ∙ ap (λ (t : Stepped). recorded record_magic ∷ (t.pieces ++ written_last (cause_of t.stop) t.moment)) (sym w.all),
+            ∙ ap (λ (t : Stepped). recorded record_magic ∷ (t.pieces ++ written_last (cause_of t.stop) t.moment)) (sym w.all),
         is ∙ ap (λ (c : Option Stop). status_of (cause_of c)) (w.stop ∙ ap (λ (t : Stepped). t.stop) (sym w.all)),
       );
     }

@@ -34,6 +34,6 @@ pub record Gave {S O : Type 0} (held : S → List ℕ → Option (List ℕ)) (re
   pub output : now.out.ghost_name ≡ first.out.ghost_name
   pub name : now.name ≡ first.name
   pub wrote : first.failed ≡ false → Wrote now.failed first.name.now (held first.shelf.now) (held now.shelf.now)
-    (reading_faults first.shelf.now) (reading_faults now.shelf.now) (taken first.out.now) (taken now.out.now)
-    (record { files = writing_faults first.shelf.now; output = faults first.out.now })
-    (record { files = writing_faults now.shelf.now; output = faults now.out.now }) pieces
+      (reading_faults first.shelf.now) (reading_faults now.shelf.now) (taken first.out.now) (taken now.out.now)
+      (record { files = writing_faults first.shelf.now; output = faults first.out.now })
+      (record { files = writing_faults now.shelf.now; output = faults now.out.now }) pieces

@@ -3,7 +3,7 @@ use Rattle.std.specs.Prelude.{ℕ, ◌≡◌, Bool, false, List, Option}
 use Rattle.cloak_base.specs.declared.causes.Stop.{Stop}
 use Rattle.cloak_base.specs.declared.causes.Stop.TheVariants as stop
 use Rattle.cloak_model.specs.Exchange.{Piece, Emits}
-use Rattle.cloak_model.specs.Joint.{Moment, Stepped}
+use Rattle.cloak_model.specs.Joint.{Moment}
 use Rattle.cloak_model.specs.Due.{steps_after, cause_of, due}
 use Rattle.cloak_machine.specs.declared.machine.Machine.{Machine}
 use Rattle.cloak_machine.specs.Standing.{StandsFor}

@@ -15,6 +15,8 @@ mod request;
 mod run;
 mod run_request;
 mod status;
+#[cfg(test)]
+mod tests;
 
 use crate::command::cloak;
 use crate::status::Status;

@@ -58,7 +58,9 @@ fn run_words<'a>(words: &'a [String]) -> Request<'a>
 {
     match words {
         [bundle, record_name, option, text] => {
-            if is_option(bundle.as_str()) || is_option(record_name.as_str()) || is_option(text.as_str())
+            if is_option(bundle.as_str())
+                || is_option(record_name.as_str())
+                || is_option(text.as_str())
             {
                 return Request::Faulty(UsageFault::WrongWords);
             }
@@ -76,10 +78,20 @@ fn run_words<'a>(words: &'a [String]) -> Request<'a>
                 return Request::Faulty(UsageFault::WrongWords);
             }
             if first.as_str() == "--steps" && second.as_str() == "--number" {
-                return run_of_texts(bundle.as_str(), record_name.as_str(), text.as_str(), other.as_str());
+                return run_of_texts(
+                    bundle.as_str(),
+                    record_name.as_str(),
+                    text.as_str(),
+                    other.as_str(),
+                );
             }
             if first.as_str() == "--number" && second.as_str() == "--steps" {
-                return run_of_texts(bundle.as_str(), record_name.as_str(), other.as_str(), text.as_str());
+                return run_of_texts(
+                    bundle.as_str(),
+                    record_name.as_str(),
+                    other.as_str(),
+                    text.as_str(),
+                );
             }
             Request::Faulty(UsageFault::WrongWords)
         }

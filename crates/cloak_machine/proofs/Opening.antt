@@ -1,10 +1,8 @@
 -- The opening of a run, by the first draw.
-use Rattle.std.proofs.Common.{◌≡◌, ◌<◌, ◌+◌, ℕ, zero, suc, List, [], ◌∷◌, ◌++◌, length, Option, Some, None, refl, sym, ◌∙◌, ap, subst, arith, length-append, All, slice_index_or}
+use Rattle.std.proofs.Common.{◌≡◌, ◌<◌, ℕ, zero, suc, List, [], ◌∷◌, length, Some, None, refl, arith, length-append, All}
 use Rattle.cloak_base.specs.Random.{Random, next_draw}
 use Rattle.cloak_model.specs.declared.image.Bundle.{Bundle}
 use Rattle.cloak_model.specs.Hart.{Hart, started}
-use Rattle.cloak_model.specs.Bundle.{IsInGrammar}
-use Rattle.cloak_model.specs.Parts.{KernelPart}
 use Rattle.cloak_model.specs.Joint.{Moment, opening, opened, started_harts, started_kernel, started_ledger}
 
 -- there is no run without a key

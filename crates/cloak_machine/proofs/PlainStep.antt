@@ -4,7 +4,7 @@ use Rattle.rv_isa.specs.Table.{instruction}
 use Rattle.rv_isa.specs.declared.instr.Instr.{Instr}
 use Rattle.cloak_model.specs.Hart.{Hart}
 use Rattle.cloak_model.specs.Memory.{is_in_ram, word_at}
-use Rattle.cloak_model.specs.World.{World, Flat}
+use Rattle.cloak_model.specs.World.{Flat}
 use Rattle.cloak_model.specs.Asking.{Told}
 use Rattle.cloak_model.specs.Ask.{ask_translate, ask_word}
 use Rattle.cloak_model.specs.KernelStep.{Made, kernel_step, fetched, taken, decoded, unbuilt, executed}

@@ -5,28 +5,33 @@ use Rattle.std.specs.List.{concat}
 use Rattle.cloak_model.specs.Hart.{Hart}
 use Rattle.cloak_model.specs.Report.{hexadecimal, words_text, hart_lines, harts_lines}
 use Rattle.cloak_base.specs.declared.causes.Failed.{Failed}
-use Rattle.outside_io.specs.Told.{Grows, GrowsByFront, Rose, Counts, Puts}
+use Rattle.outside_io.specs.Told.{Grows, GrowsByFront, Counts, Puts}
 use Rattle.outside_io.proofs.ToldFacts.{Grows-none, Grows-append, GrowsByFront-append, GrowsByFront-first, Rose-after}
 use Rattle.cloak_machine.specs.Putting.{PutsMore}
 
 -- one text after another
 pub then : {a b c : Option (List ℕ)} {l m n : ℕ} {r s t : Result Unit Failed} {x y : List ℕ} →
     PutsMore a l r b m s x → PutsMore b m s c n t y → PutsMore a l r c n t (x ++ y)
-then {a} {b} {c} {l} {m} {n} {r} {s} {t} {x} {y} first second = record { more = λ told count texts before.
-    subst (λ (whole : List ℕ). Puts told c count n whole t) (append_assoc texts x y) (second.more told count (texts ++ x) (first.more told count texts before)) }
+then {a} {b} {c} {l} {m} {n} {r} {s} {t} {x} {y} first second = record {
+  more = λ told count texts before.
+      subst (λ (whole : List ℕ). Puts told c count n whole t) (append_assoc texts x y) (second.more told count (texts ++ x) (first.more told count texts before));
+}
 
 -- nothing more
 pub PutsMore-none : (a : Option (List ℕ)) (n : ℕ) (r : Result Unit Failed) → PutsMore a n r a n r []
 PutsMore-none a n r = record { more = λ told count texts before. subst (λ (whole : List ℕ). Puts told a count n whole r) (sym (append-nil texts)) before }
 
-
 -- a text behind those that were put
 PutsMore-put : (a b : Option (List ℕ)) (m n : ℕ) (u : Unit) (s : Result Unit Failed) (text : List ℕ) →
     OnOk s (Grows a b text) → OnErr s (GrowsByFront a b text) → Counts m n s → PutsMore a m (Ok u) b n s text
-PutsMore-put a b m n u (Ok v) text grows front counts = record { more = λ told count texts before.
-    (Grows-append told a b texts text before.0 grows, counts ∙ before.1) }
-PutsMore-put a b m n u (Err e) text grows front counts = record { more = λ told count texts before.
-    (GrowsByFront-append told a b texts text before.0 front, Rose-after count m n before.1 counts) }
+PutsMore-put a b m n u (Ok v) text grows front counts = record {
+  more = λ told count texts before.
+      (Grows-append told a b texts text before.0 grows, counts ∙ before.1);
+}
+PutsMore-put a b m n u (Err e) text grows front counts = record {
+  more = λ told count texts before.
+      (GrowsByFront-append told a b texts text before.0 front, Rose-after count m n before.1 counts);
+}
 
 -- the same, where all is well so far
 pub put_behind : {a b : Option (List ℕ)} {m n : ℕ} {u : Unit} {r s : Result Unit Failed} {text : List ℕ} → r ≡ Ok u →
@@ -40,7 +45,6 @@ PutsMore-failed a n e text = record { more = λ told count texts before. (GrowsB
 -- from the first text on
 pub Puts-all : (a b : Option (List ℕ)) (m n : ℕ) (r : Result Unit Failed) (text : List ℕ) → PutsMore a m (Ok tt) b n r text → Puts a b m n text r
 Puts-all a b m n r text puts = puts.more a m [] (Grows-none a, refl)
-
 
 -- the same text under another name
 pub text_is : {a b : Option (List ℕ)} {m n : ℕ} {r s : Result Unit Failed} {x y : List ℕ} → PutsMore a m r b n s x → x ≡ y → PutsMore a m r b n s y

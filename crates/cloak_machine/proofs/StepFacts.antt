@@ -1,15 +1,14 @@
 -- A step of the machine, by how the hart's step ended.
-use Rattle.std.proofs.Common.{◌≡◌, ◌<◌, ℕ, ◌+◌, ◌%◌, List, [], ◌∷◌, ◌++◌, length, get_or, slice_index, slice_index_or, slice_set, All, append_assoc, refl, sym, ◌∙◌, ap, subst, Option}
+use Rattle.std.proofs.Common.{◌≡◌, ◌<◌, ℕ, ◌+◌, ◌%◌, List, [], ◌∷◌, ◌++◌, length, get_or, slice_index, slice_index_or, slice_set, All, append_assoc, refl, sym, ◌∙◌, ap, subst}
 use Rattle.std.proofs.Math.Nat.{mod-lt}
 use Rattle.std.proofs.lemmas.List.{append-nil, get_or_default, get_or_read_under}
-use Rattle.cloak_base.specs.declared.causes.Stop.{Stop}
 use Rattle.cloak_model.specs.Hart.{Hart, started}
-use Rattle.cloak_model.specs.World.{World, Flat}
+use Rattle.cloak_model.specs.World.{Flat}
 use Rattle.cloak_model.specs.Asking.{Told}
 use Rattle.cloak_model.specs.KernelStep.{Made, kernel_step}
 use Rattle.cloak_model.specs.declared.outcome.Kernel.{Kernel}
 use Rattle.cloak_model.specs.declared.item.Item.TheVariants.{Step}
-use Rattle.cloak_model.specs.Exchange.{Piece, recorded, shown, item_bytes, Emits}
+use Rattle.cloak_model.specs.Exchange.{Piece, recorded, item_bytes, Emits}
 use Rattle.cloak_model.specs.Joint.{Moment, Stepped, joint_step, outside_step, next_hart, hart_at, console_byte, stop_of, shown_each}
 use Rattle.cloak_machine.specs.Console.{Shows}
 use Rattle.cloak_machine.specs.declared.console.Console.{Console}
@@ -87,7 +86,7 @@ pub step_made : {E : Type 0} (gave : E → E → List Piece → Type 0) (e e' : 
 step_made {E} gave e e' old new m number h h' k stands turn there is made emits left console =
     let told : Told Made = record { answer = record { hart = h'; ending = k }; world = Flat m.joint.kernel.ram } in
     let over : kernel_step h (Flat m.joint.kernel.ram) ≡ told =
-        subst (λ (ram : List (List ℕ)). kernel_step h (Flat ram) ≡ record { answer = record { hart = h'; ending = k }; world = Flat ram }) stands.ram made in
+    subst (λ (ram : List (List ℕ)). kernel_step h (Flat ram) ≡ record { answer = record { hart = h'; ending = k }; world = Flat ram }) stands.ram made in
     let step = joint_step-made m number h told (turn_of old m number stands turn) (hart_of old m number h stands there is) over in
     subst (λ (s : Stepped). MakesStep gave e e' new (stop_of k) s) (sym step) (record {
       emits = subst (λ (pieces : List Piece). Emits gave e e' pieces) (sym (pieces_of m number h' k old.steps stands.steps)) emits;
@@ -120,5 +119,7 @@ step_read h h' k frames read same made =
 
 -- pieces, and then others
 pub emits_then : {E : Type 0} {gave : E → E → List Piece → Type 0} {e f h : E} {ps qs : List Piece} → Emits gave e f ps → Emits gave f h qs → Emits gave e h (ps ++ qs)
-emits_then {E} {gave} {e} {f} {h} {ps} {qs} first second = record { more = λ start before given.
-    subst (λ (pieces : List Piece). gave start h pieces) (append_assoc before ps qs) (second.more start (before ++ ps) (first.more start before given)) }
+emits_then {E} {gave} {e} {f} {h} {ps} {qs} first second = record {
+  more = λ start before given.
+      subst (λ (pieces : List Piece). gave start h pieces) (append_assoc before ps qs) (second.more start (before ++ ps) (first.more start before given));
+}

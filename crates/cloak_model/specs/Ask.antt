@@ -4,7 +4,7 @@ use Rattle.cloak_base.specs.declared.names.Kind.{Kind}
 use Rattle.cloak_base.specs.declared.names.Kind.TheVariants.{Fetch, Load, Store}
 use Rattle.cloak_base.specs.declared.names.Mode.{Mode}
 use Rattle.cloak_model.specs.Memory.{is_in_ram, word_at}
-use Rattle.cloak_model.specs.World.{World, ram_of}
+use Rattle.cloak_model.specs.World.{ram_of}
 use Rattle.cloak_model.specs.Asking.{Asking, answered}
 
 -- Who accesses, where, and how.

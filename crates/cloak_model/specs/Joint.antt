@@ -1,22 +1,21 @@
 -- The joint run: kernel, programs and ledger together, step by step.
-use Rattle.std.specs.Prelude.{ℕ, zero, suc, ◌+◌, ◌%◌, ◌≡◌, false, List, [], ◌∷◌, ◌++◌, length, map, slice_index, slice_index_or, slice_set, Option, Some, None}
+use Rattle.std.specs.Prelude.{ℕ, zero, suc, ◌+◌, ◌%◌, false, List, [], ◌∷◌, ◌++◌, length, map, slice_index, slice_index_or, slice_set, Option, Some, None}
 use Rattle.cloak_base.specs.Random.{Random, next_draw}
 use Rattle.cloak_base.specs.declared.causes.Stop.{Stop}
 use Rattle.cloak_base.specs.declared.causes.Stop.TheVariants as stop
 use Rattle.cloak_model.specs.declared.image.Segment.{Segment}
 use Rattle.cloak_model.specs.declared.image.KernelImage.{KernelImage}
 use Rattle.cloak_model.specs.declared.image.Bundle.{Bundle}
-use Rattle.cloak_model.specs.declared.item.Item.{Item}
-use Rattle.cloak_model.specs.declared.item.Item.TheVariants.{Step, Close, End}
+use Rattle.cloak_model.specs.declared.item.Item.TheVariants.{Step}
 use Rattle.cloak_model.specs.declared.outcome.Kernel.{Kernel}
 use Rattle.cloak_model.specs.declared.outcome.Kernel.TheVariants.{Stay, Put, Halt, Unbuilt}
 use Rattle.cloak_model.specs.Hart.{Hart, started}
 use Rattle.cloak_model.specs.Memory.{zero_ram, with_bytes}
-use Rattle.cloak_model.specs.World.{World, Flat, ram_of}
+use Rattle.cloak_model.specs.World.{Flat, ram_of}
 use Rattle.cloak_model.specs.Asking.{Told}
 use Rattle.cloak_model.specs.KernelStep.{Made, kernel_step}
 use Rattle.cloak_model.specs.Exchange.{Piece, recorded, shown, item_bytes}
-use Rattle.cloak_model.specs.Parts.{KernelPart, DomainPart, Ledger, Joint}
+use Rattle.cloak_model.specs.Parts.{KernelPart, Ledger, Joint}
 
 -- A joint run at a moment: its schedule, the steps that were made, and the machine.
 pub record Moment : Type 0 where

@@ -1,6 +1,6 @@
 -- RAM: frames of 4096 bytes. Byte `at` of frame f has the address 0x80000000 + 4096 * f + at, and wider
 -- values have their lowest byte first.
-use Rattle.std.specs.Prelude.{ℕ, zero, suc, ◌+◌, ◌-◌, ◌*◌, ◌/◌, ◌%◌, nat_lt, nat_le, Bool, ◌&&◌, List, [], ◌∷◌, ◌++◌, length, replicate, slice_index, slice_index_or, slice_set}
+use Rattle.std.specs.Prelude.{ℕ, ◌+◌, ◌-◌, ◌/◌, ◌%◌, nat_lt, nat_le, Bool, ◌&&◌, List, [], ◌∷◌, length, replicate, slice_index, slice_index_or, slice_set}
 use Rattle.std.specs.Int.{w32, from_le_bytes}
 
 -- where RAM begins

@@ -1,4 +1,4 @@
-use Rattle.std.proofs.Common.{◌≡◌, ◌≤◌, ◌-◌, length, take, IfSome, List, ℕ}
+use Rattle.std.proofs.Common.{◌≡◌, ◌≤◌, ◌-◌, length, take, IfSome}
 use Rattle.outside_io.specs.Told.{SameFiles}
 use Rattle.cloak_cli.proofs.files.read_whole.Given as goal
 

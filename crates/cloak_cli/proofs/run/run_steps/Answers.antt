@@ -12,8 +12,8 @@ loop-made-preserved g c = let given = gave_all c.step.ensures.emits_some.1 in re
   same_out = given.output ∙ c.loop-made.invariant.same_out;
   made = c.step.ensures.steps ∙ ap (λ (n : ℕ). n + 1) c.loop-made.invariant.made;
   runs = λ m stands.
-    let on = c.loop-made.invariant.runs m stands in
-    goes_on-more _ _ _ _ _ _ c.step.result c.loop-made.made m on (c.step.ensures.makes _ on.stands) c.in_default.is;
+      let on = c.loop-made.invariant.runs m stands in
+      goes_on-more _ _ _ _ _ _ c.step.result c.loop-made.made m on (c.step.ensures.makes _ on.stands) c.in_default.is;
 }
 
 pub returns-then-outlet-clause-runs : goal.returns-then-outlet-clause-runs

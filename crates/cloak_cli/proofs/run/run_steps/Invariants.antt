@@ -1,7 +1,5 @@
-use Rattle.std.proofs.Common.{◌≡◌, None}
-use Rattle.cloak_model.specs.Exchange.{Emits}
+use Rattle.std.proofs.Common.{◌≡◌}
 use Rattle.cloak_model.specs.Joint.{Moment}
-use Rattle.cloak_model.specs.Due.{steps_after}
 use Rattle.cloak_machine.specs.Standing.{StandsFor, steps_made}
 use Rattle.cloak_cli.specs.Outlet.{Gave}
 use Rattle.cloak_cli.proofs.RunFacts.{GoesOn}
@@ -14,5 +12,5 @@ invariant-loop-made g l = record {
   same_out : l.outlet.out.ghost_name ≡ l.fn.outlet.out.ghost_name;
   made : steps_made l.machine ≡ l.made;
   runs : (m : Moment) → StandsFor l.fn.machine m →
-    GoesOn (Gave g.S.Shelf.held g.S.Shelf.reading_faults g.S.Shelf.writing_faults g.O.Sink.taken g.O.Sink.faults) l.fn.outlet l.outlet l.machine l.made m;
+      GoesOn (Gave g.S.Shelf.held g.S.Shelf.reading_faults g.S.Shelf.writing_faults g.O.Sink.taken g.O.Sink.faults) l.fn.outlet l.outlet l.machine l.made m;
 }

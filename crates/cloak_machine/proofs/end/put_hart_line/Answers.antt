@@ -1,7 +1,4 @@
-use Rattle.std.proofs.Common.{◌∙◌, ap, sym, take, drop, ◌++◌, List, ℕ}
-use Rattle.cloak_model.specs.Report.{words_line, harts_lines, hart_lines}
-use Rattle.cloak_model.specs.Hart.{Hart}
-use Rattle.cloak_machine.proofs.PutFacts.{then, text_is, words_text-take_more, harts_lines-take_more}
+use Rattle.cloak_machine.proofs.PutFacts.{then}
 use Rattle.cloak_machine.proofs.end.put_hart_line.Goals as goal
 
 pub returns : goal.returns

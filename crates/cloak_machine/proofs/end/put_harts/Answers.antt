@@ -1,7 +1,7 @@
-use Rattle.std.proofs.Common.{◌∙◌, ap, sym, take, drop, ◌++◌, List, ℕ}
-use Rattle.cloak_model.specs.Report.{words_line, harts_lines, hart_lines}
+use Rattle.std.proofs.Common.{◌∙◌, ap, take, ◌++◌}
+use Rattle.cloak_model.specs.Report.{harts_lines, hart_lines}
 use Rattle.cloak_model.specs.Hart.{Hart}
-use Rattle.cloak_machine.proofs.PutFacts.{then, text_is, words_text-take_more, harts_lines-take_more}
+use Rattle.cloak_machine.proofs.PutFacts.{then, text_is, harts_lines-take_more}
 use Rattle.cloak_machine.proofs.end.put_harts.Goals as goal
 
 pub loop-number-preserved : goal.loop-number-preserved

@@ -14,14 +14,18 @@ invariant_of-result-clause-turns c =
 
 pub returns-clause-opens : goal.returns-clause-opens
 unfolding first_moment started_kernel started_ledger
-returns-clause-opens c = (first_moment c.args.b.now c.in-Some.key c.draw.new.self, opening-some _ _ _ _ c.in-Some.ensures, record {
-  schedule = c.in_ok-schedule.ensures.items ∙ c.as_slice-3.ensures;
-  steps = refl;
-  harts = c.in_ok-harts.ensures;
-  ram = c.in_ok-frames.ensures ∙ ap (with_segments (zero_ram c.args.b.now.kernel.frames)) c.as_slice.ensures;
-  disk = c.in_ok-disk.ensures.items ∙ c.as_slice-2.ensures;
-  console = c.new.ensures.shows;
-  key = refl;
-  stream = refl;
-  draws = refl;
-})
+returns-clause-opens c = (
+  first_moment c.args.b.now c.in-Some.key c.draw.new.self,
+  opening-some _ _ _ _ c.in-Some.ensures,
+  record {
+    schedule = c.in_ok-schedule.ensures.items ∙ c.as_slice-3.ensures;
+    steps = refl;
+    harts = c.in_ok-harts.ensures;
+    ram = c.in_ok-frames.ensures ∙ ap (with_segments (zero_ram c.args.b.now.kernel.frames)) c.as_slice.ensures;
+    disk = c.in_ok-disk.ensures.items ∙ c.as_slice-2.ensures;
+    console = c.new.ensures.shows;
+    key = refl;
+    stream = refl;
+    draws = refl;
+  },
+)

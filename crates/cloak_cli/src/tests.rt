@@ -1,0 +1,212 @@
+use crate::command::cloak;
+use crate::status::Status;
+use outside_io::{MemoryShelf, MemorySink};
+use std::alloc::{AllocError, Global};
+use std::test::*;
+
+/// One hart and 64 frames; the code is `addi x10,x0,65`, `ecall`, `addi x17,x0,4`, `ecall`.
+const SMALLEST: [u8; 65] = [
+    0x43, 0x4c, 0x4f, 0x41, 0x4b, 0x42, 0x4e, 0x44, 1, 0, 0, 0, 0x40, 0, 0, 0, 1, 0, 0, 0, 1, 0, 0,
+    0, 0, 0, 0, 0x80, 1, 0, 0, 0, 0, 0, 0, 0, 0, 0, 0, 0, 0, 0, 0, 0, 0x80, 0x10, 0, 0, 0, 0x13,
+    0x05, 0x10, 0x04, 0x73, 0, 0, 0, 0x93, 0x08, 0x40, 0, 0x73, 0, 0, 0,
+];
+
+/// The record of its whole run.
+const RECORD: [u8; 34] = [
+    0x43, 0x4c, 0x4f, 0x41, 0x4b, 0x52, 0x45, 0x43, 0x10, 1, 0, 0, 0, 0x10, 2, 0, 0, 0, 0x10, 3, 0,
+    0, 0, 0x10, 4, 0, 0, 0, 0x11, 4, 0, 0, 0, 0x12,
+];
+
+const WHOLE_RUN: &str = "A
+stop halt 0
+steps 4
+draws 0
+console 1 559aead08264d5795d3909718cdd05abd49572e84fe55590eef31a88a08fdffd
+ram ca2dd2baf1cc979718fa70ae0b1595bc4c0db431191181299b87c3b5b1a0f786
+disk e3b0c44298fc1c149afbf4c8996fb92427ae41e4649b934ca495991b7852b855
+hart 0 S pc 80000010 inside - timer 0
+regs 00000000 00000000 00000000 00000000 00000000 00000000 00000000 00000000 00000000 00000000 00000000 00000000 00000000 00000000 00000000 00000000 00000004 00000000 00000000 00000000 00000000 00000000 00000000 00000000 00000000 00000000 00000000 00000000 00000000 00000000 00000000
+csrs 00000000 00000000 00000000 00000000 00000000 00000000 00000000 00000000 00000000
+";
+
+const NO_STEP: &str = "
+stop budget
+steps 0
+draws 0
+console 0 e3b0c44298fc1c149afbf4c8996fb92427ae41e4649b934ca495991b7852b855
+ram ca2dd2baf1cc979718fa70ae0b1595bc4c0db431191181299b87c3b5b1a0f786
+disk e3b0c44298fc1c149afbf4c8996fb92427ae41e4649b934ca495991b7852b855
+hart 0 S pc 80000000 inside - timer 0
+regs 00000000 00000000 00000000 00000000 00000000 00000000 00000000 00000000 00000000 00000000 00000000 00000000 00000000 00000000 00000000 00000000 00000000 00000000 00000000 00000000 00000000 00000000 00000000 00000000 00000000 00000000 00000000 00000000 00000000 00000000 00000000
+csrs 00000000 00000000 00000000 00000000 00000000 00000000 00000000 00000000 00000000
+";
+
+/// What a call answered and left.
+#[derive(Drop)]
+struct Left {
+    status: Status,
+    shelf: MemoryShelf,
+    sink: MemorySink,
+}
+
+/// The words, separated by spaces, over a shelf with the file `a.b`.
+fn called(
+    alloc: Global,
+    line: &str,
+    bundle: &[u8],
+    failing_files: Vec<u64>,
+    failing_output: Vec<u64>,
+) -> Result<Left, Fail> {
+    let mut shelf = MemoryShelf::open(alloc, failing_files);
+    shelf.add("a.b", bundle)?;
+    let mut sink = MemorySink::open(alloc, failing_output);
+    let mut words = Vec::new(alloc);
+    for word in line.split_whitespace() {
+        words.push(String::from_str(alloc, word)?)?;
+    }
+    let status = cloak(alloc, &words, &mut shelf, &mut sink);
+    Ok(Left {
+        status,
+        shelf,
+        sink,
+    })
+}
+
+/// The smallest image with another word in the place of the first of its code.
+fn with_first_word(word: u32) -> [u8; 65] {
+    let mut bundle = SMALLEST;
+    bundle[49..53].copy_from_slice(&word.to_le_bytes());
+    bundle
+}
+
+#[test]
+fn whole_runs(rt: HostRuntime) -> Result<(), Fail> {
+    let mut no_step = [0; 14];
+    no_step[..8].copy_from_slice(&RECORD[..8]);
+    no_step[8..].copy_from_slice(&[0x11, 0, 0, 0, 0, 0x12]);
+    let rows: [(&str, [u8; 65], Status, &str, &[u8]); 4] = [
+        (
+            "run a.b a.r --steps 10 --number 0",
+            SMALLEST,
+            Status::Done,
+            WHOLE_RUN,
+            RECORD.as_slice(),
+        ),
+        (
+            "run a.b a.r --number 7 --steps 4",
+            SMALLEST,
+            Status::Done,
+            WHOLE_RUN,
+            RECORD.as_slice(),
+        ),
+        (
+            "run a.b a.r --steps 0 --number 0",
+            SMALLEST,
+            Status::Done,
+            NO_STEP,
+            no_step.as_slice(),
+        ),
+        (
+            "run a.b a.r --steps 10 --number 0",
+            with_first_word(0),
+            Status::Unbuilt,
+            "\nunbuilt 2147483648\n",
+            &RECORD[..13],
+        ),
+    ];
+    for (line, bundle, status, output, record) in rows {
+        let left = called(
+            rt.alloc(),
+            line,
+            &bundle,
+            Vec::new(rt.alloc()),
+            Vec::new(rt.alloc()),
+        )?;
+        assert_eq!(rt; left.status, status, "{line}");
+        assert_eq!(rt; left.sink.taken(), output.as_bytes(), "{line}");
+        assert_eq!(rt; left.shelf.bytes("a.r"), record, "{line}");
+        assert_eq!(rt; left.shelf.bytes("a.b"), bundle.as_slice(), "{line}");
+    }
+    Ok(())
+}
+
+#[test]
+fn refused_words(rt: HostRuntime) -> Result<(), Fail> {
+    for (line, status, output) in [
+        ("", Status::Usage, "usage: no command\n"),
+        ("walk a.b", Status::Usage, "usage: unknown command\n"),
+        ("run a.b", Status::Usage, "usage: words\n"),
+        (
+            "run a.b a.r --steps 10",
+            Status::Usage,
+            "usage: randomness\n",
+        ),
+        (
+            "run a.b a.r --steps 1000000001 --number 0",
+            Status::Usage,
+            "usage: number\n",
+        ),
+        (
+            "run a.b a.r --steps x --number 0",
+            Status::Usage,
+            "usage: number\n",
+        ),
+        ("view a.b a.r", Status::Unbuilt, "unbuilt 0\n"),
+        (
+            "run none a.r --steps 10 --number 0",
+            Status::Unbuilt,
+            "unbuilt 0\n",
+        ),
+    ] {
+        let left = called(
+            rt.alloc(),
+            line,
+            &SMALLEST,
+            Vec::new(rt.alloc()),
+            Vec::new(rt.alloc()),
+        )?;
+        assert_eq!(rt; left.status, status, "{line}");
+        assert_eq!(rt; left.sink.taken(), output.as_bytes(), "{line}");
+        assert_eq!(rt; left.shelf.bytes("a.r"), b"".as_slice(), "{line}");
+    }
+    Ok(())
+}
+
+/// Runs of the smallest image whose Nth call on the files or the output fails: the status, the output and
+/// how much of the record stands. Call 1 asks for the size, 2 reads, 3 begins the record, 4 appends its
+/// first bytes, 5 to 8 the steps, 9 and 10 its end.
+#[test]
+fn failing_calls(rt: HostRuntime) -> Result<(), Fail> {
+    let rows: [(u64, u64, Status, &str, &[u8]); 9] = [
+        (1, 0, Status::ReadFault, "read fault\n", &RECORD[..0]),
+        (2, 0, Status::ReadFault, "read fault\n", &RECORD[..0]),
+        (3, 0, Status::WriteFault, "", &RECORD[..0]),
+        (4, 0, Status::WriteFault, "", &RECORD[..0]),
+        (6, 0, Status::WriteFault, "", &RECORD[..13]),
+        (10, 0, Status::WriteFault, "A", &RECORD[..33]),
+        (0, 1, Status::WriteFault, "", &RECORD[..18]),
+        (0, 2, Status::WriteFault, "A", &RECORD[..34]),
+        (0, 3, Status::WriteFault, "A\n", &RECORD[..34]),
+    ];
+    for (file_call, output_call, status, output, record) in rows {
+        let left = called(
+            rt.alloc(),
+            "run a.b a.r --steps 10 --number 0",
+            &SMALLEST,
+            vec![in rt.alloc(); file_call]?,
+            vec![in rt.alloc(); output_call]?,
+        )?;
+        assert_eq!(rt; left.status, status, "{file_call} {output_call}");
+        assert_eq!(rt;
+            left.sink.taken(),
+            output.as_bytes(),
+            "{file_call} {output_call}"
+        );
+        assert_eq!(rt;
+            left.shelf.bytes("a.r"),
+            record,
+            "{file_call} {output_call}"
+        );
+    }
+    Ok(())
+}
