@@ -144,10 +144,10 @@ program_takes frames file at p fits e =
     let x5 : Stands file (at + 20) t.0 (at + (20 + length t.0)) = subst (λ k. Stands file (at + 20) t.0 k) end bytes.0 in
     let last = at + (20 + length t.0) in
     let text = Stands-then file at (word a.0) (at + 4) (word b.0 ++ (word c.0 ++ (word d.0 ++ (word s.0 ++ t.0)))) last pages.0.text
-        (Stands-then file (at + 4) (word b.0) (at + 8) (word c.0 ++ (word d.0 ++ (word s.0 ++ t.0))) last x1
-        (Stands-then file (at + 8) (word c.0) (at + 12) (word d.0 ++ (word s.0 ++ t.0)) last x2
-        (Stands-then file (at + 12) (word d.0) (at + 16) (word s.0 ++ t.0) last x3
-        (Stands-then file (at + 16) (word s.0) (at + 20) t.0 last x4 x5)))) in
+    (Stands-then file (at + 4) (word b.0) (at + 8) (word c.0 ++ (word d.0 ++ (word s.0 ++ t.0))) last x1
+    (Stands-then file (at + 8) (word c.0) (at + 12) (word d.0 ++ (word s.0 ++ t.0)) last x2
+    (Stands-then file (at + 12) (word d.0) (at + 16) (word s.0 ++ t.0) last x3
+    (Stands-then file (at + 16) (word s.0) (at + 20) t.0 last x4 x5)))) in
     let inside : IsProgramIn frames (made a.0 b.0 c.0 d.0 s.0 t.0) = record { some_pages = pages.1; few_pages = pages.2; place = place.1; base = base.1; top = base.2; entry = entry.1; bytes = bytes.1 } in
     subst (λ (x : Program). Stands file at (program_bytes x) (at + program_size x) × IsProgramIn frames x) (ok_is (made a.0 b.0 c.0 d.0 s.0 t.0) p t.2) (text, inside)
 

@@ -4,8 +4,8 @@ ghost use Rattle.cloak_model.specs.declared.image.Program.{Program};
 ghost use Rattle.guest_bundle.specs.Fields.{Gives, Shows};
 ghost use Rattle.guest_bundle.specs.Reading.{turn_at, lies_in_ram, segment_at, segment_size, place_at, is_base_of, base_at, program_at, program_size, parts_at};
 
-use crate::fields::{bytes, count, entry, number, pages};
 use crate::BundleFault;
+use crate::fields::{bytes, count, entry, number, pages};
 use cloak_base::Start;
 use cloak_model::{Program, Segment, Sequence};
 use std::alloc::Global;

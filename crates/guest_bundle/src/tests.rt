@@ -4,9 +4,9 @@ use std::test::*;
 /// One hart and 64 frames; a segment of four instructions: `addi x10,x0,65`, `ecall`, `addi x17,x0,4`,
 /// `ecall`.
 const SMALLEST: [u8; 65] = [
-    0x43, 0x4c, 0x4f, 0x41, 0x4b, 0x42, 0x4e, 0x44, 1, 0, 0, 0, 0x40, 0, 0, 0, 1, 0, 0, 0, 1, 0, 0, 0,
-    0, 0, 0, 0x80, 1, 0, 0, 0, 0, 0, 0, 0, 0, 0, 0, 0, 0, 0, 0, 0, 0x80, 0x10, 0, 0, 0, 0x13, 0x05, 0x10,
-    0x04, 0x73, 0, 0, 0, 0x93, 0x08, 0x40, 0, 0x73, 0, 0, 0,
+    0x43, 0x4c, 0x4f, 0x41, 0x4b, 0x42, 0x4e, 0x44, 1, 0, 0, 0, 0x40, 0, 0, 0, 1, 0, 0, 0, 1, 0, 0,
+    0, 0, 0, 0, 0x80, 1, 0, 0, 0, 0, 0, 0, 0, 0, 0, 0, 0, 0, 0, 0, 0, 0x80, 0x10, 0, 0, 0, 0x13,
+    0x05, 0x10, 0x04, 0x73, 0, 0, 0, 0x93, 0x08, 0x40, 0, 0x73, 0, 0, 0,
 ];
 
 /// The file above with another word at an offset.
@@ -33,8 +33,20 @@ fn the_smallest_bundle_is_read_and_written(rt: HostRuntime) -> Result<(), Fail> 
 
 #[test]
 fn a_file_cut_short(rt: HostRuntime) {
-    for (len, at) in [(0, 0), (7, 0), (11, 8), (39, 36), (40, 40), (48, 45), (64, 49)] {
-        assert_eq!(rt; read(rt.alloc(), &SMALLEST[..len]).err(), Some(BundleFault::Short(at)), "{len}");
+    for (len, at) in [
+        (0, 0),
+        (7, 0),
+        (11, 8),
+        (39, 36),
+        (40, 40),
+        (48, 45),
+        (64, 49),
+    ] {
+        assert_eq!(rt;
+            read(rt.alloc(), &SMALLEST[..len]).err(),
+            Some(BundleFault::Short(at)),
+            "{len}"
+        );
     }
 }
 
@@ -42,7 +54,10 @@ fn a_file_cut_short(rt: HostRuntime) {
 fn a_byte_more(rt: HostRuntime) {
     let mut longer = [0; 66];
     longer[..65].copy_from_slice(&SMALLEST);
-    assert_eq!(rt; read(rt.alloc(), &longer).err(), Some(BundleFault::Extra(65)));
+    assert_eq!(rt;
+        read(rt.alloc(), &longer).err(),
+        Some(BundleFault::Extra(65))
+    );
 }
 
 #[test]
@@ -69,6 +84,10 @@ fn a_damaged_file(rt: HostRuntime) {
         (45, 15, BundleFault::Extra(64)),
     ];
     for (at, word, fault) in cases {
-        assert_eq!(rt; read(rt.alloc(), &with_word(at, word)).err(), Some(fault), "{word} at {at}");
+        assert_eq!(rt;
+            read(rt.alloc(), &with_word(at, word)).err(),
+            Some(fault),
+            "{word} at {at}"
+        );
     }
 }
