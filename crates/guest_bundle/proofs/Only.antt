@@ -1,22 +1,18 @@
 -- A file that a bundle spells is read as that bundle.
-use Rattle.std.proofs.Common.{◌≡◌, ℕ, zero, suc, ◌+◌, ◌-◌, ◌*◌, ◌/◌, ◌%◌, ◌^◌, ◌<◌, ◌≤◌, Bool, true, false, cond, ltb, eqb, List, [], ◌∷◌, ◌++◌, length, drop, map, codes, Result, Ok, Err, refl, sym, ap, subst, ◌∙◌, arith, length-append, length-drop, append_assoc}
-use Rattle.std.specs.Str.{bytes_eq}
-use Rattle.std.specs.List.{flat_map, AllByRecursion, All}
+use Rattle.std.proofs.Common.{◌≡◌, ℕ, ◌+◌, ◌*◌, ◌/◌, ◌%◌, ◌^◌, ◌<◌, ◌≤◌, true, eqb, List, [], ◌∷◌, ◌++◌, length, drop, map, codes, Ok, refl, sym, ap, ◌∙◌, arith, length-append}
+use Rattle.std.specs.List.{flat_map, AllByRecursion}
 use Rattle.std.proofs.lemmas.Bool.{le-ltb, eq-eqb}
 use Rattle.std.proofs.lemmas.List.{append-nil, map-id}
 use Rattle.std.proofs.lemmas.List.Elements.{recursion_from_All}
 use Rattle.std.proofs.lemmas.List.Concat.{flat_map-cons}
 use Rattle.cloak_model.specs.Bits.{word}
-use Rattle.cloak_model.specs.Bundle.{segment_bytes, program_bytes, bundle_bytes, IsSegmentIn, IsProgramIn, IsKernelImage, IsInGrammar, IsBundle, largest_bundle}
-use Rattle.cloak_model.specs.declared.image.Segment.{Segment}
+use Rattle.cloak_model.specs.Bundle.{segment_bytes, program_bytes, bundle_bytes, IsSegmentIn, IsProgramIn, IsBundle, largest_bundle}
 use Rattle.cloak_model.specs.declared.image.Program.{Program}
 use Rattle.cloak_model.specs.declared.image.KernelImage.{KernelImage}
 use Rattle.cloak_model.specs.declared.image.Bundle.{Bundle}
-use Rattle.guest_bundle.specs.declared.fault.BundleFault.{BundleFault}
 use Rattle.guest_bundle.specs.declared.header.Header.{Header}
 use Rattle.guest_bundle.specs.Words.{HasWords}
-use Rattle.guest_bundle.specs.Fields.{◌>>=◌, bytes_at, pages_at, number_at, count_at, entry_at}
-use Rattle.guest_bundle.specs.Reading.{version_at, header_at, turn_at, segment_at, segment_size, program_at, program_size, parts_at, bundle_of, bundle_at}
+use Rattle.guest_bundle.specs.Reading.{version_at, header_at, turn_at, segment_at, segment_size, program_at, program_size, parts_at, bundle_at}
 use Rattle.guest_bundle.proofs.Steps.{behind, ok_is}
 use Rattle.guest_bundle.proofs.Again.{low_word, low_word-small, program_in_words, number_again, bytes_again, pages_again, count_again, entry_again, turn_again, segment_again, program_again, parts_again}
 

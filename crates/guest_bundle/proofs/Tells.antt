@@ -1,13 +1,12 @@
 -- What reading meets is the first fault of the fields that it reads.
-use Rattle.std.proofs.Common.{◌≡◌, ℕ, zero, suc, ◌+◌, ◌-◌, ◌*◌, ◌/◌, ◌%◌, ◌^◌, ◌<◌, ◌≤◌, Bool, true, false, cond, ltb, leb, eqb, List, [], ◌∷◌, ◌++◌, length, get_or, take, drop, codes, Option, Some, None, Result, Ok, Err, refl, sym, ap, subst, ◌∙◌, arith, inl, inr}
-use Rattle.std.specs.Int.{w32, from_le_bytes}
-use Rattle.std.proofs.lemmas.Bool.{ltb-false, ltb-true, lt-ltb, le-ltb, cases_lt}
+use Rattle.std.proofs.Common.{◌≡◌, ℕ, zero, suc, ◌+◌, ◌-◌, ◌*◌, ◌/◌, ◌%◌, Bool, true, false, cond, ltb, leb, eqb, List, [], ◌∷◌, ◌++◌, length, get_or, take, drop, Option, Some, None, Result, Ok, Err, refl, sym, ap, subst, ◌∙◌, arith, inl, inr}
+use Rattle.std.proofs.lemmas.Bool.{lt-ltb, le-ltb, cases_lt}
 use Rattle.guest_bundle.specs.declared.fault.BundleFault.{BundleFault}
-use Rattle.guest_bundle.specs.declared.fault.BundleFault.TheVariants.{Short, BadMagic, BadVersion, BadCount, TooLarge, BadRange, Extra}
+use Rattle.guest_bundle.specs.declared.fault.BundleFault.TheVariants.{Short, BadCount, TooLarge, BadRange}
 use Rattle.guest_bundle.specs.Fields.{◌>>=◌, bytes_at, pages_at, number_at, count_at, entry_at}
-use Rattle.guest_bundle.specs.FirstFault.{Field, first_of, fault_in, first_in, number, free, ruled, count, parts, after_parts, after_page, pages, turn}
+use Rattle.guest_bundle.specs.FirstFault.{Field, first_of, fault_in, first_in, number, ruled, count, parts, after_parts, after_page, pages, turn}
 use Rattle.guest_bundle.specs.Reading.{turn_at, is_base_of, place_at, base_at, parts_at}
-use Rattle.guest_bundle.proofs.Steps.{bind_ok, refused_not, passed, ok_is}
+use Rattle.guest_bundle.proofs.Steps.{bind_ok, refused_not, ok_is}
 
 -- what reading gives, beside the first fault that there is
 abbrev pub Tells : {A : Type 0} → Result A BundleFault → Option BundleFault → Type 0

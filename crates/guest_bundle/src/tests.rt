@@ -1,4 +1,5 @@
 use super::*;
+use std::alloc::Global;
 use std::test::*;
 
 /// One hart and 64 frames; a segment of four instructions: `addi x10,x0,65`, `ecall`, `addi x17,x0,4`,
@@ -12,22 +13,27 @@ const SMALLEST: [u8; 65] = [
 /// The file above with another word at an offset.
 fn with_word(at: usize, word: u32) -> [u8; 65] {
     let mut file = SMALLEST;
-    let bytes = word.to_le_bytes();
-    for (i, b) in bytes.iter().enumerate() {
-        if at + i < 65 {
-            file[at + i] = *b;
-        }
+    if at <= 61 {
+        file[at..at + 4].copy_from_slice(&word.to_le_bytes());
     }
     file
 }
 
+/// A file, read and written.
+fn rewritten(alloc: Global, file: &[u8]) -> Result<Vec<u8>, BundleFault> {
+    let bundle = read(alloc, file)?;
+    match write(alloc, &bundle) {
+        Ok(again) => Ok(again),
+        Err(_) => Err(BundleFault::NoMemory),
+    }
+}
+
 #[test]
 fn the_smallest_bundle_is_read_and_written(rt: HostRuntime) -> Result<(), Fail> {
-    let bundle = read(rt.alloc(), &SMALLEST).ok().ok_or("it is a bundle")?;
-    assert_eq!(rt; bundle.kernel.frames, 64);
-    assert_eq!(rt; bundle.kernel.entry, 0x8000_0000);
-    let file = write(rt.alloc(), &bundle).ok().ok_or("memory is ample")?;
-    assert_eq!(rt; file.as_slice(), SMALLEST.as_slice());
+    let again = rewritten(rt.alloc(), &SMALLEST)
+        .ok()
+        .ok_or("it is a bundle")?;
+    assert_eq!(rt; again.as_slice(), SMALLEST.as_slice());
     Ok(())
 }
 

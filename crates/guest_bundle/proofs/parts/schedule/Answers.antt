@@ -1,4 +1,4 @@
-use Rattle.std.proofs.Common.{◌≡◌, ℕ, ◌∷◌, [], ◌++◌, sym, arith}
+use Rattle.std.proofs.Common.{sym, arith}
 use Rattle.std.proofs.lemmas.Result.{err_from_is_err_and}
 use Rattle.guest_bundle.specs.Reading.{turn_at, parts_at}
 use Rattle.guest_bundle.proofs.Loop.{goes_on, ends, is_done}

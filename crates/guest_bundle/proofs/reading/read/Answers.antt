@@ -1,9 +1,9 @@
-use Rattle.std.proofs.Common.{◌≡◌, ◌≢◌, List, ℕ, Result, Ok, Err, Option, Some, None, IfOk, IfErr, MatchResult, subst, sym, ◌∙◌, arith}
+use Rattle.std.proofs.Common.{◌≡◌, ◌≢◌, List, ℕ, Result, Ok, Err, Some, None, IfOk, IfErr, MatchResult, subst, sym, ◌∙◌, arith}
 use Rattle.cloak_model.specs.Bundle.{IsBundle}
 use Rattle.cloak_model.specs.declared.image.Bundle.{Bundle}
 use Rattle.guest_bundle.specs.declared.fault.BundleFault.{BundleFault}
 use Rattle.guest_bundle.specs.declared.fault.BundleFault.TheVariants.{NoMemory}
-use Rattle.guest_bundle.specs.Fields.{Gives, Fails}
+use Rattle.guest_bundle.specs.Fields.{Gives}
 use Rattle.guest_bundle.specs.FirstFault.{first_fault}
 use Rattle.guest_bundle.specs.Reading.{bundle_at}
 use Rattle.guest_bundle.specs.Words.{HasWords}
