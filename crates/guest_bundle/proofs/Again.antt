@@ -1,5 +1,5 @@
 -- What is spelled so is read.
-use Rattle.std.proofs.Common.{◌≡◌, ℕ, zero, suc, ◌+◌, ◌-◌, ◌*◌, ◌%◌, ◌^◌, ◌<◌, ◌≤◌, Bool, true, false, ◌&&◌, cond, ltb, leb, eqb, List, [], ◌∷◌, ◌++◌, length, get_or, take, drop, map, codes, Result, Ok, Err, refl, sym, ap, subst, ◌∙◌, append_assoc, add-zero, length-drop, length-append, arith}
+use Rattle.std.proofs.Common.{◌≡◌, ℕ, ◌+◌, ◌-◌, ◌*◌, ◌%◌, ◌^◌, ◌<◌, ◌≤◌, true, false, ltb, leb, eqb, List, [], ◌∷◌, ◌++◌, length, get_or, drop, map, Result, Ok, refl, sym, ap, ◌∙◌, append_assoc, add-zero, length-drop, length-append, arith}
 use Rattle.std.specs.Int.{w32, from_le_bytes}
 use Rattle.std.specs.List.{flat_map, AllByRecursion}
 use Rattle.std.proofs.lemmas.Bool.{le-ltb, lt-ltb, le-leb, eq-eqb}
@@ -11,8 +11,8 @@ use Rattle.cloak_model.specs.Bundle.{segment_bytes, program_bytes, IsSegmentIn, 
 use Rattle.cloak_model.specs.declared.image.Segment.{Segment}
 use Rattle.cloak_model.specs.declared.image.Program.{Program}
 use Rattle.guest_bundle.specs.declared.fault.BundleFault.{BundleFault}
-use Rattle.guest_bundle.specs.Fields.{◌>>=◌, bytes_at, pages_at, number_at, count_at, entry_at}
-use Rattle.guest_bundle.specs.Reading.{turn_at, lies_in_ram, segment_at, segment_size, is_base_of, place_at, base_at, program_at, program_size, parts_at}
+use Rattle.guest_bundle.specs.Fields.{bytes_at, pages_at, number_at, count_at, entry_at}
+use Rattle.guest_bundle.specs.Reading.{turn_at, segment_at, place_at, base_at, program_at, parts_at}
 use Rattle.guest_bundle.proofs.Steps.{behind}
 
 -- a number of 32 bits, and of a larger one its low bits

@@ -1,5 +1,5 @@
 -- A file that is read is the spelling of what is read.
-use Rattle.std.proofs.Common.{◌≡◌, ℕ, zero, suc, ◌+◌, ◌-◌, ◌*◌, ◌/◌, ◌%◌, ◌^◌, ◌<◌, ◌≤◌, Bool, true, false, cond, ltb, eqb, List, [], ◌∷◌, ◌++◌, length, drop, codes, Result, Ok, Err, refl, sym, ap, subst, ◌∙◌, arith}
+use Rattle.std.proofs.Common.{◌≡◌, ℕ, ◌+◌, ◌*◌, ◌/◌, ◌%◌, ◌<◌, ◌≤◌, cond, ltb, eqb, List, [], ◌∷◌, ◌++◌, length, drop, codes, Result, Ok, Err, refl, sym, ap, subst, ◌∙◌, arith}
 use Rattle.std.specs.Str.{bytes_eq}
 use Rattle.std.proofs.lemmas.Slice.Eq.{bytes_eq-Decides}
 use Rattle.std.specs.List.{flat_map, AllByRecursion}
@@ -8,7 +8,7 @@ use Rattle.std.proofs.lemmas.List.{append-nil, drop_all}
 use Rattle.std.proofs.lemmas.List.Concat.{flat_map-cons}
 use Rattle.std.proofs.lemmas.List.Elements.{All-from_recursion}
 use Rattle.cloak_model.specs.Bits.{word}
-use Rattle.cloak_model.specs.Bundle.{segment_bytes, program_bytes, bundle_bytes, IsSegmentIn, IsProgramIn, IsKernelImage, IsInGrammar, IsBundle, largest_bundle}
+use Rattle.cloak_model.specs.Bundle.{segment_bytes, program_bytes, bundle_bytes, IsSegmentIn, IsProgramIn, IsInGrammar, IsBundle, largest_bundle}
 use Rattle.cloak_model.specs.declared.image.Segment.{Segment}
 use Rattle.cloak_model.specs.declared.image.Program.{Program}
 use Rattle.cloak_model.specs.declared.image.Bundle.{Bundle}
@@ -18,7 +18,7 @@ use Rattle.guest_bundle.specs.declared.header.Header.{Header}
 use Rattle.guest_bundle.specs.Fields.{◌>>=◌, bytes_at, pages_at, number_at, count_at, entry_at}
 use Rattle.guest_bundle.specs.Reading.{version_at, header_at, turn_at, segment_at, segment_size, program_at, program_size, parts_at, bundle_of, bundle_at}
 use Rattle.guest_bundle.proofs.Steps.{bind_ok, refused_not, passed, ok_is, IsBytes, Stands, Stands-then}
-use Rattle.guest_bundle.proofs.Takes.{NumberStands, bytes_take, pages_take, number_takes, count_takes, entry_takes, turn_takes, segment_takes, program_takes, parts_take}
+use Rattle.guest_bundle.proofs.Takes.{bytes_take, pages_take, number_takes, count_takes, entry_takes, turn_takes, segment_takes, program_takes, parts_take}
 
 version_takes : (file : List ℕ) (v : ℕ) → IsBytes file → version_at file ≡ Ok v → Stands file 0 (codes "CLOAKBND" ++ word 1) 12
 unfolding version_at
@@ -33,17 +33,17 @@ version_takes file v fits e =
     Stands-then file 0 (codes "CLOAKBND") 8 (word 1) 12 front number
 
 -- what a header that was read says of its numbers
-record HeaderSteps (v a b c d e f g : Result ℕ BundleFault) (h : Header) : Type 0 where
-  version : (n : ℕ) × (v ≡ Ok n)
-  frames : a ≡ Ok h.frames
-  harts : b ≡ Ok h.harts
-  turns : c ≡ Ok h.turns
-  entry : d ≡ Ok h.entry
-  segments : e ≡ Ok h.segments
-  blocks : f ≡ Ok h.blocks
-  programs : g ≡ Ok h.programs
+pub record HeaderSteps (v a b c d e f g : Result ℕ BundleFault) (h : Header) : Type 0 where
+  pub version : (n : ℕ) × (v ≡ Ok n)
+  pub frames : a ≡ Ok h.frames
+  pub harts : b ≡ Ok h.harts
+  pub turns : c ≡ Ok h.turns
+  pub entry : d ≡ Ok h.entry
+  pub segments : e ≡ Ok h.segments
+  pub blocks : f ≡ Ok h.blocks
+  pub programs : g ≡ Ok h.programs
 
-header_from : Result ℕ BundleFault → Result ℕ BundleFault → Result ℕ BundleFault → Result ℕ BundleFault → Result ℕ BundleFault → Result ℕ BundleFault → Result ℕ BundleFault → Result ℕ BundleFault → Result Header BundleFault
+unfoldable pub header_from : Result ℕ BundleFault → Result ℕ BundleFault → Result ℕ BundleFault → Result ℕ BundleFault → Result ℕ BundleFault → Result ℕ BundleFault → Result ℕ BundleFault → Result ℕ BundleFault → Result Header BundleFault
 header_from v a b c d e f g = do
   version ← v
   frames ← a
@@ -55,7 +55,7 @@ header_from v a b c d e f g = do
   programs ← g
   Ok (record { frames = frames; harts = harts; turns = turns; entry = entry; segments = segments; blocks = blocks; programs = programs })
 
-header_steps : (v a b c d e f g : Result ℕ BundleFault) (h : Header) → header_from v a b c d e f g ≡ Ok h → HeaderSteps v a b c d e f g h
+pub header_steps : (v a b c d e f g : Result ℕ BundleFault) (h : Header) → header_from v a b c d e f g ≡ Ok h → HeaderSteps v a b c d e f g h
 unfolding header_from
 header_steps (Ok v) (Ok a) (Ok b) (Ok c) (Ok d) (Ok e) (Ok f) (Ok g) h is =
     let made : Header = record { frames = a; harts = b; turns = c; entry = d; segments = e; blocks = f; programs = g } in
@@ -97,12 +97,12 @@ header_takes file h fits e =
     let blocks = count_takes file 32 0 4096 h.blocks fits s.blocks in
     let programs = count_takes file 36 0 4 h.programs fits s.programs in
     let text = Stands-then file 0 (codes "CLOAKBND" ++ word 1) 12 (header_text h) 40 version
-        (Stands-then file 12 (word h.frames) 16 (word h.harts ++ (word h.turns ++ (word h.entry ++ (word h.segments ++ (word h.blocks ++ word h.programs))))) 40 frames.0.text
-        (Stands-then file 16 (word h.harts) 20 (word h.turns ++ (word h.entry ++ (word h.segments ++ (word h.blocks ++ word h.programs)))) 40 harts.0.text
-        (Stands-then file 20 (word h.turns) 24 (word h.entry ++ (word h.segments ++ (word h.blocks ++ word h.programs))) 40 turns.0.text
-        (Stands-then file 24 (word h.entry) 28 (word h.segments ++ (word h.blocks ++ word h.programs)) 40 entry.0.text
-        (Stands-then file 28 (word h.segments) 32 (word h.blocks ++ word h.programs) 40 segments.0.text
-        (Stands-then file 32 (word h.blocks) 36 (word h.programs) 40 blocks.0.text programs.0.text)))))) in
+    (Stands-then file 12 (word h.frames) 16 (word h.harts ++ (word h.turns ++ (word h.entry ++ (word h.segments ++ (word h.blocks ++ word h.programs))))) 40 frames.0.text
+    (Stands-then file 16 (word h.harts) 20 (word h.turns ++ (word h.entry ++ (word h.segments ++ (word h.blocks ++ word h.programs)))) 40 harts.0.text
+    (Stands-then file 20 (word h.turns) 24 (word h.entry ++ (word h.segments ++ (word h.blocks ++ word h.programs))) 40 turns.0.text
+    (Stands-then file 24 (word h.entry) 28 (word h.segments ++ (word h.blocks ++ word h.programs)) 40 entry.0.text
+    (Stands-then file 28 (word h.segments) 32 (word h.blocks ++ word h.programs) 40 segments.0.text
+    (Stands-then file 32 (word h.blocks) 36 (word h.programs) 40 blocks.0.text programs.0.text)))))) in
     (text, record { some_frames = frames.1; few_frames = frames.2; some_harts = harts.1; few_harts = harts.2; some_turns = turns.1; few_turns = turns.2; entry = entry.1; few_segments = segments.2; few_blocks = blocks.2; few_programs = programs.2 })
 
 -- bytes, each as a list of its own
@@ -160,23 +160,23 @@ made_spelled h schedule segments disk programs counts =
 made_in_grammar : (h : Header) (schedule : List ℕ) (segments : List Segment) (disk : List ℕ) (programs : List Program) → HeaderFits h → CountsAre h schedule segments disk programs
     → AllByRecursion (λ x. x < h.harts) schedule → AllByRecursion (IsSegmentIn h.frames) segments → AllByRecursion (IsProgramIn h.frames) programs → IsInGrammar (bundle_of h schedule segments disk programs)
 made_in_grammar h schedule segments disk programs fits counts turns_fit segments_fit programs_fit = record {
-    kernel = record {
-      some_frames = fits.some_frames;
-      few_frames = fits.few_frames;
-      some_harts = fits.some_harts;
-      few_harts = fits.few_harts;
-      some_turns = omega (arith, counts.turn_count, fits.some_turns);
-      few_turns = omega (arith, counts.turn_count, fits.few_turns);
-      turns = All-from_recursion (λ x. x < h.harts) schedule turns_fit;
-      entry = fits.entry;
-      few_segments = omega (arith, counts.segment_count, fits.few_segments);
-      segments = All-from_recursion (IsSegmentIn h.frames) segments segments_fit;
-      blocks = omega (arith, counts.block_bytes);
-      few_blocks = omega (arith, counts.block_bytes, fits.few_blocks);
-    };
-    few_programs = omega (arith, counts.program_count, fits.few_programs);
-    programs = All-from_recursion (IsProgramIn h.frames) programs programs_fit;
-  }
+  kernel = record {
+    some_frames = fits.some_frames;
+    few_frames = fits.few_frames;
+    some_harts = fits.some_harts;
+    few_harts = fits.few_harts;
+    some_turns = omega (arith, counts.turn_count, fits.some_turns);
+    few_turns = omega (arith, counts.turn_count, fits.few_turns);
+    turns = All-from_recursion (λ x. x < h.harts) schedule turns_fit;
+    entry = fits.entry;
+    few_segments = omega (arith, counts.segment_count, fits.few_segments);
+    segments = All-from_recursion (IsSegmentIn h.frames) segments segments_fit;
+    blocks = omega (arith, counts.block_bytes);
+    few_blocks = omega (arith, counts.block_bytes, fits.few_blocks);
+  };
+  few_programs = omega (arith, counts.program_count, fits.few_programs);
+  programs = All-from_recursion (IsProgramIn h.frames) programs programs_fit;
+}
 
 made_takes : (file : List ℕ) (h : Header) (schedule : List ℕ × ℕ) (segments : List Segment × ℕ) (disk : List ℕ) (programs : List Program × ℕ) → IsBytes file → length file ≤ largest_bundle
     → header_at file ≡ Ok h → parts_at (turn_at h.harts file) (λ _. 1) h.turns 40 ≡ Ok schedule → parts_at (segment_at h.frames file) segment_size h.segments schedule.1 ≡ Ok segments
@@ -194,10 +194,10 @@ made_takes file h schedule segments disk programs fits small header_is schedule_
     let front = (codes "CLOAKBND" ++ word 1) ++ header_text h in
     let body = schedule.0 ++ (flat_map segment_bytes segments.0 ++ (disk ++ flat_map program_bytes programs.0)) in
     let whole : Stands file 0 (front ++ body) programs.1 =
-        Stands-then file 0 front 40 body programs.1 a.0
-        (Stands-then file 40 schedule.0 schedule.1 (flat_map segment_bytes segments.0 ++ (disk ++ flat_map program_bytes programs.0)) programs.1 schedule_text
-        (Stands-then file schedule.1 (flat_map segment_bytes segments.0) segments.1 (disk ++ flat_map program_bytes programs.0) programs.1 c.0
-        (Stands-then file segments.1 disk (segments.1 + length disk) (flat_map program_bytes programs.0) programs.1 disk_text p.0))) in
+    Stands-then file 0 front 40 body programs.1 a.0
+    (Stands-then file 40 schedule.0 schedule.1 (flat_map segment_bytes segments.0 ++ (disk ++ flat_map program_bytes programs.0)) programs.1 schedule_text
+    (Stands-then file schedule.1 (flat_map segment_bytes segments.0) segments.1 (disk ++ flat_map program_bytes programs.0) programs.1 c.0
+    (Stands-then file segments.1 disk (segments.1 + length disk) (flat_map program_bytes programs.0) programs.1 disk_text p.0))) in
     let nothing : drop programs.1 file ≡ [] = drop_all programs.1 file (omega (arith, end)) in
     let text : file ≡ front ++ body = whole.parts ∙ ap (λ (r : List ℕ). (front ++ body) ++ r) nothing ∙ append-nil (front ++ body) in
     record {

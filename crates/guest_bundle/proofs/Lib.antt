@@ -4,3 +4,5 @@ pub mod Takes
 pub mod Found
 pub mod Again
 pub mod Only
+pub mod Tells
+pub mod Faulty

@@ -1,22 +1,18 @@
 -- A file that a bundle spells is read as that bundle.
-use Rattle.std.proofs.Common.{◌≡◌, ℕ, zero, suc, ◌+◌, ◌-◌, ◌*◌, ◌/◌, ◌%◌, ◌^◌, ◌<◌, ◌≤◌, Bool, true, false, cond, ltb, eqb, List, [], ◌∷◌, ◌++◌, length, drop, map, codes, Result, Ok, Err, refl, sym, ap, subst, ◌∙◌, arith, length-append, length-drop, append_assoc}
-use Rattle.std.specs.Str.{bytes_eq}
-use Rattle.std.specs.List.{flat_map, AllByRecursion, All}
+use Rattle.std.proofs.Common.{◌≡◌, ℕ, ◌+◌, ◌*◌, ◌/◌, ◌%◌, ◌^◌, ◌<◌, ◌≤◌, true, eqb, List, [], ◌∷◌, ◌++◌, length, drop, map, codes, Ok, refl, sym, ap, ◌∙◌, arith, length-append}
+use Rattle.std.specs.List.{flat_map, AllByRecursion}
 use Rattle.std.proofs.lemmas.Bool.{le-ltb, eq-eqb}
 use Rattle.std.proofs.lemmas.List.{append-nil, map-id}
 use Rattle.std.proofs.lemmas.List.Elements.{recursion_from_All}
 use Rattle.std.proofs.lemmas.List.Concat.{flat_map-cons}
 use Rattle.cloak_model.specs.Bits.{word}
-use Rattle.cloak_model.specs.Bundle.{segment_bytes, program_bytes, bundle_bytes, IsSegmentIn, IsProgramIn, IsKernelImage, IsInGrammar, IsBundle, largest_bundle}
-use Rattle.cloak_model.specs.declared.image.Segment.{Segment}
+use Rattle.cloak_model.specs.Bundle.{segment_bytes, program_bytes, bundle_bytes, IsSegmentIn, IsProgramIn, IsBundle, largest_bundle}
 use Rattle.cloak_model.specs.declared.image.Program.{Program}
 use Rattle.cloak_model.specs.declared.image.KernelImage.{KernelImage}
 use Rattle.cloak_model.specs.declared.image.Bundle.{Bundle}
-use Rattle.guest_bundle.specs.declared.fault.BundleFault.{BundleFault}
 use Rattle.guest_bundle.specs.declared.header.Header.{Header}
 use Rattle.guest_bundle.specs.Words.{HasWords}
-use Rattle.guest_bundle.specs.Fields.{◌>>=◌, bytes_at, pages_at, number_at, count_at, entry_at}
-use Rattle.guest_bundle.specs.Reading.{version_at, header_at, turn_at, segment_at, segment_size, program_at, program_size, parts_at, bundle_of, bundle_at}
+use Rattle.guest_bundle.specs.Reading.{version_at, header_at, turn_at, segment_at, segment_size, program_at, program_size, parts_at, bundle_at}
 use Rattle.guest_bundle.proofs.Steps.{behind, ok_is}
 use Rattle.guest_bundle.proofs.Again.{low_word, low_word-small, program_in_words, number_again, bytes_again, pages_again, count_again, entry_again, turn_again, segment_again, program_again, parts_again}
 
@@ -55,7 +51,7 @@ header_again file rest h some_frames few_frames some_harts few_harts some_turns 
       entry_again file 24 h.entry r28 entry_fits e24,
       count_again file 28 0 16 h.segments r32 (omega arith) (omega arith) few_segments e28,
       count_again file 32 0 4096 h.blocks r36 (omega arith) (omega arith) few_blocks e32,
-      count_again file 36 0 4 h.programs rest (omega arith) (omega arith) few_programs e36
+      count_again file 36 0 4 h.programs rest (omega arith) (omega arith) few_programs e36,
     ) refl
 
 -- a bundle whose words are of 32 bits
@@ -92,18 +88,18 @@ bundle_again file b is =
     let e2 : drop at2 file ≡ r3 = behind file at1 segments_text r3 e1 in
     let e3 : drop at3 file ≡ programs_text = behind file at2 k.disk programs_text e2 in
     let schedule : parts_at (turn_at k.harts file) (λ _. 1) (length k.schedule) 40 ≡ Ok (k.schedule, at1) =
-        parts_again (λ x. x ∷ []) (λ x. x < k.harts) (λ x. x) file (turn_at k.harts file) (λ _. 1) (λ at x rest lt here. turn_again k.harts file at x rest lt here) (λ _. refl) k.schedule 40 r2
-          (recursion_from_All (λ x. x < k.harts) k.schedule g.kernel.turns) (rw (joined k.schedule) e40)
-        ∙ rw (map-id k.schedule) refl in
+    parts_again (λ x. x ∷ []) (λ x. x < k.harts) (λ x. x) file (turn_at k.harts file) (λ _. 1) (λ at x rest lt here. turn_again k.harts file at x rest lt here) (λ _. refl) k.schedule 40 r2
+    (recursion_from_All (λ x. x < k.harts) k.schedule g.kernel.turns) (rw (joined k.schedule) e40)
+    ∙ rw (map-id k.schedule) refl in
     let segments : parts_at (segment_at k.frames file) segment_size (length k.segments) at1 ≡ Ok (k.segments, at2) =
-        parts_again segment_bytes (IsSegmentIn k.frames) (λ s. s) file (segment_at k.frames file) segment_size (λ at s rest inside here. segment_again k.frames file at s rest g.kernel.few_frames inside here) (λ s. omega arith) k.segments at1 r3
-          (recursion_from_All (IsSegmentIn k.frames) k.segments g.kernel.segments) e1
-        ∙ rw (map-id k.segments) refl in
+    parts_again segment_bytes (IsSegmentIn k.frames) (λ s. s) file (segment_at k.frames file) segment_size (λ at s rest inside here. segment_again k.frames file at s rest g.kernel.few_frames inside here) (λ s. omega arith) k.segments at1 r3
+    (recursion_from_All (IsSegmentIn k.frames) k.segments g.kernel.segments) e1
+    ∙ rw (map-id k.segments) refl in
     let blocks : length k.disk ≡ 4096 * (length k.disk / 4096) = omega (arith, g.kernel.blocks) in
     let disk = pages_again file at2 (length k.disk / 4096) k.disk programs_text e2 blocks in
     let programs : parts_at (program_at k.frames file) program_size (length b.programs) at3 ≡ Ok (map program_in_words b.programs, at4) =
-        parts_again program_bytes (IsProgramIn k.frames) program_in_words file (program_at k.frames file) program_size (λ at p rest inside here. program_again k.frames file at p rest g.kernel.few_frames inside here) (λ p. omega arith) b.programs at3 []
-          (recursion_from_All (IsProgramIn k.frames) b.programs g.programs) (e3 ∙ sym (append-nil programs_text)) in
+    parts_again program_bytes (IsProgramIn k.frames) program_in_words file (program_at k.frames file) program_size (λ at p rest inside here. program_again k.frames file at p rest g.kernel.few_frames inside here) (λ p. omega arith) b.programs at3 []
+    (recursion_from_All (IsProgramIn k.frames) b.programs g.programs) (e3 ∙ sym (append-nil programs_text)) in
     let size : length file ≡ length (bundle_bytes b) = ap length (sym is.spelled) in
     let total : at4 ≡ length (bundle_bytes b) = omega (arith, length-append k.schedule r2, length-append segments_text r3, length-append k.disk programs_text) in
     let end : eqb at4 (length file) ≡ true = eq-eqb _ _ (total ∙ sym size) in

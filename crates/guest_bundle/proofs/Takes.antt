@@ -1,5 +1,5 @@
 -- What is read is spelled so.
-use Rattle.std.proofs.Common.{◌≡◌, ℕ, zero, suc, ◌+◌, ◌-◌, ◌*◌, ◌%◌, ◌^◌, ◌<◌, ◌≤◌, Bool, true, false, ◌&&◌, add-one, drop-cons, length-drop, cond, ltb, leb, eqb, List, [], ◌∷◌, ◌++◌, length, get_or, take, drop, codes, nat_lt, nat_le, Result, Ok, Err, refl, sym, ap, subst, ◌∙◌, arith}
+use Rattle.std.proofs.Common.{◌≡◌, ℕ, zero, suc, ◌+◌, ◌-◌, ◌*◌, ◌%◌, ◌^◌, ◌<◌, ◌≤◌, Bool, true, false, ◌&&◌, add-one, drop-cons, length-drop, cond, ltb, leb, eqb, List, [], ◌∷◌, ◌++◌, length, get_or, take, drop, Result, Ok, Err, refl, sym, ap, subst, ◌∙◌, arith}
 use Rattle.std.specs.Int.{w32, from_le_bytes}
 use Rattle.std.specs.List.{flat_map, AllByRecursion}
 use Rattle.std.proofs.lemmas.Bool.{ltb-false, ltb-true, leb-true, eqb-true}
@@ -11,7 +11,7 @@ use Rattle.cloak_model.specs.Bundle.{segment_bytes, program_bytes, IsSegmentIn, 
 use Rattle.cloak_model.specs.declared.image.Segment.{Segment}
 use Rattle.cloak_model.specs.declared.image.Program.{Program}
 use Rattle.guest_bundle.specs.declared.fault.BundleFault.{BundleFault}
-use Rattle.guest_bundle.specs.declared.fault.BundleFault.TheVariants.{Short, BadMagic, BadVersion, BadCount, TooLarge, BadRange, Extra}
+use Rattle.guest_bundle.specs.declared.fault.BundleFault.TheVariants.{Short, BadCount, TooLarge, BadRange}
 use Rattle.guest_bundle.specs.Fields.{◌>>=◌, bytes_at, pages_at, number_at, count_at, entry_at}
 use Rattle.guest_bundle.specs.Reading.{turn_at, lies_in_ram, segment_at, segment_size, is_base_of, place_at, base_at, program_at, program_size, parts_at}
 use Rattle.guest_bundle.proofs.Steps.{bind_ok, refused_not, passed, ok_is, IsBytes, IsBytes-drop, IsBytes-take, Stands, Stands-then}
@@ -144,10 +144,10 @@ program_takes frames file at p fits e =
     let x5 : Stands file (at + 20) t.0 (at + (20 + length t.0)) = subst (λ k. Stands file (at + 20) t.0 k) end bytes.0 in
     let last = at + (20 + length t.0) in
     let text = Stands-then file at (word a.0) (at + 4) (word b.0 ++ (word c.0 ++ (word d.0 ++ (word s.0 ++ t.0)))) last pages.0.text
-        (Stands-then file (at + 4) (word b.0) (at + 8) (word c.0 ++ (word d.0 ++ (word s.0 ++ t.0))) last x1
-        (Stands-then file (at + 8) (word c.0) (at + 12) (word d.0 ++ (word s.0 ++ t.0)) last x2
-        (Stands-then file (at + 12) (word d.0) (at + 16) (word s.0 ++ t.0) last x3
-        (Stands-then file (at + 16) (word s.0) (at + 20) t.0 last x4 x5)))) in
+    (Stands-then file (at + 4) (word b.0) (at + 8) (word c.0 ++ (word d.0 ++ (word s.0 ++ t.0))) last x1
+    (Stands-then file (at + 8) (word c.0) (at + 12) (word d.0 ++ (word s.0 ++ t.0)) last x2
+    (Stands-then file (at + 12) (word d.0) (at + 16) (word s.0 ++ t.0) last x3
+    (Stands-then file (at + 16) (word s.0) (at + 20) t.0 last x4 x5)))) in
     let inside : IsProgramIn frames (made a.0 b.0 c.0 d.0 s.0 t.0) = record { some_pages = pages.1; few_pages = pages.2; place = place.1; base = base.1; top = base.2; entry = entry.1; bytes = bytes.1 } in
     subst (λ (x : Program). Stands file at (program_bytes x) (at + program_size x) × IsProgramIn frames x) (ok_is (made a.0 b.0 c.0 d.0 s.0 t.0) p t.2) (text, inside)
 

@@ -1,4 +1,5 @@
 pub mod Fields
 pub mod Reading
+pub mod FirstFault
 pub mod Words
 pub mod Writing

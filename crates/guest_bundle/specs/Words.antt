@@ -1,6 +1,5 @@
 -- The numbers of a bundle that any 32 bits may be.
-use Rattle.std.specs.Prelude.{ℕ, ◌<◌, ◌^◌, All}
-use Rattle.cloak_model.specs.declared.image.Program.{Program}
+use Rattle.std.specs.Prelude.{◌<◌, ◌^◌, All}
 use Rattle.cloak_model.specs.declared.image.Bundle.{Bundle}
 
 -- The numbers that the grammar does not bound are numbers of 32 bits, as those of each bundle of the code are.

@@ -1,8 +1,8 @@
 ghost use Rattle.std.specs.Prelude.{◌≡◌, ◌≤◌, length, OnOk};
 ghost use Rattle.guest_bundle.specs.Reading.{version_at, header_at};
 
-use crate::fields::{bytes, count, entry, number};
 use crate::BundleFault;
+use crate::fields::{bytes, count, entry, number};
 
 /// The numbers of fixed places that a file begins with.
 #[derive(Clone, Copy)]

@@ -4,8 +4,8 @@ ghost use Rattle.cloak_model.specs.declared.image.Program.{Program};
 ghost use Rattle.guest_bundle.specs.Fields.{Gives, Shows};
 ghost use Rattle.guest_bundle.specs.Reading.{turn_at, lies_in_ram, segment_at, segment_size, place_at, is_base_of, base_at, program_at, program_size, parts_at};
 
-use crate::fields::{bytes, count, entry, number, pages};
 use crate::BundleFault;
+use crate::fields::{bytes, count, entry, number, pages};
 use cloak_base::Start;
 use cloak_model::{Program, Segment, Sequence};
 use std::alloc::Global;
@@ -60,7 +60,8 @@ fn is_in_ram(frames: u32, address: u32, size: u32) -> bool
 #[tactic(auto, unfolding(crate::specs::Reading::segment_at))]
 fn segment(file: &[u8], at: usize, frames: u32) -> Result<(u32, &[u8]), BundleFault>
     requires { at ≤ length file.now }
-    ensures field { Shows (λ x. let s : Segment = record { address = x.0; bytes = x.1.now } in s) result (segment_at frames file.now at) }
+    ensures field { Shows (λ x. let s : Segment = record { address = x.0; bytes = x.1.now } in s)
+        result (segment_at frames file.now at) }
     ensures whole { IfOk result (λ x. at + (8 + length x.1.now) ≤ length file.now) }
 {
     let address = number(file, at)?;
@@ -134,7 +135,8 @@ fn base(file: &[u8], at: usize, pages: u32) -> Result<u32, BundleFault>
 #[tactic(auto, unfolding(crate::specs::Reading::program_at))]
 fn program(file: &[u8], at: usize, frames: u32) -> Result<(u32, Start, &[u8]), BundleFault>
     requires { at ≤ length file.now }
-    ensures field { Shows (λ x. let p : Program = record { place = x.0; start = x.1; bytes = x.2.now } in p) result (program_at frames file.now at) }
+    ensures field { Shows (λ x. let p : Program = record { place = x.0; start = x.1; bytes = x.2.now } in p)
+        result (program_at frames file.now at) }
     ensures whole { IfOk result (λ x. at + (20 + length x.2.now) ≤ length file.now) }
 {
     let page_count = count(file, at, 1, 1024)?;

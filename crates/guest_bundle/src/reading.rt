@@ -1,15 +1,16 @@
-ghost use Rattle.std.specs.Prelude.{◌≡◌, ◌≢◌, IfOk, IfErr};
+ghost use Rattle.std.specs.Prelude.{◌≡◌, ◌≢◌, Some, None, IfOk, IfErr, MatchResult};
 ghost use Rattle.cloak_model.specs.Bundle.{IsBundle};
 ghost use Rattle.cloak_model.specs.declared.image.Bundle.{Bundle};
 ghost use Rattle.guest_bundle.specs.declared.fault.BundleFault.TheVariants.{NoMemory};
 ghost use Rattle.guest_bundle.specs.Fields.{Gives};
+ghost use Rattle.guest_bundle.specs.FirstFault.{first_fault};
 ghost use Rattle.guest_bundle.specs.Reading.{bundle_at};
 ghost use Rattle.guest_bundle.specs.Words.{HasWords};
 
+use crate::BundleFault;
 use crate::fields::pages;
 use crate::header::read_header;
 use crate::parts::{programs, schedule, segments};
-use crate::BundleFault;
 use cloak_model::{Bundle, KernelImage, Sequence};
 use std::alloc::Global;
 
@@ -43,14 +44,20 @@ fn bundle(alloc: Global, file: &[u8]) -> Result<Bundle, BundleFault>
     })
 }
 
-/// The bundle of a file.
+/// The bundle of a file. A file above 67,108,864 bytes is refused before anything of it is read, and
+/// `NoMemory` comes only where a growth was refused.
 pub fn read(alloc: Global, b: &[u8]) -> Result<Bundle, BundleFault>
     // What is read is spelled so, and it is in the grammar.
     ensures ok { IfOk result (λ bundle. IsBundle b.now bundle) }
     // What is refused is spelled by no bundle.
     ensures err { IfErr result (λ e. e ≢ NoMemory → (bundle : Bundle) → IsBundle b.now bundle → ⊥) }
+    // It is refused with the first fault in reading order, and a file that is read has none.
+    ensures fault { MatchResult result
+        (λ _. first_fault b.now ≡ None)
+        (λ e. e ≢ NoMemory → first_fault b.now ≡ Some e) }
     // A bundle that spells the file is the one that is read.
-    ensures only { (bundle : Bundle) → HasWords bundle → IsBundle b.now bundle → IfOk result (λ x. x ≡ bundle) }
+    ensures only { (bundle : Bundle) → HasWords bundle → IsBundle b.now bundle
+        → IfOk result (λ read. read ≡ bundle) }
 {
     bundle(alloc, b)
 }

@@ -1,4 +1,4 @@
-use Rattle.std.proofs.Common.{◌≡◌, ℕ, ◌∷◌, [], ◌++◌, sym, arith}
+use Rattle.std.proofs.Common.{sym, arith}
 use Rattle.std.proofs.lemmas.Result.{err_from_is_err_and}
 use Rattle.guest_bundle.specs.Reading.{turn_at, parts_at}
 use Rattle.guest_bundle.proofs.Loop.{goes_on, ends, is_done}
@@ -11,9 +11,9 @@ returns-in_err-hart-clause-fields c =
 
 pub loop-preserved : goal.loop-preserved
 loop-preserved c = record {
-    so_far = rw c.in_ok-push.ensures.items (goes_on (turn_at c.args.harts c.args.file.now) (λ _. 1) c.loop.turns.items c.args.n c.loop.counter c.loop.at c.in_ok-hart.hart (parts_at (turn_at c.args.harts c.args.file.now) (λ _. 1) c.args.n c.args.from) c.loop-test.true (sym c.in_ok-hart.ensures.field) c.loop.invariant.so_far);
-    within = omega (arith, c.in_ok-hart.ensures.whole);
-  }
+  so_far = rw c.in_ok-push.ensures.items (goes_on (turn_at c.args.harts c.args.file.now) (λ _. 1) c.loop.turns.items c.args.n c.loop.counter c.loop.at c.in_ok-hart.hart (parts_at (turn_at c.args.harts c.args.file.now) (λ _. 1) c.args.n c.args.from) c.loop-test.true (sym c.in_ok-hart.ensures.field) c.loop.invariant.so_far);
+  within = omega (arith, c.in_ok-hart.ensures.whole);
+}
 
 pub returns-clause-fields : goal.returns-clause-fields
 returns-clause-fields c = is_done (turn_at c.args.harts c.args.file.now) (λ _. 1) c.loop.turns.items c.args.n c.loop.counter c.loop.at (parts_at (turn_at c.args.harts c.args.file.now) (λ _. 1) c.args.n c.args.from) c.loop-test.false c.loop.invariant.so_far

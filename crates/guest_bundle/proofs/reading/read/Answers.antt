@@ -1,15 +1,18 @@
-use Rattle.std.proofs.Common.{◌≡◌, ◌≢◌, List, ℕ, Result, Ok, Err, IfOk, IfErr, sym, ◌∙◌, arith}
+use Rattle.std.proofs.Common.{◌≡◌, ◌≢◌, List, ℕ, Result, Ok, Err, Some, None, IfOk, IfErr, MatchResult, subst, sym, ◌∙◌, arith}
 use Rattle.cloak_model.specs.Bundle.{IsBundle}
 use Rattle.cloak_model.specs.declared.image.Bundle.{Bundle}
 use Rattle.guest_bundle.specs.declared.fault.BundleFault.{BundleFault}
 use Rattle.guest_bundle.specs.declared.fault.BundleFault.TheVariants.{NoMemory}
-use Rattle.guest_bundle.specs.Fields.{Gives, Fails}
+use Rattle.guest_bundle.specs.Fields.{Gives}
+use Rattle.guest_bundle.specs.FirstFault.{first_fault}
 use Rattle.guest_bundle.specs.Reading.{bundle_at}
 use Rattle.guest_bundle.specs.Words.{HasWords}
 use Rattle.guest_bundle.proofs.Loop.{failed}
 use Rattle.guest_bundle.proofs.Steps.{IsBytes, ok_is}
 use Rattle.guest_bundle.proofs.Found.{bundle_takes}
 use Rattle.guest_bundle.proofs.Only.{bundle_again, in_words, with_words}
+use Rattle.guest_bundle.proofs.Tells.{Tells}
+use Rattle.guest_bundle.proofs.Faulty.{bundle_tells}
 use Rattle.guest_bundle.proofs.reading.read.Goals as goal
 
 is_found : (file : List ℕ) (r : Result Bundle BundleFault) → IsBytes file → Gives (λ x. x) r (bundle_at file) → IfOk r (λ bundle. IsBundle file bundle)
@@ -27,6 +30,10 @@ is_only : (file : List ℕ) (r : Result Bundle BundleFault) → Gives (λ x. x) 
 is_only file (Ok b) given bundle words is = ok_is b (in_words bundle) (sym given ∙ bundle_again file bundle is) ∙ with_words bundle words
 is_only file (Err e) given bundle words is = tt
 
+is_first : (file : List ℕ) (r : Result Bundle BundleFault) → Gives (λ x. x) r (bundle_at file) → MatchResult r (λ _. first_fault file ≡ None) (λ e. e ≢ NoMemory → first_fault file ≡ Some e)
+is_first file (Ok b) given = subst (λ read. Tells read (first_fault file)) given (bundle_tells file)
+is_first file (Err e) given = λ other. subst (λ read. Tells read (first_fault file)) (failed e (bundle_at file) other given) (bundle_tells file)
+
 pub returns-clause-ok : goal.returns-clause-ok
 returns-clause-ok c = is_found c.args.b.now c.bundle.result (λ i. omega (arith, c.type_inv.b i)) c.bundle.ensures
 
@@ -35,3 +42,6 @@ returns-clause-err c = is_refused c.args.b.now c.bundle.result c.bundle.ensures
 
 pub returns-clause-only : goal.returns-clause-only
 returns-clause-only c = is_only c.args.b.now c.bundle.result c.bundle.ensures
+
+pub returns-clause-fault : goal.returns-clause-fault
+returns-clause-fault c = is_first c.args.b.now c.bundle.result c.bundle.ensures

@@ -1,4 +1,4 @@
-use Rattle.std.proofs.Common.{◌≡◌, append_assoc, refl}
+use Rattle.std.proofs.Common.{append_assoc, refl}
 use Rattle.guest_bundle.proofs.writing.put_header.Goals as goal
 
 pub returns : goal.returns
