@@ -17,3 +17,6 @@ mod steps;
 mod tables;
 
 pub use cipher::Schedule;
+
+#[cfg(test)]
+mod tests;

@@ -89,13 +89,13 @@ sealed_more key whole j now last new block low s made is =
     record {
       long = p.long;
       done =
-        s.done
-        ∙ ap (λ (m : ℕ). take (16 * j) now ++ sealed_from key m last (drop (16 * j) now)) n
-        ∙ ap (λ (t : List ℕ). take (16 * j) now ++ t) next
-        ∙ ap (λ (b : List ℕ). take (16 * j) now ++ (b ++ sealed_from key (256 - (j + 1)) b (drop 16 (drop (16 * j) now)))) (sym made)
-        ∙ sym (append_assoc (take (16 * j) now) block (sealed_from key (256 - (j + 1)) block (drop 16 (drop (16 * j) now))))
-        ∙ ap (λ (t : List ℕ). t ++ sealed_from key (256 - (j + 1)) block (drop 16 (drop (16 * j) now))) (sym p.front)
-        ∙ ap (λ (t : List ℕ). take (16 * (j + 1)) new ++ sealed_from key (256 - (j + 1)) block t) (sym p.behind);
+          s.done
+          ∙ ap (λ (m : ℕ). take (16 * j) now ++ sealed_from key m last (drop (16 * j) now)) n
+          ∙ ap (λ (t : List ℕ). take (16 * j) now ++ t) next
+          ∙ ap (λ (b : List ℕ). take (16 * j) now ++ (b ++ sealed_from key (256 - (j + 1)) b (drop 16 (drop (16 * j) now)))) (sym made)
+          ∙ sym (append_assoc (take (16 * j) now) block (sealed_from key (256 - (j + 1)) block (drop 16 (drop (16 * j) now))))
+          ∙ ap (λ (t : List ℕ). t ++ sealed_from key (256 - (j + 1)) block (drop 16 (drop (16 * j) now))) (sym p.front)
+          ∙ ap (λ (t : List ℕ). take (16 * (j + 1)) new ++ sealed_from key (256 - (j + 1)) block t) (sym p.behind);
     }
 
 pub sealed_end : (key whole now last : List ℕ) → IsSealedTo key whole 256 now last → now ≡ whole
@@ -150,18 +150,18 @@ only_more key iv old j now last sealed plain q low long o here d b is =
     let rest : List ℕ = drop (16 * j) q in
     let n : 256 - j ≡ (256 - (j + 1)) + 1 = omega arith in
     let cut : sealed_from key 256 iv (take (16 * j) now ++ rest) ≡ old =
-        ap (λ (f : List ℕ). sealed_from key 256 iv (f ++ rest)) (o.only q b is)
-        ∙ ap (λ (f : List ℕ). sealed_from key 256 iv f) (take-append-drop (16 * j) q)
-        ∙ sym (cbc-sealed_from key iv q) ∙ is in
+    ap (λ (f : List ℕ). sealed_from key 256 iv (f ++ rest)) (o.only q b is)
+    ∙ ap (λ (f : List ℕ). sealed_from key 256 iv f) (take-append-drop (16 * j) q)
+    ∙ sym (cbc-sealed_from key iv q) ∙ is in
     let behind : sealed_from key (256 - j) last rest ≡ drop (16 * j) old =
-        append_cancel_left (take (16 * j) old) (sealed_from key (256 - j) last rest) (drop (16 * j) old)
-            (sym (o.seals rest) ∙ cut ∙ sym (take-append-drop (16 * j) old)) in
+    append_cancel_left (take (16 * j) old) (sealed_from key (256 - j) last rest) (drop (16 * j) old)
+    (sym (o.seals rest) ∙ cut ∙ sym (take-append-drop (16 * j) old)) in
     let c : List ℕ = encrypted key (block_sum (block_of q j) last) in
     let first : c ++ sealed_from key (256 - (j + 1)) c (drop 16 rest) ≡ drop (16 * j) old =
-        sym (sealed_from-next key (256 - (j + 1)) last rest) ∙ ap (λ (k : ℕ). sealed_from key k last rest) (sym n) ∙ behind in
+    sym (sealed_from-next key (256 - (j + 1)) last rest) ∙ ap (λ (k : ℕ). sealed_from key k last rest) (sym n) ∙ behind in
     let same : c ≡ sealed =
-        sym (take_at c (sealed_from key (256 - (j + 1)) c (drop 16 rest)) 16 (length-encrypted key (block_sum (block_of q j) last)))
-        ∙ ap (λ (f : List ℕ). take 16 f) first ∙ sym here in
+    sym (take_at c (sealed_from key (256 - (j + 1)) c (drop 16 rest)) 16 (length-encrypted key (block_sum (block_of q j) last)))
+    ∙ ap (λ (f : List ℕ). take 16 f) first ∙ sym here in
     let q_block = IsBytes-block_of q j b low in
     let plain_is : plain ≡ block_sum (block_of q j) last = d.only (block_sum (block_of q j) last) (IsBytes-block_sum (block_of q j) last q_block o.last_bytes) same in
     ap (λ (p : List ℕ). block_sum p last) plain_is ∙ block_sum-block_sum (block_of q j) last q_block.long
@@ -179,9 +179,9 @@ opened_more key iv old j now last new sealed plain block low old_bytes o read pl
       last_bytes = subst (λ (b : List ℕ). IsBytes 16 b) (sym here) (IsBytes-block_of old j old_bytes low);
       seals = seals_more key iv old j now last new sealed plain low long o here plain_long d.back front;
       only = λ q b same.
-        front ∙ ap (λ (f : List ℕ). f ++ block_sum plain last) (o.only q b same)
-        ∙ ap (λ (f : List ℕ). take (16 * j) q ++ f) (only_more key iv old j now last sealed plain q low long o here d b same)
-        ∙ sym (ap (λ (k : ℕ). take k q) m ∙ take-add (16 * j) 16 q);
+          front ∙ ap (λ (f : List ℕ). f ++ block_sum plain last) (o.only q b same)
+          ∙ ap (λ (f : List ℕ). take (16 * j) q ++ f) (only_more key iv old j now last sealed plain q low long o here d b same)
+          ∙ sym (ap (λ (k : ℕ). take k q) m ∙ take-add (16 * j) 16 q);
     }
 
 pub opened_seals : (key iv old now last : List ℕ) → length old ≡ 4096 → IsOpenedTo key iv old 256 now last → cbc key iv now ≡ old
@@ -214,12 +214,12 @@ blocks_more key whole j now last block low s made =
     let split : drop j now ≡ get_or now j [] ∷ drop (j + 1) now = drop-cons now j [] low ∙ ap (λ (k : ℕ). get_or now j [] ∷ drop k now) (sym (add-one j)) in
     record {
       done =
-        s.done
-        ∙ ap (λ (t : List (List ℕ)). take j now ++ chained key last t) split
-        ∙ ap (λ (b : List ℕ). take j now ++ (b ∷ chained key b (drop (j + 1) now))) (sym made)
-        ∙ sym (append_assoc (take j now) (block ∷ []) (chained key block (drop (j + 1) now)))
-        ∙ ap (λ (t : List (List ℕ)). t ++ chained key block (drop (j + 1) now)) (sym (take_more_set now j block low))
-        ∙ ap (λ (t : List (List ℕ)). take (j + 1) (slice_set now j block) ++ chained key block t) (sym (drop-set-lt (j + 1) now j block (omega arith)));
+          s.done
+          ∙ ap (λ (t : List (List ℕ)). take j now ++ chained key last t) split
+          ∙ ap (λ (b : List ℕ). take j now ++ (b ∷ chained key b (drop (j + 1) now))) (sym made)
+          ∙ sym (append_assoc (take j now) (block ∷ []) (chained key block (drop (j + 1) now)))
+          ∙ ap (λ (t : List (List ℕ)). t ++ chained key block (drop (j + 1) now)) (sym (take_more_set now j block low))
+          ∙ ap (λ (t : List (List ℕ)). take (j + 1) (slice_set now j block) ++ chained key block t) (sym (drop-set-lt (j + 1) now j block (omega arith)));
     }
 
 pub blocks_end : (key : List ℕ) (whole : List (List ℕ)) (j : ℕ) (now : List (List ℕ)) (last : List ℕ) → length now ≤ j → AreSealedTo key whole j now last → now ≡ whole

@@ -98,3 +98,6 @@ pub fn seal_blocks(k: &Schedule, iv: &[u8; 16], p: &mut [[u8; 16]])
         last = block;
     }
 }
+
+#[cfg(test)]
+mod tests;
