@@ -1,18 +1,17 @@
 -- Blocks place by place and column by column, and which steps give bytes.
-use Rattle.std.proofs.Common.{◌≡◌, ◌<◌, ◌≤◌, ◌+◌, ◌-◌, ◌*◌, ◌/◌, ◌%◌, ℕ, zero, suc, List, [], ◌∷◌, ◌++◌, length, get_or, drop, map, refl, sym, ◌∙◌, ap, subst, arith, drop-cons, add-one, nat_eq, Bool, true, false}
-use Rattle.std.specs.Prelude.{bit_xor, slice_index, All, if◌then◌else◌}
+use Rattle.std.proofs.Common.{◌≡◌, ◌<◌, ◌+◌, ◌-◌, ◌*◌, ◌/◌, ◌%◌, ℕ, zero, suc, List, [], ◌∷◌, length, get_or, drop, map, refl, sym, ◌∙◌, ap, subst, arith, drop-cons, add-one}
+use Rattle.std.specs.Prelude.{bit_xor, slice_index, All}
 use Rattle.std.specs.List.{range_with_len}
 use Rattle.std.proofs.lemmas.List.{drop_all}
 use Rattle.std.proofs.lemmas.List.FromFn.{get_or-map-range_with_len}
 use Rattle.std.proofs.lemmas.List.Elements.{All-from_get_or, All-cons, All-append}
 use Rattle.std.proofs.lemmas.Nat.{xor_of_8}
-use Rattle.aes_block.specs.Bytes.{IsBytes, each_byte}
-use Rattle.aes_block.specs.Field.{product, product_of_bits, times_x, power_of_x}
+use Rattle.aes_block.specs.Bytes.{IsBytes}
 use Rattle.aes_block.specs.SBox.{s_box, inverse_s_box}
 use Rattle.aes_block.specs.Column.{Column, bytes_of, column_sum, sum_of_four, row_times, circulant_times, mixed, unmixed}
 use Rattle.aes_block.specs.State.{from_places, from_columns, column_of, sub_bytes, shift_rows, mix_columns, block_sum, inverse_sub_bytes, inverse_shift_rows, inverse_mix_columns}
 use Rattle.aes_block.specs.RoundKey.{rotated_word, substituted_word, round_constant, next_key, round_key}
-use Rattle.aes_block.proofs.EachByte.{gives_bytes, gives_bytes_at}
+use Rattle.aes_block.proofs.Products.{product-lt, power_of_x-lt}
 use Rattle.aes_block.proofs.MixInverse.{IsByteColumn}
 use Rattle.aes_block.proofs.TableRules.{s_box-lt, inverse_s_box-lt}
 
@@ -88,26 +87,6 @@ IsBytes-from_columns w x y z p q r s =
       bytes = All-append low (bytes_of w) _ (All-bytes_of w p) (All-append low (bytes_of x) _ (All-bytes_of x q) (All-append low (bytes_of y) (bytes_of z) (All-bytes_of y r) (All-bytes_of z s)));
     }
 
-times_x_test : gives_bytes times_x ≡ true
-unfolding each_byte times_x
-times_x_test = refl
-
-pub times_x-lt : (a : ℕ) → a < 256 → times_x a < 256
-times_x-lt a low = gives_bytes_at times_x times_x_test a low
-
-addend-lt : (b : Bool) (a : ℕ) → a < 256 → (if b then a else 0) < 256
-addend-lt true a low = low
-addend-lt false a low = omega arith
-
-product_of_bits-lt : (k a b : ℕ) → a < 256 → product_of_bits k a b < 256
-unfolding product_of_bits
-product_of_bits-lt zero a b low = omega arith
-product_of_bits-lt (suc k) a b low = xor_of_8 _ _ (addend-lt (nat_eq (b % 2) 1) a low) (product_of_bits-lt k (times_x a) (b / 2) (times_x-lt a low))
-
-pub product-lt : (a b : ℕ) → a < 256 → product a b < 256
-unfolding product
-product-lt a b low = product_of_bits-lt 8 a b low
-
 row_times-lt : (i j k l : ℕ) (x : Column) → i < 256 → j < 256 → k < 256 → l < 256 → row_times i j k l x < 256
 unfolding row_times sum_of_four
 row_times-lt i j k l x p q r s = xor_of_8 _ _ (xor_of_8 _ _ (product-lt i x.first p) (product-lt j x.second q)) (xor_of_8 _ _ (product-lt k x.third r) (product-lt l x.fourth s))
@@ -168,11 +147,6 @@ unfolding block_sum
 IsBytes-block_sum s t b c = IsBytes-from_places (λ i. bit_xor (slice_index s i) (slice_index t i)) (λ i low. xor_of_8 _ _ (block_byte s b i low) (block_byte t c i low))
 
 -- so do the round keys
-power_of_x-lt : (n : ℕ) → power_of_x n < 256
-unfolding power_of_x
-power_of_x-lt zero = omega arith
-power_of_x-lt (suc n) = times_x-lt (power_of_x n) (power_of_x-lt n)
-
 IsByteColumn-key_word : (j : ℕ) (w : Column) → IsByteColumn w → IsByteColumn (column_sum (substituted_word (rotated_word w)) (round_constant j))
 unfolding substituted_word rotated_word round_constant
 IsByteColumn-key_word j w b = IsByteColumn-column_sum _ _

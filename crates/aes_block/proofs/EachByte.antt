@@ -1,5 +1,5 @@
 -- What a test over every byte says of each.
-use Rattle.std.proofs.Common.{◌≡◌, ◌<◌, ◌+◌, ℕ, zero, suc, List, [], ◌∷◌, Bool, true, false, arith, sym, subst, inl, inr, nat_eq, nat_lt}
+use Rattle.std.proofs.Common.{◌≡◌, ◌<◌, ◌+◌, ℕ, zero, suc, Bool, true, false, arith, sym, subst, inl, inr, nat_eq, nat_lt}
 use Rattle.std.specs.Prelude.{◌&&◌, refl}
 use Rattle.std.specs.List.{list_all, range_with_len}
 use Rattle.std.proofs.lemmas.Bool.{eqb-true}

@@ -1,9 +1,9 @@
 -- The product is linear in its second factor.
-use Rattle.std.proofs.Common.{◌≡◌, ◌<◌, ◌^◌, ◌+◌, ◌*◌, ◌/◌, ◌%◌, ℕ, zero, suc, List, [], ◌∷◌, Bool, true, false, refl, ap, sym, ◌∙◌, subst, arith, ◌⊎◌, inl, inr, nat_eq, nat_lt}
-use Rattle.std.specs.Prelude.{bit_xor, if◌then◌else◌, ◌&&◌}
+use Rattle.std.proofs.Common.{◌≡◌, ◌<◌, ◌/◌, ◌%◌, ℕ, zero, suc, refl, ap, sym, ◌∙◌, arith, ◌⊎◌, inl, inr, nat_eq}
+use Rattle.std.specs.Prelude.{bit_xor, if◌then◌else◌}
 use lib.Bits.{xor_assoc, xor_self, xor_zero_r}
-use Rattle.std.proofs.lemmas.Nat.{xor_comm, xor_shr, xor_mod, xor_lt}
-use Rattle.std.proofs.lemmas.Bool.Decides.{eqb_tells, nat_tests}
+use Rattle.std.proofs.lemmas.Nat.{xor_comm, xor_shr, xor_mod}
+use Rattle.std.proofs.lemmas.Bool.Decides.{eqb_tells}
 use Rattle.aes_block.specs.Field.{product, product_of_bits, times_x}
 use Rattle.aes_block.specs.Column.{sum_of_four}
 

@@ -1,8 +1,6 @@
 -- `unmixed` inverts `mixed`, and `mixed` inverts `unmixed`.
-use Rattle.std.proofs.Common.{◌≡◌, ◌<◌, ◌+◌, ℕ, List, Bool, true, false, refl, ap, sym, ◌∙◌, subst, arith, nat_eq}
-use Rattle.std.proofs.lemmas.Bool.{eqb-true}
+use Rattle.std.proofs.Common.{◌≡◌, ◌<◌, ℕ, Bool, true, refl, ◌∙◌}
 use Rattle.std.specs.Prelude.{bit_xor}
-use Rattle.std.specs.List.{list_all}
 use lib.Bits.{xor_zero_r}
 use Rattle.aes_block.specs.Bytes.{each_byte}
 use Rattle.aes_block.specs.Field.{product, product_of_bits, times_x}
@@ -62,7 +60,7 @@ product-one a low = agree_at (product 1) (λ a. a) one_test a low
 pub product-zero : (a : ℕ) → a < 256 → product 0 a ≡ 0
 product-zero a low = agree_at (product 0) (λ a. 0) zero_test a low
 
-column_from : (y x : Column) → y.first ≡ x.first → y.second ≡ x.second → y.third ≡ x.third → y.fourth ≡ x.fourth → y ≡ x
+pub column_from : (y x : Column) → y.first ≡ x.first → y.second ≡ x.second → y.third ≡ x.third → y.fourth ≡ x.fourth → y ≡ x
 column_from y x p q r s = λ i. record { first = p i; second = q i; third = r i; fourth = s i }
 
 at_first : (x : Column) → IsByteColumn x → sum_of_four (product 1 x.first) (product 0 x.second) (product 0 x.third) (product 0 x.fourth) ≡ x.first

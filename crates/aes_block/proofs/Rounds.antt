@@ -1,5 +1,5 @@
 -- The cipher and the inverse cipher undo one another.
-use Rattle.std.proofs.Common.{◌≡◌, ◌<◌, ◌≤◌, ◌+◌, ◌-◌, ℕ, zero, suc, List, length, refl, sym, ◌∙◌, ap, subst, arith, add-one}
+use Rattle.std.proofs.Common.{◌≡◌, ◌≤◌, ◌+◌, ◌-◌, ℕ, zero, suc, List, refl, sym, ◌∙◌, ap, subst, arith, add-one}
 use Rattle.aes_block.specs.Bytes.{IsBytes}
 use Rattle.aes_block.specs.State.{sub_bytes, shift_rows, mix_columns, block_sum, inverse_sub_bytes, inverse_shift_rows, inverse_mix_columns}
 use Rattle.aes_block.specs.RoundKey.{round_key}

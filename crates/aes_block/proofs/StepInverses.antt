@@ -1,5 +1,5 @@
 -- Each step of a round and its inverse undo one another.
-use Rattle.std.proofs.Common.{◌≡◌, ◌<◌, ◌+◌, ◌*◌, ◌/◌, ◌%◌, ◌-◌, ℕ, List, length, get_or, refl, sym, ◌∙◌, ap, arith}
+use Rattle.std.proofs.Common.{◌≡◌, ◌<◌, ℕ, List, length, get_or, refl, ◌∙◌, ap, arith}
 use Rattle.std.specs.Prelude.{bit_xor, slice_index}
 use lib.Bits.{xor_assoc, xor_self, xor_zero_r}
 use Rattle.aes_block.specs.Bytes.{IsBytes}

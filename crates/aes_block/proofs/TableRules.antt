@@ -1,13 +1,16 @@
 -- The tables are the definitions, each proved once over the whole table by computation.
-use Rattle.std.proofs.Common.{◌≡◌, ◌<◌, ◌∙◌, ap, arith, refl, sym, true, ℕ}
+use Rattle.std.proofs.Common.{◌≡◌, ◌<◌, ◌∙◌, ap, arith, refl, sym, true, ℕ, List}
 use Rattle.std.specs.Prelude.{slice_index}
 use Rattle.std.specs.List.{list_all, range_with_len}
 use Rattle.std.proofs.lemmas.Bool.{eqb-true}
-use Rattle.aes_block.specs.declared.tables.TheConstants.{S_BOX, INVERSE_S_BOX, TIMES_2, TIMES_3, TIMES_9, TIMES_11, TIMES_13, TIMES_14, ROUND_CONSTANTS}
+use Rattle.aes_block.specs.declared.tables.TheConstants.{S_BOX, INVERSE_S_BOX, ROUND_0, ROUND_1, ROUND_2, ROUND_3, INVERSE_ROUND_0, INVERSE_ROUND_1, INVERSE_ROUND_2, INVERSE_ROUND_3, ROUND_CONSTANTS}
 use Rattle.aes_block.specs.Bytes.{each_byte}
 use Rattle.aes_block.specs.Field.{product, product_of_bits, times_x, inverse, power_of_x}
 use Rattle.aes_block.specs.SBox.{s_box, inverse_s_box, from_bits, affine_bit, inverse_affine_bit}
+use Rattle.aes_block.specs.Word.{column_of_word}
 use Rattle.aes_block.proofs.EachByte.{agree, agree_at, gives_bytes, gives_bytes_at, passes_at}
+use Rattle.aes_block.proofs.Products.{product-lt}
+use Rattle.aes_block.proofs.WordSums.{word_of, column_of_word-word_of, multiples}
 use Rattle.std.specs.Prelude.{nat_eq}
 
 s_box_test : agree (slice_index S_BOX) s_box ≡ true
@@ -59,93 +62,73 @@ s_box-inverse_s_box b low =
     ∙ ap (λ (x : ℕ). slice_index S_BOX x) (sym (inverse_s_box_table b low))
     ∙ agree_at (λ b. slice_index S_BOX (slice_index INVERSE_S_BOX b)) (λ b. b) back_test b low
 
+-- a table of words whose entry at b has these multiples of the box's value at b
+table_rule : (table box : List ℕ) (f : ℕ → ℕ) (i j k l : ℕ) → agree (slice_index table) (λ b. word_of (multiples i j k l (slice_index box b))) ≡ true → ((b : ℕ) → b < 256 → slice_index box b ≡ f b) → i < 256 → j < 256 → k < 256 → l < 256 → (b : ℕ) → b < 256 → column_of_word (slice_index table b) ≡ multiples i j k l (f b)
+unfolding multiples
+table_rule table box f i j k l test is p q r s b low =
+    ap column_of_word (agree_at (slice_index table) (λ b. word_of (multiples i j k l (slice_index box b))) test b low)
+    ∙ column_of_word-word_of (multiples i j k l (slice_index box b)) (record { first = product-lt i (slice_index box b) p; second = product-lt j (slice_index box b) q; third = product-lt k (slice_index box b) r; fourth = product-lt l (slice_index box b) s })
+    ∙ ap (λ (x : ℕ). multiples i j k l x) (is b low)
+
+round_0_test : agree (slice_index ROUND_0) (λ b. word_of (multiples 2 1 1 3 (slice_index S_BOX b))) ≡ true
+unfolding each_byte multiples word_of product product_of_bits times_x
+round_0_test = refl
+
+pub round_0_table : (b : ℕ) → b < 256 → column_of_word (slice_index ROUND_0 b) ≡ multiples 2 1 1 3 (s_box b)
+round_0_table b low = table_rule ROUND_0 S_BOX s_box 2 1 1 3 round_0_test s_box_table (omega arith) (omega arith) (omega arith) (omega arith) b low
+
+round_1_test : agree (slice_index ROUND_1) (λ b. word_of (multiples 3 2 1 1 (slice_index S_BOX b))) ≡ true
+unfolding each_byte multiples word_of product product_of_bits times_x
+round_1_test = refl
+
+pub round_1_table : (b : ℕ) → b < 256 → column_of_word (slice_index ROUND_1 b) ≡ multiples 3 2 1 1 (s_box b)
+round_1_table b low = table_rule ROUND_1 S_BOX s_box 3 2 1 1 round_1_test s_box_table (omega arith) (omega arith) (omega arith) (omega arith) b low
+
+round_2_test : agree (slice_index ROUND_2) (λ b. word_of (multiples 1 3 2 1 (slice_index S_BOX b))) ≡ true
+unfolding each_byte multiples word_of product product_of_bits times_x
+round_2_test = refl
+
+pub round_2_table : (b : ℕ) → b < 256 → column_of_word (slice_index ROUND_2 b) ≡ multiples 1 3 2 1 (s_box b)
+round_2_table b low = table_rule ROUND_2 S_BOX s_box 1 3 2 1 round_2_test s_box_table (omega arith) (omega arith) (omega arith) (omega arith) b low
+
+round_3_test : agree (slice_index ROUND_3) (λ b. word_of (multiples 1 1 3 2 (slice_index S_BOX b))) ≡ true
+unfolding each_byte multiples word_of product product_of_bits times_x
+round_3_test = refl
+
+pub round_3_table : (b : ℕ) → b < 256 → column_of_word (slice_index ROUND_3 b) ≡ multiples 1 1 3 2 (s_box b)
+round_3_table b low = table_rule ROUND_3 S_BOX s_box 1 1 3 2 round_3_test s_box_table (omega arith) (omega arith) (omega arith) (omega arith) b low
+
+inverse_round_0_test : agree (slice_index INVERSE_ROUND_0) (λ b. word_of (multiples 14 9 13 11 (slice_index INVERSE_S_BOX b))) ≡ true
+unfolding each_byte multiples word_of product product_of_bits times_x
+inverse_round_0_test = refl
+
+pub inverse_round_0_table : (b : ℕ) → b < 256 → column_of_word (slice_index INVERSE_ROUND_0 b) ≡ multiples 14 9 13 11 (inverse_s_box b)
+inverse_round_0_table b low = table_rule INVERSE_ROUND_0 INVERSE_S_BOX inverse_s_box 14 9 13 11 inverse_round_0_test inverse_s_box_table (omega arith) (omega arith) (omega arith) (omega arith) b low
+
+inverse_round_1_test : agree (slice_index INVERSE_ROUND_1) (λ b. word_of (multiples 11 14 9 13 (slice_index INVERSE_S_BOX b))) ≡ true
+unfolding each_byte multiples word_of product product_of_bits times_x
+inverse_round_1_test = refl
+
+pub inverse_round_1_table : (b : ℕ) → b < 256 → column_of_word (slice_index INVERSE_ROUND_1 b) ≡ multiples 11 14 9 13 (inverse_s_box b)
+inverse_round_1_table b low = table_rule INVERSE_ROUND_1 INVERSE_S_BOX inverse_s_box 11 14 9 13 inverse_round_1_test inverse_s_box_table (omega arith) (omega arith) (omega arith) (omega arith) b low
+
+inverse_round_2_test : agree (slice_index INVERSE_ROUND_2) (λ b. word_of (multiples 13 11 14 9 (slice_index INVERSE_S_BOX b))) ≡ true
+unfolding each_byte multiples word_of product product_of_bits times_x
+inverse_round_2_test = refl
+
+pub inverse_round_2_table : (b : ℕ) → b < 256 → column_of_word (slice_index INVERSE_ROUND_2 b) ≡ multiples 13 11 14 9 (inverse_s_box b)
+inverse_round_2_table b low = table_rule INVERSE_ROUND_2 INVERSE_S_BOX inverse_s_box 13 11 14 9 inverse_round_2_test inverse_s_box_table (omega arith) (omega arith) (omega arith) (omega arith) b low
+
+inverse_round_3_test : agree (slice_index INVERSE_ROUND_3) (λ b. word_of (multiples 9 13 11 14 (slice_index INVERSE_S_BOX b))) ≡ true
+unfolding each_byte multiples word_of product product_of_bits times_x
+inverse_round_3_test = refl
+
+pub inverse_round_3_table : (b : ℕ) → b < 256 → column_of_word (slice_index INVERSE_ROUND_3 b) ≡ multiples 9 13 11 14 (inverse_s_box b)
+inverse_round_3_table b low = table_rule INVERSE_ROUND_3 INVERSE_S_BOX inverse_s_box 9 13 11 14 inverse_round_3_test inverse_s_box_table (omega arith) (omega arith) (omega arith) (omega arith) b low
+
 constants_test : list_all (λ j. nat_eq (slice_index ROUND_CONSTANTS j) (power_of_x j)) (range_with_len 0 10) ≡ true
 unfolding power_of_x times_x
 constants_test = refl
 
-pub constants : (j : ℕ) → j < 10 → slice_index ROUND_CONSTANTS j ≡ power_of_x j
-constants j low = eqb-true _ _ (passes_at (λ j. nat_eq (slice_index ROUND_CONSTANTS j) (power_of_x j)) 0 10 j constants_test (omega arith) (omega arith))
-
-test_2 : agree (slice_index TIMES_2) (product 2) ≡ true
-unfolding each_byte product product_of_bits times_x
-test_2 = refl
-
-pub times_2 : (b : ℕ) → b < 256 → slice_index TIMES_2 b ≡ product 2 b
-times_2 b low = agree_at (slice_index TIMES_2) (product 2) test_2 b low
-
-test_3 : agree (slice_index TIMES_3) (product 3) ≡ true
-unfolding each_byte product product_of_bits times_x
-test_3 = refl
-
-pub times_3 : (b : ℕ) → b < 256 → slice_index TIMES_3 b ≡ product 3 b
-times_3 b low = agree_at (slice_index TIMES_3) (product 3) test_3 b low
-
-test_9 : agree (slice_index TIMES_9) (product 9) ≡ true
-unfolding each_byte product product_of_bits times_x
-test_9 = refl
-
-pub times_9 : (b : ℕ) → b < 256 → slice_index TIMES_9 b ≡ product 9 b
-times_9 b low = agree_at (slice_index TIMES_9) (product 9) test_9 b low
-
-test_11 : agree (slice_index TIMES_11) (product 11) ≡ true
-unfolding each_byte product product_of_bits times_x
-test_11 = refl
-
-pub times_11 : (b : ℕ) → b < 256 → slice_index TIMES_11 b ≡ product 11 b
-times_11 b low = agree_at (slice_index TIMES_11) (product 11) test_11 b low
-
-test_13 : agree (slice_index TIMES_13) (product 13) ≡ true
-unfolding each_byte product product_of_bits times_x
-test_13 = refl
-
-pub times_13 : (b : ℕ) → b < 256 → slice_index TIMES_13 b ≡ product 13 b
-times_13 b low = agree_at (slice_index TIMES_13) (product 13) test_13 b low
-
-test_14 : agree (slice_index TIMES_14) (product 14) ≡ true
-unfolding each_byte product product_of_bits times_x
-test_14 = refl
-
-pub times_14 : (b : ℕ) → b < 256 → slice_index TIMES_14 b ≡ product 14 b
-times_14 b low = agree_at (slice_index TIMES_14) (product 14) test_14 b low
-
-low_2 : gives_bytes (slice_index TIMES_2) ≡ true
-unfolding each_byte
-low_2 = refl
-
-pub product-lt_2 : (b : ℕ) → b < 256 → product 2 b < 256
-product-lt_2 b low = rw (← times_2 b low) (gives_bytes_at (slice_index TIMES_2) low_2 b low)
-
-low_3 : gives_bytes (slice_index TIMES_3) ≡ true
-unfolding each_byte
-low_3 = refl
-
-pub product-lt_3 : (b : ℕ) → b < 256 → product 3 b < 256
-product-lt_3 b low = rw (← times_3 b low) (gives_bytes_at (slice_index TIMES_3) low_3 b low)
-
-low_9 : gives_bytes (slice_index TIMES_9) ≡ true
-unfolding each_byte
-low_9 = refl
-
-pub product-lt_9 : (b : ℕ) → b < 256 → product 9 b < 256
-product-lt_9 b low = rw (← times_9 b low) (gives_bytes_at (slice_index TIMES_9) low_9 b low)
-
-low_11 : gives_bytes (slice_index TIMES_11) ≡ true
-unfolding each_byte
-low_11 = refl
-
-pub product-lt_11 : (b : ℕ) → b < 256 → product 11 b < 256
-product-lt_11 b low = rw (← times_11 b low) (gives_bytes_at (slice_index TIMES_11) low_11 b low)
-
-low_13 : gives_bytes (slice_index TIMES_13) ≡ true
-unfolding each_byte
-low_13 = refl
-
-pub product-lt_13 : (b : ℕ) → b < 256 → product 13 b < 256
-product-lt_13 b low = rw (← times_13 b low) (gives_bytes_at (slice_index TIMES_13) low_13 b low)
-
-low_14 : gives_bytes (slice_index TIMES_14) ≡ true
-unfolding each_byte
-low_14 = refl
-
-pub product-lt_14 : (b : ℕ) → b < 256 → product 14 b < 256
-product-lt_14 b low = rw (← times_14 b low) (gives_bytes_at (slice_index TIMES_14) low_14 b low)
+pub constants_table : (j : ℕ) → j < 10 → slice_index ROUND_CONSTANTS j ≡ power_of_x j
+constants_table j low = eqb-true _ _ (passes_at (λ j. nat_eq (slice_index ROUND_CONSTANTS j) (power_of_x j)) 0 10 j constants_test (omega arith) (omega arith))

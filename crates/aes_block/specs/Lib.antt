@@ -4,5 +4,6 @@ pub mod SBox
 pub mod Column
 pub mod State
 pub mod RoundKey
+pub mod Word
 pub mod Cipher
 pub mod Schedule

@@ -2,27 +2,28 @@ ghost use Rattle.std.specs.Prelude.{◌≡◌, ℕ, List};
 ghost use Rattle.aes_block.specs.Bytes.{IsBytes};
 ghost use Rattle.aes_block.specs.Cipher.{encrypted, decrypted};
 
-use crate::steps::{
-    add_round_key, inverse_mix_columns, inverse_shift_rows, inverse_sub_bytes, mix_columns,
-    next_key, shift_rows, sub_bytes,
+use crate::words::{
+    add_round_key, inverse_round, last_inverse_round, last_round, next_key, round, unmixed_key,
+    words_of, write_words,
 };
 use std::marker::Model;
 
 /// The round keys of one key. A contract sees it as the key: a list of 16 bytes.
 #[derive(Drop)]
 pub struct Schedule {
-    keys: [[u8; 16]; 11],
+    keys: [[u32; 4]; 11],
+    inverse_keys: [[u32; 4]; 9],
 }
 
 impl Model for Schedule {
-    ghost use Rattle.std.specs.Prelude.{List, ℕ, slice_index_or, []};
-    ghost use Rattle.aes_block.specs.Schedule.{IsExpanded};
+    ghost use Rattle.std.specs.Prelude.{List, ℕ};
+    ghost use Rattle.aes_block.specs.Schedule.{IsExpanded, key_at_place};
 
     ghost Value = { List ℕ };
 
-    ghost view = { λ s. slice_index_or s.keys 0 [] };
+    ghost view = { λ s. key_at_place s.keys 0 };
 
-    ghost invariant = { λ s. IsExpanded s.keys };
+    ghost invariant = { λ s. IsExpanded s.keys s.inverse_keys };
 }
 
 impl Schedule {
@@ -30,11 +31,15 @@ impl Schedule {
     pub fn new(key: &[u8; 16]) -> Schedule
         ensures { result ≡ key.now }
     {
-        let mut keys = [*key; 11];
+        let mut keys = [words_of(key); 11];
         for j in 0..10 {
             keys[j + 1] = next_key(j, &keys[j]);
         }
-        Schedule { keys }
+        let mut inverse_keys = [keys[0]; 9];
+        for i in 0..9 {
+            inverse_keys[i] = unmixed_key(&keys[9 - i]);
+        }
+        Schedule { keys, inverse_keys }
     }
 
     /// Enciphers a block in place.
@@ -42,16 +47,13 @@ impl Schedule {
         ensures enciphered { b.new ≡ encrypted self.now b.old }
         ensures deciphers_back { decrypted self.now b.new ≡ b.old }
     {
-        add_round_key(b, &self.keys[0]);
+        let mut s = words_of(b);
+        add_round_key(&mut s, &self.keys[0]);
         for j in 0..9 {
-            sub_bytes(b);
-            shift_rows(b);
-            mix_columns(b);
-            add_round_key(b, &self.keys[j + 1]);
+            round(&mut s, &self.keys[j + 1]);
         }
-        sub_bytes(b);
-        shift_rows(b);
-        add_round_key(b, &self.keys[10]);
+        last_round(&mut s, &self.keys[10]);
+        write_words(&s, b);
     }
 
     /// Deciphers a block in place: gives the one block whose encryption stood there.
@@ -60,16 +62,13 @@ impl Schedule {
         ensures enciphers_back { encrypted self.now b.new ≡ b.old }
         ensures only_one { (p : List ℕ) → IsBytes 16 p → encrypted self.now p ≡ b.old → b.new ≡ p }
     {
-        add_round_key(b, &self.keys[10]);
+        let mut s = words_of(b);
+        add_round_key(&mut s, &self.keys[10]);
         for j in 0..9 {
-            inverse_shift_rows(b);
-            inverse_sub_bytes(b);
-            add_round_key(b, &self.keys[9 - j]);
-            inverse_mix_columns(b);
+            inverse_round(&mut s, &self.inverse_keys[j]);
         }
-        inverse_shift_rows(b);
-        inverse_sub_bytes(b);
-        add_round_key(b, &self.keys[0]);
+        last_inverse_round(&mut s, &self.keys[0]);
+        write_words(&s, b);
     }
 }
 
@@ -88,11 +87,9 @@ mod tests {
             (9, 0xac7766f319fadc2128d12941575c006e),
             (10, 0xd014f9a8c9ee2589e13f0cc8b6630ca6),
         ] {
-            assert_eq!(rt;
-                u128::from_be_bytes(schedule.keys[j]),
-                want,
-                "round key {j}"
-            );
+            let mut block = [0; 16];
+            write_words(&schedule.keys[j], &mut block);
+            assert_eq!(rt; u128::from_be_bytes(block), want, "round key {j}");
         }
     }
 }

@@ -13,8 +13,8 @@
 #![tactic(auto)]
 
 mod cipher;
-mod steps;
 mod tables;
+mod words;
 
 pub use cipher::Schedule;
 
