@@ -43,6 +43,8 @@ impl Schedule {
     }
 
     /// Enciphers a block in place.
+    // Out of line, the caller's block stays in memory as one piece.
+    #[inline(never)]
     pub fn encrypt_block(&self, b: &mut [u8; 16])
         ensures enciphered { b.new ≡ encrypted self.now b.old }
         ensures deciphers_back { decrypted self.now b.new ≡ b.old }
@@ -57,6 +59,7 @@ impl Schedule {
     }
 
     /// Deciphers a block in place: gives the one block whose encryption stood there.
+    #[inline(never)]
     pub fn decrypt_block(&self, b: &mut [u8; 16])
         ensures deciphered { b.new ≡ decrypted self.now b.old }
         ensures enciphers_back { encrypted self.now b.new ≡ b.old }

@@ -1,5 +1,5 @@
 -- Pages and lists of blocks that are sealed or opened up to a block.
-use Rattle.std.proofs.Common.{◌≡◌, ◌≤◌, ◌<◌, ◌+◌, ◌-◌, ◌*◌, ℕ, zero, suc, List, [], ◌∷◌, ◌++◌, length, get_or, take, drop, refl, sym, ◌∙◌, ap, subst, arith, add-one, append_assoc, length-append, length-drop, drop-cons}
+use Rattle.std.proofs.Common.{◌≡◌, ◌≤◌, ◌<◌, ◌+◌, ◌-◌, ◌*◌, ℕ, List, [], ◌∷◌, ◌++◌, length, get_or, take, drop, refl, sym, ◌∙◌, ap, subst, arith, add-one, append_assoc, length-append, length-drop, drop-cons}
 use Rattle.std.specs.Prelude.{slice_set}
 use Rattle.std.specs.List.{concat}
 use Rattle.std.proofs.Math.Seq.{take-add}
@@ -11,6 +11,7 @@ use Rattle.aes_block.specs.Cipher.{encrypted}
 use Rattle.aes_block.proofs.Blocks.{IsBytes-block_sum}
 use Rattle.aes_block.proofs.StepInverses.{block_sum-block_sum}
 use Rattle.aes_cbc.specs.Chain.{chained, blocks_of, cbc}
+use Rattle.aes_cbc.specs.Opened.{IsOpened}
 
 -- the first n blocks of these bytes, as one chain
 abbrev pub sealed_from : List ℕ → ℕ → List ℕ → List ℕ → List ℕ
@@ -111,26 +112,26 @@ sealed_end key whole now last s =
 pub record IsOpenedTo (key iv old : List ℕ) (j : ℕ) (now last : List ℕ) : Type 0 where
   pub long : length now ≡ 4096
   pub behind : drop (16 * j) now ≡ drop (16 * j) old
-  pub last_bytes : IsBytes 16 last
   pub seals : (t : List ℕ) → sealed_from key 256 iv (take (16 * j) now ++ t) ≡ take (16 * j) old ++ sealed_from key (256 - j) last t
   pub only : (q : List ℕ) → IsBytes 4096 q → cbc key iv q ≡ old → take (16 * j) now ≡ take (16 * j) q
 
-pub opened_start : (key iv page : List ℕ) → length page ≡ 4096 → IsBytes 16 iv → IsOpenedTo key iv page 0 page iv
-opened_start key iv page long bytes = record { long = long; behind = refl; last_bytes = bytes; seals = λ t. refl; only = λ q b is. refl }
+pub opened_start : (key iv page : List ℕ) → length page ≡ 4096 → IsOpenedTo key iv page 0 page iv
+opened_start key iv page long = record { long = long; behind = refl; seals = λ t. refl; only = λ q b is. refl }
 
--- what the call of the block cipher says of a deciphered block
-pub record IsDeciphered (key sealed plain : List ℕ) : Type 0 where
-  pub back : encrypted key plain ≡ sealed
-  pub only : (p : List ℕ) → IsBytes 16 p → encrypted key p ≡ sealed → plain ≡ p
+-- one block, where the block cipher gives the one block whose encryption stood there
+pub opened_block : (key last sealed plain : List ℕ) → length plain ≡ 16 → IsBytes 16 last → encrypted key plain ≡ sealed → ((p : List ℕ) → IsBytes 16 p → encrypted key p ≡ sealed → plain ≡ p) → IsOpened key last sealed (block_sum plain last)
+opened_block key last sealed plain long last_bytes back only = record {
+  back = ap (λ (b : List ℕ). encrypted key b) (block_sum-block_sum plain last long) ∙ back;
+  only = λ p bytes is.
+      ap (λ (b : List ℕ). block_sum b last) (only (block_sum p last) (IsBytes-block_sum p last bytes last_bytes) is)
+      ∙ block_sum-block_sum p last bytes.long;
+}
 
-seals_more : (key iv old : List ℕ) (j : ℕ) (now last new sealed plain : List ℕ) → j < 256 → length old ≡ 4096 → IsOpenedTo key iv old j now last → sealed ≡ block_of old j → length plain ≡ 16 → encrypted key plain ≡ sealed → take (16 * (j + 1)) new ≡ take (16 * j) now ++ block_sum plain last → (t : List ℕ) → sealed_from key 256 iv (take (16 * (j + 1)) new ++ t) ≡ take (16 * (j + 1)) old ++ sealed_from key (256 - (j + 1)) sealed t
-seals_more key iv old j now last new sealed plain low long o here plain_long back front t =
-    let block : List ℕ = block_sum plain last in
-    let sixteen : length block ≡ 16 = length-block_sum plain last in
+seals_more : (key iv old : List ℕ) (j : ℕ) (now last new sealed block : List ℕ) → j < 256 → IsOpenedTo key iv old j now last → sealed ≡ block_of old j → length block ≡ 16 → encrypted key (block_sum block last) ≡ sealed → take (16 * (j + 1)) new ≡ take (16 * j) now ++ block → (t : List ℕ) → sealed_from key 256 iv (take (16 * (j + 1)) new ++ t) ≡ take (16 * (j + 1)) old ++ sealed_from key (256 - (j + 1)) sealed t
+seals_more key iv old j now last new sealed block low o here sixteen back front t =
     let n : 256 - j ≡ (256 - (j + 1)) + 1 = omega arith in
     let first : take 16 (block ++ t) ≡ block = take_at block t 16 sixteen in
     let others : drop 16 (block ++ t) ≡ t = drop_at block t 16 sixteen in
-    let sealed_here : encrypted key (block_sum block last) ≡ sealed = ap (λ (b : List ℕ). encrypted key b) (block_sum-block_sum plain last plain_long) ∙ back in
     let m : 16 * (j + 1) ≡ 16 * j + 16 = omega arith in
     let ends : take (16 * (j + 1)) old ≡ take (16 * j) old ++ sealed = ap (λ (k : ℕ). take k old) m ∙ take-add (16 * j) 16 old ∙ ap (λ (b : List ℕ). take (16 * j) old ++ b) (sym here) in
     ap (λ (f : List ℕ). sealed_from key 256 iv (f ++ t)) front
@@ -140,13 +141,13 @@ seals_more key iv old j now last new sealed plain low long o here plain_long bac
     ∙ ap (λ (f : List ℕ). take (16 * j) old ++ f) (sealed_from-next key (256 - (j + 1)) last (block ++ t))
     ∙ ap (λ (f : List ℕ). take (16 * j) old ++ (encrypted key (block_sum f last) ++ sealed_from key (256 - (j + 1)) (encrypted key (block_sum f last)) (drop 16 (block ++ t)))) first
     ∙ ap (λ (f : List ℕ). take (16 * j) old ++ (encrypted key (block_sum block last) ++ sealed_from key (256 - (j + 1)) (encrypted key (block_sum block last)) f)) others
-    ∙ ap (λ (c : List ℕ). take (16 * j) old ++ (c ++ sealed_from key (256 - (j + 1)) c t)) sealed_here
+    ∙ ap (λ (c : List ℕ). take (16 * j) old ++ (c ++ sealed_from key (256 - (j + 1)) c t)) back
     ∙ sym (append_assoc (take (16 * j) old) sealed (sealed_from key (256 - (j + 1)) sealed t))
     ∙ ap (λ (f : List ℕ). f ++ sealed_from key (256 - (j + 1)) sealed t) (sym ends)
 
 -- a block of any page that seals to the old one
-only_more : (key iv old : List ℕ) (j : ℕ) (now last sealed plain q : List ℕ) → j < 256 → length old ≡ 4096 → IsOpenedTo key iv old j now last → sealed ≡ block_of old j → IsDeciphered key sealed plain → IsBytes 4096 q → cbc key iv q ≡ old → block_sum plain last ≡ block_of q j
-only_more key iv old j now last sealed plain q low long o here d b is =
+only_more : (key iv old : List ℕ) (j : ℕ) (now last sealed block q : List ℕ) → j < 256 → IsOpenedTo key iv old j now last → sealed ≡ block_of old j → IsOpened key last sealed block → IsBytes 4096 q → cbc key iv q ≡ old → block ≡ block_of q j
+only_more key iv old j now last sealed block q low o here d b is =
     let rest : List ℕ = drop (16 * j) q in
     let n : 256 - j ≡ (256 - (j + 1)) + 1 = omega arith in
     let cut : sealed_from key 256 iv (take (16 * j) now ++ rest) ≡ old =
@@ -162,25 +163,21 @@ only_more key iv old j now last sealed plain q low long o here d b is =
     let same : c ≡ sealed =
     sym (take_at c (sealed_from key (256 - (j + 1)) c (drop 16 rest)) 16 (length-encrypted key (block_sum (block_of q j) last)))
     ∙ ap (λ (f : List ℕ). take 16 f) first ∙ sym here in
-    let q_block = IsBytes-block_of q j b low in
-    let plain_is : plain ≡ block_sum (block_of q j) last = d.only (block_sum (block_of q j) last) (IsBytes-block_sum (block_of q j) last q_block o.last_bytes) same in
-    ap (λ (p : List ℕ). block_sum p last) plain_is ∙ block_sum-block_sum (block_of q j) last q_block.long
+    d.only (block_of q j) (IsBytes-block_of q j b low) same
 
-pub opened_more : (key iv old : List ℕ) (j : ℕ) (now last new sealed plain block : List ℕ) → j < 256 → IsBytes 4096 old → IsOpenedTo key iv old j now last → sealed ≡ block_of now j → length plain ≡ 16 → IsDeciphered key sealed plain → block ≡ block_sum plain last → new ≡ take (16 * j) now ++ (block ++ drop (16 * j + 16) now) → IsOpenedTo key iv old (j + 1) new sealed
-opened_more key iv old j now last new sealed plain block low old_bytes o read plain_long d sum is =
-    let long = old_bytes.long in
+pub opened_more : (key iv old : List ℕ) (j : ℕ) (now last new sealed block : List ℕ) → j < 256 → IsOpenedTo key iv old j now last → sealed ≡ block_of now j → length block ≡ 16 → IsOpened key last sealed block → new ≡ take (16 * j) now ++ (block ++ drop (16 * j + 16) now) → IsOpenedTo key iv old (j + 1) new sealed
+opened_more key iv old j now last new sealed block low o read sixteen d is =
     let here : sealed ≡ block_of old j = read ∙ ap (λ (t : List ℕ). take 16 t) o.behind in
-    let p = put j now block new low o.long (rw sum (length-block_sum plain last)) is in
-    let front : take (16 * (j + 1)) new ≡ take (16 * j) now ++ block_sum plain last = p.front ∙ ap (λ (b : List ℕ). take (16 * j) now ++ b) sum in
+    let p = put j now block new low o.long sixteen is in
+    let front = p.front in
     let m : 16 * (j + 1) ≡ 16 * j + 16 = omega arith in
     record {
       long = p.long;
       behind = p.behind ∙ ap (λ (t : List ℕ). drop 16 t) o.behind ∙ drop-drop 16 (16 * j) old ∙ ap (λ (k : ℕ). drop k old) (sym m);
-      last_bytes = subst (λ (b : List ℕ). IsBytes 16 b) (sym here) (IsBytes-block_of old j old_bytes low);
-      seals = seals_more key iv old j now last new sealed plain low long o here plain_long d.back front;
+      seals = seals_more key iv old j now last new sealed block low o here sixteen d.back front;
       only = λ q b same.
-          front ∙ ap (λ (f : List ℕ). f ++ block_sum plain last) (o.only q b same)
-          ∙ ap (λ (f : List ℕ). take (16 * j) q ++ f) (only_more key iv old j now last sealed plain q low long o here d b same)
+          front ∙ ap (λ (f : List ℕ). f ++ block) (o.only q b same)
+          ∙ ap (λ (f : List ℕ). take (16 * j) q ++ f) (only_more key iv old j now last sealed block q low o here d b same)
           ∙ sym (ap (λ (k : ℕ). take k q) m ∙ take-add (16 * j) 16 q);
     }
 

@@ -12,7 +12,9 @@
 ghost use Rattle.std.specs.Prelude.{◌≡◌, ◌+◌, ◌*◌, ◌<◌, ◌++◌, ℕ, List, take, drop};
 ghost use Rattle.aes_block.specs.Bytes.{IsBytes};
 ghost use Rattle.aes_block.specs.State.{block_sum};
+ghost use Rattle.aes_block.specs.Cipher.{encrypted};
 ghost use Rattle.aes_cbc.specs.Chain.{chained, cbc};
+ghost use Rattle.aes_cbc.specs.Opened.{IsOpened};
 
 use aes_block::Schedule;
 
@@ -55,6 +57,27 @@ fn put_block(page: &mut [u8; 4096], j: usize, block: &[u8; 16])
     page[16 * j..16 * j + 16].copy_from_slice(block);
 }
 
+/// Enciphers the block that follows cipher block `last`.
+fn seal_block(k: &Schedule, last: &mut [u8; 16], block: &mut [u8; 16])
+    ensures sealed { block.new ≡ encrypted k.now (block_sum block.old last.old) }
+    ensures next { last.new ≡ block.new }
+{
+    add_block(block, last);
+    k.encrypt_block(block);
+    *last = *block;
+}
+
+/// Deciphers the block that follows cipher block `last`.
+fn open_block(k: &Schedule, last: &mut [u8; 16], block: &mut [u8; 16])
+    ensures opened { IsOpened k.now last.old block.old block.new }
+    ensures next { last.new ≡ block.old }
+{
+    let sealed = *block;
+    k.decrypt_block(block);
+    add_block(block, last);
+    *last = sealed;
+}
+
 /// Enciphers a page in place.
 pub fn seal_page(k: &Schedule, iv: &[u8; 16], p: &mut [u8; 4096])
     ensures { p.new ≡ cbc k.now iv.now p.old }
@@ -62,10 +85,8 @@ pub fn seal_page(k: &Schedule, iv: &[u8; 16], p: &mut [u8; 4096])
     let mut last = *iv;
     for j in 0..256 {
         let mut block = block_at(p, j);
-        add_block(&mut block, &last);
-        k.encrypt_block(&mut block);
+        seal_block(k, &mut last, &mut block);
         put_block(p, j, &block);
-        last = block;
     }
 }
 
@@ -76,12 +97,9 @@ pub fn open_page(k: &Schedule, iv: &[u8; 16], p: &mut [u8; 4096])
 {
     let mut last = *iv;
     for j in 0..256 {
-        let sealed = block_at(p, j);
-        let mut block = sealed;
-        k.decrypt_block(&mut block);
-        add_block(&mut block, &last);
+        let mut block = block_at(p, j);
+        open_block(k, &mut last, &mut block);
         put_block(p, j, &block);
-        last = sealed;
     }
 }
 
@@ -90,12 +108,8 @@ pub fn seal_blocks(k: &Schedule, iv: &[u8; 16], p: &mut [[u8; 16]])
     ensures { p.new ≡ chained k.now iv.now p.old }
 {
     let mut last = *iv;
-    for j in 0..p.len() {
-        let mut block = p[j];
-        add_block(&mut block, &last);
-        k.encrypt_block(&mut block);
-        p[j] = block;
-        last = block;
+    for block in p.iter_mut() {
+        seal_block(k, &mut last, block);
     }
 }
 

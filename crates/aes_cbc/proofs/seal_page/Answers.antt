@@ -7,8 +7,8 @@ loop-j-init c = sealed_start _ _ _ c.told-p
 
 pub loop-j-preserved : goal.loop-j-preserved
 loop-j-preserved c =
-    let made = rw (c.add_block.ensures, c.block_at-block.ensures) at c.encrypt_block.ensures.enciphered in
-    sealed_more _ _ _ _ _ _ _ (omega arith) c.loop-j.invariant made c.put_block.ensures
+    let made = rw c.block_at-block.ensures at c.seal_block.ensures.sealed in
+    rw c.seal_block.ensures.next (sealed_more _ _ _ _ _ _ _ (omega arith) c.loop-j.invariant made c.put_block.ensures)
 
 pub returns : goal.returns
 returns c =
