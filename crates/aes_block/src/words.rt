@@ -166,12 +166,8 @@ pub fn write_words(s: &[u32; 4], b: &mut [u8; 16])
 fn key_word(w: u32) -> u32
     ensures { column_of_word result ≡ substituted_word (rotated_word (column_of_word w)) }
 {
-    u32::from_le_bytes([
-        S_BOX[byte_1(w)],
-        S_BOX[byte_2(w)],
-        S_BOX[byte_3(w)],
-        S_BOX[byte_0(w)],
-    ])
+    let (a, b, c, d) = (byte_1(w), byte_2(w), byte_3(w), byte_0(w));
+    u32::from_le_bytes([S_BOX[a], S_BOX[b], S_BOX[c], S_BOX[d]])
 }
 
 /// The round key after round key `j`.
