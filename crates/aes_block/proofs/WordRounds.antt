@@ -1,5 +1,5 @@
 -- What the rounds on words do to blocks.
-use Rattle.std.proofs.Common.{◌≡◌, ◌<◌, ◌+◌, ◌-◌, ◌/◌, ◌%◌, ℕ, List, [], ◌∷◌, refl, ◌∙◌, arith}
+use Rattle.std.proofs.Common.{◌≡◌, ◌<◌, ◌+◌, ◌-◌, ◌/◌, ◌%◌, ℕ, List, [], ◌∷◌, refl, ◌∙◌, arith, ap}
 use Rattle.std.specs.Prelude.{bit_xor, slice_index}
 use Rattle.aes_block.specs.declared.tables.TheConstants.{S_BOX, INVERSE_S_BOX, ROUND_0, ROUND_1, ROUND_2, ROUND_3, INVERSE_ROUND_0, INVERSE_ROUND_1, INVERSE_ROUND_2, INVERSE_ROUND_3}
 use Rattle.aes_block.specs.Bytes.{IsBytes}
@@ -14,20 +14,22 @@ use Rattle.aes_block.proofs.Products.{power_of_x-lt}
 use Rattle.aes_block.proofs.Linear.{product-xor, interchange}
 use Rattle.aes_block.proofs.MixInverse.{column_from}
 use Rattle.aes_block.proofs.TableRules.{round_0_table, round_1_table, round_2_table, round_3_table, inverse_round_0_table, inverse_round_1_table, inverse_round_2_table, inverse_round_3_table, inverse_s_box-s_box, s_box_table, inverse_s_box_table, s_box-lt, inverse_s_box-lt}
-use Rattle.aes_block.proofs.WordSums.{column_of_word-xor, column_of_word-four, column_of_word-from_le_bytes, circulant_times-multiples, IsByteColumn-column_of_word}
+use Rattle.aes_block.proofs.WordSums.{column_of_word-xor, column_of_word-four, column_of_word-from_le_bytes, circulant_times-multiples, IsByteColumn-column_of_word, column_of_word-keyed}
 
 -- four look-ups and their sum
-pub mixed_lookup : (w x y z : ℕ) → column_of_word (bit_xor (bit_xor (slice_index ROUND_0 (w % 256)) (slice_index ROUND_1 (x / 256 % 256))) (bit_xor (slice_index ROUND_2 (y / 65536 % 256)) (slice_index ROUND_3 (z / 16777216 % 256)))) ≡ mixed (substituted w x y z)
+pub mixed_lookup : (w x y z k : ℕ) → column_of_word (bit_xor (bit_xor (bit_xor (slice_index ROUND_0 (w % 256)) k) (slice_index ROUND_1 (x / 256 % 256))) (bit_xor (slice_index ROUND_2 (y / 65536 % 256)) (slice_index ROUND_3 (z / 16777216 % 256)))) ≡ column_sum (mixed (substituted w x y z)) (column_of_word k)
 unfolding mixed substituted column_of_word
-mixed_lookup w x y z =
-    column_of_word-four _ _ _ _ _ _ _ _ (round_0_table (w % 256) (omega arith)) (round_1_table (x / 256 % 256) (omega arith)) (round_2_table (y / 65536 % 256) (omega arith)) (round_3_table (z / 16777216 % 256) (omega arith))
-    ∙ circulant_times-multiples 2 3 1 1 (substituted w x y z)
+mixed_lookup w x y z k =
+    column_of_word-keyed (slice_index ROUND_0 (w % 256)) (slice_index ROUND_1 (x / 256 % 256)) (slice_index ROUND_2 (y / 65536 % 256)) (slice_index ROUND_3 (z / 16777216 % 256)) k _
+    (column_of_word-four _ _ _ _ _ _ _ _ (round_0_table (w % 256) (omega arith)) (round_1_table (x / 256 % 256) (omega arith)) (round_2_table (y / 65536 % 256) (omega arith)) (round_3_table (z / 16777216 % 256) (omega arith))
+    ∙ circulant_times-multiples 2 3 1 1 (substituted w x y z))
 
-pub unmixed_lookup : (w x y z : ℕ) → column_of_word (bit_xor (bit_xor (slice_index INVERSE_ROUND_0 (w % 256)) (slice_index INVERSE_ROUND_1 (x / 256 % 256))) (bit_xor (slice_index INVERSE_ROUND_2 (y / 65536 % 256)) (slice_index INVERSE_ROUND_3 (z / 16777216 % 256)))) ≡ unmixed (inverse_substituted w x y z)
+pub unmixed_lookup : (w x y z k : ℕ) → column_of_word (bit_xor (bit_xor (bit_xor (slice_index INVERSE_ROUND_0 (w % 256)) k) (slice_index INVERSE_ROUND_1 (x / 256 % 256))) (bit_xor (slice_index INVERSE_ROUND_2 (y / 65536 % 256)) (slice_index INVERSE_ROUND_3 (z / 16777216 % 256)))) ≡ column_sum (unmixed (inverse_substituted w x y z)) (column_of_word k)
 unfolding unmixed inverse_substituted column_of_word
-unmixed_lookup w x y z =
-    column_of_word-four _ _ _ _ _ _ _ _ (inverse_round_0_table (w % 256) (omega arith)) (inverse_round_1_table (x / 256 % 256) (omega arith)) (inverse_round_2_table (y / 65536 % 256) (omega arith)) (inverse_round_3_table (z / 16777216 % 256) (omega arith))
-    ∙ circulant_times-multiples 14 11 13 9 (inverse_substituted w x y z)
+unmixed_lookup w x y z k =
+    column_of_word-keyed (slice_index INVERSE_ROUND_0 (w % 256)) (slice_index INVERSE_ROUND_1 (x / 256 % 256)) (slice_index INVERSE_ROUND_2 (y / 65536 % 256)) (slice_index INVERSE_ROUND_3 (z / 16777216 % 256)) k _
+    (column_of_word-four _ _ _ _ _ _ _ _ (inverse_round_0_table (w % 256) (omega arith)) (inverse_round_1_table (x / 256 % 256) (omega arith)) (inverse_round_2_table (y / 65536 % 256) (omega arith)) (inverse_round_3_table (z / 16777216 % 256) (omega arith))
+    ∙ circulant_times-multiples 14 11 13 9 (inverse_substituted w x y z))
 
 pub substituted_lookup : (w x y z : ℕ) → column_of_word (from_le_bytes w32 (slice_index S_BOX (w % 256) ∷ slice_index S_BOX (x / 256 % 256) ∷ slice_index S_BOX (y / 65536 % 256) ∷ slice_index S_BOX (z / 16777216 % 256) ∷ [])) ≡ substituted w x y z
 unfolding substituted column_of_word bytes_of
@@ -63,12 +65,18 @@ from_columns-column_sum : (a b c d e f g h : Column) → from_columns (column_su
 unfolding from_columns bytes_of column_sum block_sum from_places
 from_columns-column_sum a b c d e f g h = refl
 
--- four words, each with a key word added
-pub key_added : (k : List ℕ) (w x y z : ℕ) (a b c d : Column) → column_of_word w ≡ a → column_of_word x ≡ b → column_of_word y ≡ c → column_of_word z ≡ d → block_of_words (bit_xor w (slice_index k 0) ∷ bit_xor x (slice_index k 1) ∷ bit_xor y (slice_index k 2) ∷ bit_xor z (slice_index k 3) ∷ []) ≡ block_sum (from_columns a b c d) (block_of_words k)
+one : (w k : ℕ) (a : Column) → column_of_word w ≡ a → column_of_word (bit_xor w k) ≡ column_sum a (column_of_word k)
+one w k a e = column_of_word-xor w k ∙ ap (λ (x : Column). column_sum x (column_of_word k)) e
+
+-- four words, each the sum of a column and a key word
+pub words_keyed : (k : List ℕ) (w x y z : ℕ) (a b c d : Column) → column_of_word w ≡ column_sum a (column_of_word (slice_index k 0)) → column_of_word x ≡ column_sum b (column_of_word (slice_index k 1)) → column_of_word y ≡ column_sum c (column_of_word (slice_index k 2)) → column_of_word z ≡ column_sum d (column_of_word (slice_index k 3)) → block_of_words (w ∷ x ∷ y ∷ z ∷ []) ≡ block_sum (from_columns a b c d) (block_of_words k)
 unfolding block_of_words
+words_keyed k w x y z a b c d ew ex ey ez = rw (ew, ex, ey, ez) (from_columns-column_sum a b c d _ _ _ _)
+
+-- four words, to each of which a key word is added
+pub key_added : (k : List ℕ) (w x y z : ℕ) (a b c d : Column) → column_of_word w ≡ a → column_of_word x ≡ b → column_of_word y ≡ c → column_of_word z ≡ d → block_of_words (bit_xor w (slice_index k 0) ∷ bit_xor x (slice_index k 1) ∷ bit_xor y (slice_index k 2) ∷ bit_xor z (slice_index k 3) ∷ []) ≡ block_sum (from_columns a b c d) (block_of_words k)
 key_added k w x y z a b c d ea eb ec ed =
-    rw (column_of_word-xor w (slice_index k 0), column_of_word-xor x (slice_index k 1), column_of_word-xor y (slice_index k 2), column_of_word-xor z (slice_index k 3), ea, eb, ec, ed)
-    (from_columns-column_sum a b c d _ _ _ _)
+    words_keyed k _ _ _ _ a b c d (one w (slice_index k 0) a ea) (one x (slice_index k 1) b eb) (one y (slice_index k 2) c ec) (one z (slice_index k 3) d ed)
 
 pub shift_rows-words : (s : List ℕ) → shift_rows (sub_bytes (block_of_words s)) ≡
     from_columns (substituted (slice_index s 0) (slice_index s 1) (slice_index s 2) (slice_index s 3)) (substituted (slice_index s 1) (slice_index s 2) (slice_index s 3) (slice_index s 0))

@@ -1,7 +1,8 @@
 -- Words and their columns.
-use Rattle.std.proofs.Common.{◌≡◌, ◌+◌, ◌*◌, ◌/◌, ◌%◌, ◌^◌, ℕ, refl, ap, ◌∙◌, arith}
+use Rattle.std.proofs.Common.{◌≡◌, ◌+◌, ◌*◌, ◌/◌, ◌%◌, ◌^◌, ℕ, refl, ap, ◌∙◌, arith, sym}
 use Rattle.std.specs.Prelude.{bit_xor}
-use Rattle.std.proofs.lemmas.Nat.{xor_shr, xor_mod}
+use lib.Bits.{xor_assoc, xor_zero_r}
+use Rattle.std.proofs.lemmas.Nat.{xor_comm, xor_shr, xor_mod}
 use Rattle.aes_block.specs.Field.{product}
 use Rattle.std.specs.Int.{from_le_bytes, w32}
 use Rattle.aes_block.specs.Column.{Column, bytes_of, column_sum, sum_of_four, row_times, circulant_times}
@@ -50,3 +51,21 @@ column_of_word-four a b c d p q r s ea eb ec ed =
 pub column_of_word-from_le_bytes : (x : Column) → IsByteColumn x → column_of_word (from_le_bytes w32 (bytes_of x)) ≡ x
 unfolding bytes_of word_of
 column_of_word-from_le_bytes x b = column_of_word-word_of x b
+
+-- four words and a key word
+key_last : (a b c k : ℕ) → bit_xor (bit_xor (bit_xor a k) b) c ≡ bit_xor (bit_xor (bit_xor a b) c) k
+key_last a b c k =
+    ap (λ (x : ℕ). bit_xor x c) (xor_assoc a k b ∙ ap (λ (x : ℕ). bit_xor a x) (xor_comm k b) ∙ sym (xor_assoc a b k))
+    ∙ xor_assoc (bit_xor a b) k c
+    ∙ ap (λ (x : ℕ). bit_xor (bit_xor a b) x) (xor_comm k c)
+    ∙ sym (xor_assoc (bit_xor a b) c k)
+
+pub column_of_word-keyed : (a b c d k : ℕ) (x : Column) → column_of_word (bit_xor (bit_xor a b) (bit_xor c d)) ≡ x → column_of_word (bit_xor (bit_xor (bit_xor a k) b) (bit_xor c d)) ≡ column_sum x (column_of_word k)
+column_of_word-keyed a b c d k x is =
+    ap column_of_word (key_last a b (bit_xor c d) k)
+    ∙ column_of_word-xor (bit_xor (bit_xor a b) (bit_xor c d)) k
+    ∙ ap (λ (y : Column). column_sum y (column_of_word k)) is
+
+pub column_sum-zero : (x : Column) → column_sum x (column_of_word 0) ≡ x
+unfolding column_sum column_of_word
+column_sum-zero x = column_from _ x (xor_zero_r x.first) (xor_zero_r x.second) (xor_zero_r x.third) (xor_zero_r x.fourth)

@@ -36,11 +36,13 @@ fn byte_3(w: u32) -> usize
     (w >> 24) as usize
 }
 
-/// SubBytes, ShiftRows and MixColumns of one column, which starts in `w`.
-fn mixed_word(w: u32, x: u32, y: u32, z: u32) -> u32
-    ensures { column_of_word result ≡ mixed (substituted w x y z) }
+/// All four steps of a round for one column, which starts in `w`.
+// The key is added in the middle of the sum: added last, LLVM would keep the state in one vector and take it apart for
+// each look-up.
+fn mixed_word(w: u32, x: u32, y: u32, z: u32, k: u32) -> u32
+    ensures { column_of_word result ≡ column_sum (mixed (substituted w x y z)) (column_of_word k) }
 {
-    (ROUND_0[byte_0(w)] ^ ROUND_1[byte_1(x)]) ^ (ROUND_2[byte_2(y)] ^ ROUND_3[byte_3(z)])
+    ((ROUND_0[byte_0(w)] ^ k) ^ ROUND_1[byte_1(x)]) ^ (ROUND_2[byte_2(y)] ^ ROUND_3[byte_3(z)])
 }
 
 /// SubBytes and ShiftRows of one column, which starts in `w`.
@@ -55,11 +57,11 @@ fn substituted_word(w: u32, x: u32, y: u32, z: u32) -> u32
     ])
 }
 
-/// InvSubBytes, InvShiftRows and InvMixColumns of one column, which starts in `w`.
-fn unmixed_word(w: u32, x: u32, y: u32, z: u32) -> u32
-    ensures { column_of_word result ≡ unmixed (inverse_substituted w x y z) }
+/// All four steps of an inverse round for one column, which starts in `w`.
+fn unmixed_word(w: u32, x: u32, y: u32, z: u32, k: u32) -> u32
+    ensures { column_of_word result ≡ column_sum (unmixed (inverse_substituted w x y z)) (column_of_word k) }
 {
-    (INVERSE_ROUND_0[byte_0(w)] ^ INVERSE_ROUND_1[byte_1(x)])
+    ((INVERSE_ROUND_0[byte_0(w)] ^ k) ^ INVERSE_ROUND_1[byte_1(x)])
         ^ (INVERSE_ROUND_2[byte_2(y)] ^ INVERSE_ROUND_3[byte_3(z)])
 }
 
@@ -81,10 +83,10 @@ pub fn round(s: &mut [u32; 4], k: &[u32; 4])
 {
     let [w, x, y, z] = *s;
     *s = [
-        mixed_word(w, x, y, z) ^ k[0],
-        mixed_word(x, y, z, w) ^ k[1],
-        mixed_word(y, z, w, x) ^ k[2],
-        mixed_word(z, w, x, y) ^ k[3],
+        mixed_word(w, x, y, z, k[0]),
+        mixed_word(x, y, z, w, k[1]),
+        mixed_word(y, z, w, x, k[2]),
+        mixed_word(z, w, x, y, k[3]),
     ];
 }
 
@@ -107,10 +109,10 @@ pub fn inverse_round(s: &mut [u32; 4], k: &[u32; 4])
 {
     let [w, x, y, z] = *s;
     *s = [
-        unmixed_word(w, z, y, x) ^ k[0],
-        unmixed_word(x, w, z, y) ^ k[1],
-        unmixed_word(y, x, w, z) ^ k[2],
-        unmixed_word(z, y, x, w) ^ k[3],
+        unmixed_word(w, z, y, x, k[0]),
+        unmixed_word(x, w, z, y, k[1]),
+        unmixed_word(y, x, w, z, k[2]),
+        unmixed_word(z, y, x, w, k[3]),
     ];
 }
 
@@ -187,7 +189,7 @@ fn unmixed_key_word(w: u32) -> u32
     ensures { column_of_word result ≡ unmixed (column_of_word w) }
 {
     let s = substituted_word(w, w, w, w);
-    unmixed_word(s, s, s, s)
+    unmixed_word(s, s, s, s, 0)
 }
 
 /// InvMixColumns of a round key.
