@@ -43,7 +43,7 @@ impl Schedule {
     }
 
     /// Enciphers a block in place.
-    // Out of line, the caller's block stays in memory as one piece.
+    // Inlined, it would make LLVM take the caller's block apart into single bytes.
     #[inline(never)]
     pub fn encrypt_block(&self, b: &mut [u8; 16])
         ensures enciphered { b.new ≡ encrypted self.now b.old }
