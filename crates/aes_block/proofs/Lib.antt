@@ -1,0 +1,11 @@
+pub mod EachByte
+pub mod Linear
+pub mod MixInverse
+pub mod Products
+pub mod WordSums
+pub mod TableRules
+pub mod Blocks
+pub mod StepInverses
+pub mod Rounds
+pub mod WordRounds
+pub mod Keys

@@ -1,0 +1,5 @@
+use Rattle.aes_block.proofs.WordRounds.{mixed_lookup}
+use Rattle.aes_block.proofs.words.mixed_word.Goals as goal
+
+pub returns : goal.returns
+returns c = rw (c.byte_0.ensures, c.byte_1.ensures, c.byte_2.ensures, c.byte_3.ensures) (mixed_lookup c.args.w c.args.x c.args.y c.args.z c.args.k)

@@ -1,0 +1,9 @@
+pub mod Bytes
+pub mod Field
+pub mod SBox
+pub mod Column
+pub mod State
+pub mod RoundKey
+pub mod Word
+pub mod Cipher
+pub mod Schedule

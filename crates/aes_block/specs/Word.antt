@@ -1,0 +1,36 @@
+-- A column as a word of 32 bits whose lowest byte is the column's first.
+use Rattle.std.specs.Prelude.{ℕ, ◌/◌, ◌%◌, List, slice_index}
+use Rattle.aes_block.specs.SBox.{s_box, inverse_s_box}
+use Rattle.aes_block.specs.Column.{Column}
+use Rattle.aes_block.specs.State.{from_columns}
+
+-- the column of a word's bytes
+unfoldable pub column_of_word : ℕ → Column
+column_of_word w = record {
+  first = w % 256;
+  second = w / 256 % 256;
+  third = w / 65536 % 256;
+  fourth = w / 16777216 % 256;
+}
+
+-- the block of four words
+unfoldable pub block_of_words : List ℕ → List ℕ
+block_of_words s = from_columns (column_of_word (slice_index s 0)) (column_of_word (slice_index s 1)) (column_of_word (slice_index s 2)) (column_of_word (slice_index s 3))
+
+-- the S-box on one byte of each word, from the first byte of the first to the fourth of the fourth
+unfoldable pub substituted : ℕ → ℕ → ℕ → ℕ → Column
+substituted w x y z = record {
+  first = s_box (column_of_word w).first;
+  second = s_box (column_of_word x).second;
+  third = s_box (column_of_word y).third;
+  fourth = s_box (column_of_word z).fourth;
+}
+
+-- and the inverse S-box
+unfoldable pub inverse_substituted : ℕ → ℕ → ℕ → ℕ → Column
+inverse_substituted w x y z = record {
+  first = inverse_s_box (column_of_word w).first;
+  second = inverse_s_box (column_of_word x).second;
+  third = inverse_s_box (column_of_word y).third;
+  fourth = inverse_s_box (column_of_word z).fourth;
+}

@@ -1,0 +1,98 @@
+ghost use Rattle.std.specs.Prelude.{◌≡◌, ℕ, List};
+ghost use Rattle.aes_block.specs.Bytes.{IsBytes};
+ghost use Rattle.aes_block.specs.Cipher.{encrypted, decrypted};
+
+use crate::words::{
+    add_round_key, inverse_round, last_inverse_round, last_round, next_key, round, unmixed_key,
+    words_of, write_words,
+};
+use std::marker::Model;
+
+/// The round keys of one key. A contract sees it as the key: a list of 16 bytes.
+#[derive(Drop)]
+pub struct Schedule {
+    keys: [[u32; 4]; 11],
+    inverse_keys: [[u32; 4]; 9],
+}
+
+impl Model for Schedule {
+    ghost use Rattle.std.specs.Prelude.{List, ℕ};
+    ghost use Rattle.aes_block.specs.Schedule.{IsExpanded, key_at_place};
+
+    ghost Value = { List ℕ };
+
+    ghost view = { λ s. key_at_place s.keys 0 };
+
+    ghost invariant = { λ s. IsExpanded s.keys s.inverse_keys };
+}
+
+impl Schedule {
+    /// Expands the key, once for all blocks under it.
+    pub fn new(key: &[u8; 16]) -> Schedule
+        ensures { result ≡ key.now }
+    {
+        let mut keys = [words_of(key); 11];
+        for j in 0..10 {
+            keys[j + 1] = next_key(j, &keys[j]);
+        }
+        let mut inverse_keys = [keys[0]; 9];
+        for i in 0..9 {
+            inverse_keys[i] = unmixed_key(&keys[9 - i]);
+        }
+        Schedule { keys, inverse_keys }
+    }
+
+    /// Enciphers a block in place.
+    // Inlined, it would make LLVM take the caller's block apart into single bytes.
+    #[inline(never)]
+    pub fn encrypt_block(&self, b: &mut [u8; 16])
+        ensures enciphered { b.new ≡ encrypted self.now b.old }
+        ensures deciphers_back { decrypted self.now b.new ≡ b.old }
+    {
+        let mut s = words_of(b);
+        add_round_key(&mut s, &self.keys[0]);
+        for j in 0..9 {
+            round(&mut s, &self.keys[j + 1]);
+        }
+        last_round(&mut s, &self.keys[10]);
+        write_words(&s, b);
+    }
+
+    /// Deciphers a block in place: gives the one block whose encryption stood there.
+    #[inline(never)]
+    pub fn decrypt_block(&self, b: &mut [u8; 16])
+        ensures deciphered { b.new ≡ decrypted self.now b.old }
+        ensures enciphers_back { encrypted self.now b.new ≡ b.old }
+        ensures only_one { (p : List ℕ) → IsBytes 16 p → encrypted self.now p ≡ b.old → b.new ≡ p }
+    {
+        let mut s = words_of(b);
+        add_round_key(&mut s, &self.keys[10]);
+        for j in 0..9 {
+            inverse_round(&mut s, &self.inverse_keys[j]);
+        }
+        last_inverse_round(&mut s, &self.keys[0]);
+        write_words(&s, b);
+    }
+}
+
+#[cfg(test)]
+mod tests {
+    use super::*;
+
+    // FIPS 197, appendix A.1
+    #[test]
+    fn expands_the_standards_key(rt: HostRuntime) {
+        let schedule = Schedule::new(&0x2b7e151628aed2a6abf7158809cf4f3c_u128.to_be_bytes());
+        for (j, want) in [
+            (0, 0x2b7e151628aed2a6abf7158809cf4f3c),
+            (1, 0xa0fafe1788542cb123a339392a6c7605),
+            (2, 0xf2c295f27a96b9435935807a7359f67f),
+            (9, 0xac7766f319fadc2128d12941575c006e),
+            (10, 0xd014f9a8c9ee2589e13f0cc8b6630ca6),
+        ] {
+            let mut block = [0; 16];
+            write_words(&schedule.keys[j], &mut block);
+            assert_eq!(rt; u128::from_be_bytes(block), want, "round key {j}");
+        }
+    }
+}

@@ -1,0 +1,22 @@
+//! AES-128 on single blocks (FIPS 197).
+//!
+//! A [`Schedule`] holds the round keys of one key, expanded once. A block and a key are 16 bytes; a block's byte in row
+//! `r` and column `c` of the standard's state stands at place `r + 4c`.
+//!
+//! The definitions in `specs/` are the standard's own: the field of 256 elements with its product and inverse (section
+//! 4), the S-box by its bits (5.1.1), the steps of a round (5.1), the key expansion (5.2) and the inverse cipher (5.3).
+//! The code uses tables; each table is proved equal to its definition at every byte.
+//!
+//! The layer above may rely on this: `encrypt_block` gives `encrypted key block`, and `decrypt_block` gives the one
+//! block whose encryption stood there. No call fails or takes memory. Nothing is said of the cipher's strength, nor of
+//! the time that a call takes: look-ups in tables depend on secret bytes.
+#![tactic(auto)]
+
+mod cipher;
+mod tables;
+mod words;
+
+pub use cipher::Schedule;
+
+#[cfg(test)]
+mod tests;

@@ -1,0 +1,6 @@
+use Rattle.aes_cbc.specs.Chain.{chained}
+use Rattle.aes_cbc.proofs.Chains.{AreSealedTo}
+use Rattle.aes_cbc.proofs.seal_blocks.Given as goal
+
+abbrev pub invariant-loop-block : goal.invariant-loop-block
+invariant-loop-block l = AreSealedTo l.k (chained l.k l.iv l.fn.p) l.block-index l.p l.last
