@@ -10,7 +10,7 @@ use Rattle.aes_block.specs.State.{block_sum, from_places}
 use Rattle.aes_block.specs.Cipher.{encrypted}
 use Rattle.aes_block.proofs.Blocks.{IsBytes-block_sum}
 use Rattle.aes_block.proofs.StepInverses.{block_sum-block_sum}
-use Rattle.aes_cbc.specs.Chain.{chained, blocks_of, cbc}
+use Rattle.cloak_model.specs.Chain.{chained, blocks_of, cbc}
 use Rattle.aes_cbc.specs.Opened.{IsOpened}
 
 -- the first n blocks of these bytes, as one chain

@@ -13,7 +13,7 @@ ghost use Rattle.std.specs.Prelude.{◌≡◌, ◌+◌, ◌*◌, ◌<◌, ◌++�
 ghost use Rattle.aes_block.specs.Bytes.{IsBytes};
 ghost use Rattle.aes_block.specs.State.{block_sum};
 ghost use Rattle.aes_block.specs.Cipher.{encrypted};
-ghost use Rattle.aes_cbc.specs.Chain.{chained, cbc};
+ghost use Rattle.cloak_model.specs.Chain.{chained, cbc};
 ghost use Rattle.aes_cbc.specs.Opened.{IsOpened};
 
 use aes_block::Schedule;

@@ -1,6 +1,7 @@
 -- what the parts hold
 pub mod Bits
 pub mod Bundle
+pub mod Chain
 pub mod Command
 pub mod Csr
 pub mod Hart

@@ -1,4 +1,4 @@
-use Rattle.aes_cbc.specs.Chain.{chained}
+use Rattle.cloak_model.specs.Chain.{chained}
 use Rattle.aes_cbc.proofs.Chains.{AreSealedTo}
 use Rattle.aes_cbc.proofs.seal_blocks.Given as goal
 

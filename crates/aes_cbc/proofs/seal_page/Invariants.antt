@@ -1,4 +1,4 @@
-use Rattle.aes_cbc.specs.Chain.{cbc}
+use Rattle.cloak_model.specs.Chain.{cbc}
 use Rattle.aes_cbc.proofs.Chains.{IsSealedTo}
 use Rattle.aes_cbc.proofs.seal_page.Given as goal
 
