@@ -2,6 +2,7 @@
 pub mod Bits
 pub mod Bundle
 pub mod Command
+pub mod CsrNumbers
 pub mod Csr
 pub mod Hart
 pub mod Parts
