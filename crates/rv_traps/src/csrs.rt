@@ -46,27 +46,27 @@ impl Model for Csrs {
     ghost invariant = { λ r. (r.stvec % 4 ≡ 0) × (r.sepc % 4 ≡ 0) };
 
     ghost inverse = { λ csrs. record {
-        status = model.status csrs;
-        timer_enabled = model.timer_is_enabled csrs;
-        timer_pending = model.timer_is_pending csrs;
-        stvec = model.csr_word csrs csr.stvec;
-        sscratch = model.csr_word csrs csr.sscratch;
-        sepc = model.csr_word csrs csr.sepc;
-        scause = model.csr_word csrs csr.scause;
-        stval = model.csr_word csrs csr.stval;
-        satp = model.csr_word csrs csr.satp;
+      status = model.status csrs;
+      timer_enabled = model.timer_is_enabled csrs;
+      timer_pending = model.timer_is_pending csrs;
+      stvec = model.csr_word csrs csr.stvec;
+      sscratch = model.csr_word csrs csr.sscratch;
+      sepc = model.csr_word csrs csr.sepc;
+      scause = model.csr_word csrs csr.scause;
+      stval = model.csr_word csrs csr.stval;
+      satp = model.csr_word csrs csr.satp;
     } };
 
     ghost inverse_ok = { λ r _ i. record {
-        status = sstatus_of-sstatus_word r.status i;
-        timer_enabled = has_bit-bit r.timer_enabled i;
-        timer_pending = has_bit-bit r.timer_pending i;
-        stvec = r.stvec;
-        sscratch = r.sscratch;
-        sepc = r.sepc;
-        scause = r.scause;
-        stval = r.stval;
-        satp = r.satp;
+      status = sstatus_of-sstatus_word r.status i;
+      timer_enabled = has_bit-bit r.timer_enabled i;
+      timer_pending = has_bit-bit r.timer_pending i;
+      stvec = r.stvec;
+      sscratch = r.sscratch;
+      sepc = r.sepc;
+      scause = r.scause;
+      stval = r.stval;
+      satp = r.satp;
     } };
 }
 

@@ -11,9 +11,13 @@ use cloak_model::Sstatus;
 pub const TIMER: u32 = 5;
 
 const SIE: u32 = 1;
+
 const SPIE: u32 = 5;
+
 const SPP: u32 = 8;
+
 const SUM: u32 = 18;
+
 const MXR: u32 = 19;
 
 /// Bit `k` of a word is set.

@@ -13,3 +13,5 @@ mod numbers;
 
 pub use csrs::Csrs;
 
+#[cfg(test)]
+mod tests;
