@@ -190,6 +190,23 @@ impl Csrs {
         self.timer_pending = on;
     }
 
+    /// The words of all registers, in the order of their numbers.
+    pub fn words(&self) -> [u32; 9]
+        ensures { result ≡ model.csr_words self.now }
+    {
+        [
+            sstatus_word(self.status),
+            bit(TIMER, self.timer_enabled),
+            self.stvec,
+            self.sscratch,
+            self.sepc,
+            self.scause,
+            self.stval,
+            bit(TIMER, self.timer_pending),
+            self.satp,
+        ]
+    }
+
     /// The word of `satp`.
     pub fn satp(&self) -> u32
         ensures { result ≡ model.satp_of self.now }
