@@ -1,7 +1,7 @@
 -- RAM: frames of 4096 bytes. Byte `at` of frame f has the address 0x80000000 + 4096 * f + at, and wider
 -- values have their lowest byte first.
-use Rattle.std.specs.Prelude.{ℕ, ◌+◌, ◌-◌, ◌/◌, ◌%◌, nat_lt, nat_le, Bool, ◌&&◌, List, [], ◌∷◌, length, replicate, slice_index, slice_index_or, slice_set}
-use Rattle.std.specs.Int.{w32, from_le_bytes}
+use Rattle.std.specs.Prelude.{ℕ, ◌+◌, ◌-◌, ◌/◌, ◌%◌, nat_lt, nat_le, Bool, ◌&&◌, List, [], ◌∷◌, ◌++◌, length, take, drop, replicate, slice_index, slice_index_or, slice_set}
+use Rattle.std.specs.Int.{w32, from_le_bytes, to_le_bytes}
 
 -- where RAM begins
 abbrev pub ram_start : ℕ
@@ -47,3 +47,15 @@ word_in page at = from_le_bytes w32 (slice_index page at ∷ slice_index page (a
 -- the word at an address that is a multiple of 4
 abbrev pub word_at : List (List ℕ) → ℕ → ℕ
 word_at ram pa = word_in (slice_index_or ram (frame_of pa) []) (place_of pa)
+
+-- the 1, 2 or 4 bytes at an address that is a multiple of their count, as a number
+abbrev pub value_at : List (List ℕ) → ℕ → ℕ → ℕ
+value_at ram pa width = from_le_bytes w32 (take width (drop (place_of pa) (slice_index_or ram (frame_of pa) [])) ++ replicate (4 - width) 0)
+
+-- a page with the lowest 1, 2 or 4 bytes of a word at a place
+abbrev pub with_value_in : List ℕ → ℕ → ℕ → ℕ → List ℕ
+with_value_in page at width value = take at page ++ (take width (to_le_bytes w32 value) ++ drop (at + width) page)
+
+-- RAM with these bytes at an address that is a multiple of their count
+abbrev pub with_value : List (List ℕ) → ℕ → ℕ → ℕ → List (List ℕ)
+with_value ram pa width value = slice_set ram (frame_of pa) (with_value_in (slice_index_or ram (frame_of pa) []) (place_of pa) width value)

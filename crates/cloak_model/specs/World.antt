@@ -12,3 +12,7 @@ is_clashed (Flat ram) = false
 -- the frames that can be read
 abbrev pub ram_of : World → List (List ℕ)
 ram_of (Flat ram) = ram
+
+-- the world with other frames
+abbrev pub with_ram : World → List (List ℕ) → World
+with_ram (Flat ram) new = Flat new
