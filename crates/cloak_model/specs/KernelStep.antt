@@ -1,13 +1,13 @@
 -- The plain step of a hart outside cloaked mode: fetch, and one instruction. What is not built ends the
 -- step with its program counter.
-use Rattle.std.specs.Prelude.{ℕ, ◌+◌, ◌%◌, ◌^◌, ◌==◌, false, ℤ, pos, unsigned_abs, slice_index, Option, Some, None, Result, Ok, Err, if◌then◌else◌}
-use Rattle.std.specs.Int.{int_rem_euclid}
+use Rattle.std.specs.Prelude.{ℕ, ◌+◌, ◌%◌, ◌^◌, ◌==◌, false, slice_index, Option, Some, None, Result, Ok, Err, if◌then◌else◌}
 use Rattle.cloak_base.specs.Registers.{with_register}
 use Rattle.cloak_base.specs.declared.names.Kind.{Kind}
 use Rattle.cloak_base.specs.declared.names.Kind.TheVariants.{Fetch}
 use Rattle.rv_isa.specs.Table.{instruction}
 use Rattle.rv_isa.specs.declared.instr.Instr.{Instr}
 use Rattle.rv_isa.specs.declared.instr.Instr.TheVariants.{Addi, Ecall}
+use Rattle.cloak_model.specs.Bits.{word_of}
 use Rattle.cloak_model.specs.Hart.{Hart}
 use Rattle.cloak_model.specs.Asking.{Asking, answered, then_ask}
 use Rattle.cloak_model.specs.Ask.{Access, ask_translate, ask_word}
@@ -18,10 +18,6 @@ use Rattle.cloak_model.specs.declared.outcome.Kernel.TheVariants.{Stay, Put, Hal
 pub record Made : Type 0 where
   pub hart : Hart
   pub ending : Kernel
-
--- a signed number as a word, in two's complement
-abbrev pub word_of : ℤ → ℕ
-word_of z = unsigned_abs (int_rem_euclid z (pos (2 ^ 32)))
 
 -- a register's word
 abbrev pub register : Hart → ℕ → ℕ

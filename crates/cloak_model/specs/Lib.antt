@@ -3,9 +3,12 @@ pub mod Bits
 pub mod Bundle
 pub mod Chain
 pub mod Command
+pub mod CsrNumbers
 pub mod Csr
 pub mod Hart
 pub mod Parts
+-- what an instruction does
+pub mod Effect
 -- memory and the questions that a step asks of it
 pub mod Memory
 pub mod World

@@ -14,9 +14,11 @@ mod image;
 mod item;
 mod outcome;
 mod sequence;
+mod status;
 
 pub use emit::Emit;
 pub use image::{Bundle, KernelImage, Program, Segment};
 pub use item::Item;
-pub use outcome::{Kernel, UsageFault};
+pub use outcome::{Effect, Kernel, UsageFault};
 pub use sequence::Sequence;
+pub use status::Sstatus;
