@@ -4,7 +4,6 @@ use Rattle.cloak_base.specs.Random.{Random, next_draw, numbered}
 use Rattle.cloak_model.specs.declared.image.Bundle.{Bundle}
 use Rattle.cloak_model.specs.Bundle.{IsBundle}
 use Rattle.cloak_model.specs.Joint.{opening, opened}
-use Rattle.guest_bundle.specs.Words.{HasWords}
 use Rattle.cloak_machine.specs.declared.machine.OpenFault.{OpenFault}
 use Rattle.cloak_machine.specs.declared.machine.OpenFault.TheVariants as fault
 use Rattle.cloak_machine.specs.Standing.{Opens}
@@ -12,9 +11,9 @@ use Rattle.cloak_cli.specs.Answering.{IsFirstForm, IsOtherForm}
 
 -- the one bundle that these bytes are is of another form
 pub other_form : (bytes : List ℕ) (found : Bundle) (first_form : Bool) →
-    ((b : Bundle) → HasWords b → IsBundle bytes b → found ≡ b) → (IsFirstForm found → first_form ≡ true) → first_form ≡ false → IsOtherForm bytes
+    ((b : Bundle) → IsBundle bytes b → found ≡ b) → (IsFirstForm found → first_form ≡ true) → first_form ≡ false → IsOtherForm bytes
 other_form bytes found first_form only test no_test = λ b is first.
-    let yes : first_form ≡ true = test (subst IsFirstForm (sym (only b first.words is)) first) in
+    let yes : first_form ≡ true = test (subst IsFirstForm (sym (only b is)) first) in
     absurd (let clash : true ≡ false = sym yes ∙ no_test in cc)
 
 -- a numbered stream always has a key, and no page of a program is sealed here

@@ -5,7 +5,6 @@ use Rattle.outside_io.specs.Told.{Tells, Grows, Rose, SameFiles, OtherFiles}
 use Rattle.cloak_model.specs.declared.image.Bundle.{Bundle}
 use Rattle.cloak_model.specs.declared.outcome.UsageFault.{UsageFault}
 use Rattle.cloak_model.specs.Bundle.{IsBundle}
-use Rattle.guest_bundle.specs.Words.{HasWords}
 use Rattle.cloak_model.specs.Command as spec
 use Rattle.cloak_model.specs.Exchange.{recorded_bytes, shown_bytes}
 use Rattle.cloak_model.specs.Joint.{Moment, opening}
@@ -25,7 +24,6 @@ pub record IsFirstForm (b : Bundle) : Type 0 where
   pub segments : length b.kernel.segments ≡ 1
   pub disk : b.kernel.disk ≡ []
   pub programs : b.programs ≡ []
-  pub words : HasWords b
 
 -- these bytes are no bundle of the first form
 abbrev pub IsOtherForm : List ℕ → Type 0

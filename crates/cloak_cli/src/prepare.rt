@@ -29,7 +29,6 @@ fn is_first_form(b: &Bundle) -> bool
     ensures first_form { OnTrue result (IsFirstForm b.now) }
     ensures other_form { IsFirstForm b.now → result ≡ true }
 {
-    let _entry = b.kernel.entry;
     b.kernel.harts == 1
         && b.kernel.schedule.as_slice().len() == 1
         && b.kernel.segments.as_slice().len() == 1

@@ -1,5 +1,5 @@
 -- A file that is read is the spelling of what is read.
-use Rattle.std.proofs.Common.{◌≡◌, ℕ, ◌+◌, ◌*◌, ◌/◌, ◌%◌, ◌<◌, ◌≤◌, cond, ltb, eqb, List, [], ◌∷◌, ◌++◌, length, drop, codes, Result, Ok, Err, refl, sym, ap, subst, ◌∙◌, arith}
+use Rattle.std.proofs.Common.{◌≡◌, ℕ, ◌+◌, ◌*◌, ◌/◌, ◌%◌, ◌^◌, ◌<◌, ◌≤◌, cond, ltb, eqb, List, [], ◌∷◌, ◌++◌, length, drop, codes, Result, Ok, Err, refl, sym, ap, subst, ◌∙◌, arith}
 use Rattle.std.specs.Str.{bytes_eq}
 use Rattle.std.proofs.lemmas.Slice.Eq.{bytes_eq-Decides}
 use Rattle.std.specs.List.{flat_map, AllByRecursion}
@@ -80,6 +80,7 @@ record HeaderFits (h : Header) : Type 0 where
   some_turns : 1 ≤ h.turns
   few_turns : h.turns ≤ 64
   entry : h.entry % 4 ≡ 0
+  entry_fits : h.entry < 2 ^ 32
   few_segments : h.segments ≤ 16
   few_blocks : h.blocks ≤ 4096
   few_programs : h.programs ≤ 4
@@ -103,7 +104,7 @@ header_takes file h fits e =
     (Stands-then file 24 (word h.entry) 28 (word h.segments ++ (word h.blocks ++ word h.programs)) 40 entry.0.text
     (Stands-then file 28 (word h.segments) 32 (word h.blocks ++ word h.programs) 40 segments.0.text
     (Stands-then file 32 (word h.blocks) 36 (word h.programs) 40 blocks.0.text programs.0.text)))))) in
-    (text, record { some_frames = frames.1; few_frames = frames.2; some_harts = harts.1; few_harts = harts.2; some_turns = turns.1; few_turns = turns.2; entry = entry.1; few_segments = segments.2; few_blocks = blocks.2; few_programs = programs.2 })
+    (text, record { some_frames = frames.1; few_frames = frames.2; some_harts = harts.1; few_harts = harts.2; some_turns = turns.1; few_turns = turns.2; entry = entry.1; entry_fits = entry.0.small; few_segments = segments.2; few_blocks = blocks.2; few_programs = programs.2 })
 
 -- bytes, each as a list of its own
 joined : (xs : List ℕ) → flat_map (λ x. x ∷ []) xs ≡ xs
@@ -169,6 +170,7 @@ made_in_grammar h schedule segments disk programs fits counts turns_fit segments
     few_turns = omega (arith, counts.turn_count, fits.few_turns);
     turns = All-from_recursion (λ x. x < h.harts) schedule turns_fit;
     entry = fits.entry;
+    entry_fits = fits.entry_fits;
     few_segments = omega (arith, counts.segment_count, fits.few_segments);
     segments = All-from_recursion (IsSegmentIn h.frames) segments segments_fit;
     blocks = omega (arith, counts.block_bytes);

@@ -148,7 +148,7 @@ program_takes frames file at p fits e =
     (Stands-then file (at + 8) (word c.0) (at + 12) (word d.0 ++ (word s.0 ++ t.0)) last x2
     (Stands-then file (at + 12) (word d.0) (at + 16) (word s.0 ++ t.0) last x3
     (Stands-then file (at + 16) (word s.0) (at + 20) t.0 last x4 x5)))) in
-    let inside : IsProgramIn frames (made a.0 b.0 c.0 d.0 s.0 t.0) = record { some_pages = pages.1; few_pages = pages.2; place = place.1; base = base.1; top = base.2; entry = entry.1; bytes = bytes.1 } in
+    let inside : IsProgramIn frames (made a.0 b.0 c.0 d.0 s.0 t.0) = record { some_pages = pages.1; few_pages = pages.2; place = place.1; base = base.1; top = base.2; entry = entry.1; entry_fits = entry.0.small; sp_fits = sp.small; bytes = bytes.1 } in
     subst (λ (x : Program). Stands file at (program_bytes x) (at + program_size x) × IsProgramIn frames x) (ok_is (made a.0 b.0 c.0 d.0 s.0 t.0) p t.2) (text, inside)
 
 -- parts one after the other

@@ -1,5 +1,4 @@
 pub mod Fields
 pub mod Reading
 pub mod FirstFault
-pub mod Words
 pub mod Writing

@@ -5,7 +5,6 @@ ghost use Rattle.guest_bundle.specs.declared.fault.BundleFault.TheVariants.{NoMe
 ghost use Rattle.guest_bundle.specs.Fields.{Gives};
 ghost use Rattle.guest_bundle.specs.FirstFault.{first_fault};
 ghost use Rattle.guest_bundle.specs.Reading.{bundle_at};
-ghost use Rattle.guest_bundle.specs.Words.{HasWords};
 
 use crate::BundleFault;
 use crate::fields::pages;
@@ -56,8 +55,7 @@ pub fn read(alloc: Global, b: &[u8]) -> Result<Bundle, BundleFault>
         (λ _. first_fault b.now ≡ None)
         (λ e. e ≢ NoMemory → first_fault b.now ≡ Some e) }
     // A bundle that spells the file is the one that is read.
-    ensures only { (bundle : Bundle) → HasWords bundle → IsBundle b.now bundle
-        → IfOk result (λ read. read ≡ bundle) }
+    ensures only { (bundle : Bundle) → IsBundle b.now bundle → IfOk result (λ read. read ≡ bundle) }
 {
     bundle(alloc, b)
 }

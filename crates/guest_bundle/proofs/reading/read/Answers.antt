@@ -6,11 +6,10 @@ use Rattle.guest_bundle.specs.declared.fault.BundleFault.TheVariants.{NoMemory}
 use Rattle.guest_bundle.specs.Fields.{Gives}
 use Rattle.guest_bundle.specs.FirstFault.{first_fault}
 use Rattle.guest_bundle.specs.Reading.{bundle_at}
-use Rattle.guest_bundle.specs.Words.{HasWords}
 use Rattle.guest_bundle.proofs.Loop.{failed}
 use Rattle.guest_bundle.proofs.Steps.{IsBytes, ok_is}
 use Rattle.guest_bundle.proofs.Found.{bundle_takes}
-use Rattle.guest_bundle.proofs.Only.{bundle_again, in_words, with_words}
+use Rattle.guest_bundle.proofs.Only.{bundle_again}
 use Rattle.guest_bundle.proofs.Tells.{Tells}
 use Rattle.guest_bundle.proofs.Faulty.{bundle_tells}
 use Rattle.guest_bundle.proofs.reading.read.Goals as goal
@@ -23,12 +22,12 @@ is_refused : (file : List ℕ) (r : Result Bundle BundleFault) → Gives (λ x. 
 is_refused file (Ok b) given = tt
 is_refused file (Err e) given = λ other bundle is.
     let fault : bundle_at file ≡ Err e = failed e (bundle_at file) other given in
-    let read : bundle_at file ≡ Ok (in_words bundle) = bundle_again file bundle is in
+    let read : bundle_at file ≡ Ok bundle = bundle_again file bundle is in
     cc
 
-is_only : (file : List ℕ) (r : Result Bundle BundleFault) → Gives (λ x. x) r (bundle_at file) → (bundle : Bundle) → HasWords bundle → IsBundle file bundle → IfOk r (λ x. x ≡ bundle)
-is_only file (Ok b) given bundle words is = ok_is b (in_words bundle) (sym given ∙ bundle_again file bundle is) ∙ with_words bundle words
-is_only file (Err e) given bundle words is = tt
+is_only : (file : List ℕ) (r : Result Bundle BundleFault) → Gives (λ x. x) r (bundle_at file) → (bundle : Bundle) → IsBundle file bundle → IfOk r (λ x. x ≡ bundle)
+is_only file (Ok b) given bundle is = ok_is b bundle (sym given ∙ bundle_again file bundle is)
+is_only file (Err e) given bundle is = tt
 
 is_first : (file : List ℕ) (r : Result Bundle BundleFault) → Gives (λ x. x) r (bundle_at file) → MatchResult r (λ _. first_fault file ≡ None) (λ e. e ≢ NoMemory → first_fault file ≡ Some e)
 is_first file (Ok b) given = subst (λ read. Tells read (first_fault file)) given (bundle_tells file)
