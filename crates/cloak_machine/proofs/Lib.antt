@@ -1,4 +1,3 @@
 mod Opening
-mod PlainStep
 pub mod PutFacts
 mod StepFacts

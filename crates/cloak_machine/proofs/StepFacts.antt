@@ -22,26 +22,26 @@ unfolding joint_step
 joint_step-made m number h told turn is made = rw (turn, is, made) refl
 
 -- what a step of a hart left of the machine
-pub record Leaves (old new : Machine) (number : ℕ) (h : Hart) : Type 0 where
+pub record Leaves (old new : Machine) (number : ℕ) (h : Hart) (ram : List (List ℕ)) : Type 0 where
   pub schedule : new.schedule.items ≡ old.schedule.items
   pub steps : new.steps ≡ old.steps + 1
   pub harts : new.harts.items ≡ slice_set old.harts.items number h
-  pub frames : new.frames.items ≡ old.frames.items
+  pub frames : new.frames.items ≡ ram
   pub disk : new.disk.items ≡ old.disk.items
   pub key : new.key ≡ old.key
   pub stream : new.stream ≡ old.stream
   pub draws : new.draws ≡ old.draws
 
 -- the machine of the moment after the step
-after_outside_step : (old new : Machine) (m : Moment) (number : ℕ) (h : Hart) (k : Kernel) → StandsFor old m → Leaves old new number h →
+after_outside_step : (old new : Machine) (m : Moment) (number : ℕ) (h : Hart) (k : Kernel) (ram : List (List ℕ)) → StandsFor old m → Leaves old new number h ram →
     Shows new.console (m.joint.kernel.console ++ console_byte k) →
-    StandsFor new (outside_step m number (record { answer = record { hart = h; ending = k }; world = Flat m.joint.kernel.ram })).moment
+    StandsFor new (outside_step m number (record { answer = record { hart = h; ending = k }; world = Flat ram })).moment
 unfolding outside_step
-after_outside_step old new m number h k stands left console = record {
+after_outside_step old new m number h k ram stands left console = record {
   schedule = left.schedule ∙ stands.schedule;
   steps = left.steps ∙ ap (λ n. n + 1) stands.steps;
   harts = left.harts ∙ ap (λ (hs : List Hart). slice_set hs number h) stands.harts;
-  ram = left.frames ∙ stands.ram;
+  ram = left.frames;
   disk = left.disk ∙ stands.disk;
   console = console;
   key = left.key ∙ stands.key;
@@ -50,16 +50,16 @@ after_outside_step old new m number h k stands left console = record {
 }
 
 -- what it emits
-pieces_of : (m : Moment) (number : ℕ) (h : Hart) (k : Kernel) (n : ℕ) → n ≡ m.steps →
-    (outside_step m number (record { answer = record { hart = h; ending = k }; world = Flat m.joint.kernel.ram })).pieces
+pieces_of : (m : Moment) (number : ℕ) (h : Hart) (k : Kernel) (ram : List (List ℕ)) (n : ℕ) → n ≡ m.steps →
+    (outside_step m number (record { answer = record { hart = h; ending = k }; world = Flat ram })).pieces
     ≡ recorded (item_bytes (Step (n + 1))) ∷ shown_each (console_byte k)
 unfolding outside_step
-pieces_of m number h k n same = ap (λ n. recorded (item_bytes (Step (n + 1))) ∷ shown_each (console_byte k)) (sym same)
+pieces_of m number h k ram n same = ap (λ n. recorded (item_bytes (Step (n + 1))) ∷ shown_each (console_byte k)) (sym same)
 
-stop_is : (m : Moment) (number : ℕ) (h : Hart) (k : Kernel) →
-    (outside_step m number (record { answer = record { hart = h; ending = k }; world = Flat m.joint.kernel.ram })).stop ≡ stop_of k
+stop_is : (m : Moment) (number : ℕ) (h : Hart) (k : Kernel) (ram : List (List ℕ)) →
+    (outside_step m number (record { answer = record { hart = h; ending = k }; world = Flat ram })).stop ≡ stop_of k
 unfolding outside_step
-stop_is m number h k = refl
+stop_is m number h k ram = refl
 
 -- the hart whose turn it is
 turn_of : (old : Machine) (m : Moment) (number : ℕ) → StandsFor old m → number ≡ slice_index old.schedule.items (old.steps % length old.schedule.items) → next_hart m ≡ number
@@ -74,24 +74,24 @@ hart_of old m number h stands there is =
     ∙ get_or_default old.harts.items number (started 0 0) h there ∙ sym is
 
 -- A whole step.
-pub step_made : {E : Type 0} (gave : E → E → List Piece → Type 0) (e e' : E) (old new : Machine) (m : Moment) (number : ℕ) (h h' : Hart) (k : Kernel) →
+pub step_made : {E : Type 0} (gave : E → E → List Piece → Type 0) (e e' : E) (old new : Machine) (m : Moment) (number : ℕ) (h h' : Hart) (k : Kernel) (ram : List (List ℕ)) →
     StandsFor old m →
     number ≡ slice_index old.schedule.items (old.steps % length old.schedule.items) →
     number < length old.harts.items → h ≡ slice_index_or old.harts.items number h →
-    kernel_step h (Flat old.frames.items) ≡ record { answer = record { hart = h'; ending = k }; world = Flat old.frames.items } →
+    kernel_step h (Flat old.frames.items) ≡ record { answer = record { hart = h'; ending = k }; world = Flat ram } →
     Emits gave e e' (recorded (item_bytes (Step (old.steps + 1))) ∷ shown_each (console_byte k)) →
-    Leaves old new number h' →
+    Leaves old new number h' ram →
     Shows new.console (m.joint.kernel.console ++ console_byte k) →
     MakesStep gave e e' new (stop_of k) (joint_step m)
-step_made {E} gave e e' old new m number h h' k stands turn there is made emits left console =
-    let told : Told Made = record { answer = record { hart = h'; ending = k }; world = Flat m.joint.kernel.ram } in
+step_made {E} gave e e' old new m number h h' k ram stands turn there is made emits left console =
+    let told : Told Made = record { answer = record { hart = h'; ending = k }; world = Flat ram } in
     let over : kernel_step h (Flat m.joint.kernel.ram) ≡ told =
-    subst (λ (ram : List (List ℕ)). kernel_step h (Flat ram) ≡ record { answer = record { hart = h'; ending = k }; world = Flat ram }) stands.ram made in
+    subst (λ (frames : List (List ℕ)). kernel_step h (Flat frames) ≡ told) stands.ram made in
     let step = joint_step-made m number h told (turn_of old m number stands turn) (hart_of old m number h stands there is) over in
     subst (λ (s : Stepped). MakesStep gave e e' new (stop_of k) s) (sym step) (record {
-      emits = subst (λ (pieces : List Piece). Emits gave e e' pieces) (sym (pieces_of m number h' k old.steps stands.steps)) emits;
-      answer = sym (stop_is m number h' k);
-      stands = after_outside_step old new m number h' k stands left console;
+      emits = subst (λ (pieces : List Piece). Emits gave e e' pieces) (sym (pieces_of m number h' k ram old.steps stands.steps)) emits;
+      answer = sym (stop_is m number h' k ram);
+      stands = after_outside_step old new m number h' k ram stands left console;
     })
 
 -- a console that was shown nothing more
@@ -111,11 +111,11 @@ turn_there schedule harts x steps n read same some turns =
     subst (λ (k : ℕ). k < harts) (sym at) (turns (steps % length schedule) x (mod-lt steps some))
 
 -- the hart's step over the frames as they are read
-pub step_read : (h h' : Hart) (k : Kernel) (frames read : List (List ℕ)) → read ≡ frames →
-    kernel_step h (Flat read) ≡ record { answer = record { hart = h'; ending = k }; world = Flat read } →
-    kernel_step h (Flat frames) ≡ record { answer = record { hart = h'; ending = k }; world = Flat frames }
-step_read h h' k frames read same made =
-    subst (λ (ram : List (List ℕ)). kernel_step h (Flat ram) ≡ record { answer = record { hart = h'; ending = k }; world = Flat ram }) same made
+pub step_read : (h h' : Hart) (k : Kernel) (frames read ram : List (List ℕ)) → read ≡ frames →
+    kernel_step h (Flat read) ≡ record { answer = record { hart = h'; ending = k }; world = Flat ram } →
+    kernel_step h (Flat frames) ≡ record { answer = record { hart = h'; ending = k }; world = Flat ram }
+step_read h h' k frames read ram same made =
+    subst (λ (r : List (List ℕ)). kernel_step h (Flat r) ≡ record { answer = record { hart = h'; ending = k }; world = Flat ram }) same made
 
 -- pieces, and then others
 pub emits_then : {E : Type 0} {gave : E → E → List Piece → Type 0} {e f h : E} {ps qs : List Piece} → Emits gave e f ps → Emits gave f h qs → Emits gave e h (ps ++ qs)

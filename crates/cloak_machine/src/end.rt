@@ -10,7 +10,7 @@ ghost use Rattle.cloak_machine.specs.Console.{Shows};
 use crate::console::Console;
 use crate::hart::Hart;
 use crate::lines::{SoFar, decimal, digest, hexadecimal, text};
-use cloak_base::{Failed, Stop, Violation};
+use cloak_base::{Failed, Mode, Stop, Violation};
 use outside_io::Sink;
 use sha2::{Digest, Sha256};
 
@@ -168,16 +168,28 @@ fn put_words_line<O: Sink>(out: &mut O, so_far: SoFar, name: &[u8], words: &[u32
     text(out, so_far, b"\n")
 }
 
+/// The letter of a mode.
+fn put_mode<O: Sink>(out: &mut O, so_far: SoFar, mode: Mode) -> SoFar
+    ensures { PutsMore (O.taken out.old) (O.faults out.old) so_far (O.taken out.new) (O.faults out.new) result (spec.mode_text mode) }
+{
+    match mode {
+        Mode::U => text(out, so_far, b"U"),
+        Mode::S => text(out, so_far, b"S"),
+    }
+}
+
 /// A hart's number, mode, program counter, context and timer.
 fn put_hart_line<O: Sink>(out: &mut O, so_far: SoFar, number: u64, hart: &Hart) -> SoFar
     ensures { PutsMore (O.taken out.old) (O.faults out.old) so_far (O.taken out.new) (O.faults out.new) result (spec.hart_line number hart.now) }
 {
     let so_far = text(out, so_far, b"hart ");
     let so_far = decimal(out, so_far, number);
-    let so_far = text(out, so_far, b" S pc ");
+    let so_far = text(out, so_far, b" ");
+    let so_far = put_mode(out, so_far, hart.mode);
+    let so_far = text(out, so_far, b" pc ");
     let so_far = hexadecimal(out, so_far, hart.pc);
     let so_far = text(out, so_far, b" inside - timer ");
-    let so_far = decimal(out, so_far, 0);
+    let so_far = decimal(out, so_far, hart.timer as u64);
     text(out, so_far, b"\n")
 }
 
@@ -187,7 +199,7 @@ fn put_hart<O: Sink>(out: &mut O, so_far: SoFar, number: u64, hart: &Hart) -> So
 {
     let so_far = put_hart_line(out, so_far, number, hart);
     let so_far = put_words_line(out, so_far, b"regs", &hart.regs.words()[1..]);
-    put_words_line(out, so_far, b"csrs", &[0; 9])
+    put_words_line(out, so_far, b"csrs", &hart.csrs.words())
 }
 
 /// The lines of all harts.

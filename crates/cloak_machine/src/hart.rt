@@ -1,26 +1,30 @@
 ghost use Rattle.std.specs.Prelude.{◌≡◌, ◌%◌, IfOk};
 ghost use Rattle.cloak_model.specs.Joint.{started_harts};
 
-use cloak_base::{NoMemory, Regs};
+use cloak_base::{Mode, NoMemory, Regs};
+use rv_traps::Csrs;
 use std::alloc::Global;
 use std::marker::Model;
 
-/// A hart outside cloaked mode, in S mode with bare addresses. Its CSRs and its timer are 0.
+/// A hart outside cloaked mode.
 #[derive(Drop)]
 pub struct Hart {
     pub regs: Regs,
+    pub csrs: Csrs,
+    pub mode: Mode,
+    /// A multiple of 4.
     pub pc: u32,
+    /// The steps until the timer interrupt is pending, 0 where it is not set.
+    pub timer: u32,
 }
 
 impl Model for Hart {
     ghost use Rattle.std.specs.Prelude.{◌≡◌, ◌%◌, None};
-    ghost use Rattle.cloak_base.specs.declared.names.Mode.TheVariants.{S};
-    ghost use Rattle.cloak_model.specs.Csr.{zero_csrs};
     ghost use Rattle.cloak_model.specs.Hart as model;
 
     ghost Value = { model.Hart };
 
-    ghost view = { λ h. record { regs = h.regs; csrs = zero_csrs; mode = S; pc = h.pc; timer = 0; inside = None } };
+    ghost view = { λ h. record { regs = h.regs; csrs = h.csrs; mode = h.mode; pc = h.pc; timer = h.timer; inside = None } };
 
     ghost invariant = { λ h. h.pc % 4 ≡ 0 };
 }
@@ -37,7 +41,13 @@ impl Hart {
     {
         let mut regs = Regs::zero();
         regs.set(10, number);
-        Hart { regs, pc: entry }
+        Hart {
+            regs,
+            csrs: Csrs::new(),
+            mode: Mode::S,
+            pc: entry,
+            timer: 0,
+        }
     }
 }
 

@@ -13,6 +13,7 @@ mod lines;
 mod machine;
 mod memory;
 mod plain_step;
+mod system;
 
 pub use cloak_model::{Bundle, Emit, Item, KernelImage, Segment};
 pub use end::End;

@@ -105,7 +105,7 @@ impl Machine {
         let number = self.schedule[self.steps as usize % self.schedule.len()] as usize;
         self.steps += 1;
         e.item(&Item::Step { number: self.steps });
-        match kernel_step(&mut self.harts[number], self.frames.as_slice()) {
+        match kernel_step(&mut self.harts[number], self.frames.as_mut_slice()) {
             Kernel::Stay => None,
             Kernel::Put(b) => {
                 self.console.put(b);

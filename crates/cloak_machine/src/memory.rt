@@ -1,9 +1,11 @@
 ghost use Rattle.std.specs.Prelude.{◌≡◌, ◌+◌, ◌*◌, ◌%◌, ◌≤◌, length, IsTrue, IfOk, All};
 ghost use Rattle.cloak_model.specs.Bundle.{IsSegmentIn};
 ghost use Rattle.cloak_model.specs.Joint.{with_segments};
-ghost use Rattle.cloak_model.specs.Memory.{is_in_ram, word_at, with_bytes, zero_page, zero_ram};
+ghost use Rattle.cloak_model.specs.Ask.{translated};
+ghost use Rattle.cloak_model.specs.Effect.{IsWidth};
+ghost use Rattle.cloak_model.specs.Memory.{is_in_ram, word_at, value_at, with_value, with_bytes, zero_page, zero_ram};
 
-use cloak_base::NoMemory;
+use cloak_base::{Kind, NoMemory};
 use cloak_model::Segment;
 use std::alloc::Global;
 
@@ -26,6 +28,48 @@ pub fn word(frames: &[[u8; 4096]], pa: u32) -> u32
     let page = &frames[((pa - RAM_START) / 4096) as usize];
     let at = ((pa - RAM_START) % 4096) as usize;
     u32::from_le_bytes([page[at], page[at + 1], page[at + 2], page[at + 3]])
+}
+
+/// The value of 1, 2 or 4 bytes at an address that is a multiple of their count.
+pub fn value(frames: &[[u8; 4096]], pa: u32, width: u32) -> u32
+    requires inside { IsTrue (is_in_ram frames.now pa) }
+    requires width { IsWidth width }
+    requires aligned { pa % width ≡ 0 }
+    ensures { result ≡ value_at frames.now pa width }
+{
+    let page = &frames[((pa - RAM_START) / 4096) as usize];
+    let at = ((pa - RAM_START) % 4096) as usize;
+    let mut bytes = [0; 4];
+    bytes[..width as usize].copy_from_slice(&page[at..at + width as usize]);
+    u32::from_le_bytes(bytes)
+}
+
+/// Stores the lowest 1, 2 or 4 bytes of a word at an address that is a multiple of their count.
+pub fn set_value(frames: &mut [[u8; 4096]], pa: u32, width: u32, value: u32)
+    requires inside { IsTrue (is_in_ram frames.old pa) }
+    requires width { IsWidth width }
+    requires aligned { pa % width ≡ 0 }
+    ensures stored { frames.new ≡ with_value frames.old pa width value }
+    ensures count { length frames.new ≡ length frames.old }
+{
+    let page = &mut frames[((pa - RAM_START) / 4096) as usize];
+    let at = ((pa - RAM_START) % 4096) as usize;
+    page[at..at + width as usize].copy_from_slice(&value.to_le_bytes()[..width as usize]);
+}
+
+/// The address in RAM to which an access of this kind leads, or its access fault.
+pub fn translate(frames: &[[u8; 4096]], va: u32, kind: Kind) -> Result<u32, u32>
+    ensures value { result ≡ translated frames.now va kind }
+    ensures inside { IfOk result (λ pa. IsTrue (is_in_ram frames.now pa) × (pa ≡ va)) }
+{
+    if is_inside(frames, va) {
+        return Ok(va);
+    }
+    Err(match kind {
+        Kind::Fetch => 1,
+        Kind::Load => 5,
+        Kind::Store => 7,
+    })
 }
 
 #[tactic(auto, unfolding(cloak_model::specs::Memory::zero_page))]
