@@ -41,6 +41,32 @@ regs 00000000 00000000 00000000 00000000 00000000 00000000 00000000 00000000 000
 csrs 00000000 00000000 00000000 00000000 00000000 00000000 00000000 00000000 00000000
 ";
 
+/// One step of an EBREAK with all control and status registers 0: a breakpoint, whose trap goes to 0.
+const BREAKPOINT: &str = "
+stop budget
+steps 1
+draws 0
+console 0 e3b0c44298fc1c149afbf4c8996fb92427ae41e4649b934ca495991b7852b855
+ram 9dd6c08f0a5cfe84df9c4317edfdecba18be7790d03bcb2f6c6ef6fbd4002f40
+disk e3b0c44298fc1c149afbf4c8996fb92427ae41e4649b934ca495991b7852b855
+hart 0 S pc 00000000 inside - timer 0
+regs 00000000 00000000 00000000 00000000 00000000 00000000 00000000 00000000 00000000 00000000 00000000 00000000 00000000 00000000 00000000 00000000 00000000 00000000 00000000 00000000 00000000 00000000 00000000 00000000 00000000 00000000 00000000 00000000 00000000 00000000 00000000
+csrs 00000100 00000000 00000000 00000000 80000000 00000003 00000000 00000000 00000000
+";
+
+/// The step after it: address 0 is no RAM, so its fetch is a fault.
+const FETCH_FAULT: &str = "
+stop budget
+steps 2
+draws 0
+console 0 e3b0c44298fc1c149afbf4c8996fb92427ae41e4649b934ca495991b7852b855
+ram 9dd6c08f0a5cfe84df9c4317edfdecba18be7790d03bcb2f6c6ef6fbd4002f40
+disk e3b0c44298fc1c149afbf4c8996fb92427ae41e4649b934ca495991b7852b855
+hart 0 S pc 00000000 inside - timer 0
+regs 00000000 00000000 00000000 00000000 00000000 00000000 00000000 00000000 00000000 00000000 00000000 00000000 00000000 00000000 00000000 00000000 00000000 00000000 00000000 00000000 00000000 00000000 00000000 00000000 00000000 00000000 00000000 00000000 00000000 00000000 00000000
+csrs 00000100 00000000 00000000 00000000 00000000 00000001 00000000 00000000 00000000
+";
+
 /// What a call answered and left.
 #[derive(Drop)]
 struct Left {
@@ -84,7 +110,14 @@ fn whole_runs(rt: HostRuntime) -> Result<(), Fail> {
     let mut no_step = [0; 14];
     no_step[..8].copy_from_slice(&RECORD[..8]);
     no_step[8..].copy_from_slice(&[0x11, 0, 0, 0, 0, 0x12]);
-    let rows: [(&str, [u8; 65], Status, &str, &[u8]); 4] = [
+    let mut one_step = [0; 19];
+    one_step[..13].copy_from_slice(&RECORD[..13]);
+    one_step[13..].copy_from_slice(&[0x11, 1, 0, 0, 0, 0x12]);
+    let mut two_steps = [0; 24];
+    two_steps[..18].copy_from_slice(&RECORD[..18]);
+    two_steps[18..].copy_from_slice(&[0x11, 2, 0, 0, 0, 0x12]);
+    // The other first words are `addi x17,x0,1`, for a host call that is not built, and EBREAK.
+    let rows: [(&str, [u8; 65], Status, &str, &[u8]); 6] = [
         (
             "run a.b a.r --steps 10 --number 0",
             SMALLEST,
@@ -108,10 +141,24 @@ fn whole_runs(rt: HostRuntime) -> Result<(), Fail> {
         ),
         (
             "run a.b a.r --steps 10 --number 0",
-            with_first_word(0),
+            with_first_word(0x0010_0893),
             Status::Unbuilt,
-            "\nunbuilt 2147483648\n",
-            &RECORD[..13],
+            "\nunbuilt 2147483652\n",
+            &RECORD[..18],
+        ),
+        (
+            "run a.b a.r --steps 1 --number 0",
+            with_first_word(0x0010_0073),
+            Status::Done,
+            BREAKPOINT,
+            one_step.as_slice(),
+        ),
+        (
+            "run a.b a.r --steps 2 --number 0",
+            with_first_word(0x0010_0073),
+            Status::Done,
+            FETCH_FAULT,
+            two_steps.as_slice(),
         ),
     ];
     for (line, bundle, status, output, record) in rows {

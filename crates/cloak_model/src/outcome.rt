@@ -3,10 +3,19 @@
 #[derive(Clone, Copy, Debug, PartialEq, Eq)]
 pub enum Effect {
     /// Register `rd` takes the value; register 0 takes none.
-    Write { rd: u32, value: u32 },
+    Write {
+        rd: u32,
+        value: u32,
+    },
     /// Register `rd` takes `link`, the address of the next instruction, and the program counter `target`.
-    Jump { rd: u32, link: u32, target: u32 },
-    Go { target: u32 },
+    Jump {
+        rd: u32,
+        link: u32,
+        target: u32,
+    },
+    Go {
+        target: u32,
+    },
     /// Register `rd` takes `width` bytes from `address`, a multiple of `width`, extended to a word.
     Load {
         rd: u32,
@@ -24,7 +33,10 @@ pub enum Effect {
     System,
     Nothing,
     /// An exception, with its cause and what `stval` takes.
-    Raise { cause: u32, tval: u32 },
+    Raise {
+        cause: u32,
+        tval: u32,
+    },
 }
 
 /// How a step of a hart outside cloaked mode ended.
