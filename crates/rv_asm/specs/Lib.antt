@@ -1,2 +1,4 @@
+pub mod Assembly
 pub mod Operations
+pub mod Statements
 pub mod Words

@@ -174,20 +174,14 @@ fn register_op(word: &[u8]) -> Option<RegisterOp>
 fn immediate_op(word: &[u8]) -> Option<ImmediateOp>
     ensures { result ≡ immediate_op word.now }
 {
-    if word == b"addi".as_slice() {
-        Some(ImmediateOp::Addi)
-    } else if word == b"slti".as_slice() {
-        Some(ImmediateOp::Slti)
-    } else if word == b"sltiu".as_slice() {
-        Some(ImmediateOp::Sltiu)
-    } else if word == b"xori".as_slice() {
-        Some(ImmediateOp::Xori)
-    } else if word == b"ori".as_slice() {
-        Some(ImmediateOp::Ori)
-    } else if word == b"andi".as_slice() {
-        Some(ImmediateOp::Andi)
-    } else {
-        None
+    match word {
+        b"addi" => Some(ImmediateOp::Addi),
+        b"slti" => Some(ImmediateOp::Slti),
+        b"sltiu" => Some(ImmediateOp::Sltiu),
+        b"xori" => Some(ImmediateOp::Xori),
+        b"ori" => Some(ImmediateOp::Ori),
+        b"andi" => Some(ImmediateOp::Andi),
+        _ => None,
     }
 }
 
@@ -218,20 +212,14 @@ fn upper_op(word: &[u8]) -> Option<UpperOp>
 fn load_op(word: &[u8]) -> Option<LoadOp>
     ensures { result ≡ load_op word.now }
 {
-    if word == b"lb".as_slice() {
-        Some(LoadOp::Lb)
-    } else if word == b"lh".as_slice() {
-        Some(LoadOp::Lh)
-    } else if word == b"lw".as_slice() {
-        Some(LoadOp::Lw)
-    } else if word == b"lbu".as_slice() {
-        Some(LoadOp::Lbu)
-    } else if word == b"lhu".as_slice() {
-        Some(LoadOp::Lhu)
-    } else if word == b"jalr".as_slice() {
-        Some(LoadOp::Jalr)
-    } else {
-        None
+    match word {
+        b"lb" => Some(LoadOp::Lb),
+        b"lh" => Some(LoadOp::Lh),
+        b"lw" => Some(LoadOp::Lw),
+        b"lbu" => Some(LoadOp::Lbu),
+        b"lhu" => Some(LoadOp::Lhu),
+        b"jalr" => Some(LoadOp::Jalr),
+        _ => None,
     }
 }
 
@@ -239,14 +227,11 @@ fn load_op(word: &[u8]) -> Option<LoadOp>
 fn store_op(word: &[u8]) -> Option<StoreOp>
     ensures { result ≡ store_op word.now }
 {
-    if word == b"sb".as_slice() {
-        Some(StoreOp::Sb)
-    } else if word == b"sh".as_slice() {
-        Some(StoreOp::Sh)
-    } else if word == b"sw".as_slice() {
-        Some(StoreOp::Sw)
-    } else {
-        None
+    match word {
+        b"sb" => Some(StoreOp::Sb),
+        b"sh" => Some(StoreOp::Sh),
+        b"sw" => Some(StoreOp::Sw),
+        _ => None,
     }
 }
 
@@ -254,20 +239,14 @@ fn store_op(word: &[u8]) -> Option<StoreOp>
 fn branch_op(word: &[u8]) -> Option<BranchOp>
     ensures { result ≡ branch_op word.now }
 {
-    if word == b"beq".as_slice() {
-        Some(BranchOp::Beq)
-    } else if word == b"bne".as_slice() {
-        Some(BranchOp::Bne)
-    } else if word == b"blt".as_slice() {
-        Some(BranchOp::Blt)
-    } else if word == b"bge".as_slice() {
-        Some(BranchOp::Bge)
-    } else if word == b"bltu".as_slice() {
-        Some(BranchOp::Bltu)
-    } else if word == b"bgeu".as_slice() {
-        Some(BranchOp::Bgeu)
-    } else {
-        None
+    match word {
+        b"beq" => Some(BranchOp::Beq),
+        b"bne" => Some(BranchOp::Bne),
+        b"blt" => Some(BranchOp::Blt),
+        b"bge" => Some(BranchOp::Bge),
+        b"bltu" => Some(BranchOp::Bltu),
+        b"bgeu" => Some(BranchOp::Bgeu),
+        _ => None,
     }
 }
 
@@ -275,14 +254,11 @@ fn branch_op(word: &[u8]) -> Option<BranchOp>
 fn csr_op(word: &[u8]) -> Option<CsrOp>
     ensures { result ≡ csr_op word.now }
 {
-    if word == b"csrrw".as_slice() {
-        Some(CsrOp::Csrrw)
-    } else if word == b"csrrs".as_slice() {
-        Some(CsrOp::Csrrs)
-    } else if word == b"csrrc".as_slice() {
-        Some(CsrOp::Csrrc)
-    } else {
-        None
+    match word {
+        b"csrrw" => Some(CsrOp::Csrrw),
+        b"csrrs" => Some(CsrOp::Csrrs),
+        b"csrrc" => Some(CsrOp::Csrrc),
+        _ => None,
     }
 }
 

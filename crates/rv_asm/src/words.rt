@@ -1,7 +1,7 @@
 //! The words of a line, and the registers, numbers and names that operands are made of.
 
 ghost use Rattle.std.specs.Prelude.{◌≡◌, ◌==◌, ◌<◌, ◌^◌, ◌*◌, ◌+◌, ◌≤◌, length, IfSome};
-ghost use Rattle.std.specs.List.{prefix_len, position_or_len, position, list_all};
+ghost use Rattle.std.specs.List.{prefix_len, position_or_len, position, list_all, before_first, after_first};
 ghost use Rattle.rv_asm.specs.Words.{Shows, cut, from_word, first_word, sole_word, register, digit, digits, narrow, value, magnitude, number, is_name, is_blank, is_digit, is_name_byte};
 
 /// A number as it is written.
@@ -68,10 +68,36 @@ pub fn first_word(text: &[u8]) -> (&[u8], &[u8])
     }
 }
 
-fn is_all_blank(text: &[u8]) -> bool
+pub fn is_all_blank(text: &[u8]) -> bool
     ensures { result ≡ list_all is_blank text.now }
 {
     text.iter().all(|b| is_blank(*b))
+}
+
+fn len_before(text: &[u8], c: u8) -> usize
+    ensures value { result ≡ position_or_len (λ b. b == c) text.now }
+    ensures within { result ≤ length text.now }
+{
+    text.iter().take_while(|b| **b != c).count()
+}
+
+/// What stands before the first byte `c`, or all.
+pub fn before(text: &[u8], c: u8) -> &[u8]
+    ensures { result.now ≡ before_first (λ b. b == c) text.now }
+{
+    &text[..len_before(text, c)]
+}
+
+/// What stands behind the first byte `c`, or nothing.
+pub fn behind(text: &[u8], c: u8) -> &[u8]
+    ensures { result.now ≡ after_first (λ b. b == c) text.now }
+{
+    let end = len_before(text, c);
+    if end < text.len() {
+        &text[end + 1..]
+    } else {
+        &[]
+    }
 }
 
 /// The one word of a text that has no other.
