@@ -32,7 +32,7 @@ next_labels q old new line place n text total pos words marked so_far =
     let here = mark (line + 1) place (statement (first text)) in
     let rest = labels_of (line + 1) (place + size (statement (first text))) (lines_of (others text)) in
     let one : or_else old (find_in (labels_of line place (lines_of text)) q) ≡ or_else (or_else old (find_in here q)) (find_in rest q) =
-      rw (next_line text pos, find_after here rest q) (sym (or_else_assoc old (find_in here q) (find_in rest q))) in
+    rw (next_line text pos, find_after here rest q) (sym (or_else_assoc old (find_in here q) (find_in rest q))) in
     rw (words, marked) (sym one ∙ so_far)
 
 pub done : (q : List ℕ) (found total : Option Mark) (line place : ℕ) (text : List ℕ) → length text ≡ 0

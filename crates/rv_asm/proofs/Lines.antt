@@ -60,7 +60,7 @@ pub goes_on : (find : List ℕ → Option Mark) (front : List Item) (line : ℕ)
     → with_front (front ++ items) (items_from find (line + 1) (length (front ++ items)) (lines_of (others text))) ≡ total
 goes_on find front line text items total pos h so_far =
     let one : with_front front (items_from find line (length front) (lines_of text)) ≡ with_front (front ++ items) (items_from find (line + 1) (length (front ++ items)) (lines_of (others text))) =
-      rw (next_line text pos, h, length-append front items) (regroup front items (items_from find (line + 1) (length front + length items) (lines_of (others text)))) in
+    rw (next_line text pos, h, length-append front items) (regroup front items (items_from find (line + 1) (length front + length items) (lines_of (others text)))) in
     sym one ∙ so_far
 
 pub fails : {Y : Type 0} (e : AsmFault) (read : Result Y AsmFault) → read ≡ Err e → Fails e read

@@ -232,6 +232,7 @@ abbrev pub csr_immediate_instruction : CsrImmediateOp → ℕ → ℕ → ℕ �
 csr_immediate_instruction Csrrwi rd uimm csr = instr.Csrrwi rd uimm csr
 csr_immediate_instruction Csrrsi rd uimm csr = instr.Csrrsi rd uimm csr
 csr_immediate_instruction Csrrci rd uimm csr = instr.Csrrci rd uimm csr
+
 -- an instruction that stands for itself has fields that a word can hold
 abbrev pub IsInRange : Operation → Type 0
 IsInRange (Bare i) = InRange i

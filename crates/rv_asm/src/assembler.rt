@@ -8,17 +8,15 @@ ghost use Rattle.rv_asm.specs.Statements.{Reads, read, IsReady, IsItem};
 ghost use Rattle.rv_asm.specs.Assembly.{lines_of, offset, relative, items_of, line_items, items_from, assembled, IsWord, AreWords, Fails, Gives, table};
 ghost use Rattle.rv_asm.specs.Listing.{listed, AreItems};
 
+use crate::fault::{AsmFault, Kind, fault_at};
+use crate::item::Item;
+use crate::labels::{Mark, find, labels};
+use crate::operation::branch_instruction;
+use crate::statement::{Statement, lower_part, parse, upper_part};
+use crate::words::{before, behind};
+use rv_isa::{Instr, encode};
 use std::alloc::{AllocError, Global};
 use std::collections::BTreeMap;
-
-use rv_isa::{encode, Instr};
-
-use crate::fault::{fault_at, AsmFault, Kind};
-use crate::item::Item;
-use crate::labels::{find, labels, Mark};
-use crate::operation::branch_instruction;
-use crate::statement::{lower_part, parse, upper_part, Statement};
-use crate::words::{before, behind};
 
 /// What stands for the words of one line.
 #[derive(Clone, Copy)]

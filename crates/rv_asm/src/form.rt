@@ -4,19 +4,16 @@ ghost use Rattle.std.specs.Prelude.{◌≡◌, IfSome};
 ghost use Rattle.rv_isa.specs.Range.{InRange};
 ghost use Rattle.rv_asm.specs.Statements.{register_form, immediate_form, shift_form, upper_form, load_form, store_form, csr_form, csr_immediate_form, fence_form};
 
-use rv_isa::Instr;
-
 use crate::operand::{
     immediate_operand, memory_operand, register_operand, three, unsigned_operand,
 };
 use crate::operation::{
+    CsrImmediateOp, CsrOp, ImmediateOp, LoadOp, RegisterOp, ShiftOp, StoreOp, UpperOp,
     csr_immediate_instruction, csr_instruction, immediate_instruction, load_instruction,
     register_instruction, shift_instruction, store_instruction, upper_instruction,
 };
-use crate::operation::{
-    CsrImmediateOp, CsrOp, ImmediateOp, LoadOp, RegisterOp, ShiftOp, StoreOp, UpperOp,
-};
 use crate::words::cut;
+use rv_isa::Instr;
 
 #[tactic(auto, unfolding(crate::specs::Statements::register_form))]
 pub fn register_form(op: RegisterOp, text: &[u8]) -> Option<Instr>

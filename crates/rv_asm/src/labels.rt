@@ -9,12 +9,11 @@ ghost use Rattle.rv_asm.specs.Operations.{or_else};
 ghost use Rattle.rv_asm.specs.Statements.{statement};
 ghost use Rattle.rv_asm.specs.Assembly.{lines_of, size, mark, labels_of, find_in, table};
 
+use crate::fault::{AsmFault, Kind};
+use crate::statement::{Statement, parse};
+use crate::words::{before, behind};
 use std::alloc::Global;
 use std::collections::BTreeMap;
-
-use crate::fault::{AsmFault, Kind};
-use crate::statement::{parse, Statement};
-use crate::words::{before, behind};
 
 /// Where a label is defined: its line, counted from 1, and how many words stand before it.
 #[derive(Clone, Copy)]

@@ -5,7 +5,7 @@ ghost use Rattle.rv_isa.specs.Range.{FitsSigned};
 ghost use Rattle.rv_asm.specs.Words.{Shows};
 ghost use Rattle.rv_asm.specs.Statements.{three, register_operand, number_operand, unsigned, immediate, modular, unsigned_operand, immediate_operand, modular_operand, memory_operand, name_operand};
 
-use crate::words::{cut, is_name, number, register, sole_word, Numeral};
+use crate::words::{Numeral, cut, is_name, number, register, sole_word};
 
 /// The texts of three operands.
 #[tactic(auto, unfolding(crate::specs::Statements::three))]

@@ -7,17 +7,16 @@ ghost use Rattle.rv_asm.specs.Words.{Shows};
 ghost use Rattle.rv_asm.specs.Operations.{IsInRange};
 ghost use Rattle.rv_asm.specs.Statements.{upper_part, lower_part, bare_statement, branch_statement, jal_statement, j_statement, li_statement, la_statement, word_statement, statement_of, label_word, statement, read, IsReady, Reads};
 
-use rv_isa::Instr;
-
 use crate::fault::Kind;
 use crate::form::{
-    csr_form, csr_immediate_form, fence_form, immediate_form, load_form, register_form,
-    shift_form, store_form, upper_form,
+    csr_form, csr_immediate_form, fence_form, immediate_form, load_form, register_form, shift_form,
+    store_form, upper_form,
 };
 use crate::item::Item;
 use crate::operand::{modular_operand, name_operand, register_operand, three};
-use crate::operation::{find_operation, BranchOp, Operation};
+use crate::operation::{BranchOp, Operation, find_operation};
 use crate::words::{before, cut, first_word, is_all_blank, is_name};
+use rv_isa::Instr;
 
 /// What a line asks for.
 #[derive(Clone, Copy)]
@@ -35,9 +34,15 @@ pub enum Statement<'a> {
         to: &'a [u8],
     },
     /// JAL to a label.
-    Jump { rd: u32, to: &'a [u8] },
+    Jump {
+        rd: u32,
+        to: &'a [u8],
+    },
     /// The address of a label, in two instructions.
-    Address { rd: u32, to: &'a [u8] },
+    Address {
+        rd: u32,
+        to: &'a [u8],
+    },
 }
 
 /// The upper 20 bits, rounded so that the signed low 12 bits complete them.

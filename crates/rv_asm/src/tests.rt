@@ -165,15 +165,27 @@ static FAULTY: [(&str, AsmFault); 51] = [
     ("\n\n# only this\n\tnop", AsmFault::UnknownWord(4)),
 ];
 
+/// What the assembler makes of a text, all of which here are short.
+fn words_of(rt: &HostRuntime, text: &str) -> Result<Vec<u32>, AsmFault> {
+    if text.len() >= 1 << 32 {
+        return Err(AsmFault::NoMemory);
+    }
+    assemble(rt.alloc(), text)
+}
+
 #[test]
 fn assembles_as_another_assembler(rt: HostRuntime) -> Result<(), Fail> {
-    let mut text = String::from_str(rt.alloc(), "start:\n").ok().ok_or("memory")?;
+    let mut text = String::from_str(rt.alloc(), "start:\n")
+        .ok()
+        .ok_or("memory")?;
     for (line, _) in &LISTING {
         text.push_str(line).ok().ok_or("memory")?;
         text.push_str("\n").ok().ok_or("memory")?;
     }
     text.push_str("end:").ok().ok_or("memory")?;
-    let words = assemble(rt.alloc(), text.as_str()).ok().ok_or("the text has no fault")?;
+    let words = words_of(&rt, text.as_str())
+        .ok()
+        .ok_or("the text has no fault")?;
     assert_eq!(rt; words.len(), LISTING.len());
     for (word, (line, expected)) in words.iter().zip(&LISTING) {
         assert_eq!(rt; *word, *expected, "{line}");
@@ -184,11 +196,11 @@ fn assembles_as_another_assembler(rt: HostRuntime) -> Result<(), Fail> {
 #[test]
 fn assembles_other_lines(rt: HostRuntime) -> Result<(), Fail> {
     for (text, expected) in &LINES {
-        let words = assemble(rt.alloc(), text).ok().ok_or("the text has no fault")?;
+        let words = words_of(&rt, text).ok().ok_or("the text has no fault")?;
         assert_eq!(rt; words.as_slice(), [*expected].as_slice(), "{text}");
     }
     for (text, expected) in &NUMBERS {
-        let words = assemble(rt.alloc(), text).ok().ok_or("the text has no fault")?;
+        let words = words_of(&rt, text).ok().ok_or("the text has no fault")?;
         assert_eq!(rt; words.as_slice(), expected.as_slice(), "{text}");
     }
     Ok(())
@@ -197,7 +209,7 @@ fn assembles_other_lines(rt: HostRuntime) -> Result<(), Fail> {
 #[test]
 fn names_the_first_fault(rt: HostRuntime) {
     for (text, fault) in &FAULTY {
-        assert_eq!(rt; assemble(rt.alloc(), text).err(), Some(*fault), "{text}");
+        assert_eq!(rt; words_of(&rt, text).err(), Some(*fault), "{text}");
     }
 }
 
@@ -214,31 +226,51 @@ fn long(rt: &HostRuntime, first: &str, count: u32, last: &str) -> Result<String,
 #[test]
 fn reaches_so_far(rt: HostRuntime) -> Result<(), Fail> {
     let ahead = long(&rt, "beq x0, x0, a\n", 1022, "a:")?;
-    let words = assemble(rt.alloc(), ahead.as_str()).ok().ok_or("a branch reaches 4092 ahead")?;
-    assert_eq!(rt; words[0], 0x7e00_0ee3);
+    let words = words_of(&rt, ahead.as_str())
+        .ok()
+        .ok_or("a branch reaches 4092 ahead")?;
+    assert_eq!(rt; words.first().copied(), Some(0x7e00_0ee3));
     let ahead = long(&rt, "beq x0, x0, a\n", 1023, "a:")?;
-    assert_eq!(rt; assemble(rt.alloc(), ahead.as_str()).err(), Some(AsmFault::OutOfReach(1)));
+    assert_eq!(rt;
+        words_of(&rt, ahead.as_str()).err(),
+        Some(AsmFault::OutOfReach(1))
+    );
     let back = long(&rt, "a:\n", 1024, "beq x0, x0, a")?;
-    let words = assemble(rt.alloc(), back.as_str()).ok().ok_or("a branch reaches 4096 back")?;
-    assert_eq!(rt; words[1024], 0x8000_0063);
+    let words = words_of(&rt, back.as_str())
+        .ok()
+        .ok_or("a branch reaches 4096 back")?;
+    assert_eq!(rt; words.last().copied(), Some(0x8000_0063));
     let back = long(&rt, "a:\n", 1025, "beq x0, x0, a")?;
-    assert_eq!(rt; assemble(rt.alloc(), back.as_str()).err(), Some(AsmFault::OutOfReach(1027)));
-    // AUIPC x6, 1 and ADDI x6, x6, -1688 are 2408 ahead.
-    let ahead = long(&rt, "la x6, a\n", 600, "a:")?;
-    let words = assemble(rt.alloc(), ahead.as_str()).ok().ok_or("an address reaches")?;
-    assert_eq!(rt; words[0], 0x0000_1317);
-    assert_eq!(rt; words[1], 0x9683_0313);
+    assert_eq!(rt;
+        words_of(&rt, back.as_str()).err(),
+        Some(AsmFault::OutOfReach(1027))
+    );
+    // AUIPC x6, 1 and ADDI x6, x6, -1688 are 2408 ahead; AUIPC x7, -1 and ADDI x7, x7, 1688 as many back.
+    let address = long(&rt, "a:\nla x6, b\n", 600, "b:\nla x7, a")?;
+    let words = words_of(&rt, address.as_str())
+        .ok()
+        .ok_or("an address reaches")?;
+    assert_eq!(rt; words.get(..2), Some([0x0000_1317, 0x9683_0313].as_slice()));
+    assert_eq!(rt;
+        words.get(602..),
+        Some([0xffff_f397, 0x6983_8393].as_slice())
+    );
     Ok(())
 }
 
 #[test]
 fn takes_so_many_words(rt: HostRuntime) -> Result<(), Fail> {
     let most = long(&rt, "", 65_536, "")?;
-    let words = assemble(rt.alloc(), most.as_str()).ok().ok_or("65,536 words are taken")?;
+    let words = words_of(&rt, most.as_str())
+        .ok()
+        .ok_or("65,536 words are taken")?;
     assert_eq!(rt; words.len(), 65_536);
     let more = long(&rt, "", 65_537, "")?;
-    assert_eq!(rt; assemble(rt.alloc(), more.as_str()).err(), Some(AsmFault::TooLong));
+    assert_eq!(rt; words_of(&rt, more.as_str()).err(), Some(AsmFault::TooLong));
     let faulty = long(&rt, "", 65_537, "nop")?;
-    assert_eq!(rt; assemble(rt.alloc(), faulty.as_str()).err(), Some(AsmFault::UnknownWord(65_538)));
+    assert_eq!(rt;
+        words_of(&rt, faulty.as_str()).err(),
+        Some(AsmFault::UnknownWord(65_538))
+    );
     Ok(())
 }

@@ -11,4 +11,4 @@ loop-item-preserved c =
     let i = c.loop-item.item-index in
     let default = Instruction (Lui 0 0) in
     rw (c.in_ok-push.ensures.items, take_more items i default c.loop-item-test.true)
-      (one_more (take i items) c.loop-item.words.items (get_or items i default) c.word_of.result c.loop-item.invariant c.word_of.ensures)
+    (one_more (take i items) c.loop-item.words.items (get_or items i default) c.word_of.result c.loop-item.invariant c.word_of.ensures)

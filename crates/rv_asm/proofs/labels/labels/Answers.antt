@@ -16,8 +16,8 @@ loop-rest-preserved c =
     let rest_is = c.behind-rest.ensures in
     record {
       found = λ q.
-        let old = table c.loop-rest.marks q in
-        rw rest_is (next_labels q old (table c.mark_line.new.marks q) line place c.in_ok-place.field-0 rest (find_in (labels_of 0 0 (lines_of c.args.text.now)) q) some
+          let old = table c.loop-rest.marks q in
+          rw rest_is (next_labels q old (table c.mark_line.new.marks q) line place c.in_ok-place.field-0 rest (find_in (labels_of 0 0 (lines_of c.args.text.now)) q) some
           (c.in_ok-place.ensures.words ∙ ap (λ t. size (statement t)) text_is)
           (c.in_ok-place.ensures.marked q ∙ ap (λ t. or_else old (find_in (mark (line + 1) place (statement t)) q)) text_is)
           (c.loop-rest.invariant.found q));
