@@ -1,5 +1,5 @@
 -- Operands and statements: this project's rule. Operands are separated by commas, with blanks around each.
-use Rattle.std.specs.Prelude.{ℕ, ◌+◌, ◌*◌, ◌-◌, ◌/◌, ◌%◌, ◌^◌, ◌<◌, ◌==◌, ◌&&◌, ◌||◌, not, ℤ, pos, neg_ℤ, Bool, List, [], ◌∷◌, length, Option, Some, None, Result, Ok, Err, ◌≡◌, MatchResult, nat_lt, nat_le, if◌then◌else◌}
+use Rattle.std.specs.Prelude.{ℕ, ◌+◌, ◌*◌, ◌-◌, ◌/◌, ◌%◌, ◌^◌, ◌<◌, ◌==◌, ◌&&◌, ◌||◌, not, suc, ℤ, pos, negsuc, neg_ℤ, Bool, List, [], ◌∷◌, length, Option, Some, None, Result, Ok, Err, ◌≡◌, MatchResult, nat_lt, nat_le, if◌then◌else◌}
 use Rattle.std.specs.Option.{ok_or}
 use Rattle.std.specs.List.{before_first, list_all}
 use Rattle.rv_isa.specs.Fields.{sign_extended}
@@ -162,6 +162,11 @@ upper_part v = (v + 2048) % 2 ^ 32 / 4096 * 4096
 
 abbrev pub lower_part : ℕ → ℤ
 lower_part v = sign_extended 12 (v % 4096)
+
+-- a signed number modulo 2 ^ 32
+abbrev pub wrapped : ℤ → ℕ
+wrapped (pos n) = n
+wrapped (negsuc n) = 2 ^ 32 - suc n
 
 -- ---- statements
 

@@ -1,11 +1,11 @@
 //! The statement of a line.
 
-ghost use Rattle.std.specs.Prelude.{◌≡◌, ◌==◌, ◌<◌, ◌%◌, ◌^◌, IfSome, IfOk};
+ghost use Rattle.std.specs.Prelude.{◌≡◌, ◌==◌, ◌+◌, ◌<◌, ◌%◌, ◌^◌, IfSome, IfOk};
 ghost use Rattle.std.specs.List.{before_first, after_first, position_or_len};
 ghost use Rattle.rv_isa.specs.Range.{InRange, FitsSigned};
 ghost use Rattle.rv_asm.specs.Words.{Shows};
 ghost use Rattle.rv_asm.specs.Operations.{IsInRange};
-ghost use Rattle.rv_asm.specs.Statements.{upper_part, lower_part, bare_statement, branch_statement, jal_statement, j_statement, li_statement, la_statement, word_statement, statement_of, label_word, statement, read, IsReady, Reads};
+ghost use Rattle.rv_asm.specs.Statements.{upper_part, lower_part, wrapped, bare_statement, branch_statement, jal_statement, j_statement, li_statement, la_statement, word_statement, statement_of, label_word, statement, read, IsReady, Reads};
 
 use crate::fault::Kind;
 use crate::form::{
@@ -57,6 +57,7 @@ pub fn upper_part(v: u32) -> u32
 pub fn lower_part(v: u32) -> i32
     ensures value { result ≡ lower_part v }
     ensures fits { FitsSigned 12 result }
+    ensures completes { (upper_part v + wrapped result) % 2 ^ 32 ≡ v }
 {
     let low = v % 4096;
     if low < 2048 {
