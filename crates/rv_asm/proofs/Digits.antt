@@ -1,6 +1,5 @@
 -- Digits one after the other, as a loop reads them.
-use Rattle.std.proofs.Common.{◌≡◌, ℕ, zero, suc, ◌+◌, ◌*◌, ◌^◌, ◌<◌, ◌≤◌, ltb, cond, List, [], ◌∷◌, length, get_or, drop, Option, Some, None, refl, add-one, drop-cons, arith}
-use Rattle.std.proofs.Math.Nat.{mul-le-mul_left}
+use Rattle.std.proofs.Common.{◌≡◌, ℕ, zero, suc, ◌+◌, ◌*◌, ◌^◌, ◌<◌, ◌≤◌, List, [], ◌∷◌, length, get_or, drop, Option, Some, None, refl, add-one, drop-cons, arith}
 use Rattle.std.proofs.lemmas.Bool.{le-ltb}
 use Rattle.rv_asm.specs.Words.{◌>>=◌, digit, digits, narrow}
 

@@ -1,6 +1,6 @@
 -- The words of a text: this project's rule. A text has one statement a line, and a label names the place of the
 -- next word, which is the number of words before it.
-use Rattle.std.specs.Prelude.{ℕ, ◌+◌, ◌*◌, ◌-◌, ◌%◌, ◌^◌, ◌<◌, ◌==◌, ℤ, pos, neg_ℤ, Bool, List, [], ◌∷◌, ◌++◌, length, Option, Some, None, Result, Ok, Err, ◌≡◌, MatchResult, nat_lt, nat_le, if◌then◌else◌}
+use Rattle.std.specs.Prelude.{ℕ, ◌+◌, ◌*◌, ◌-◌, ◌%◌, ◌^◌, ◌<◌, ◌==◌, ℤ, pos, neg_ℤ, List, [], ◌∷◌, ◌++◌, length, Option, Some, Result, Ok, Err, ◌≡◌, MatchResult, nat_lt, nat_le, if◌then◌else◌}
 use Rattle.std.specs.Option.{ok_or}
 use Rattle.std.specs.List.{onto_first}
 use Rattle.std.specs.Str.{bytes_eq}
@@ -10,7 +10,6 @@ use Rattle.std.specs.Cmp.Lexicographic.{slice_cmp}
 use Rattle.std.specs.Ordering.{nat_cmp}
 use denote.Ref.{Bor}
 use Rattle.rv_isa.specs.Table.{instruction}
-use Rattle.rv_isa.specs.declared.instr.Instr.{Instr}
 use Rattle.rv_isa.specs.declared.instr.Instr.TheVariants as instr
 use Rattle.rv_asm.specs.declared.item.Item.{Item}
 use Rattle.rv_asm.specs.declared.item.Item.TheVariants.{Instruction, Data}

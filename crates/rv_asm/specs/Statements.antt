@@ -1,5 +1,5 @@
 -- Operands and statements: this project's rule. Operands are separated by commas, with blanks around each.
-use Rattle.std.specs.Prelude.{ℕ, ◌+◌, ◌*◌, ◌-◌, ◌/◌, ◌%◌, ◌^◌, ◌<◌, ◌==◌, ◌&&◌, ◌||◌, not, suc, ℤ, pos, negsuc, neg_ℤ, Bool, List, [], ◌∷◌, length, Option, Some, None, Result, Ok, Err, ◌≡◌, MatchResult, nat_lt, nat_le, if◌then◌else◌}
+use Rattle.std.specs.Prelude.{ℕ, ◌+◌, ◌*◌, ◌-◌, ◌/◌, ◌%◌, ◌^◌, ◌<◌, ◌==◌, ◌&&◌, ◌||◌, not, suc, ℤ, pos, negsuc, neg_ℤ, List, [], ◌∷◌, length, Option, Some, None, Result, Ok, Err, ◌≡◌, MatchResult, nat_lt, nat_le, if◌then◌else◌}
 use Rattle.std.specs.Option.{ok_or}
 use Rattle.std.specs.List.{before_first, list_all}
 use Rattle.rv_isa.specs.Fields.{sign_extended}

@@ -1,4 +1,4 @@
-use Rattle.std.proofs.Common.{◌≡◌, ◌+◌, ◌<◌, length, ap, ◌∙◌, false-eqb, arith}
+use Rattle.std.proofs.Common.{◌+◌, ◌<◌, length, ap, ◌∙◌, false-eqb, arith}
 use Rattle.rv_asm.specs.Operations.{or_else}
 use Rattle.rv_asm.specs.Statements.{statement}
 use Rattle.rv_asm.specs.Assembly.{lines_of, size, mark, labels_of, find_in, table}

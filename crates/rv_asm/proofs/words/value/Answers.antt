@@ -1,6 +1,6 @@
-use Rattle.std.proofs.Common.{◌≡◌, ◌+◌, ◌*◌, ◌^◌, ◌≤◌, drop, Some, None, sym, ap, ◌∙◌, arith}
+use Rattle.std.proofs.Common.{◌≡◌, ◌+◌, ◌*◌, drop, None, sym, ap, ◌∙◌, arith}
 use Rattle.std.proofs.lemmas.Grind.{common_steps}
-use Rattle.rv_asm.specs.Words.{◌>>=◌, digit, digits, narrow, value}
+use Rattle.rv_asm.specs.Words.{◌>>=◌, digits, narrow, value}
 use Rattle.rv_asm.proofs.Digits.{one_more, large}
 use Rattle.rv_asm.proofs.words.value.Goals as goal
 
