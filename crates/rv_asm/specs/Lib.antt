@@ -1,0 +1,5 @@
+pub mod Assembly
+pub mod Listing
+pub mod Operations
+pub mod Statements
+pub mod Words

@@ -1,0 +1,19 @@
+-- What the code keeps of a line, as a list.
+use Rattle.std.specs.Prelude.{List, [], ◌∷◌}
+use Rattle.rv_isa.specs.Range.{InRange}
+use Rattle.rv_asm.specs.declared.item.Item.{Item}
+use Rattle.rv_asm.specs.declared.item.Item.TheVariants.{Instruction}
+use Rattle.rv_asm.specs.declared.assembler.Items.{Items}
+use Rattle.rv_asm.specs.declared.assembler.Items.TheVariants as lists
+use Rattle.rv_asm.specs.Statements.{IsItem}
+
+abbrev pub listed : Items → List Item
+listed lists.None = []
+listed (lists.One item) = item ∷ []
+listed (lists.Two i j) = Instruction i ∷ Instruction j ∷ []
+
+-- a word can hold each
+abbrev pub AreItems : Items → Type 0
+AreItems lists.None = Unit {0}
+AreItems (lists.One item) = IsItem item
+AreItems (lists.Two i j) = InRange i × InRange j

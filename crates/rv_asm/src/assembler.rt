@@ -1,0 +1,208 @@
+//! A text in two passes: where the labels are, and what stands for each word.
+
+ghost use Rattle.std.specs.Prelude.{◌≡◌, ℕ, ◌+◌, ◌*◌, ◌-◌, ◌<◌, ◌≤◌, ◌^◌, length, List, ◌++◌, IfOk, IfErr, OnOk, MatchResult, All, Ok};
+ghost use Rattle.rv_isa.specs.Range.{FitsSigned, IsEven};
+ghost use Rattle.rv_asm.specs.declared.fault.AsmFault.TheVariants as faults;
+ghost use Rattle.rv_asm.specs.declared.item.Item.{Item};
+ghost use Rattle.rv_asm.specs.Statements.{Reads, read, IsReady, IsItem};
+ghost use Rattle.rv_asm.specs.Assembly.{lines_of, offset, relative, items_of, line_items, items_from, assembled, IsWord, AreWords, Fails, Gives, table};
+ghost use Rattle.rv_asm.specs.Listing.{listed, AreItems};
+
+use crate::fault::{AsmFault, Kind, fault_at};
+use crate::item::Item;
+use crate::labels::{Mark, find, labels};
+use crate::operation::branch_instruction;
+use crate::statement::{Statement, lower_part, parse, upper_part};
+use crate::words::{before, behind};
+use rv_isa::{Instr, encode};
+use std::alloc::{AllocError, Global};
+use std::collections::BTreeMap;
+
+/// What stands for the words of one line.
+#[derive(Clone, Copy)]
+pub enum Items {
+    None,
+    One(Item),
+    Two(Instr, Instr),
+}
+
+/// The bytes from one word to another, forward by fewer words than the reach, or back by at most as many.
+#[tactic(auto, unfolding(crate::specs::Assembly::offset))]
+fn offset(reach: u32, here: u64, there: u64) -> Result<i32, Kind>
+    requires { reach ≤ 262144 }
+    ensures value { result ≡ offset reach here there }
+    ensures even { IfOk result IsEven }
+    ensures branch { reach ≡ 1024 → IfOk result (λ i. FitsSigned 13 i) }
+    ensures jump { IfOk result (λ i. FitsSigned 21 i) }
+{
+    if here <= there {
+        let ahead = there - here;
+        if ahead < u64::from(reach) {
+            Ok(4 * ahead as i32)
+        } else {
+            Err(Kind::OutOfReach)
+        }
+    } else {
+        let back = here - there;
+        if back <= u64::from(reach) {
+            Ok(-(4 * back as i32))
+        } else {
+            Err(Kind::OutOfReach)
+        }
+    }
+}
+
+/// The bytes from one word to another, modulo 2^32.
+#[tactic(auto, unfolding(crate::specs::Assembly::relative))]
+fn relative(here: u64, there: u64) -> u32
+    ensures { result ≡ relative here there }
+{
+    ((there % (1 << 30) + ((1 << 30) - here % (1 << 30))) % (1 << 30) * 4) as u32
+}
+
+/// What stands for the words of a statement, by its line and place.
+fn resolve(
+    marks: &BTreeMap<&[u8], Mark>,
+    line: u32,
+    here: u64,
+    statement: Statement<'_>,
+) -> Result<Items, Kind>
+    requires { IsReady statement }
+    ensures value { Reads listed result (items_of (table marks.now) line here (read statement.entry)) }
+    ensures ready { IfOk result AreItems }
+{
+    match statement {
+        Statement::Nothing => Ok(Items::None),
+        Statement::Label(name) => {
+            let mark = find(marks, name)?;
+            if mark.line == line {
+                Ok(Items::None)
+            } else {
+                Err(Kind::BadLabel)
+            }
+        }
+        Statement::Single(item) => Ok(Items::One(item)),
+        Statement::Pair(first, second) => Ok(Items::Two(first, second)),
+        Statement::Branch { op, rs1, rs2, to } => {
+            let mark = find(marks, to)?;
+            let imm = offset(1024, here, mark.place)?;
+            let branch = branch_instruction(op, rs1, rs2, imm);
+            Ok(Items::One(Item::Instruction(branch)))
+        }
+        Statement::Jump { rd, to } => {
+            let mark = find(marks, to)?;
+            let imm = offset(262_144, here, mark.place)?;
+            Ok(Items::One(Item::Instruction(Instr::Jal { rd, imm })))
+        }
+        Statement::Address { rd, to } => {
+            let mark = find(marks, to)?;
+            let v = relative(here, mark.place);
+            let upper = Instr::Auipc {
+                rd,
+                imm: upper_part(v),
+            };
+            let lower = Instr::Addi {
+                rd,
+                rs1: rd,
+                imm: lower_part(v),
+            };
+            Ok(Items::Two(upper, lower))
+        }
+    }
+}
+
+/// What stands for the words of a line.
+#[tactic(auto, unfolding(crate::specs::Assembly::line_items))]
+fn line_items(
+    marks: &BTreeMap<&[u8], Mark>,
+    line: u32,
+    here: u64,
+    text: &[u8],
+) -> Result<Items, AsmFault>
+    ensures value { MatchResult result (λ x. line_items (table marks.now) line here text.now ≡ Ok (listed x)) (λ e. line_items (table marks.now) line here text.now ≡ Err e) }
+    ensures ready { IfOk result AreItems }
+{
+    let statement = match parse(text) {
+        Ok(statement) => statement,
+        Err(kind) => return Err(fault_at(line, kind)),
+    };
+    match resolve(marks, line, here, statement) {
+        Ok(items) => Ok(items),
+        Err(kind) => Err(fault_at(line, kind)),
+    }
+}
+
+fn append(out: &mut Vec<Item>, items: Items) -> Result<(), AsmFault>
+    requires { AreItems items }
+    ensures items { OnOk result (out.new.items ≡ out.old.items ++ listed items) }
+    ensures ready { All IsItem out.old.items → OnOk result (All IsItem out.new.items) }
+    ensures err { IfErr result (λ e. e ≡ faults.NoMemory) }
+{
+    match items {
+        Items::None => {}
+        Items::One(item) => out.push(item)?,
+        Items::Two(first, second) => {
+            out.push(Item::Instruction(first))?;
+            out.push(Item::Instruction(second))?;
+        }
+    }
+    Ok(())
+}
+
+/// What stands for the words of a text, or the fault of its first faulty line.
+fn all_items(
+    alloc: Global,
+    marks: &BTreeMap<&[u8], Mark>,
+    text: &[u8],
+) -> Result<Vec<Item>, AsmFault>
+    requires { length text.now < 2 ^ 32 }
+    ensures value { Gives (λ v. v.items) result (items_from (table marks.now) 0 0 (lines_of text.now)) }
+    ensures ready { IfOk result (λ v. All IsItem v.items) }
+{
+    let mut out = Vec::new(alloc);
+    let mut rest = text;
+    let mut line = 0u32;
+    while !rest.is_empty() {
+        line += 1;
+        let items = line_items(marks, line, out.len() as u64, before(rest, b'\n'))?;
+        append(&mut out, items)?;
+        rest = behind(rest, b'\n');
+    }
+    Ok(out)
+}
+
+fn word_of(item: &Item) -> u32
+    requires { IsItem item.now }
+    ensures { IsWord item.now result }
+{
+    match item {
+        Item::Instruction(i) => encode(i),
+        Item::Data(n) => *n,
+    }
+}
+
+fn words_of(alloc: Global, items: &[Item]) -> Result<Vec<u32>, AllocError>
+    requires { All IsItem items.now }
+    ensures { IfOk result (λ v. AreWords items.now v.items) }
+{
+    let mut words = Vec::new(alloc);
+    for item in items {
+        words.push(word_of(item))?;
+    }
+    Ok(words)
+}
+
+/// The words of a text of instructions, one statement a line, or its first fault.
+#[tactic(auto, unfolding(crate::specs::Assembly::assembled))]
+pub fn assemble(alloc: Global, text: &str) -> Result<Vec<u32>, AsmFault>
+    requires { length text.now < 2 ^ 32 }
+    ensures { MatchResult result (λ v. (items : List Item) × (assembled text.now ≡ Ok items) × AreWords items v.items) (λ e. Fails e (assembled text.now)) }
+{
+    let text = text.as_bytes();
+    let marks = labels(alloc, text)?;
+    let items = all_items(alloc, &marks, text)?;
+    if items.len() > 65_536 {
+        return Err(AsmFault::TooLong);
+    }
+    Ok(words_of(alloc, &items)?)
+}

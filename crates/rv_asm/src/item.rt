@@ -1,0 +1,9 @@
+use rv_isa::Instr;
+
+/// What one word of the image stands for.
+#[derive(Clone, Copy)]
+pub enum Item {
+    Instruction(Instr),
+    /// A word given by its number.
+    Data(u32),
+}
