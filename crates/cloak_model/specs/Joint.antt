@@ -1,5 +1,5 @@
 -- The joint run: kernel, programs and ledger together, step by step.
-use Rattle.std.specs.Prelude.{ℕ, zero, suc, ◌+◌, ◌%◌, false, List, [], ◌∷◌, ◌++◌, length, map, slice_index, slice_index_or, slice_set, Option, Some, None}
+use Rattle.std.specs.Prelude.{ℕ, zero, suc, ◌+◌, ◌%◌, false, List, [], ◌∷◌, ◌++◌, length, map, replicate, slice_index, slice_index_or, slice_set, Option, Some, None}
 use Rattle.cloak_base.specs.Random.{Random, next_draw}
 use Rattle.cloak_base.specs.declared.causes.Stop.{Stop}
 use Rattle.cloak_base.specs.declared.causes.Stop.TheVariants as stop
@@ -43,13 +43,13 @@ started_kernel k = record {
 }
 
 -- the ledger as a run begins: nothing is recorded or owed
-unfoldable pub started_ledger : List ℕ → Random → Ledger
-started_ledger key stream = record {
+unfoldable pub started_ledger : ℕ → List ℕ → Random → Ledger
+started_ledger frames key stream = record {
   key = key;
   stream = stream;
   draws = 0;
   recorded = λ page. None;
-  owed = λ frame. None;
+  owed = replicate frames None;
   root = λ space. None;
   missed = false;
   clashed = false;
@@ -62,7 +62,7 @@ opened b None = None
 opened b (Some draw) = Some (record {
   schedule = b.kernel.schedule;
   steps = 0;
-  joint = record { kernel = started_kernel b.kernel; domains = []; ledger = started_ledger draw.0 draw.1 };
+  joint = record { kernel = started_kernel b.kernel; domains = []; ledger = started_ledger b.kernel.frames draw.0 draw.1 };
 })
 
 abbrev pub opening : Bundle → Random → Option Moment

@@ -1,6 +1,6 @@
 -- The plain step of a hart outside cloaked mode: its timer, an interrupt that is due, or one instruction. What
 -- is not built ends the step with its program counter.
-use Rattle.std.specs.Prelude.{ℕ, ◌+◌, ◌-◌, ◌*◌, ◌%◌, ◌^◌, ◌==◌, nat_le, Bool, true, false, ◌&&◌, ◌||◌, bit_and, bit_or, slice_index, Option, Some, None, unwrap_or, Result, Ok, Err, if◌then◌else◌}
+use Rattle.std.specs.Prelude.{ℕ, ◌+◌, ◌-◌, ◌*◌, ◌%◌, ◌^◌, ◌==◌, nat_le, Bool, true, false, ◌&&◌, bit_and, bit_or, slice_index, Option, Some, None, unwrap_or, Result, Ok, Err, if◌then◌else◌}
 use Rattle.cloak_base.specs.Registers.{with_register}
 use Rattle.cloak_base.specs.declared.names.Kind.{Kind}
 use Rattle.cloak_base.specs.declared.names.Kind.TheVariants.{Fetch, Load, Store}
@@ -11,7 +11,7 @@ use Rattle.rv_isa.specs.declared.instr.Instr.{Instr}
 use Rattle.rv_isa.specs.declared.instr.Instr.TheVariants.{Csrrw, Csrrs, Csrrc, Csrrwi, Csrrsi, Csrrci, Ecall, Ebreak, Sret, Wfi, SfenceVma}
 use Rattle.cloak_model.specs.Bits.{has_bit}
 use Rattle.cloak_model.specs.CsrNumbers as csr
-use Rattle.cloak_model.specs.Csr.{Csrs, csr_read, csr_write, satp_of, sum_of, mxr_of, with_pending, interrupt_due, trap_entry, trap_vector, trap_return}
+use Rattle.cloak_model.specs.Csr.{csr_read, csr_write, satp_of, sum_of, mxr_of, with_pending, interrupt_due, trap_entry, trap_vector, trap_return}
 use Rattle.cloak_model.specs.Effect.{effect}
 use Rattle.cloak_model.specs.declared.outcome.Effect.{Effect}
 use Rattle.cloak_model.specs.declared.outcome.Effect.TheVariants as does

@@ -14,6 +14,9 @@ pub mod Memory
 pub mod World
 pub mod Asking
 pub mod Ask
+-- the rules of cloaking
+pub mod Cloaking
+pub mod PageMoves
 -- the step, the run, and what it writes
 pub mod KernelStep
 pub mod Exchange
