@@ -42,8 +42,6 @@ pub enum Stop {
     Violation(Violation),
     /// A draw was due, and the random stream had fewer than 16 bytes left.
     NoRandom,
-    /// The step at this program counter is of a form that is not built.
-    Unbuilt(u32),
 }
 
 /// All that a hart shows to the kernel as it leaves a context.

@@ -11,6 +11,7 @@ pub mod Parts
 pub mod Effect
 -- memory and the questions that a step asks of it
 pub mod Memory
+pub mod Walk
 pub mod World
 pub mod Asking
 pub mod Ask
@@ -18,7 +19,11 @@ pub mod Ask
 pub mod Cloaking
 pub mod PageMoves
 -- the step, the run, and what it writes
+pub mod HartStep
+pub mod HostCalls
 pub mod KernelStep
+pub mod Touched
+pub mod Leaving
 pub mod Exchange
 pub mod Report
 pub mod Joint

@@ -15,9 +15,13 @@ frame_of pa = (pa - 0x80000000) / 4096
 abbrev pub place_of : ℕ → ℕ
 place_of pa = (pa - 0x80000000) % 4096
 
+-- the address lies in RAM of this many frames
+abbrev pub is_in_frames : ℕ → ℕ → Bool
+is_in_frames frames pa = nat_le 0x80000000 pa && nat_lt (frame_of pa) frames
+
 -- the address lies in RAM
 abbrev pub is_in_ram : List (List ℕ) → ℕ → Bool
-is_in_ram ram pa = nat_le 0x80000000 pa && nat_lt (frame_of pa) (length ram)
+is_in_ram ram pa = is_in_frames (length ram) pa
 
 -- a page of zeros
 unfoldable pub zero_page : List ℕ

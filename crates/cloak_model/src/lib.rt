@@ -9,6 +9,7 @@
 //! program, and the ledger of the monitor. Everything above is proved against these definitions.
 #![tactic(auto)]
 
+mod access;
 mod emit;
 mod image;
 mod item;
@@ -16,6 +17,7 @@ mod outcome;
 mod sequence;
 mod status;
 
+pub use access::{Access, Walked};
 pub use emit::Emit;
 pub use image::{Bundle, KernelImage, Program, Segment};
 pub use item::Item;

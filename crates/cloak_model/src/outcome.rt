@@ -47,8 +47,11 @@ pub enum Kernel {
     Put(u8),
     /// The run halts with this value.
     Halt(u32),
-    /// The step at this program counter is of a form that is not built.
-    Unbuilt(u32),
+    /// A context is resumed with this answer to the call that it waits for.
+    Resume {
+        ctx: u32,
+        answer: u32,
+    },
 }
 
 /// What is wrong with the words of a command line. Where several hold, the first of this order is meant.
