@@ -15,7 +15,7 @@ unfoldable pub first_moment : Bundle → List ℕ → Random → Moment
 first_moment b key rest = record {
   schedule = b.kernel.schedule;
   steps = 0;
-  joint = record { kernel = started_kernel b.kernel; domains = []; ledger = started_ledger key rest };
+  joint = record { kernel = started_kernel b.kernel; domains = []; ledger = started_ledger b.kernel.frames key rest };
 }
 
 pub opening-some : (b : Bundle) (s rest : Random) (key : List ℕ) → next_draw s ≡ Some (key, rest) → opening b s ≡ Some (first_moment b key rest)

@@ -22,8 +22,8 @@ pub record StandsFor (machine : Machine) (m : Moment) : Type 0 where
   pub schedule : machine.schedule.items ≡ m.schedule
   pub steps : machine.steps ≡ m.steps
   pub harts : machine.harts.items ≡ m.joint.kernel.harts
-  pub ram : machine.frames.items ≡ m.joint.kernel.ram
-  pub disk : machine.disk.items ≡ m.joint.kernel.disk
+  pub ram : machine.memory.frames.items ≡ m.joint.kernel.ram
+  pub disk : machine.disk ≡ m.joint.kernel.disk
   pub console : Shows machine.console m.joint.kernel.console
   pub key : machine.key ≡ m.joint.ledger.key
   pub stream : machine.stream ≡ m.joint.ledger.stream

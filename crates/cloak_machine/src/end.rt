@@ -8,9 +8,9 @@ ghost use Rattle.cloak_machine.specs.Ending.{digest_text, console_text, kernel_t
 ghost use Rattle.cloak_machine.specs.Console.{Shows};
 
 use crate::console::Console;
-use crate::hart::Hart;
 use crate::lines::{SoFar, decimal, digest, hexadecimal, text};
 use cloak_base::{Failed, Mode, Stop, Violation};
+use host_calls::Hart;
 use outside_io::Sink;
 use sha2::{Digest, Sha256};
 
@@ -122,10 +122,6 @@ fn put_stop<O: Sink>(out: &mut O, so_far: SoFar, stop: &Stop) -> SoFar
             put_violation(out, so_far, &violation)
         }
         Stop::NoRandom => text(out, so_far, b"stop norandom"),
-        Stop::Unbuilt(pc) => {
-            let so_far = text(out, so_far, b"unbuilt ");
-            decimal(out, so_far, pc as u64)
-        }
     }
 }
 
@@ -178,6 +174,16 @@ fn put_mode<O: Sink>(out: &mut O, so_far: SoFar, mode: Mode) -> SoFar
     }
 }
 
+/// The number of the context that a hart runs, or a hyphen.
+fn put_inside<O: Sink>(out: &mut O, so_far: SoFar, inside: Option<u32>) -> SoFar
+    ensures { PutsMore (O.taken out.old) (O.faults out.old) so_far (O.taken out.new) (O.faults out.new) result (spec.inside_text inside) }
+{
+    match inside {
+        None => text(out, so_far, b"-"),
+        Some(ctx) => decimal(out, so_far, ctx as u64),
+    }
+}
+
 /// A hart's number, mode, program counter, context and timer.
 fn put_hart_line<O: Sink>(out: &mut O, so_far: SoFar, number: u64, hart: &Hart) -> SoFar
     ensures { PutsMore (O.taken out.old) (O.faults out.old) so_far (O.taken out.new) (O.faults out.new) result (spec.hart_line number hart.now) }
@@ -188,7 +194,9 @@ fn put_hart_line<O: Sink>(out: &mut O, so_far: SoFar, number: u64, hart: &Hart) 
     let so_far = put_mode(out, so_far, hart.mode);
     let so_far = text(out, so_far, b" pc ");
     let so_far = hexadecimal(out, so_far, hart.pc);
-    let so_far = text(out, so_far, b" inside - timer ");
+    let so_far = text(out, so_far, b" inside ");
+    let so_far = put_inside(out, so_far, hart.inside);
+    let so_far = text(out, so_far, b" timer ");
     let so_far = decimal(out, so_far, hart.timer as u64);
     text(out, so_far, b"\n")
 }

@@ -12,8 +12,7 @@ mod hart;
 mod lines;
 mod machine;
 mod memory;
-mod plain_step;
-mod system;
+mod page;
 
 pub use cloak_model::{Bundle, Emit, Item, KernelImage, Segment};
 pub use end::End;

@@ -6,11 +6,11 @@ ghost use Rattle.cloak_model.specs.Joint.{Moment, joint_step};
 
 use crate::console::Console;
 use crate::end::{End, KernelLines};
-use crate::hart::{self, Hart};
-use crate::memory;
-use crate::plain_step::kernel_step;
-use cloak_base::{NoMemory, Stop};
-use cloak_model::{Bundle, Emit, Item, Kernel};
+use crate::hart;
+use crate::memory::{self, Memory};
+use cloak_base::{NoMemory, Stop, Violation};
+use cloak_model::{Bundle, Emit, Item};
+use host_calls::{Disk, Hart, Kernel, kernel_step};
 use outside_io::Stream;
 use std::alloc::{AllocError, Global};
 
@@ -48,8 +48,8 @@ impl From<AllocError> for OpenFault {
 #[derive(Drop)]
 pub struct Machine {
     harts: Vec<Hart>,
-    frames: Vec<[u8; 4096]>,
-    disk: Vec<u8>,
+    memory: Memory,
+    disk: Disk,
     schedule: Vec<u8>,
     steps: u32,
     console: Console,
@@ -78,12 +78,12 @@ impl Machine {
         };
         let k = &b.kernel;
         let harts = hart::start_all(alloc, k.entry, k.harts)?;
-        let frames = memory::load(alloc, k.frames, k.segments.as_slice())?;
-        let disk = Vec::from_slice(alloc, k.disk.as_slice())?;
+        let memory = memory::load(alloc, k.frames, k.segments.as_slice())?;
+        let disk = Disk::open(alloc, k.disk.as_slice())?;
         let schedule = Vec::from_slice(alloc, k.schedule.as_slice())?;
         Ok(Machine {
             harts,
-            frames,
+            memory,
             disk,
             schedule,
             steps: 0,
@@ -105,7 +105,7 @@ impl Machine {
         let number = self.schedule[self.steps as usize % self.schedule.len()] as usize;
         self.steps += 1;
         e.item(&Item::Step { number: self.steps });
-        match kernel_step(&mut self.harts[number], self.frames.as_mut_slice()) {
+        match kernel_step(&mut self.harts[number], &mut self.disk, &mut self.memory) {
             Kernel::Stay => None,
             Kernel::Put(b) => {
                 self.console.put(b);
@@ -113,7 +113,7 @@ impl Machine {
                 None
             }
             Kernel::Halt(value) => Some(Stop::Halt(value)),
-            Kernel::Unbuilt(pc) => Some(Stop::Unbuilt(pc)),
+            Kernel::Resume { ctx, .. } => Some(Stop::Violation(Violation::Context { ctx })),
         }
     }
 
@@ -127,7 +127,7 @@ impl Machine {
         e.item(&Item::End);
         let Machine {
             harts,
-            frames,
+            memory,
             disk,
             steps,
             console,
@@ -138,7 +138,7 @@ impl Machine {
             stop,
             steps,
             draws,
-            lines: KernelLines::new(console, frames.as_slice(), disk.as_slice(), harts),
+            lines: KernelLines::new(console, memory.frames.as_slice(), disk.bytes(), harts),
         }
     }
 }

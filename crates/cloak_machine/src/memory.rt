@@ -1,75 +1,132 @@
-ghost use Rattle.std.specs.Prelude.{◌≡◌, ◌+◌, ◌*◌, ◌%◌, ◌≤◌, length, IsTrue, IfOk, All};
+ghost use Rattle.std.specs.Prelude.{◌≡◌, ◌+◌, ◌*◌, ◌%◌, ◌≤◌, ◌<◌, length, IfOk, All};
 ghost use Rattle.cloak_model.specs.Bundle.{IsSegmentIn};
 ghost use Rattle.cloak_model.specs.Joint.{with_segments};
-ghost use Rattle.cloak_model.specs.Ask.{translated};
 ghost use Rattle.cloak_model.specs.Effect.{IsWidth};
-ghost use Rattle.cloak_model.specs.Memory.{is_in_ram, word_at, value_at, with_value, with_bytes, zero_page, zero_ram};
+ghost use Rattle.cloak_model.specs.Walk.{access_fault};
+ghost use Rattle.cloak_model.specs.Memory as memory;
+ghost use Rattle.cloak_model.specs.Memory.{is_in_frames, with_bytes, zero_page, zero_ram};
 
-use cloak_base::{Kind, NoMemory};
+use crate::page;
+use cloak_base::{Frame, Kind, Mode, NoMemory};
 use cloak_model::Segment;
+use host_calls::Ram;
 use std::alloc::Global;
+use sv32_walk::{Words, walk};
 
 /// Where RAM begins.
-pub const RAM_START: u32 = 0x8000_0000;
+const RAM_START: u32 = 0x8000_0000;
 
-/// The address lies in RAM.
-pub fn is_inside(frames: &[[u8; 4096]], pa: u32) -> bool
-    ensures { result ≡ is_in_ram frames.now pa }
-{
-    pa >= RAM_START && (((pa - RAM_START) / 4096) as usize) < frames.len()
+/// The frames of a machine without cloaked pages.
+#[derive(Drop)]
+pub struct Memory {
+    pub frames: Vec<[u8; 4096]>,
+    ghost few: { length frames.items ≤ 4096 },
 }
 
-/// The word at an address.
-pub fn word(frames: &[[u8; 4096]], pa: u32) -> u32
-    requires inside { IsTrue (is_in_ram frames.now pa) }
-    requires aligned { pa % 4 ≡ 0 }
-    ensures { result ≡ word_at frames.now pa }
+/// The frame of an address in RAM.
+#[inline]
+fn frame_of(pa: u32) -> usize
+    requires { 0x80000000 ≤ pa }
+    ensures { result ≡ memory.frame_of pa }
 {
-    let page = &frames[((pa - RAM_START) / 4096) as usize];
-    let at = ((pa - RAM_START) % 4096) as usize;
-    u32::from_le_bytes([page[at], page[at + 1], page[at + 2], page[at + 3]])
+    ((pa - RAM_START) / 4096) as usize
 }
 
-/// The value of 1, 2 or 4 bytes at an address that is a multiple of their count.
-pub fn value(frames: &[[u8; 4096]], pa: u32, width: u32) -> u32
-    requires inside { IsTrue (is_in_ram frames.now pa) }
-    requires width { IsWidth width }
-    requires aligned { pa % width ≡ 0 }
-    ensures { result ≡ value_at frames.now pa width }
+/// The place of an address in its frame.
+#[inline]
+fn place_of(pa: u32) -> usize
+    requires { 0x80000000 ≤ pa }
+    ensures value { result ≡ memory.place_of pa }
+    ensures inside { result < 4096 }
 {
-    let page = &frames[((pa - RAM_START) / 4096) as usize];
-    let at = ((pa - RAM_START) % 4096) as usize;
-    let mut bytes = [0; 4];
-    bytes[..width as usize].copy_from_slice(&page[at..at + width as usize]);
-    u32::from_le_bytes(bytes)
+    ((pa - RAM_START) % 4096) as usize
 }
 
-/// Stores the lowest 1, 2 or 4 bytes of a word at an address that is a multiple of their count.
-pub fn set_value(frames: &mut [[u8; 4096]], pa: u32, width: u32, value: u32)
-    requires inside { IsTrue (is_in_ram frames.old pa) }
-    requires width { IsWidth width }
-    requires aligned { pa % width ≡ 0 }
-    ensures stored { frames.new ≡ with_value frames.old pa width value }
-    ensures count { length frames.new ≡ length frames.old }
+fn access_fault(kind: Kind) -> u32
+    ensures { result ≡ access_fault kind }
 {
-    let page = &mut frames[((pa - RAM_START) / 4096) as usize];
-    let at = ((pa - RAM_START) % 4096) as usize;
-    page[at..at + width as usize].copy_from_slice(&value.to_le_bytes()[..width as usize]);
-}
-
-/// The address in RAM to which an access of this kind leads, or its access fault.
-pub fn translate(frames: &[[u8; 4096]], va: u32, kind: Kind) -> Result<u32, u32>
-    ensures value { result ≡ translated frames.now va kind }
-    ensures inside { IfOk result (λ pa. IsTrue (is_in_ram frames.now pa) × (pa ≡ va)) }
-{
-    if is_inside(frames, va) {
-        return Ok(va);
-    }
-    Err(match kind {
+    match kind {
         Kind::Fetch => 1,
         Kind::Load => 5,
         Kind::Store => 7,
-    })
+    }
+}
+
+impl Memory {
+    /// The address lies in RAM.
+    #[inline]
+    fn is_inside(&self, pa: u64) -> bool
+        ensures { result ≡ is_in_frames (length self.now.frames.items) pa }
+    {
+        pa >= RAM_START as u64 && (pa - RAM_START as u64) / 4096 < self.frames.len() as u64
+    }
+}
+
+#[tactic(auto, unfolding(cloak_model::specs::Ask::ask_word))]
+impl Words for Memory {
+    ghost use Rattle.std.specs.Prelude.{◌≡◌};
+    ghost use Rattle.cloak_model.specs.World.{Flat};
+
+    ghost stands_for = { λ side w. w ≡ Flat side.frames.items };
+
+    fn word(&mut self, pa: u64) -> Option<u32> {
+        if !self.is_inside(pa) {
+            return None;
+        }
+        let pa = pa as u32;
+        Some(page::word_in(&self.frames[frame_of(pa)], place_of(pa)))
+    }
+}
+
+#[tactic(auto, using(cloak_model::proofs::Later::laters), unfolding(cloak_model::specs::Ask::ask_translate, cloak_model::specs::Ask::ask_inside, cloak_model::specs::Ask::ask_value, cloak_model::specs::Ask::ask_store, cloak_model::specs::Ask::ask_frame, cloak_model::specs::Ask::ask_fill, cloak_model::specs::Ask::ask_count))]
+impl Ram for Memory {
+    ghost use Rattle.std.specs.Prelude.{◌≡◌, length};
+    ghost use Rattle.cloak_model.specs.World.{Flat};
+
+    ghost stands_for = { λ side w. w ≡ Flat side.frames.items };
+
+    ghost count = { λ side. length side.frames.items };
+
+    fn translate(
+        &mut self,
+        satp: u32,
+        mode: Mode,
+        sum: bool,
+        mxr: bool,
+        va: u32,
+        kind: Kind,
+    ) -> Result<u32, u32> {
+        match walk(satp, mode, sum, mxr, va, kind, self) {
+            Err(cause) => Err(cause),
+            Ok(walked) => {
+                if self.is_inside(walked.pa) {
+                    Ok(walked.pa as u32)
+                } else {
+                    Err(access_fault(kind))
+                }
+            }
+        }
+    }
+
+    fn read(&mut self, pa: u32, width: u32) -> u32 {
+        page::value_in(&self.frames[frame_of(pa)], place_of(pa), width)
+    }
+
+    fn write(&mut self, pa: u32, width: u32, v: u32) {
+        page::set_value_in(&mut self.frames[frame_of(pa)], place_of(pa), width, v)
+    }
+
+    fn frame(&mut self, f: Frame) -> &[u8; 4096] {
+        &self.frames[f.0 as usize]
+    }
+
+    fn fill(&mut self, f: Frame, b: &[u8; 4096]) {
+        self.frames[f.0 as usize] = *b;
+    }
+
+    fn frames(&self) -> u32 {
+        self.frames.len() as u32
+    }
 }
 
 #[tactic(auto, unfolding(cloak_model::specs::Memory::zero_page))]
@@ -93,10 +150,10 @@ fn store(frames: &mut [[u8; 4096]], address: u32, bytes: &[u8])
 }
 
 /// RAM as a run begins: zeros, and then the segments in their order.
-pub fn load(alloc: Global, count: u32, segments: &[Segment]) -> Result<Vec<[u8; 4096]>, NoMemory>
+pub fn load(alloc: Global, count: u32, segments: &[Segment]) -> Result<Memory, NoMemory>
     requires few { count ≤ 4096 }
     requires inside { All (IsSegmentIn count) segments.now }
-    ensures { IfOk result (λ frames. frames.items ≡ with_segments (zero_ram count) segments.now) }
+    ensures { IfOk result (λ memory. memory.frames.items ≡ with_segments (zero_ram count) segments.now) }
 {
     let mut frames = Vec::with_capacity(alloc, count as usize)?;
     for made in 0..count {
@@ -106,5 +163,5 @@ pub fn load(alloc: Global, count: u32, segments: &[Segment]) -> Result<Vec<[u8; 
     for segment in segments {
         store(&mut frames, segment.address, segment.bytes.as_slice());
     }
-    Ok(frames)
+    Ok(Memory { frames })
 }

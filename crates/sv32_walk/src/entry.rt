@@ -128,14 +128,16 @@ pub fn is_aligned_superpage(entry: u32) -> bool
 
 /// The address in a superpage.
 pub fn superpage_address(entry: u32, va: u32) -> u64
-    ensures { result ≡ 4194304 * bits.bits entry 31 20 + bits.bits va 21 0 }
+    ensures value { result ≡ 4194304 * bits.bits entry 31 20 + bits.bits va 21 0 }
+    ensures offset { result % 4096 ≡ va % 4096 }
 {
     4194304 * (entry >> 20) as u64 + (va & 0x3f_ffff) as u64
 }
 
 /// The address in a page.
 pub fn page_address(entry: u32, va: u32) -> u64
-    ensures { result ≡ 4096 * bits.bits entry 31 10 + bits.bits va 11 0 }
+    ensures value { result ≡ 4096 * bits.bits entry 31 10 + bits.bits va 11 0 }
+    ensures offset { result % 4096 ≡ va % 4096 }
 {
     4096 * (entry >> 10) as u64 + (va & 0xfff) as u64
 }

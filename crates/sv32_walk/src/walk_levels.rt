@@ -1,6 +1,6 @@
 //! The two levels of the walk.
 
-ghost use Rattle.std.specs.Prelude.{◌≡◌, ◌<◌, ◌%◌, ◌^◌, ℕ, List};
+ghost use Rattle.std.specs.Prelude.{◌≡◌, ◌<◌, ◌%◌, ◌^◌, ℕ, List, IfOk};
 ghost use Rattle.cloak_model.specs.Asking.{Follows};
 ghost use Rattle.cloak_model.specs.World.{Flat};
 ghost use Rattle.cloak_model.specs.Walk as spec;
@@ -14,7 +14,8 @@ use cloak_model::{Access, Walked};
 #[tactic(auto, unfolding(cloak_model::specs::Walk::first_leaf))]
 fn first_leaf(a: &Access, at1: u64, leaf: u32) -> Result<Walked, u32>
     requires { at1 < 2 ^ 34 }
-    ensures { result ≡ spec.first_leaf a.now at1 leaf }
+    ensures value { result ≡ spec.first_leaf a.now at1 leaf }
+    ensures offset { IfOk result (λ walked. walked.pa % 4096 ≡ a.now.va % 4096) }
 {
     if entry::allows(a, leaf) && entry::is_aligned_superpage(leaf) {
         Ok(Walked {
@@ -31,7 +32,8 @@ fn first_leaf(a: &Access, at1: u64, leaf: u32) -> Result<Walked, u32>
 fn second_leaf(a: &Access, at1: u64, at0: u64, leaf: u32) -> Result<Walked, u32>
     requires first { at1 < 2 ^ 34 }
     requires second { at0 < 2 ^ 34 }
-    ensures { result ≡ spec.second_leaf a.now at1 at0 leaf }
+    ensures value { result ≡ spec.second_leaf a.now at1 at0 leaf }
+    ensures offset { IfOk result (λ walked. walked.pa % 4096 ≡ a.now.va % 4096) }
 {
     if entry::is_valid(leaf) && (!entry::is_pointer(leaf) && entry::allows(a, leaf)) {
         Ok(Walked {
@@ -49,7 +51,8 @@ fn second_level<W: Words>(a: &Access, at1: u64, at0: u64, w: &mut W) -> Result<W
     requires first { at1 < 2 ^ 34 }
     requires second { at0 < 2 ^ 34 }
     requires aligned { at0 % 4 ≡ 0 }
-    ensures { Follows W.stands_for w.old w.new result (ask.ask_second a.now at1 at0) }
+    ensures follows { Follows W.stands_for w.old w.new result (ask.ask_second a.now at1 at0) }
+    ensures offset { IfOk result (λ walked. walked.pa % 4096 ≡ a.now.va % 4096) }
 {
     match w.word(at0) {
         None => Err(entry::access_fault(a.kind)),
@@ -60,7 +63,8 @@ fn second_level<W: Words>(a: &Access, at1: u64, at0: u64, w: &mut W) -> Result<W
 #[tactic(auto, using(cloak_model::proofs::Later::laters), unfolding(cloak_model::specs::Ask::ask_after, cloak_model::specs::Walk::first_word))]
 fn after_first<W: Words>(a: &Access, at1: u64, word: Option<u32>, w: &mut W) -> Result<Walked, u32>
     requires { at1 < 2 ^ 34 }
-    ensures { Follows W.stands_for w.old w.new result (ask.ask_after a.now at1 (spec.first_word a.now at1 word)) }
+    ensures follows { Follows W.stands_for w.old w.new result (ask.ask_after a.now at1 (spec.first_word a.now at1 word)) }
+    ensures offset { IfOk result (λ walked. walked.pa % 4096 ≡ a.now.va % 4096) }
 {
     let Some(pointer) = word else {
         return Err(entry::access_fault(a.kind));
@@ -80,7 +84,8 @@ fn after_first<W: Words>(a: &Access, at1: u64, word: Option<u32>, w: &mut W) -> 
 fn first_level<W: Words>(a: &Access, at1: u64, w: &mut W) -> Result<Walked, u32>
     requires bound { at1 < 2 ^ 34 }
     requires aligned { at1 % 4 ≡ 0 }
-    ensures { Follows W.stands_for w.old w.new result (ask.ask_first a.now at1) }
+    ensures follows { Follows W.stands_for w.old w.new result (ask.ask_first a.now at1) }
+    ensures offset { IfOk result (λ walked. walked.pa % 4096 ≡ a.now.va % 4096) }
 {
     let word = w.word(at1);
     after_first(a, at1, word, w)
@@ -88,7 +93,8 @@ fn first_level<W: Words>(a: &Access, at1: u64, w: &mut W) -> Result<Walked, u32>
 
 #[tactic(auto, using(cloak_model::proofs::Later::laters), unfolding(cloak_model::specs::Ask::ask_walk))]
 fn walk_access<W: Words>(satp: u32, a: &Access, w: &mut W) -> Result<Walked, u32>
-    ensures { Follows W.stands_for w.old w.new result (ask.ask_walk satp a.now) }
+    ensures follows { Follows W.stands_for w.old w.new result (ask.ask_walk satp a.now) }
+    ensures offset { IfOk result (λ walked. walked.pa % 4096 ≡ a.now.va % 4096) }
 {
     if entry::has_bit(satp, 31) {
         first_level(a, entry::first_entry(satp, a.va), w)
@@ -114,9 +120,10 @@ pub fn walk<W: Words>(
     w: &mut W,
 ) -> Result<Walked, u32>
     ensures follows { Follows W.stands_for w.old w.new result (ask.ask_walk satp (record { mode = mode; sum = sum; mxr = mxr; va = va; kind = kind })) }
-    // a memory whose words do not change
+    // over a memory whose words do not change
     ensures unchanging { (ram : List (List ℕ)) → W.stands_for w.old (Flat ram) →
-        result ≡ spec.walk ram satp (record { mode = mode; sum = sum; mxr = mxr; va = va; kind = kind }) }
+        (result ≡ spec.walk ram satp (record { mode = mode; sum = sum; mxr = mxr; va = va; kind = kind })) × W.stands_for w.new (Flat ram) }
+    ensures offset { IfOk result (λ walked. walked.pa % 4096 ≡ va % 4096) }
 {
     let a = Access {
         mode,

@@ -12,6 +12,3 @@ returns-in-Violation g c = rw c.in-Violation.is (then c.text-so_far-in-Violation
 
 pub returns-in-NoRandom : goal.returns-in-NoRandom
 returns-in-NoRandom g c = rw c.in-NoRandom.is c.text-in-NoRandom.ensures
-
-pub returns-in-Unbuilt : goal.returns-in-Unbuilt
-returns-in-Unbuilt g c = rw c.in-Unbuilt.is (then c.text-so_far-in-Unbuilt.ensures c.decimal-in-Unbuilt.ensures)
