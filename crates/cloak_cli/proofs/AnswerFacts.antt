@@ -113,27 +113,26 @@ IsKernelStop : Option Stop → Type 0
 IsKernelStop None = Unit {0}
 IsKernelStop (Some (stop.Halt value)) = Unit {0}
 IsKernelStop (Some stop.Budget) = ⊥
-IsKernelStop (Some (stop.Violation violation)) = ⊥
+IsKernelStop (Some (stop.Violation violation)) = Unit {0}
 IsKernelStop (Some stop.NoRandom) = ⊥
-IsKernelStop (Some (stop.Unbuilt pc)) = Unit {0}
 
 kernel_stop : (ending : Kernel) → IsKernelStop (stop_of ending)
 unfolding IsKernelStop
 kernel_stop kernel.Stay = tt
 kernel_stop (kernel.Put b) = tt
 kernel_stop (kernel.Halt value) = tt
-kernel_stop (kernel.Unbuilt pc) = tt
+kernel_stop (kernel.Resume ctx answer) = tt
 
 joint_stop : (m : Moment) → IsKernelStop (joint_step m).stop
 unfolding joint_step outside_step
-joint_stop m = kernel_stop (kernel_step (hart_at m (next_hart m)) (Flat m.joint.kernel.ram)).answer.ending
+joint_stop m = kernel_stop (kernel_step (hart_at m (next_hart m)) m.joint.kernel.disk (Flat m.joint.kernel.ram)).answer.ending
 
 one_more_stop : (s : Stepped) (stopped : Option Stop) → stopped ≡ s.stop → IsKernelStop s.stop → IsKernelStop (one_more s stopped).stop
 unfolding one_more
 one_more_stop s (Some cause) same before = before
 one_more_stop s None same before = joint_stop s.moment
 
--- no violation and no want of randomness stops a run without programs
+-- no want of randomness stops a run without programs
 steps_stop : (n : ℕ) (m : Moment) → IsKernelStop (steps_after n m).stop
 unfolding steps_after IsKernelStop
 steps_stop zero m = tt
@@ -146,9 +145,8 @@ unfolding IsKernelStop
 answers_stop asked before after None built run = run
 answers_stop asked before after (Some (stop.Halt value)) built run = run
 answers_stop asked before after (Some stop.Budget) built run = absurd built
-answers_stop asked before after (Some (stop.Violation violation)) built run = absurd built
+answers_stop asked before after (Some (stop.Violation violation)) built run = run
 answers_stop asked before after (Some stop.NoRandom) built run = absurd built
-answers_stop asked before after (Some (stop.Unbuilt pc)) built run = inr (inr run)
 
 -- what a run that was written whole answers
 answers_whole : (bundle_name record_name : List ℕ) (steps number : ℕ) (before mid after : Outside) (given : Status) (m : Moment) →

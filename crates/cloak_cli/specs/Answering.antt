@@ -17,12 +17,11 @@ use Rattle.cloak_cli.specs.declared.status.Status.{Status}
 use Rattle.cloak_cli.specs.declared.status.Status.TheVariants as status
 use Rattle.cloak_cli.specs.Running.{status_of}
 
--- a guest image of the first form: one hart with its schedule, one segment, no disk and no program
+-- a guest image of the first form: one hart with its schedule, one segment, and no program
 pub record IsFirstForm (b : Bundle) : Type 0 where
   pub harts : b.kernel.harts ≡ 1
   pub schedule : length b.kernel.schedule ≡ 1
   pub segments : length b.kernel.segments ≡ 1
-  pub disk : b.kernel.disk ≡ []
   pub programs : b.programs ≡ []
 
 -- these bytes are no bundle of the first form
@@ -117,7 +116,7 @@ IsWriteFault before after = (before.writing < after.writing) ⊎ (before.faults 
 -- memory may stand in the place of another, before anything is written.
 abbrev pub Answers : spec.Asked → Outside → Outside → Status → Type 0
 Answers asked before after status.Done = HasRun asked status.Done before after
-Answers asked before after status.Violation = ⊥
+Answers asked before after status.Violation = HasRun asked status.Violation before after
 Answers asked before after status.Usage = IsUsage asked before after
 Answers asked before after status.BadBundle = ⊥
 Answers asked before after status.ReadFault = IsReadFault before after
@@ -125,7 +124,7 @@ Answers asked before after status.WriteFault = IsWriteFault before after
 Answers asked before after status.NoMemory = Says (codes "no memory\n") before after
 Answers asked before after status.NoRandom = ⊥
 Answers asked before after status.BadRecord = ⊥
-Answers asked before after status.Unbuilt = IsNotBuilt asked before after ⊎ (IsRefusedFile asked before after ⊎ HasRun asked status.Unbuilt before after)
+Answers asked before after status.Unbuilt = IsNotBuilt asked before after ⊎ IsRefusedFile asked before after
 
 -- every file but the record of a run keeps its bytes
 abbrev pub KeepsFiles : spec.Asked → (List ℕ → Option (List ℕ)) → (List ℕ → Option (List ℕ)) → Type 0

@@ -28,7 +28,6 @@ status_of (stop.Halt value) = status.Done
 status_of stop.Budget = status.Done
 status_of (stop.Violation violation) = status.Violation
 status_of stop.NoRandom = status.NoRandom
-status_of (stop.Unbuilt pc) = status.Unbuilt
 
 -- The run wrote a front of what is due, and all of it with the status of its stop unless the outlet failed.
 -- Of the part that a failed outlet wrote nothing more is said here than that it is given in order.

@@ -24,7 +24,7 @@ pub enum Refusal {
     Unbuilt,
 }
 
-/// The image has one hart with its schedule, one segment, no disk and no program.
+/// The image has one hart with its schedule, one segment, and no program.
 fn is_first_form(b: &Bundle) -> bool
     ensures first_form { OnTrue result (IsFirstForm b.now) }
     ensures other_form { IsFirstForm b.now → result ≡ true }
@@ -32,7 +32,6 @@ fn is_first_form(b: &Bundle) -> bool
     b.kernel.harts == 1
         && b.kernel.schedule.as_slice().len() == 1
         && b.kernel.segments.as_slice().len() == 1
-        && b.kernel.disk.as_slice().is_empty()
         && b.programs.as_slice().is_empty()
 }
 

@@ -1,10 +1,9 @@
 //! A run from its first step to its report.
-ghost use Rattle.std.specs.Prelude.{◌≡◌, ◌≤◌, [], ◌∷◌, ◌++◌, codes, false};
+ghost use Rattle.std.specs.Prelude.{◌≡◌, ◌≤◌, false};
 ghost use Rattle.cloak_model.specs.Command.{most_steps};
-ghost use Rattle.cloak_model.specs.Due.{closing, report_at, written_last};
-ghost use Rattle.cloak_model.specs.Exchange.{shown, Emits};
+ghost use Rattle.cloak_model.specs.Due.{written_last};
+ghost use Rattle.cloak_model.specs.Exchange.{Emits};
 ghost use Rattle.cloak_model.specs.Joint.{Moment};
-ghost use Rattle.cloak_model.specs.Report.{stop_line};
 ghost use Rattle.cloak_machine.specs.Standing.{StandsFor, steps_made};
 ghost use Rattle.cloak_cli.specs.Outlet.{Gave};
 ghost use Rattle.cloak_cli.specs.Running.{RunsSteps, WritesRun, status_of};
@@ -49,22 +48,7 @@ fn status(stop: &Stop) -> Status
         Stop::Halt(_) | Stop::Budget => Status::Done,
         Stop::Violation(_) => Status::Violation,
         Stop::NoRandom => Status::NoRandom,
-        Stop::Unbuilt(_) => Status::Unbuilt,
     }
-}
-
-/// Writes that the step at this program counter is not built.
-fn write_unbuilt<S: Shelf, O: Sink>(pc: u32, outlet: &mut Outlet<'_, '_, '_, S, O>)
-    ensures same_shelf { outlet.new.shelf.ghost_name ≡ outlet.old.shelf.ghost_name }
-    ensures same_out { outlet.new.out.ghost_name ≡ outlet.old.out.ghost_name }
-    ensures runs { Emits (Gave S.held S.reading_faults S.writing_faults O.taken O.faults) outlet.old outlet.new
-        (shown (codes "\n") ∷ shown (stop_line (Stop.Unbuilt pc)) ∷ []) }
-{
-    outlet.show(b"\n");
-    outlet.show(b"unbuilt ");
-    let mut digits = itoa::Buffer::new();
-    outlet.show(digits.format(pc).as_bytes());
-    outlet.show(b"\n");
 }
 
 /// Writes the closing of the record, the rest of the console's line, and the report.
@@ -73,24 +57,11 @@ fn write_end<S: Shelf, O: Sink>(machine: Machine, stop: Stop, outlet: &mut Outle
     ensures same_out { outlet.new.out.ghost_name ≡ outlet.old.out.ghost_name }
     ensures runs { (m : Moment) → StandsFor machine m →
         Emits (Gave S.held S.reading_faults S.writing_faults O.taken O.faults) outlet.old outlet.new
-        (closing m ++ (shown (codes "\n") ∷ shown (report_at stop m) ∷ [])) }
+        (written_last stop m) }
 {
     let end = machine.finish(stop, outlet);
     outlet.show(b"\n");
     outlet.report(&end);
-}
-
-/// Writes what comes behind the steps of a run that this stopped.
-fn conclude<S: Shelf, O: Sink>(machine: Machine, stop: Stop, outlet: &mut Outlet<'_, '_, '_, S, O>)
-    ensures same_shelf { outlet.new.shelf.ghost_name ≡ outlet.old.shelf.ghost_name }
-    ensures same_out { outlet.new.out.ghost_name ≡ outlet.old.out.ghost_name }
-    ensures runs { (m : Moment) → StandsFor machine m →
-        Emits (Gave S.held S.reading_faults S.writing_faults O.taken O.faults) outlet.old outlet.new (written_last stop m) }
-{
-    match stop {
-        Stop::Unbuilt(pc) => write_unbuilt(pc, outlet),
-        _ => write_end(machine, stop, outlet),
-    }
 }
 
 /// Makes a run whose record is begun, and writes it.
@@ -113,6 +84,6 @@ pub fn write_run<S: Shelf, O: Sink>(
         return Status::WriteFault;
     }
     let stop = stopped.unwrap_or(Stop::Budget);
-    conclude(machine, stop, outlet);
+    write_end(machine, stop, outlet);
     status(&stop)
 }

@@ -6,4 +6,4 @@ returns-then-outlet-clause-runs g c = λ m stands. writes-front _ _ _ _ _ _ _ _ 
 
 pub returns-clause-runs : goal.returns-clause-runs
 returns-clause-runs g c = λ m stands. writes-whole _ _ _ _ _ _ _ _ _ _ _ _ m c.append.ensures.emits (c.run_steps-stopped.ensures.runs m stands) c.if-outlet.false
-    c.unwrap_or-stop.ensures c.conclude.ensures.runs c.status.ensures
+    c.unwrap_or-stop.ensures c.write_end.ensures.runs c.status.ensures
