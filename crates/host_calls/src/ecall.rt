@@ -75,11 +75,11 @@ fn read_block<M: Ram>(h: &mut Hart, d: &Disk, m: &mut M) -> Kernel
     ensures same_count { M.count m.new ≡ M.count m.old }
 {
     let block = h.regs.get(10);
-    let pa = h.regs.get(11);
-    if !is_transfer(d, m.frames(), block, pa) {
+    let to = h.regs.get(11);
+    if !is_transfer(d, m.frames(), block, to) {
         return answer(h, 1);
     }
-    m.fill(frame_at(pa), d.block(block));
+    m.fill(frame_at(to), d.block(block));
     answer(h, 0)
 }
 
@@ -89,11 +89,11 @@ fn write_block<M: Ram>(h: &mut Hart, d: &mut Disk, m: &mut M) -> Kernel
     ensures same_count { M.count m.new ≡ M.count m.old }
 {
     let block = h.regs.get(10);
-    let pa = h.regs.get(11);
-    if !is_transfer(d, m.frames(), block, pa) {
+    let from = h.regs.get(11);
+    if !is_transfer(d, m.frames(), block, from) {
         return answer(h, 1);
     }
-    d.set_block(block, m.frame(frame_at(pa)));
+    d.set_block(block, m.frame(frame_at(from)));
     answer(h, 0)
 }
 

@@ -22,3 +22,6 @@ pub use disk::Disk;
 pub use hart::{Hart, leave};
 pub use plain_step::kernel_step;
 pub use ram::Ram;
+
+#[cfg(test)]
+mod tests;
