@@ -3,10 +3,9 @@ ghost use Rattle.std.specs.Prelude.{◌≡◌};
 // A child of this module: it alone makes rights, by the private fields.
 mod store;
 
-pub use store::FrameStore;
-
 use cloak_base::{Frame, PageId};
 use std::marker::Model;
+pub use store::FrameStore;
 
 /// The right to a frame that the outside may read and write.
 #[derive(Drop)]

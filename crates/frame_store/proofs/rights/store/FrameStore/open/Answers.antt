@@ -1,4 +1,4 @@
-use Rattle.std.proofs.Common.{ℕ, replicate, arith, refl, sym, ◌∙◌}
+use Rattle.std.proofs.Common.{ℕ, arith, sym}
 use Rattle.cloak_base.specs.declared.names.Frame.{Frame}
 use Rattle.frame_store.proofs.Lists.{named_pushed, replicate_pushed}
 use Rattle.frame_store.proofs.rights.store.FrameStore.open.Goals as goal
