@@ -8,7 +8,3 @@ pub record IsPlain (key iv sealed plain : List ℕ) : Type 0 where
   pub long : length plain ≡ 4096
   pub seals_back : cbc key iv plain ≡ sealed
   pub only_one : (p : List ℕ) → IsBytes 4096 p → cbc key iv p ≡ sealed → plain ≡ p
-
--- and what holds of it
-abbrev pub Opens : List ℕ → List ℕ → List ℕ → (List ℕ → Type 0) → Type 0
-Opens key iv sealed P = (plain : List ℕ) × IsPlain key iv sealed plain × P plain
