@@ -13,3 +13,6 @@
 mod transitions;
 
 pub use transitions::{change, first_page, open_page, reseal, seal, wipe};
+
+#[cfg(test)]
+mod tests;

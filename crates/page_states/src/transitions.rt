@@ -39,6 +39,7 @@ pub fn open_page(
     ensures opened_where_recorded { IfOk result (λ _. (old : List ℕ) → slice_get s.old r.0 ≡ Some old → sha256 old ≡ m.now.digest) }
     ensures refused_where_not { IfErr result (λ _. (old : List ℕ) → slice_get s.old r.0 ≡ Some old → sha256 old ≢ m.now.digest) }
     ensures bytes { IfOk result (λ _. (old : List ℕ) → slice_get s.old r.0 ≡ Some old → (plain : List ℕ) × IsPlain k.now m.now.iv old plain × (s.new ≡ slice_set s.old r.0 plain)) }
+    ensures count { length s.new ≡ length s.old }
     ensures right { IfOk result (λ n. n ≡ record { frame = r; page = q }) }
     ensures unchanged { IfErr result (λ same. (same ≡ r) × (s.new ≡ s.old)) }
 {
@@ -71,6 +72,7 @@ pub fn change(r: CleanRight) -> ChangedRight
 pub fn reseal(s: &mut FrameStore, r: CleanRight, m: &Meta, k: &Schedule) -> OutsideRight
     requires { r.frame.0 < length s.old }
     ensures bytes { (old : List ℕ) → slice_get s.old r.frame.0 ≡ Some old → s.new ≡ slice_set s.old r.frame.0 (cbc k.now m.now.iv old) }
+    ensures count { length s.new ≡ length s.old }
     ensures right { result ≡ r.frame }
 {
     let mut page = *s.plain(&r);
@@ -85,6 +87,7 @@ pub fn seal(s: &mut FrameStore, r: ChangedRight, iv: [u8; 16], k: &Schedule) -> 
     ensures plain { (old : List ℕ) → slice_get s.old r.frame.0 ≡ Some old → IsBytes 4096 old }
     ensures iv { result.1.iv ≡ iv }
     ensures digest { (old : List ℕ) → slice_get s.old r.frame.0 ≡ Some old → result.1.digest ≡ sha256 (cbc k.now iv old) }
+    ensures count { length s.new ≡ length s.old }
     ensures right { result.0 ≡ r.frame }
 {
     let mut page = *s.changed(&r);
