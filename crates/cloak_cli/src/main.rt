@@ -8,6 +8,8 @@
 
 mod command;
 mod files;
+#[cfg(test)]
+mod image_tests;
 mod number;
 mod outlet;
 mod prepare;

@@ -69,14 +69,14 @@ csrs 00000100 00000000 00000000 00000000 00000000 00000001 00000000 00000000 000
 
 /// What a call answered and left.
 #[derive(Drop)]
-struct Left {
-    status: Status,
-    shelf: MemoryShelf,
-    sink: MemorySink,
+pub struct Left {
+    pub status: Status,
+    pub shelf: MemoryShelf,
+    pub sink: MemorySink,
 }
 
 /// The words, separated by spaces, over a shelf with the file `a.b`.
-fn called(
+pub fn called(
     alloc: Global,
     line: &str,
     bundle: &[u8],
@@ -117,7 +117,7 @@ fn whole_runs(rt: HostRuntime) -> Result<(), Fail> {
     two_steps[..18].copy_from_slice(&RECORD[..18]);
     two_steps[18..].copy_from_slice(&[0x11, 2, 0, 0, 0, 0x12]);
     // The other first words are `addi x17,x0,1`, for a host call that is not built, and EBREAK.
-    let rows: [(&str, [u8; 65], Status, &str, &[u8]); 6] = [
+    let rows: [(&str, [u8; 65], Status, &str, &[u8]); 5] = [
         (
             "run a.b a.r --steps 10 --number 0",
             SMALLEST,
@@ -138,13 +138,6 @@ fn whole_runs(rt: HostRuntime) -> Result<(), Fail> {
             Status::Done,
             NO_STEP,
             no_step.as_slice(),
-        ),
-        (
-            "run a.b a.r --steps 10 --number 0",
-            with_first_word(0x0010_0893),
-            Status::Unbuilt,
-            "\nunbuilt 2147483652\n",
-            &RECORD[..18],
         ),
         (
             "run a.b a.r --steps 1 --number 0",
