@@ -2,9 +2,9 @@
 use Rattle.std.proofs.Common.{◌≡◌, ◌≢◌, Some, ◌∙◌, if◌then◌else◌}
 use Rattle.cloak_base.specs.declared.names.PageId.{PageId}
 use Rattle.protect_meta.specs.declared.meta.Meta.{Meta}
-use Rattle.protect_meta.specs.Pages.{same_page}
+use Rattle.cloak_base.specs.Pages.{same_page}
 use Rattle.protect_meta.specs.Table.{Table, meta_at}
-use Rattle.protect_meta.proofs.Pages.{same_page-self, same_page-other}
+use Rattle.cloak_base.proofs.Pages.{same_page-self, same_page-other}
 use Rattle.protect_meta.proofs.Tables.{chosen_true, chosen_false}
 
 pub set_here : (old new : Table) (q : PageId) (m : Meta) → ((p : PageId) → meta_at new p ≡ (if same_page p q then Some m else meta_at old p)) → meta_at new q ≡ Some m

@@ -5,9 +5,11 @@ use Rattle.std.proofs.lemmas.Bool.{cases_lt}
 use Rattle.std.specs.List.{CopiedTo, SameBelow, SameFrom}
 use Rattle.cloak_base.specs.declared.names.PageId.{PageId}
 use Rattle.protect_meta.specs.declared.meta.Meta.{Meta}
-use Rattle.protect_meta.specs.Pages.{IsIn, same_page, of_resource, page_in, place}
+use Rattle.cloak_base.specs.Pages.{same_page, is_of, page_in}
+use Rattle.protect_meta.specs.Pages.{IsIn, place}
 use Rattle.protect_meta.specs.Table.{Table, meta_at}
-use Rattle.protect_meta.proofs.Pages.{is_page_tells, same_page_tells, of_resource_tells, same_numbers}
+use Rattle.cloak_base.proofs.Pages.{same_page_tells, is_of_tells, same_numbers}
+use Rattle.protect_meta.proofs.Pages.{is_page_tells}
 
 abbrev row : PageId → ℕ
 row p = place p.domain p.resource p.page
@@ -88,9 +90,9 @@ at_others n domain resource first m old new is all below above low p other =
     ]
 
 -- a resource's places were copied to another's
-pub at_copy : (n domain from to source first m : ℕ) (old new : List (Option Meta)) → domain < n → from < 16 → to < 16 → source ≡ place domain from 0 → first ≡ place domain to 0 → m ≡ 1024 → CopiedTo old new source first m × SameBelow old new first × SameFrom old new (first + m) → (p : PageId) → meta_at (table n new) p ≡ (if of_resource domain to p then meta_at (table n old) (page_in from p) else meta_at (table n old) p)
+pub at_copy : (n domain from to source first m : ℕ) (old new : List (Option Meta)) → domain < n → from < 16 → to < 16 → source ≡ place domain from 0 → first ≡ place domain to 0 → m ≡ 1024 → CopiedTo old new source first m × SameBelow old new first × SameFrom old new (first + m) → (p : PageId) → meta_at (table n new) p ≡ (if is_of domain to p then meta_at (table n old) (page_in from p) else meta_at (table n old) p)
 at_copy n domain from to source first m old new inside low high at is all written p =
-    elim (of_resource_tells domain to p) [
+    elim (is_of_tells domain to p) [
       | inl t ↦
           let d = t.1.0 in
           let r = t.1.1 in
@@ -136,9 +138,9 @@ cleared_more old first i now inside c = record {
   above = λ k d high. get_or-set_other now (first + i) k None d (omega arith) ∙ c.above k d (omega arith);
 }
 
-pub at_clear : (n domain resource first m : ℕ) (old new : List (Option Meta)) → resource < 16 → first ≡ place domain resource 0 → m ≡ 1024 → IsClearedTo old first m new → (p : PageId) → meta_at (table n new) p ≡ (if of_resource domain resource p then None else meta_at (table n old) p)
+pub at_clear : (n domain resource first m : ℕ) (old new : List (Option Meta)) → resource < 16 → first ≡ place domain resource 0 → m ≡ 1024 → IsClearedTo old first m new → (p : PageId) → meta_at (table n new) p ≡ (if is_of domain resource p then None else meta_at (table n old) p)
 at_clear n domain resource first m old new low is all c p =
-    elim (of_resource_tells domain resource p) [
+    elim (is_of_tells domain resource p) [
       | inl t ↦
           let d = t.1.0 in
           let r = t.1.1 in

@@ -1,6 +1,7 @@
 ghost use Rattle.std.specs.Prelude.{◌≡◌, ◌*◌, ◌+◌, ◌<◌, ◌≤◌, IfOk, if◌then◌else◌};
 ghost use Rattle.cloak_base.specs.declared.names.PageId.{PageId};
-ghost use Rattle.protect_meta.specs.Pages.{same_page, of_resource, page_in, place};
+ghost use Rattle.cloak_base.specs.Pages.{same_page, is_of, page_in};
+ghost use Rattle.protect_meta.specs.Pages.{place};
 ghost use Rattle.protect_meta.specs.Table.{meta_at, domains_of};
 
 use crate::Meta;
@@ -69,7 +70,7 @@ impl MetaTable {
         requires domain { domain < domains_of self.old }
         requires from { from < 16 }
         requires to { to < 16 }
-        ensures each { (p : PageId) → meta_at self.new p ≡ (if of_resource domain to p then meta_at self.old (page_in from p) else meta_at self.old p) }
+        ensures each { (p : PageId) → meta_at self.new p ≡ (if is_of domain to p then meta_at self.old (page_in from p) else meta_at self.old p) }
         ensures domains { domains_of self.new ≡ domains_of self.old }
     {
         let first = place(domain, from, 0);
@@ -80,7 +81,7 @@ impl MetaTable {
     pub fn clear_range(&mut self, domain: u32, resource: u32)
         requires domain { domain < domains_of self.old }
         requires resource { resource < 16 }
-        ensures each { (p : PageId) → meta_at self.new p ≡ (if of_resource domain resource p then None else meta_at self.old p) }
+        ensures each { (p : PageId) → meta_at self.new p ≡ (if is_of domain resource p then None else meta_at self.old p) }
         ensures domains { domains_of self.new ≡ domains_of self.old }
     {
         let first = place(domain, resource, 0);
