@@ -1,0 +1,133 @@
+ghost use Rattle.std.specs.Prelude.{◌≡◌, ℕ, ◌<◌, ◌≤◌, List, length, slice_get, slice_set, Some, IfOk, replicate};
+ghost use Rattle.std.specs.Borrow.{sem};
+ghost use Rattle.frame_store.specs.Pages.{zeros};
+
+use super::{ChangedRight, CleanRight, OutsideRight};
+use cloak_base::{Frame, NoMemory, PageId};
+use std::alloc::Global;
+use std::marker::Model;
+
+/// The bytes of all frames. Its value is the list of the frames, each a list of its 4096 bytes.
+#[derive(Drop)]
+pub struct FrameStore {
+    frames: Vec<[u8; 4096]>,
+}
+
+impl Model for FrameStore {
+    ghost use Rattle.std.specs.Prelude.{List, ℕ};
+
+    ghost Value = { List (List ℕ) };
+
+    ghost view = { λ s. s.frames.items };
+}
+
+impl FrameStore {
+    ghost use Rattle.frame_store.specs.Lending.{LendsFrame};
+
+    /// The one call that takes memory.
+    pub fn open(alloc: Global, n: u32) -> Result<(FrameStore, Vec<OutsideRight>), NoMemory>
+        requires least { 64 ≤ n }
+        requires most { n ≤ 4096 }
+        ensures store { IfOk result (λ p. p.0 ≡ replicate n zeros) }
+        ensures count { IfOk result (λ p. length p.1.items ≡ n) }
+        ensures rights { IfOk result (λ p. (k : ℕ) → k < n → slice_get p.1.items k ≡ Some (record { 0 = k })) }
+    {
+        let mut frames = Vec::new(alloc);
+        let mut rights = Vec::new(alloc);
+        for i in 0..n {
+            frames.push([0; 4096])?;
+            rights.push(OutsideRight { frame: Frame(i) })?;
+        }
+        Ok((FrameStore { frames }, rights))
+    }
+
+    /// How many frames there are.
+    pub fn count(&self) -> usize
+        ensures { result ≡ length self.now }
+    {
+        self.frames.len()
+    }
+
+    pub fn outside(&self, r: &OutsideRight) -> &[u8; 4096]
+        requires { r.now.0 < length self.now }
+        ensures { slice_get self.now r.now.0 ≡ Some result.now }
+    {
+        &self.frames[r.frame.0 as usize]
+    }
+
+    pub fn outside_mut(&mut self, r: &OutsideRight) -> &mut [u8; 4096]
+        requires { r.now.0 < length self.old }
+        ensures* writes_back { sem 𝓛 (LendsFrame self.entry r.now.0 result) }
+        ensures value { slice_get self.old r.now.0 ≡ Some result.now }
+    {
+        &mut self.frames[r.frame.0 as usize]
+    }
+
+    pub fn plain(&self, r: &CleanRight) -> &[u8; 4096]
+        requires { r.now.frame.0 < length self.now }
+        ensures { slice_get self.now r.now.frame.0 ≡ Some result.now }
+    {
+        &self.frames[r.frame.0 as usize]
+    }
+
+    pub fn changed(&self, r: &ChangedRight) -> &[u8; 4096]
+        requires { r.now.frame.0 < length self.now }
+        ensures { slice_get self.now r.now.frame.0 ≡ Some result.now }
+    {
+        &self.frames[r.frame.0 as usize]
+    }
+
+    pub fn changed_mut(&mut self, r: &ChangedRight) -> &mut [u8; 4096]
+        requires { r.now.frame.0 < length self.old }
+        ensures* writes_back { sem 𝓛 (LendsFrame self.entry r.now.frame.0 result) }
+        ensures value { slice_get self.old r.now.frame.0 ≡ Some result.now }
+    {
+        &mut self.frames[r.frame.0 as usize]
+    }
+
+    /// The frame holds page `q`, as it was last shown.
+    pub fn to_clean(&mut self, r: OutsideRight, q: PageId, new: &[u8; 4096]) -> CleanRight
+        requires { r.0 < length self.old }
+        ensures bytes { self.new ≡ slice_set self.old r.0 new.now }
+        ensures right { result ≡ record { frame = r; page = q } }
+    {
+        self.frames[r.frame.0 as usize] = *new;
+        CleanRight {
+            frame: r.frame,
+            page: q,
+        }
+    }
+
+    /// The frame holds page `q`, of which nothing was shown yet.
+    pub fn to_fresh(&mut self, r: OutsideRight, q: PageId) -> ChangedRight
+        requires { r.0 < length self.old }
+        ensures bytes { self.new ≡ slice_set self.old r.0 zeros }
+        ensures right { result ≡ record { frame = r; page = q } }
+    {
+        self.frames[r.frame.0 as usize] = [0; 4096];
+        ChangedRight {
+            frame: r.frame,
+            page: q,
+        }
+    }
+
+    /// The frame is the outside's again.
+    pub fn from_clean(&mut self, r: CleanRight, new: &[u8; 4096]) -> OutsideRight
+        requires { r.frame.0 < length self.old }
+        ensures bytes { self.new ≡ slice_set self.old r.frame.0 new.now }
+        ensures right { result ≡ r.frame }
+    {
+        self.frames[r.frame.0 as usize] = *new;
+        OutsideRight { frame: r.frame }
+    }
+
+    /// The frame is the outside's again.
+    pub fn from_changed(&mut self, r: ChangedRight, new: &[u8; 4096]) -> OutsideRight
+        requires { r.frame.0 < length self.old }
+        ensures bytes { self.new ≡ slice_set self.old r.frame.0 new.now }
+        ensures right { result ≡ r.frame }
+    {
+        self.frames[r.frame.0 as usize] = *new;
+        OutsideRight { frame: r.frame }
+    }
+}

@@ -1,0 +1,9 @@
+use Rattle.std.proofs.Common.{◌≡◌}
+use Rattle.protect_meta.proofs.Tables.{IsClearedTo}
+use Rattle.protect_meta.proofs.table.MetaTable.clear_range.Given as goal
+
+abbrev pub invariant-loop-i : goal.invariant-loop-i
+invariant-loop-i l = record {
+  domains : l.self-inside.domains ≡ l.initial.self-inside.domains;
+  cleared : IsClearedTo l.initial.self-inside.metas.items l.first l.i l.self-inside.metas.items;
+}
