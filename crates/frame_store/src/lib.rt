@@ -12,3 +12,6 @@
 mod rights;
 
 pub use rights::{ChangedRight, CleanRight, FrameStore, OutsideRight, promote};
+
+#[cfg(test)]
+mod tests;

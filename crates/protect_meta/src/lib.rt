@@ -14,3 +14,6 @@ mod table;
 
 pub use meta::Meta;
 pub use table::MetaTable;
+
+#[cfg(test)]
+mod tests;

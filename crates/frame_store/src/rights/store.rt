@@ -25,6 +25,7 @@ impl FrameStore {
     ghost use Rattle.frame_store.specs.Lending.{LendsFrame};
 
     /// The one call that takes memory.
+    #[tactic(auto, unfolding(crate::specs::Pages::zeros))]
     pub fn open(alloc: Global, n: u32) -> Result<(FrameStore, Vec<OutsideRight>), NoMemory>
         requires least { 64 ≤ n }
         requires most { n ≤ 4096 }
@@ -99,6 +100,7 @@ impl FrameStore {
     }
 
     /// The frame holds page `q`, of which nothing was shown yet.
+    #[tactic(auto, unfolding(crate::specs::Pages::zeros))]
     pub fn to_fresh(&mut self, r: OutsideRight, q: PageId) -> ChangedRight
         requires { r.0 < length self.old }
         ensures bytes { self.new ≡ slice_set self.old r.0 zeros }

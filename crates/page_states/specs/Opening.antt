@@ -1,0 +1,10 @@
+-- A page out of its ciphertext.
+use Rattle.std.specs.Prelude.{ℕ, List, ◌≡◌, length}
+use Rattle.aes_block.specs.Bytes.{IsBytes}
+use Rattle.cloak_model.specs.Chain.{cbc}
+
+-- the one page that seals to these bytes
+pub record IsPlain (key iv sealed plain : List ℕ) : Type 0 where
+  pub long : length plain ≡ 4096
+  pub seals_back : cbc key iv plain ≡ sealed
+  pub only_one : (p : List ℕ) → IsBytes 4096 p → cbc key iv p ≡ sealed → plain ≡ p

@@ -1,0 +1,107 @@
+ghost use Rattle.std.specs.Prelude.{◌≡◌, ◌≢◌, ◌<◌, List, ℕ, length, slice_get, slice_set, Some, IfOk, IfErr};
+ghost use Rattle.sha2.specs.Sha256.{sha256};
+ghost use Rattle.cloak_model.specs.Chain.{cbc};
+ghost use Rattle.cloak_model.specs.Memory.{zero_page};
+ghost use Rattle.aes_block.specs.Bytes.{IsBytes};
+ghost use Rattle.page_states.specs.Opening.{IsPlain};
+
+use aes_block::Schedule;
+use cloak_base::PageId;
+use frame_store::{ChangedRight, CleanRight, FrameStore, OutsideRight};
+use protect_meta::Meta;
+use sha2::{Digest, Sha256};
+
+// A frame's new bytes are made in one local page. No call does with less: a transition holds the store, so the bytes
+// that it takes lie elsewhere, and neither an outside frame nor a clean one may be written before its state changes.
+
+fn open_bytes(page: &mut [u8; 4096], iv: &[u8; 16], k: &Schedule)
+    ensures { IsPlain k.now iv.now page.old page.new }
+{
+    aes_cbc::open_page(k, iv, page);
+}
+
+fn seal_bytes(page: &mut [u8; 4096], iv: &[u8; 16], k: &Schedule)
+    ensures plain { IsBytes 4096 page.old }
+    ensures sealed { page.new ≡ cbc k.now iv.now page.old }
+{
+    aes_cbc::seal_page(k, iv, page);
+}
+
+/// Opens the frame as page `q`, where it holds what `m` records.
+pub fn open_page(
+    s: &mut FrameStore,
+    r: OutsideRight,
+    q: PageId,
+    m: &Meta,
+    k: &Schedule,
+) -> Result<CleanRight, OutsideRight>
+    requires { r.0 < length s.old }
+    ensures opened_where_recorded { IfOk result (λ _. (old : List ℕ) → slice_get s.old r.0 ≡ Some old → sha256 old ≡ m.now.digest) }
+    ensures refused_where_not { IfErr result (λ _. (old : List ℕ) → slice_get s.old r.0 ≡ Some old → sha256 old ≢ m.now.digest) }
+    ensures bytes { IfOk result (λ _. (old : List ℕ) → slice_get s.old r.0 ≡ Some old → (plain : List ℕ) × IsPlain k.now m.now.iv old plain × (s.new ≡ slice_set s.old r.0 plain)) }
+    ensures count { length s.new ≡ length s.old }
+    ensures right { IfOk result (λ n. n ≡ record { frame = r; page = q }) }
+    ensures unchanged { IfErr result (λ same. (same ≡ r) × (s.new ≡ s.old)) }
+{
+    if Sha256::digest(s.outside(&r).as_slice()) != m.digest {
+        return Err(r);
+    }
+    let mut page = *s.outside(&r);
+    open_bytes(&mut page, &m.iv, k);
+    Ok(s.to_clean(r, q, &page))
+}
+
+/// Gives the frame to page `q`, of which nothing was shown yet.
+#[tactic(auto, unfolding(cloak_model::specs::Memory::zero_page, frame_store::specs::Pages::zeros))]
+pub fn first_page(s: &mut FrameStore, r: OutsideRight, q: PageId) -> ChangedRight
+    requires { r.0 < length s.old }
+    ensures bytes { s.new ≡ slice_set s.old r.0 zero_page }
+    ensures right { result ≡ record { frame = r; page = q } }
+{
+    s.to_fresh(r, q)
+}
+
+/// Before the first write.
+pub fn change(r: CleanRight) -> ChangedRight
+    ensures { result ≡ r }
+{
+    frame_store::promote(r)
+}
+
+/// Shows again what was shown before, where `m` is what the frame was opened with.
+pub fn reseal(s: &mut FrameStore, r: CleanRight, m: &Meta, k: &Schedule) -> OutsideRight
+    requires { r.frame.0 < length s.old }
+    ensures bytes { (old : List ℕ) → slice_get s.old r.frame.0 ≡ Some old → s.new ≡ slice_set s.old r.frame.0 (cbc k.now m.now.iv old) }
+    ensures count { length s.new ≡ length s.old }
+    ensures right { result ≡ r.frame }
+{
+    let mut page = *s.plain(&r);
+    seal_bytes(&mut page, &m.iv, k);
+    s.from_clean(r, &page)
+}
+
+/// Shows the changed page under an IV that was used for no other, and gives what is to be recorded of it.
+pub fn seal(s: &mut FrameStore, r: ChangedRight, iv: [u8; 16], k: &Schedule) -> (OutsideRight, Meta)
+    requires { r.frame.0 < length s.old }
+    ensures bytes { (old : List ℕ) → slice_get s.old r.frame.0 ≡ Some old → s.new ≡ slice_set s.old r.frame.0 (cbc k.now iv old) }
+    ensures plain { (old : List ℕ) → slice_get s.old r.frame.0 ≡ Some old → IsBytes 4096 old }
+    ensures iv { result.1.iv ≡ iv }
+    ensures digest { (old : List ℕ) → slice_get s.old r.frame.0 ≡ Some old → result.1.digest ≡ sha256 (cbc k.now iv old) }
+    ensures count { length s.new ≡ length s.old }
+    ensures right { result.0 ≡ r.frame }
+{
+    let mut page = *s.changed(&r);
+    seal_bytes(&mut page, &iv, k);
+    let digest = Sha256::digest(page.as_slice());
+    (s.from_changed(r, &page), Meta { iv, digest })
+}
+
+/// Shows nothing of the page.
+#[tactic(auto, unfolding(cloak_model::specs::Memory::zero_page))]
+pub fn wipe(s: &mut FrameStore, r: ChangedRight) -> OutsideRight
+    requires { r.frame.0 < length s.old }
+    ensures bytes { s.new ≡ slice_set s.old r.frame.0 zero_page }
+    ensures right { result ≡ r.frame }
+{
+    s.from_changed(r, &[0; 4096])
+}
