@@ -1,0 +1,7 @@
+pub mod Width
+pub mod Homes
+pub mod State
+pub mod Turns
+pub mod Relation
+pub mod Told
+pub mod Lending
