@@ -1,0 +1,5 @@
+pub mod Pages
+pub mod Keeping
+pub mod Turned
+pub mod Stands
+pub mod Touches
