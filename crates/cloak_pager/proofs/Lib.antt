@@ -4,3 +4,4 @@ pub mod Turned
 pub mod Stands
 pub mod Touches
 pub mod Writes
+pub mod Copies
