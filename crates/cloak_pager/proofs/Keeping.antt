@@ -106,3 +106,9 @@ noted_new homes homes' rights f h q noted inside each is nowhere k o held =
           rw (one, e.0) (at q ∙ with_page-same (home_at homes) q (Some (frame f)))
       | inr n ↦ at o ∙ (with_page-other (home_at homes) q (Some (frame f)) o (λ e. nowhere k (subst (λ (x : PageId). page_of (get_or rights k Spent) ≡ Some x) e n.1)) ∙ noted k o n.1)
     ]
+
+-- the right of a frame as it is seen, of the pager as its callers see it
+pub right_now : (p now : PagerState) → p ≡ now → IsWhole p → (f : ℕ) → f < length now.frames → (seen h : Held) → seen ≡ get_or p.rights f seen → seen ≡ h → IsWhole now × (right_at now f ≡ h)
+right_now p now view w f within seen h e is =
+    let R : PagerState → Type 0 = λ x. IsWhole x × (right_at x f ≡ h) in
+    subst R view (w, (right_seen p now view w f within seen h e (sym is)).1)

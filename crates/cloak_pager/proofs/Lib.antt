@@ -1,4 +1,5 @@
 pub mod Pages
+pub mod Homing
 pub mod Keeping
 pub mod Turned
 pub mod Stands

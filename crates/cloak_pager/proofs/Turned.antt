@@ -176,3 +176,74 @@ take_kept p homes homes' frames' f spent h h' q bytes k inside wrote is named of
     named (λ o shown. shown)
     (λ g o apart e there. nowhere g (there ∙ (sym e ∙ of)))
     (noted_new homes homes' p.rights f h' q k.noted (rw k.whole.count inside) each of nowhere) domains
+
+-- what an outside right named is the frame
+pub outside_is : (p : PagerState) → IsWhole p → (f : ℕ) (r : Frame) → f < length p.frames → right_at p f ≡ Outside r → r.0 ≡ f
+outside_is p w f r inside at = named_as p w f (Outside r) inside at
+
+-- First use.
+
+pub first_kept : (p : PagerState) (homes homes' : HomeTable) (frames' : List (List ℕ)) (f : ℕ) (r : Frame) (spent : Held) (n : Holding) (q : PageId) → IsKept p homes → f < length p.frames → right_at p f ≡ Outside r → frames' ≡ slice_set p.frames r.0 zero_page → n ≡ record { frame = r; page = q } → IsPage (domains_of p.table) q → ((k : ℕ) → held_in p k ≢ Some q) → ((o : PageId) → home_at homes' o ≡ (if same_meta o q then Some (frame f) else home_at homes o)) → homes'.domains ≡ homes.domains → IsKept (put p frames' f spent (Changed n) p.table) homes'
+first_kept p homes homes' frames' f r spent n q k inside at wrote is page nowhere each domains =
+    let here : r.0 ≡ f = outside_is p k.whole f r inside at in
+    take_kept p homes homes' frames' f spent (Changed n) (Changed (holding f q)) q zero_page k inside
+    (wrote ∙ ap (λ (x : ℕ). slice_set p.frames x zero_page) here)
+    (ap (λ (x : Holding). Changed x) (is ∙ holding_is (record { frame = r; page = q }) f q here refl))
+    (refl, page) refl nowhere each domains
+
+pub first_turns : (p : PagerState) (frames' : List (List ℕ)) (f : ℕ) (r : Frame) (spent : Held) (n : Holding) (q : PageId) → IsWhole p → f < length p.frames → right_at p f ≡ Outside r → frames' ≡ slice_set p.frames r.0 zero_page → n ≡ record { frame = r; page = q } → HoldsNow p (put p frames' f spent (Changed n) p.table) q f true zero_page
+first_turns p frames' f r spent n q w inside at wrote is =
+    let here : r.0 ≡ f = outside_is p w f r inside at in
+    turns_put p frames' f spent (Changed n) (Changed (holding f q)) zero_page p.table (meta_at p.table)
+    (wrote ∙ ap (λ (x : ℕ). slice_set p.frames x zero_page) here)
+    (ap (λ (x : Holding). Changed x) (is ∙ holding_is (record { frame = r; page = q }) f q here refl)) refl (λ o. refl)
+
+-- Opening.
+
+-- the one page that was opened, in the frame of this number
+pub opened_here : (frames frames' : List (List ℕ)) (key iv : List ℕ) (k f : ℕ) → k ≡ f → f < length frames → ((old : List ℕ) → slice_get frames k ≡ Some old → (plain : List ℕ) × IsPlain key iv old plain × (frames' ≡ slice_set frames k plain)) → (plain : List ℕ) × IsPlain key iv (get_or frames f []) plain × (frames' ≡ slice_set frames f plain)
+opened_here frames frames' key iv k f is inside opens =
+    let made : (plain : List ℕ) × IsPlain key iv (get_or frames f []) plain × (frames' ≡ slice_set frames k plain) = opens (get_or frames f []) (rw is (slice_get-get_or frames f [] inside)) in
+    (made.0, made.1, made.2 ∙ ap (λ (x : ℕ). slice_set frames x made.0) is)
+
+pub open_kept : (p : PagerState) (homes homes' : HomeTable) (frames' : List (List ℕ)) (f : ℕ) (r : Frame) (spent : Held) (n : Holding) (q : PageId) (t : Meta) → IsKept p homes → f < length p.frames → right_at p f ≡ Outside r → meta_at p.table q ≡ Some t → ((old : List ℕ) → slice_get p.frames r.0 ≡ Some old → (plain : List ℕ) × IsPlain p.key t.iv old plain × (frames' ≡ slice_set p.frames r.0 plain)) → n ≡ record { frame = r; page = q } → IsPage (domains_of p.table) q → ((k : ℕ) → held_in p k ≢ Some q) → ((o : PageId) → home_at homes' o ≡ (if same_meta o q then Some (frame f) else home_at homes o)) → homes'.domains ≡ homes.domains → IsKept (put p frames' f spent (Clean n) p.table) homes'
+open_kept p homes homes' frames' f r spent n q t k inside at shown opens is page nowhere each domains =
+    let here : r.0 ≡ f = outside_is p k.whole f r inside at in
+    let made = opened_here p.frames frames' p.key t.iv r.0 f here inside opens in
+    take_kept p homes homes' frames' f spent (Clean n) (Clean (holding f q)) q made.0 k inside made.2
+    (ap (λ (x : Holding). Clean x) (is ∙ holding_is (record { frame = r; page = q }) f q here refl))
+    (refl, page, λ none. (let no : None ≡ Some t = sym none ∙ shown in cc)) refl nowhere each domains
+
+pub open_turns : (p : PagerState) (frames' : List (List ℕ)) (f : ℕ) (r : Frame) (spent : Held) (n : Holding) (q : PageId) (t : Meta) → IsWhole p → f < length p.frames → right_at p f ≡ Outside r → ((old : List ℕ) → slice_get p.frames r.0 ≡ Some old → sha256 old ≡ t.digest) → ((old : List ℕ) → slice_get p.frames r.0 ≡ Some old → (plain : List ℕ) × IsPlain p.key t.iv old plain × (frames' ≡ slice_set p.frames r.0 plain)) → n ≡ record { frame = r; page = q } → (sha256 (bytes_in p f) ≡ t.digest) × Opens p.key t.iv (bytes_in p f) (λ plain. HoldsNow p (put p frames' f spent (Clean n) p.table) q f false plain)
+open_turns p frames' f r spent n q t w inside at equal opens is =
+    let here : r.0 ≡ f = outside_is p w f r inside at in
+    let made = opened_here p.frames frames' p.key t.iv r.0 f here inside opens in
+    (equal (bytes_in p f) (rw here (slice_get-get_or p.frames f [] inside)),
+    (made.0, made.1,
+    turns_put p frames' f spent (Clean n) (Clean (holding f q)) made.0 p.table (meta_at p.table) made.2
+    (ap (λ (x : Holding). Clean x) (is ∙ holding_is (record { frame = r; page = q }) f q here refl)) refl (λ o. refl)))
+
+-- a right that was taken out and put back changes nothing
+pub put_back : (p : PagerState) (frames' : List (List ℕ)) (f : ℕ) (spent : Held) (r same : Frame) → right_at p f ≡ Outside r → (same ≡ r) × (frames' ≡ p.frames) → put p frames' f spent (Outside same) p.table ≡ p
+put_back p frames' f spent r same at is =
+    let rights : slice_set (slice_set p.rights f spent) f (Outside same) ≡ p.rights =
+    set-set p.rights f spent (Outside same) ∙ (ap (λ (x : Held). slice_set p.rights f x) (ap (λ (x : Frame). Outside x) is.0 ∙ sym at) ∙ set-get_or p.rights f Spent) in
+    λ i. record p { frames = is.1 i; rights = rights i }
+
+pub refused_differs : (p : PagerState) (f : ℕ) (r : Frame) (t : Meta) → IsWhole p → f < length p.frames → right_at p f ≡ Outside r → ((old : List ℕ) → slice_get p.frames r.0 ≡ Some old → sha256 old ≢ t.digest) → sha256 (bytes_in p f) ≢ t.digest
+refused_differs p f r t w inside at differs = differs (bytes_in p f) (rw (outside_is p w f r inside at) (slice_get-get_or p.frames f [] inside))
+
+-- Placing.
+
+pub place_turns : (p : PagerState) (rights' : List Held) (frames' : List (List ℕ)) (f : ℕ) (r : Frame) (q : PageId) (bytes iv digest c : List ℕ) (table' : Table) → IsWhole p → f < length p.frames → rights' ≡ p.rights → right_at p f ≡ Outside r → frames' ≡ slice_set p.frames r.0 c → c ≡ cbc p.key iv bytes → digest ≡ sha256 c → ((o : PageId) → meta_at table' o ≡ (if same_meta o q then Some (record { iv = iv; digest = digest }) else meta_at p.table o)) → domains_of table' ≡ domains_of p.table → IsPlaced p (record p { frames = frames'; rights = rights'; table = table' }) q f bytes iv
+place_turns p rights' frames' f r q bytes iv digest c table' w inside same at wrote sealed sum each domains =
+    let here : r.0 ≡ f = outside_is p w f r inside at in
+    let meta : List ℕ → Meta = λ d. record { iv = iv; digest = d } in
+    record {
+      frames_are = wrote ∙ (ap (λ (x : ℕ). slice_set p.frames x c) here ∙ ap (λ (x : List ℕ). slice_set p.frames f x) sealed);
+      rights_are = same;
+      metas_are = λ o. set_map (meta_at p.table) (meta_at table') q (Some (meta digest)) each o ∙ ap (λ (x : List ℕ). with_page (meta_at p.table) q (Some (meta x)) o) (sum ∙ ap sha256 sealed);
+      domains_stay = domains;
+      key_stays = refl;
+      reads_stay = refl;
+    }
