@@ -6,3 +6,4 @@ pub mod Stands
 pub mod Touches
 pub mod Writes
 pub mod Copies
+pub mod Calls

@@ -12,6 +12,7 @@
 
 mod held;
 mod homes;
+mod law;
 mod moves;
 mod offering;
 mod outside_bytes;
@@ -21,6 +22,7 @@ mod touching;
 mod turning;
 
 pub use held::Held;
+pub use law::law_of_calls;
 pub use offering::Offered;
 pub use pager::Pager;
 pub use touching::Touched;
