@@ -3,21 +3,17 @@
 use Rattle.std.proofs.Common.{◌≡◌, ◌+◌, ◌-◌, ◌^◌, ℕ, Bool, true, false, ◌||◌, List, [], ◌∷◌, Option, None, Some, get_or, refl, ap, sym, ◌∙◌, subst, if◌then◌else◌}
 use Rattle.std.specs.Prelude.{min, unwrap_or}
 use Rattle.std.specs.Str.{bytes_eq}
-use Rattle.sha2.specs.Sha256.{sha256}
-use Rattle.aes_block.specs.Bytes.{IsBytes}
 use Rattle.cloak_base.specs.declared.names.PageId.{PageId}
 use Rattle.cloak_base.specs.Random.{Random, next_draw}
 use Rattle.cloak_model.specs.Chain.{cbc}
 use Rattle.cloak_model.specs.Cloaking.{CloakedMemory, Settled, Offered, settle, settle_if, settle_owed, settle_frame_if, owing_frame, owes, owed_in, is_clash, compared, unless_missed, offer}
 use Rattle.cloak_model.specs.PageMoves.{place, place_with, copy_pages, drop_pages}
-use Rattle.protect_meta.specs.declared.meta.Meta.{Meta}
-use Rattle.cloak_pager.specs.State.{PagerState, IsWhole, right_at}
+use Rattle.cloak_pager.specs.State.{PagerState, right_at}
 use Rattle.cloak_pager.specs.Turns.{IsReadOnce}
-use Rattle.cloak_pager.specs.Relation.{StandsFor, FrameStands, HoldsClean}
-use Rattle.cloak_pager.specs.Told.{Moves, told_place}
+use Rattle.cloak_pager.specs.Relation.{StandsFor, FrameStands}
 use Rattle.cloak_pager.specs.declared.held.Held.{Held}
 use Rattle.cloak_pager.specs.declared.held.Held.TheVariants.{Outside, Clean, Changed, Spent}
-use Rattle.cloak_pager.specs.Calls.{Call, Answer, Step, KeptBy, AllKept, last_pager, last_stream, Outcome, after, after_all, IsTold, AllTold, Follows, calls_of, LawOfCalls}
+use Rattle.cloak_pager.specs.Calls.{Call, Answer, KeptBy, Outcome, after, after_all, IsTold, calls_of, LawOfCalls}
 use Rattle.cloak_pager.specs.Calls.Call.{Touch, Offer, Place, Restore, ReadPlain, WritePlain, ReadOutside, WriteOutside, FillOutside, CopyPages, DropPages, Close}
 
 -- Clashes.

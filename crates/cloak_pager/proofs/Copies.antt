@@ -1,5 +1,5 @@
 -- What becomes of a pager when the metadata of whole resources changes, over plain variables.
-use Rattle.std.proofs.Common.{◌≡◌, ◌≢◌, ◌<◌, ℕ, Bool, true, false, ◌&&◌, ◌||◌, ◌==◌, List, [], Option, None, Some, length, get_or, map, refl, ap, sym, ◌∙◌, subst, ◌⊎◌, inl, inr, arith, replicate, if◌then◌else◌}
+use Rattle.std.proofs.Common.{◌≡◌, ◌<◌, ℕ, Bool, true, false, ◌&&◌, ◌||◌, List, [], Option, None, Some, length, get_or, map, refl, ap, sym, ◌∙◌, subst, ◌⊎◌, inl, inr, arith, if◌then◌else◌}
 use Rattle.std.proofs.lemmas.Bool.{or_cases}
 use Rattle.std.proofs.lemmas.List.{length-replicate}
 use Rattle.std.proofs.lemmas.List.Elements.{All-replicate}
@@ -8,7 +8,7 @@ use Rattle.cloak_base.specs.Random.{next_draw}
 use Rattle.cloak_base.specs.declared.names.PageId.{PageId}
 use Rattle.cloak_base.specs.Pages.{is_of, page_in}
 use Rattle.cloak_model.specs.Memory.{zero_page}
-use Rattle.cloak_model.specs.Cloaking.{CloakedMemory, owed_in}
+use Rattle.cloak_model.specs.Cloaking.{CloakedMemory}
 use Rattle.cloak_model.specs.PageMoves.{copy_pages, drop_pages}
 use Rattle.protect_meta.specs.declared.meta.Meta.{Meta}
 use Rattle.protect_meta.specs.Table.{Table, meta_at, domains_of}
@@ -16,10 +16,10 @@ use Rattle.protect_meta.specs.Pages.{of_resource}
 use Rattle.protect_meta.proofs.Pages.{of_resource_tells, of_resource-decides}
 use Rattle.protect_meta.proofs.Tables.{chosen_true, chosen_false}
 use Rattle.cloak_pager.specs.Homes.{HomeTable}
-use Rattle.cloak_pager.specs.State.{PagerState, IsWhole, IsKept, Names, page_of, owed_of, right_at, bytes_in, held_in, owed_at, IsNoneOwed, IsNoneHeld}
+use Rattle.cloak_pager.specs.State.{PagerState, IsWhole, IsKept, Names, page_of, owed_of, right_at, held_in, owed_at, IsNoneOwed, IsNoneHeld}
 use Rattle.cloak_pager.specs.Turns.{Turns, IsCopied, IsDropped}
 use Rattle.cloak_pager.specs.Relation.{StandsFor, FrameStands, PageStands, IsUnowed}
-use Rattle.cloak_pager.specs.Told.{Moves, MeetsStill, told_copy_pages, told_drop_pages, wiped_copies}
+use Rattle.cloak_pager.specs.Told.{MeetsStill, told_copy_pages, told_drop_pages, wiped_copies}
 use Rattle.cloak_pager.specs.declared.held.Held.{Held}
 use Rattle.cloak_pager.specs.declared.held.Held.TheVariants.{Outside, Clean, Changed, Spent}
 use Rattle.cloak_pager.proofs.Stands.{frame_stays, owed_by_right}
@@ -184,13 +184,17 @@ meets_copy p p' domain from to t shown away w m s =
   where
     w' : PageId → Bool
     w' = wiped_copies domain from to w
+
     m' : CloakedMemory
     m' = copy_pages domain from to m
+
     and_right : (a b : Bool) → (a && b) ≡ true → b ≡ true
     and_right true b e = e
     and_right false b e = absurd (cc)
+
     kept_from : (o : PageId) → is_of domain to o ≡ true → w' o ≡ false → w (page_in from o) ≡ false
     kept_from o is kept = ap (λ (x : Bool). x && w (page_in from o)) (sym is) ∙ (or_false (w o) _ kept).1
+
     unowed : (b : PageId) → is_of domain from b ≡ true → IsUnowed m b
     unowed b is k owes =
         let at : owed_at p k ≡ Some b = sym (owed_by_right p w m s k) ∙ owes in

@@ -1,5 +1,5 @@
 -- What a store does to the bytes of a frame, over plain variables.
-use Rattle.std.proofs.Common.{◌≡◌, ◌≢◌, ◌<◌, ◌≤◌, ◌+◌, ◌%◌, ℕ, zero, suc, Bool, true, false, List, [], ◌∷◌, ◌++◌, Option, None, Some, length, get_or, slice_get, slice_set, take, drop, refl, ap, sym, ◌∙◌, subst, ◌⊎◌, inl, inr, arith}
+use Rattle.std.proofs.Common.{◌≡◌, ◌≢◌, ◌<◌, ◌≤◌, ◌+◌, ◌%◌, ℕ, zero, suc, Bool, false, List, [], Option, None, Some, length, get_or, slice_get, slice_set, take, refl, ap, sym, ◌∙◌, subst, inl, inr, arith}
 use Rattle.std.specs.Prelude.{All}
 use Rattle.std.specs.Int.{w32, to_le_bytes}
 use Rattle.std.proofs.lemmas.Bool.{cases_lt}
@@ -9,7 +9,6 @@ use Rattle.std.proofs.lemmas.Option.{get_or_from_slice_get}
 use Rattle.aes_block.specs.Bytes.{IsBytes}
 use Rattle.cloak_base.specs.declared.names.Frame.{Frame}
 use Rattle.cloak_base.specs.declared.names.PageId.{PageId}
-use Rattle.cloak_base.specs.Pages.{with_page}
 use Rattle.cloak_model.specs.Memory.{with_value_in}
 use Rattle.cloak_model.specs.Cloaking.{CloakedMemory, owed_in, with_frame}
 use Rattle.cloak_model.specs.PageMoves.{with_plain}
@@ -18,15 +17,15 @@ use Rattle.protect_meta.specs.declared.meta.Meta.{Meta}
 use Rattle.protect_meta.specs.Table.{meta_at}
 use Rattle.cloak_pager.specs.Homes.{HomeTable, home_at}
 use Rattle.cloak_pager.specs.State.{PagerState, IsWhole, IsKept, Names, page_of, owed_of, right_at, bytes_in, held_in, owed_at}
-use Rattle.cloak_pager.specs.Turns.{Turns, frame, HasBytes}
-use Rattle.cloak_pager.specs.Relation.{StandsFor, FrameStands, PageStands, HoldsClean, IsUnowed}
-use Rattle.cloak_pager.specs.Told.{Moves, MeetsStill, told_write_plain, told_write_outside, told_fill_outside, ReadsNewest}
+use Rattle.cloak_pager.specs.Turns.{frame, HasBytes}
+use Rattle.cloak_pager.specs.Relation.{StandsFor, FrameStands, PageStands}
+use Rattle.cloak_pager.specs.Told.{MeetsStill, told_write_plain, told_write_outside, told_fill_outside, ReadsNewest}
 use Rattle.cloak_pager.specs.Width.{IsWidth, value_in}
 use Rattle.cloak_pager.specs.declared.held.Held.{Held}
 use Rattle.cloak_pager.specs.declared.held.Held.TheVariants.{Outside, Clean, Changed, Spent}
 use Rattle.cloak_pager.proofs.Pages.{with_page-same, with_page-other}
 use Rattle.cloak_pager.proofs.Keeping.{right_seen}
-use Rattle.cloak_pager.proofs.Stands.{Turned, stands_turned, owed_by_right, owed_held}
+use Rattle.cloak_pager.proofs.Stands.{stands_turned, owed_by_right, owed_held}
 
 -- a frame that holds a page is one of the frames
 pub held_within : (rights : List Held) (f : ℕ) (q : PageId) → page_of (get_or rights f Spent) ≡ Some q → f < length rights
@@ -228,9 +227,9 @@ fits_width at width w even low =
     elim w [
       | inl one ↦ (omega arith, omega arith)
       | inr more ↦ elim more [
-            | inl two ↦ let e : at % 2 ≡ 0 = subst (λ (x : ℕ). at % x ≡ 0) two even in (omega arith, omega arith)
-            | inr four ↦ let e : at % 4 ≡ 0 = subst (λ (x : ℕ). at % x ≡ 0) four even in (omega arith, omega arith)
-          ]
+        | inl two ↦ let e : at % 2 ≡ 0 = subst (λ (x : ℕ). at % x ≡ 0) two even in (omega arith, omega arith)
+        | inr four ↦ let e : at % 4 ≡ 0 = subst (λ (x : ℕ). at % x ≡ 0) four even in (omega arith, omega arith)
+      ]
     ]
 
 -- the newest bytes of a page that a frame holds are in the frame

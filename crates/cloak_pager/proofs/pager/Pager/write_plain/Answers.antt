@@ -1,4 +1,4 @@
-use Rattle.std.proofs.Common.{◌∙◌, ◌≡◌, ap, sym, subst, List, ℕ, ◌<◌, length}
+use Rattle.std.proofs.Common.{◌∙◌, sym, List, ℕ}
 use Rattle.cloak_model.specs.Memory.{with_value_in}
 use Rattle.cloak_pager.proofs.Stands.{owed_held}
 use Rattle.cloak_pager.proofs.Writes.{owing, owing_seen, noted_there, put_plain, whole_now, meets_plain, right_there, frame_there}
