@@ -4,3 +4,4 @@ pub mod Keeping
 pub mod Turned
 pub mod Stands
 pub mod Touches
+pub mod Offers
