@@ -5,3 +5,4 @@ pub mod Turned
 pub mod Stands
 pub mod Touches
 pub mod Offers
+pub mod Placed
