@@ -50,7 +50,7 @@ right_put rights f h k q inside held =
     ]
 
 -- a right that names frame k still does where no metadata went
-names_stay : (t t' : Table) (k : ℕ) (h : Held) → domains_of t' ≡ domains_of t → ((o : PageId) → meta_at t o ≢ None → meta_at t' o ≢ None) → Names t k h → Names t' k h
+pub names_stay : (t t' : Table) (k : ℕ) (h : Held) → domains_of t' ≡ domains_of t → ((o : PageId) → meta_at t o ≢ None → meta_at t' o ≢ None) → Names t k h → Names t' k h
 names_stay t t' k (Outside r) d keeps n = n
 names_stay t t' k (Clean r) d keeps n = (n.0, rw d n.1, keeps r.page n.2)
 names_stay t t' k (Changed r) d keeps n = (n.0, rw d n.1)
@@ -112,3 +112,13 @@ pub right_now : (p now : PagerState) → p ≡ now → IsWhole p → (f : ℕ) �
 right_now p now view w f within seen h e is =
     let R : PagerState → Type 0 = λ x. IsWhole x × (right_at x f ≡ h) in
     subst R view (w, (right_seen p now view w f within seen h e (sym is)).1)
+
+-- a frame that holds no page is outside
+pub outside_right : (p : PagerState) → IsWhole p → (f : ℕ) → f < length p.frames → held_in p f ≡ None → (r : Frame) × (right_at p f ≡ Outside r)
+outside_right p w f inside none = by_right (right_at p f) none (w.named f inside)
+  where
+    by_right : (h : Held) → page_of h ≡ None → Names p.table f h → (r : Frame) × (h ≡ Outside r)
+    by_right (Outside r) none named = (r, refl)
+    by_right (Clean r) none named = absurd (let no : Some r.page ≡ None = none in cc)
+    by_right (Changed r) none named = absurd (let no : Some r.page ≡ None = none in cc)
+    by_right Spent none named = absurd named

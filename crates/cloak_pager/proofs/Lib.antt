@@ -7,3 +7,5 @@ pub mod Touches
 pub mod Writes
 pub mod Copies
 pub mod Calls
+pub mod Offers
+pub mod Placed

@@ -10,7 +10,7 @@ use Rattle.protect_meta.proofs.Pages.{told, same_numbers}
 pub same_or_not : (a b : ℕ) → (a ≡ b) ⊎ (a ≢ b)
 same_or_not a b = elim (eqb_tells a b) [ inl h ↦ inl h.1 | inr h ↦ inr h.1 ]
 
-same_page-decides : (p q : PageId) → Decides (same_page p q) (p ≡ q)
+pub same_page-decides : (p q : PageId) → Decides (same_page p q) (p ≡ q)
 same_page-decides p q =
     Decides-like _
     (λ e. same_numbers p q e.0 e.1.0 e.1.1)

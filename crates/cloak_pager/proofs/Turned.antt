@@ -1,6 +1,6 @@
 -- What the private turns of a frame make of the pager, over plain variables.
 use Rattle.std.proofs.Common.{◌≡◌, ◌≢◌, ◌<◌, ℕ, Bool, true, false, List, [], Option, None, Some, length, get_or, slice_get, slice_set, refl, ap, sym, ◌∙◌, subst, arith, if◌then◌else◌, inl, inr}
-use Rattle.std.proofs.lemmas.List.{set-set, get_or_default, set-get_or}
+use Rattle.std.proofs.lemmas.List.{set-set, get_or_default, set-get_or, get_or-set_same}
 use Rattle.std.proofs.lemmas.Option.{slice_get-get_or}
 use Rattle.sha2.specs.Sha256.{sha256}
 use Rattle.cloak_base.specs.declared.names.Frame.{Frame}
@@ -15,9 +15,13 @@ use Rattle.protect_meta.specs.Table.{Table, meta_at, domains_of}
 use Rattle.protect_meta.specs.Pages.{same_page as same_meta}
 use Rattle.cloak_pager.specs.Homes.{HomeTable, home_at}
 use Rattle.cloak_pager.specs.State.{PagerState, IsWhole, IsKept, IsPage, Names, AreNoted, page_of, owed_of, right_at, bytes_in, held_in}
-use Rattle.cloak_pager.specs.Turns.{Turns, frame, holding, IsResealed, IsSealed, IsWiped, IsPlaced, Opens, HoldsNow}
+use Rattle.cloak_pager.specs.Turns.{Turns, frame, holding, IsResealed, IsSealed, IsWiped, IsPlaced, Opens, HoldsNow, shown_by_digest}
 use Rattle.cloak_pager.specs.declared.held.Held.{Held}
 use Rattle.cloak_pager.specs.declared.held.Held.TheVariants.{Outside, Clean, Changed, Spent}
+use Rattle.cloak_pager.specs.declared.offering.Offered.TheVariants.{Ready, Mismatch}
+use Rattle.std.specs.Str.{bytes_eq}
+use Rattle.std.proofs.lemmas.Slice.Eq.{bytes_eq-Decides}
+use Rattle.std.proofs.lemmas.Bool.{false_from_ne_true}
 use Rattle.cloak_pager.proofs.Pages.{pages_tell, with_page-same, with_page-other}
 use Rattle.cloak_pager.proofs.Keeping.{set_map, right_seen, whole_turned, noted_still, noted_new}
 
@@ -247,3 +251,27 @@ place_turns p rights' frames' f r q bytes iv digest c table' w inside same at wr
       key_stays = refl;
       reads_stay = refl;
     }
+
+-- a frame that took a page, and was changed then
+pub changed_then : (p p' p'' : PagerState) (g : ℕ) (q : PageId) (plain : List ℕ) → g < length p.frames → HoldsNow p p' q g false plain → HoldsNow p' p'' q g true (bytes_in p' g) → HoldsNow p p'' q g true plain
+changed_then p p' p'' g q plain inside t u =
+    let here : bytes_in p' g ≡ plain = rw t.frames_are (get_or-set_same p.frames g plain [] inside) in
+    record {
+      frames_are = u.frames_are ∙ (ap (λ (x : List ℕ). slice_set p'.frames g x) here ∙ (ap (λ (x : List (List ℕ)). slice_set x g plain) t.frames_are ∙ set-set p.frames g plain plain));
+      rights_are = u.rights_are ∙ (ap (λ (x : List Held). slice_set x g (Changed (holding g q))) t.rights_are ∙ set-set p.rights g (Clean (holding g q)) (Changed (holding g q)));
+      metas_are = λ o. u.metas_are o ∙ t.metas_are o;
+      domains_stay = u.domains_stay ∙ t.domains_stay;
+      key_stays = u.key_stays ∙ t.key_stays;
+      reads_stay = u.reads_stay ∙ t.reads_stay;
+    }
+
+-- the right of a frame that took a page
+pub clean_right : (p p' : PagerState) (g : ℕ) (q : PageId) (plain : List ℕ) → IsWhole p → g < length p.frames → HoldsNow p p' q g false plain → right_at p' g ≡ Clean (holding g q)
+clean_right p p' g q plain w inside t = rw t.rights_are (get_or-set_same p.rights g (Clean (holding g q)) Spent (rw w.count inside))
+
+-- digests that differ
+pub other_digest : (t : Meta) (bytes : List ℕ) → sha256 bytes ≢ t.digest → Mismatch ≡ shown_by_digest t bytes
+other_digest t bytes n = ap (λ (b : Bool). if b then Ready else Mismatch) (sym (false_from_ne_true (bytes_eq (sha256 bytes) t.digest) (λ e. n ((bytes_eq-Decides (sha256 bytes) t.digest).0 e))))
+
+pub same_digest : (t : Meta) (bytes : List ℕ) → sha256 bytes ≡ t.digest → Ready ≡ shown_by_digest t bytes
+same_digest t bytes e = ap (λ (b : Bool). if b then Ready else Mismatch) (sym ((bytes_eq-Decides (sha256 bytes) t.digest).1 e))

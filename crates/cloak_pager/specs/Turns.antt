@@ -90,9 +90,13 @@ left_by Spent draw stream = stream
 
 -- Offering.
 
+-- by the page's metadata and the bytes in the frame
+abbrev pub shown_by_digest : Meta → List ℕ → Offered
+shown_by_digest t bytes = if bytes_eq (sha256 bytes) t.digest then Ready else Mismatch
+
 -- by the right of the frame, the page's metadata and the bytes in the frame
 abbrev pub offered_by : Held → Option Meta → List ℕ → Offered
-offered_by (Outside r) (Some t) bytes = if bytes_eq (sha256 bytes) t.digest then Ready else Mismatch
+offered_by (Outside r) (Some t) bytes = shown_by_digest t bytes
 offered_by (Outside r) None bytes = Ready
 offered_by (Clean r) shown bytes = Ready
 offered_by (Changed r) shown bytes = Ready
@@ -106,9 +110,14 @@ Opens key iv sealed P = (plain : List ℕ) × IsPlain key iv sealed plain × P p
 abbrev pub HoldsNow : PagerState → PagerState → PageId → ℕ → Bool → List ℕ → Type 0
 HoldsNow old new q g write plain = Turns old new (slice_set old.frames g plain) (slice_set old.rights g (if write then Changed (holding g q) else Clean (holding g q))) (meta_at old.table)
 
+-- what an offer in an outside frame makes of the pager, where the page was shown
+abbrev pub ShownTurns : Offered → Meta → Bool → PagerState → PagerState → PageId → ℕ → Type 0
+ShownTurns Ready t write old new q g = Opens old.key t.iv (bytes_in old g) (λ plain. HoldsNow old new q g write plain)
+ShownTurns Mismatch t write old new q g = new ≡ old
+
 -- what an accepted offer makes of the pager
 abbrev pub OfferTurns : Held → Option Meta → Bool → PagerState → PagerState → PageId → ℕ → Type 0
-OfferTurns (Outside r) (Some t) write old new q g = Opens old.key t.iv (bytes_in old g) (λ plain. HoldsNow old new q g write plain)
+OfferTurns (Outside r) (Some t) write old new q g = ShownTurns Ready t write old new q g
 OfferTurns (Outside r) None write old new q g = HoldsNow old new q g true zero_page
 OfferTurns (Clean r) shown true old new q g = HoldsNow old new q g true (bytes_in old g)
 OfferTurns (Clean r) shown false old new q g = new ≡ old

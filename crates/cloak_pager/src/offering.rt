@@ -21,7 +21,7 @@ pub enum Offered {
 impl Pager {
     ghost use Rattle.protect_meta.specs.Table.{meta_at, domains_of};
     ghost use Rattle.cloak_pager.specs.State.{right_at, held_in, bytes_in, IsFresh};
-    ghost use Rattle.cloak_pager.specs.Turns.{offered_by, OfferedTurns, places, PlaceTurns, IsPlaced, IsRestored};
+    ghost use Rattle.cloak_pager.specs.Turns.{offered_by, shown_by_digest, OfferedTurns, ShownTurns, places, PlaceTurns, IsPlaced, IsRestored};
     ghost use Rattle.cloak_pager.specs.Told.{Meets, MeetsUnclashed, told_offer, answer_of, told_place, StandsRestored};
 
     /// Gives the page to the frame, for reading or for writing.
@@ -66,8 +66,8 @@ impl Pager {
         requires outside { held_in self.old g.0 ≡ None }
         requires nowhere { (k : ℕ) → held_in self.old k ≢ Some q }
         requires shown { meta_at self.old.table q ≡ Some m.now }
-        ensures exact_cause { result ≡ offered_by (right_at self.old g.0) (Some m.now) (bytes_in self.old g.0) }
-        ensures state { OfferedTurns result (right_at self.old g.0) (Some m.now) write self.old self.new q g.0 }
+        ensures exact_cause { result ≡ shown_by_digest m.now (bytes_in self.old g.0) }
+        ensures state { ShownTurns result m.now write self.old self.new q g.0 }
     {
         if self.open_frame(q, g, m) {
             if write {

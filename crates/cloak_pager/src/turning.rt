@@ -78,6 +78,7 @@ impl Pager {
         requires nowhere { (k : ℕ) → held_in self.old k ≢ Some q }
         requires shown { meta_at self.old.table q ≡ Some m.now }
         ensures opened { result ≡ true → (sha256 (bytes_in self.old g.0) ≡ m.now.digest) × Opens self.old.key m.now.iv (bytes_in self.old g.0) (λ plain. HoldsNow self.old self.new q g.0 false plain) }
+        ensures clean { result ≡ true → IsClean (right_at self.new g.0) × (held_in self.new g.0 ≡ Some q) }
         ensures refused { result ≡ false → (sha256 (bytes_in self.old g.0) ≢ m.now.digest) × (self.new ≡ self.old) }
     {
         match mem::replace(&mut self.rights[g.0 as usize], Held::Spent) {

@@ -1,9 +1,10 @@
-use Rattle.std.proofs.Common.{ℕ, Some, ◌≡◌, ◌≢◌, ◌∙◌, sym, subst}
+use Rattle.std.proofs.Common.{ℕ, Some, ◌≡◌, ◌≢◌, ◌∙◌, sym, subst, ap}
 use Rattle.protect_meta.specs.Table.{domains_of, meta_at}
-use Rattle.cloak_pager.specs.State.{PagerState, IsPage, IsKept, held_in}
+use Rattle.cloak_pager.specs.State.{PagerState, IsPage, IsKept, held_in, page_of}
+use Rattle.cloak_pager.specs.Turns.{IsClean}
 use Rattle.cloak_pager.specs.declared.held.Held.TheVariants.{Outside}
 use Rattle.cloak_pager.proofs.Keeping.{right_seen}
-use Rattle.cloak_pager.proofs.Turned.{open_kept, open_turns, put_back, refused_differs}
+use Rattle.cloak_pager.proofs.Turned.{open_kept, open_turns, put_back, refused_differs, clean_right}
 use Rattle.cloak_pager.proofs.pager.Pager.open_frame.Goals as goal
 
 pub invariant_of-self : goal.invariant_of-self
@@ -37,3 +38,11 @@ returns-in-Err-clause-refused c =
     (λ no.
     (refused_differs p c.args.g.0 c.in-Outside.right c.args.m.now c.self.invariant.whole seen.0 seen.1 c.in-Err.ensures.refused_where_not,
     put_back p c.open_page.new.s c.args.g.0 c.replace.new.dest c.in-Outside.right c.in-Err.same seen.1 c.in-Err.ensures.unchanged))
+
+pub returns-in-Ok-clause-clean : goal.returns-in-Ok-clause-clean
+returns-in-Ok-clause-clean c =
+    let p : PagerState = record { frames = c.self.inside.frames; rights = c.self.inside.rights.items; table = c.self.inside.table; key = c.self.inside.key; reads = c.self.inside.reads } in
+    let seen = right_seen p c.args.self.now c.self.view_is c.self.invariant.whole c.args.g.0 c.requires.inside c.index_mut.result.now (Outside c.in-Outside.right) c.index_mut.ensures.value c.in-Outside.ensures.value in
+    let turns = open_turns p c.open_page.new.s c.args.g.0 c.in-Outside.right c.replace.new.dest c.in-Ok.opened c.args.q c.args.m.now c.self.invariant.whole seen.0 seen.1 c.in-Ok.ensures.opened_where_recorded c.in-Ok.ensures.bytes c.in-Ok.ensures.right in
+    let is = clean_right p _ c.args.g.0 c.args.q turns.1.0 c.self.invariant.whole seen.0 turns.1.2 in
+    λ yes. (subst IsClean (sym is) tt, ap page_of is)
