@@ -9,3 +9,4 @@ pub mod Copies
 pub mod Calls
 pub mod Offers
 pub mod Placed
+pub mod Behind

@@ -6,8 +6,8 @@
 //! outside the frames. No call takes memory after the opening.
 //!
 //! The layer above may rely on this: for every memory that the pager stands for (`StandsFor`), each call answers and does
-//! what the rules of cloaking tell of it, and the pager then stands for the result. In which order frames are touched
-//! before an offer is for the layer above.
+//! what the rules of cloaking tell of it, and the pager then stands for the result; `law_of_calls` says so of every list
+//! of calls. In which order frames are touched before an offer is for the layer above.
 #![tactic(auto)]
 
 mod held;
