@@ -6,3 +6,4 @@ pub mod Stands
 pub mod Touches
 pub mod Offers
 pub mod Placed
+pub mod Closing
