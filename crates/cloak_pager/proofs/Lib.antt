@@ -10,3 +10,4 @@ pub mod Calls
 pub mod Offers
 pub mod Placed
 pub mod Behind
+pub mod Closing
