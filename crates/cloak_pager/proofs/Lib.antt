@@ -7,3 +7,4 @@ pub mod Touches
 pub mod Offers
 pub mod Placed
 pub mod Closing
+pub mod Opening
