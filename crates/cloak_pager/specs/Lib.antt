@@ -5,3 +5,4 @@ pub mod Turns
 pub mod Relation
 pub mod Told
 pub mod Lending
+pub mod Calls

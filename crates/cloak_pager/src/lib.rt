@@ -6,12 +6,13 @@
 //! outside the frames. No call takes memory after the opening.
 //!
 //! The layer above may rely on this: for every memory that the pager stands for (`StandsFor`), each call answers and does
-//! what the rules of cloaking tell of it, and the pager then stands for the result. In which order frames are touched
-//! before an offer is for the layer above.
+//! what the rules of cloaking tell of it, and the pager then stands for the result; `law_of_calls` says so of every list
+//! of calls. In which order frames are touched before an offer is for the layer above.
 #![tactic(auto)]
 
 mod held;
 mod homes;
+mod law;
 mod moves;
 mod offering;
 mod outside_bytes;
@@ -21,6 +22,7 @@ mod touching;
 mod turning;
 
 pub use held::Held;
+pub use law::law_of_calls;
 pub use offering::Offered;
 pub use pager::Pager;
 pub use touching::Touched;
