@@ -11,3 +11,4 @@ pub mod Offers
 pub mod Placed
 pub mod Behind
 pub mod Closing
+pub mod Opening

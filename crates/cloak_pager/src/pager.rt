@@ -1,5 +1,4 @@
-ghost use Rattle.std.specs.Prelude.{◌≡◌, ◌<◌, ◌≤◌, ◌↔◌, length, IfOk, MatchOption, IsTrue, ◌≢◌, ℕ, slice_get, slice_index_or};
-ghost use Rattle.cloak_base.specs.declared.names.Frame.{Frame as AnyFrame};
+ghost use Rattle.std.specs.Prelude.{◌≡◌, ◌<◌, ◌≤◌, ◌↔◌, length, IfOk, MatchOption, IsTrue, ◌≢◌, ℕ, map};
 ghost use Rattle.cloak_pager.specs.Turns.{IsOpened};
 ghost use Rattle.cloak_pager.specs.Told.{StandsBlank};
 
@@ -35,13 +34,12 @@ impl Model for Pager {
 
 /// The rights as a pager keeps them.
 fn all_outside(alloc: Global, outside: Vec<OutsideRight>) -> Result<Vec<Held>, NoMemory>
-    ensures count { IfOk result (λ v. length v.items ≡ length outside.items) }
-    ensures each { IfOk result (λ v. (k : ℕ) (r : AnyFrame) → slice_get outside.items k ≡ Some r → slice_index_or v.items k Held.Spent ≡ Held.Outside r) }
+    ensures { IfOk result (λ v. v.items ≡ map (λ r. Held.Outside r) outside.items) }
 {
-    let mut rights = Vec::new(alloc);
-    for right in outside {
-        rights.push(Held::Outside(right))?;
-    }
+    let rights = outside
+        .into_iter()
+        .map(|right| Held::Outside(right))
+        .collect(alloc)?;
     Ok(rights)
 }
 

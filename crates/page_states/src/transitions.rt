@@ -11,8 +11,8 @@ use frame_store::{ChangedRight, CleanRight, FrameStore, OutsideRight};
 use protect_meta::Meta;
 use sha2::{Digest, Sha256};
 
-// A frame's new bytes are made in one local page. No call does with less: a transition holds the store, so the bytes
-// that it takes lie elsewhere, and neither an outside frame nor a clean one may be written before its state changes.
+// The new bytes are made in one local page, and no call does with less: a transition of the store takes all of them by
+// reference while it writes the store, so they lie outside it.
 
 fn open_bytes(page: &mut [u8; 4096], iv: &[u8; 16], k: &Schedule)
     ensures { IsPlain k.now iv.now page.old page.new }

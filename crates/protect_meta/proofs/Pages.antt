@@ -1,9 +1,9 @@
 -- What the tests of pages say.
-use Rattle.std.proofs.Common.{◌≡◌, ◌≢◌, ◌⊎◌, ℕ, ◌<◌, Bool, true, false, refl, ap, inl, inr}
+use Rattle.std.proofs.Common.{◌≡◌, ◌≢◌, ◌⊎◌, ℕ, Bool, true, false, refl, ap, inl, inr}
 use Rattle.std.specs.Bool.{Decides}
 use Rattle.std.proofs.lemmas.Bool.Decides.{Decides-eqb, Decides-and, Decides-ltb, Decides-like, not_from_Decides}
 use Rattle.cloak_base.specs.declared.names.PageId.{PageId}
-use Rattle.protect_meta.specs.Pages.{same_page, of_resource, is_page}
+use Rattle.protect_meta.specs.Pages.{IsIn, same_page, of_resource, is_page}
 
 -- a test, with what it tells
 pub told : {P : Type 0} (b : Bool) → Decides b P → ((b ≡ true) × P) ⊎ ((b ≡ false) × ¬ P)
@@ -38,12 +38,6 @@ of_resource-decides domain resource p = Decides-and _ _ (Decides-eqb p.domain do
 pub of_resource_tells : (domain resource : ℕ) (p : PageId) → ((of_resource domain resource p ≡ true) × ((p.domain ≡ domain) × (p.resource ≡ resource))) ⊎ ((of_resource domain resource p ≡ false) × ¬ ((p.domain ≡ domain) × (p.resource ≡ resource)))
 of_resource_tells domain resource p = told (of_resource domain resource p) (of_resource-decides domain resource p)
 
--- there is a page of these numbers
-pub record IsIn (domains : ℕ) (p : PageId) : Type 0 where
-  pub domain : p.domain < domains
-  pub resource : p.resource < 16
-  pub page : p.page < 1024
-
 pub is_page-decides : (domains : ℕ) (p : PageId) → Decides (is_page domains p) (IsIn domains p)
 unfolding is_page
 is_page-decides domains p =
@@ -54,3 +48,9 @@ is_page-decides domains p =
 
 pub is_page_tells : (domains : ℕ) (p : PageId) → ((is_page domains p ≡ true) × IsIn domains p) ⊎ ((is_page domains p ≡ false) × ¬ IsIn domains p)
 is_page_tells domains p = told (is_page domains p) (is_page-decides domains p)
+
+pub of_resource-here : (domain resource : ℕ) (p : PageId) → p.domain ≡ domain → p.resource ≡ resource → of_resource domain resource p ≡ true
+of_resource-here domain resource p d r = (of_resource-decides domain resource p).1 (d, r)
+
+pub of_resource-other : (domain resource : ℕ) (p : PageId) → ¬ ((p.domain ≡ domain) × (p.resource ≡ resource)) → of_resource domain resource p ≡ false
+of_resource-other domain resource p n = elim (of_resource_tells domain resource p) [ inl h ↦ absurd (n h.1) | inr h ↦ h.0 ]

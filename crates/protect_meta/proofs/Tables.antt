@@ -5,9 +5,9 @@ use Rattle.std.proofs.lemmas.Bool.{cases_lt}
 use Rattle.std.specs.List.{CopiedTo, SameBelow, SameFrom}
 use Rattle.cloak_base.specs.declared.names.PageId.{PageId}
 use Rattle.protect_meta.specs.declared.meta.Meta.{Meta}
-use Rattle.protect_meta.specs.Pages.{same_page, of_resource, page_in, place}
+use Rattle.protect_meta.specs.Pages.{IsIn, same_page, of_resource, page_in, place}
 use Rattle.protect_meta.specs.Table.{Table, meta_at}
-use Rattle.protect_meta.proofs.Pages.{IsIn, is_page_tells, same_page_tells, of_resource_tells, same_numbers}
+use Rattle.protect_meta.proofs.Pages.{is_page_tells, same_page_tells, of_resource_tells, same_numbers}
 
 abbrev row : PageId → ℕ
 row p = place p.domain p.resource p.page
@@ -28,6 +28,10 @@ meta_at_in n metas p h = elim (is_page_tells n p) [ inl t ↦ chosen_true _ _ _ 
 pub meta_at_out : (n : ℕ) (metas : List (Option Meta)) (p : PageId) → ¬ IsIn n p → meta_at (table n metas) p ≡ None
 unfolding meta_at
 meta_at_out n metas p h = elim (is_page_tells n p) [ inl t ↦ absurd (h t.1) | inr f ↦ chosen_false _ _ _ f.0 ]
+
+-- what has metadata is a page
+pub meta_at-is_in : (t : Table) (p : PageId) (m : Meta) → meta_at t p ≡ Some m → IsIn t.domains p
+meta_at-is_in t p m h = elim (is_page_tells t.domains p) [ inl i ↦ i.1 | inr o ↦ absurd (let none = meta_at_out t.domains t.metas p o.1 in cc) ]
 
 -- two pages in one place are one
 one_place : (n m : ℕ) (p q : PageId) → IsIn n p → IsIn m q → row p ≡ row q → p ≡ q

@@ -1,5 +1,5 @@
 -- Pages by their numbers. A domain has 16 resources, a resource 1024 pages.
-use Rattle.std.specs.Prelude.{ℕ, ◌+◌, ◌*◌, Bool, ◌&&◌, nat_eq, nat_lt}
+use Rattle.std.specs.Prelude.{ℕ, ◌+◌, ◌*◌, ◌<◌, Bool, ◌&&◌, nat_eq, nat_lt}
 use Rattle.cloak_base.specs.declared.names.PageId.{PageId}
 
 -- the two are one page
@@ -15,6 +15,12 @@ abbrev pub page_in : ℕ → PageId → PageId
 page_in resource p = record { domain = p.domain; resource = resource; page = p.page }
 
 -- there is such a page where there are so many domains
+pub record IsIn (domains : ℕ) (p : PageId) : Type 0 where
+  pub domain : p.domain < domains
+  pub resource : p.resource < 16
+  pub page : p.page < 1024
+
+-- the test of it
 unfoldable pub is_page : ℕ → PageId → Bool
 is_page domains p = nat_lt p.domain domains && (nat_lt p.resource 16 && nat_lt p.page 1024)
 

@@ -33,8 +33,8 @@ impl FrameStore {
         ensures count { IfOk result (λ p. length p.1.items ≡ n) }
         ensures rights { IfOk result (λ p. (k : ℕ) → k < n → slice_get p.1.items k ≡ Some (record { 0 = k })) }
     {
-        let mut frames = Vec::new(alloc);
-        let mut rights = Vec::new(alloc);
+        let mut frames = Vec::with_capacity(alloc, n as usize)?;
+        let mut rights = Vec::with_capacity(alloc, n as usize)?;
         for i in 0..n {
             frames.push([0; 4096])?;
             rights.push(OutsideRight { frame: Frame(i) })?;

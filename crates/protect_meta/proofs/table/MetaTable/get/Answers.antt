@@ -1,7 +1,7 @@
 use Rattle.std.proofs.Common.{◌<◌, ◌∙◌, None, sym, ap, length, arith}
 use Rattle.std.proofs.lemmas.List.{get_or_read}
 use Rattle.protect_meta.specs.Table.{Table}
-use Rattle.protect_meta.proofs.Pages.{IsIn}
+use Rattle.protect_meta.specs.Pages.{IsIn}
 use Rattle.protect_meta.proofs.Tables.{meta_at_in}
 use Rattle.protect_meta.proofs.table.MetaTable.get.Goals as goal
 
