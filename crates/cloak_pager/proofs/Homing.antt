@@ -3,8 +3,8 @@ use Rattle.std.proofs.Common.{◌≡◌, ◌≢◌, ℕ, ◌+◌, ◌*◌, ◌<�
 use Rattle.std.proofs.lemmas.List.{get_or-set_same, get_or-set_other, length-set}
 use Rattle.cloak_base.specs.declared.names.Frame.{Frame}
 use Rattle.cloak_base.specs.declared.names.PageId.{PageId}
-use Rattle.protect_meta.specs.Pages.{same_page, place}
-use Rattle.protect_meta.proofs.Pages.{IsIn, is_page_tells, same_page_tells, same_numbers}
+use Rattle.protect_meta.specs.Pages.{IsIn, same_page, place}
+use Rattle.protect_meta.proofs.Pages.{is_page_tells, same_page_tells, same_numbers}
 use Rattle.protect_meta.proofs.Tables.{chosen_true, chosen_false}
 use Rattle.cloak_pager.specs.Homes.{HomeTable, home_at}
 

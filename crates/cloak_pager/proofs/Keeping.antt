@@ -13,7 +13,7 @@ use Rattle.protect_meta.specs.Table.{Table, meta_at, domains_of}
 use Rattle.protect_meta.specs.Pages.{same_page as same_meta}
 use Rattle.protect_meta.proofs.Pages.{same_page_tells}
 use Rattle.cloak_pager.specs.Homes.{HomeTable, home_at}
-use Rattle.cloak_pager.specs.State.{PagerState, IsWhole, IsKept, IsPage, Names, AreNoted, page_of, owed_of, right_at, bytes_in, held_in, owed_at}
+use Rattle.cloak_pager.specs.State.{PagerState, IsWhole, IsKept, Names, AreNoted, page_of, owed_of, right_at, bytes_in, held_in, owed_at}
 use Rattle.cloak_pager.specs.Turns.{Turns, frame, holding}
 use Rattle.cloak_pager.specs.declared.held.Held.{Held}
 use Rattle.cloak_pager.specs.declared.held.Held.TheVariants.{Outside, Clean, Changed, Spent}

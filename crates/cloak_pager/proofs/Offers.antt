@@ -19,7 +19,8 @@ use Rattle.frame_store.specs.Rights.{Holding}
 use Rattle.page_states.specs.Opening.{IsPlain}
 use Rattle.protect_meta.specs.declared.meta.Meta.{Meta}
 use Rattle.protect_meta.specs.Table.{meta_at, domains_of}
-use Rattle.cloak_pager.specs.State.{PagerState, IsWhole, IsPage, Names, page_of, owed_of, right_at, bytes_in, held_in, owed_at}
+use Rattle.protect_meta.specs.Pages.{IsIn}
+use Rattle.cloak_pager.specs.State.{PagerState, IsWhole, Names, page_of, owed_of, right_at, bytes_in, held_in, owed_at}
 use Rattle.cloak_pager.specs.Turns.{Turns, frame, holding, HoldsNow, Opens, OfferTurns, OfferedTurns, offered_by, shown_by_digest, ShownTurns}
 use Rattle.cloak_pager.proofs.Turned.{same_digest, other_digest}
 use Rattle.cloak_pager.specs.Relation.{StandsFor, FrameStands, PageStands, HoldsClean, IsRecorded, IsUnowed}
@@ -194,7 +195,7 @@ pub bytes_equal : (a b : List ℕ) → a ≡ b → bytes_eq a b ≡ true
 bytes_equal a b e = (bytes_eq-Decides a b).1 e
 
 -- a pager is whole after a frame took a page, or changed the one that it held
-pub whole_taken : (p p' : PagerState) (g : ℕ) (q : PageId) (write : Bool) (plain : List ℕ) → IsWhole p → g < length p.frames → IsPage (domains_of p.table) q → ((k : ℕ) → held_in p k ≡ Some q → k ≡ g) → meta_at p.table q ≢ None ⊎ (write ≡ true) → HoldsNow p p' q g write plain → IsWhole p'
+pub whole_taken : (p p' : PagerState) (g : ℕ) (q : PageId) (write : Bool) (plain : List ℕ) → IsWhole p → g < length p.frames → IsIn (domains_of p.table) q → ((k : ℕ) → held_in p k ≡ Some q → k ≡ g) → meta_at p.table q ≢ None ⊎ (write ≡ true) → HoldsNow p p' q g write plain → IsWhole p'
 whole_taken p p' g q true plain w inside page alone shown t = whole_turned p p' g (Changed (holding g q)) plain (meta_at p.table) w t inside (refl, rw t.domains_stay page) (λ o n. n) (λ k o n e there. n (alone k (there ∙ sym e)))
 whole_taken p p' g q false plain w inside page alone shown t =
     let there : meta_at p.table q ≢ None = elim shown [ inl n ↦ n | inr e ↦ absurd (let no : false ≡ true = e in cc) ] in
@@ -305,7 +306,7 @@ equal_unclashed m g q write c none free recorded digest unclashed =
         clashes m.ledger.clashed there c mark (bytes_equal (sha256 there) (sha256 c) digest)
 
 -- An offer does what the rules of cloaking tell of it.
-pub offer_meets : (p p' : PagerState) (q : PageId) (g : ℕ) (write : Bool) (result : Offered) → g < length p.frames → IsPage (domains_of p.table) q → (held_in p g ≡ None) ⊎ (held_in p g ≡ Some q) → ((k : ℕ) → held_in p k ≡ Some q → k ≡ g) → result ≡ offered_by (right_at p g) (meta_at p.table q) (bytes_in p g) → OfferedTurns result (right_at p g) (meta_at p.table q) write p p' q g → MeetsUnclashed p p' (answer_of result) (told_offer q g write)
+pub offer_meets : (p p' : PagerState) (q : PageId) (g : ℕ) (write : Bool) (result : Offered) → g < length p.frames → IsIn (domains_of p.table) q → (held_in p g ≡ None) ⊎ (held_in p g ≡ Some q) → ((k : ℕ) → held_in p k ≡ Some q → k ≡ g) → result ≡ offered_by (right_at p g) (meta_at p.table q) (bytes_in p g) → OfferedTurns result (right_at p g) (meta_at p.table q) write p p' q g → MeetsUnclashed p p' (answer_of result) (told_offer q g write)
 offer_meets p p' q g write result inside page room alone cause turns w m s unclashed =
     by_right (right_at p g) refl (meta_at p.table q) refl cause turns
   where
@@ -393,7 +394,7 @@ offer_meets p p' q g write result inside page room alone cause turns w m s uncla
     by_right Spent at t shown cause turns = absurd (frame_at Spent at)
 
 -- the same, by what the frame holds and the metadata that the page has
-pub offer_by : (p p' : PagerState) (q : PageId) (g : ℕ) (write : Bool) (result : Offered) (h : Held) (t : Option Meta) → g < length p.frames → IsPage (domains_of p.table) q → (held_in p g ≡ None) ⊎ (held_in p g ≡ Some q) → ((k : ℕ) → held_in p k ≡ Some q → k ≡ g) → right_at p g ≡ h → meta_at p.table q ≡ t → result ≡ offered_by h t (bytes_in p g) → OfferedTurns result h t write p p' q g → MeetsUnclashed p p' (answer_of result) (told_offer q g write)
+pub offer_by : (p p' : PagerState) (q : PageId) (g : ℕ) (write : Bool) (result : Offered) (h : Held) (t : Option Meta) → g < length p.frames → IsIn (domains_of p.table) q → (held_in p g ≡ None) ⊎ (held_in p g ≡ Some q) → ((k : ℕ) → held_in p k ≡ Some q → k ≡ g) → right_at p g ≡ h → meta_at p.table q ≡ t → result ≡ offered_by h t (bytes_in p g) → OfferedTurns result h t write p p' q g → MeetsUnclashed p p' (answer_of result) (told_offer q g write)
 offer_by p p' q g write result h t inside page room alone at shown cause turns =
     let C : Held → Option Meta → Type 0 = λ x y. result ≡ offered_by x y (bytes_in p g) in
     let T : Held → Option Meta → Type 0 = λ x y. OfferedTurns result x y write p p' q g in

@@ -12,9 +12,9 @@ use Rattle.frame_store.specs.Rights.{Holding}
 use Rattle.page_states.specs.Opening.{IsPlain}
 use Rattle.protect_meta.specs.declared.meta.Meta.{Meta}
 use Rattle.protect_meta.specs.Table.{Table, meta_at, domains_of}
-use Rattle.protect_meta.specs.Pages.{same_page as same_meta}
+use Rattle.protect_meta.specs.Pages.{IsIn, same_page as same_meta}
 use Rattle.cloak_pager.specs.Homes.{HomeTable, home_at}
-use Rattle.cloak_pager.specs.State.{PagerState, IsWhole, IsKept, IsPage, Names, AreNoted, page_of, owed_of, right_at, bytes_in, held_in}
+use Rattle.cloak_pager.specs.State.{PagerState, IsWhole, IsKept, Names, AreNoted, page_of, owed_of, right_at, bytes_in, held_in}
 use Rattle.cloak_pager.specs.Turns.{Turns, frame, holding, IsResealed, IsSealed, IsWiped, IsPlaced, Opens, HoldsNow, shown_by_digest}
 use Rattle.cloak_pager.specs.declared.held.Held.{Held}
 use Rattle.cloak_pager.specs.declared.held.Held.TheVariants.{Outside, Clean, Changed, Spent}
@@ -187,7 +187,7 @@ outside_is p w f r inside at = named_as p w f (Outside r) inside at
 
 -- First use.
 
-pub first_kept : (p : PagerState) (homes homes' : HomeTable) (frames' : List (List ℕ)) (f : ℕ) (r : Frame) (spent : Held) (n : Holding) (q : PageId) → IsKept p homes → f < length p.frames → right_at p f ≡ Outside r → frames' ≡ slice_set p.frames r.0 zero_page → n ≡ record { frame = r; page = q } → IsPage (domains_of p.table) q → ((k : ℕ) → held_in p k ≢ Some q) → ((o : PageId) → home_at homes' o ≡ (if same_meta o q then Some (frame f) else home_at homes o)) → homes'.domains ≡ homes.domains → IsKept (put p frames' f spent (Changed n) p.table) homes'
+pub first_kept : (p : PagerState) (homes homes' : HomeTable) (frames' : List (List ℕ)) (f : ℕ) (r : Frame) (spent : Held) (n : Holding) (q : PageId) → IsKept p homes → f < length p.frames → right_at p f ≡ Outside r → frames' ≡ slice_set p.frames r.0 zero_page → n ≡ record { frame = r; page = q } → IsIn (domains_of p.table) q → ((k : ℕ) → held_in p k ≢ Some q) → ((o : PageId) → home_at homes' o ≡ (if same_meta o q then Some (frame f) else home_at homes o)) → homes'.domains ≡ homes.domains → IsKept (put p frames' f spent (Changed n) p.table) homes'
 first_kept p homes homes' frames' f r spent n q k inside at wrote is page nowhere each domains =
     let here : r.0 ≡ f = outside_is p k.whole f r inside at in
     take_kept p homes homes' frames' f spent (Changed n) (Changed (holding f q)) q zero_page k inside
@@ -210,7 +210,7 @@ opened_here frames frames' key iv k f is inside opens =
     let made : (plain : List ℕ) × IsPlain key iv (get_or frames f []) plain × (frames' ≡ slice_set frames k plain) = opens (get_or frames f []) (rw is (slice_get-get_or frames f [] inside)) in
     (made.0, made.1, made.2 ∙ ap (λ (x : ℕ). slice_set frames x made.0) is)
 
-pub open_kept : (p : PagerState) (homes homes' : HomeTable) (frames' : List (List ℕ)) (f : ℕ) (r : Frame) (spent : Held) (n : Holding) (q : PageId) (t : Meta) → IsKept p homes → f < length p.frames → right_at p f ≡ Outside r → meta_at p.table q ≡ Some t → ((old : List ℕ) → slice_get p.frames r.0 ≡ Some old → (plain : List ℕ) × IsPlain p.key t.iv old plain × (frames' ≡ slice_set p.frames r.0 plain)) → n ≡ record { frame = r; page = q } → IsPage (domains_of p.table) q → ((k : ℕ) → held_in p k ≢ Some q) → ((o : PageId) → home_at homes' o ≡ (if same_meta o q then Some (frame f) else home_at homes o)) → homes'.domains ≡ homes.domains → IsKept (put p frames' f spent (Clean n) p.table) homes'
+pub open_kept : (p : PagerState) (homes homes' : HomeTable) (frames' : List (List ℕ)) (f : ℕ) (r : Frame) (spent : Held) (n : Holding) (q : PageId) (t : Meta) → IsKept p homes → f < length p.frames → right_at p f ≡ Outside r → meta_at p.table q ≡ Some t → ((old : List ℕ) → slice_get p.frames r.0 ≡ Some old → (plain : List ℕ) × IsPlain p.key t.iv old plain × (frames' ≡ slice_set p.frames r.0 plain)) → n ≡ record { frame = r; page = q } → IsIn (domains_of p.table) q → ((k : ℕ) → held_in p k ≢ Some q) → ((o : PageId) → home_at homes' o ≡ (if same_meta o q then Some (frame f) else home_at homes o)) → homes'.domains ≡ homes.domains → IsKept (put p frames' f spent (Clean n) p.table) homes'
 open_kept p homes homes' frames' f r spent n q t k inside at shown opens is page nowhere each domains =
     let here : r.0 ≡ f = outside_is p k.whole f r inside at in
     let made = opened_here p.frames frames' p.key t.iv r.0 f here inside opens in

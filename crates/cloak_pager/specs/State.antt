@@ -3,6 +3,7 @@ use Rattle.std.specs.Prelude.{ℕ, ◌≡◌, ◌≢◌, ◌<◌, ◌≤◌, fal
 use Rattle.cloak_base.specs.declared.names.Frame.{Frame}
 use Rattle.cloak_base.specs.declared.names.PageId.{PageId}
 use Rattle.cloak_base.specs.Pages.{is_of}
+use Rattle.protect_meta.specs.Pages.{IsIn}
 use Rattle.protect_meta.specs.Table.{Table, meta_at, domains_of}
 use Rattle.cloak_pager.specs.Homes.{HomeTable, home_at}
 use Rattle.cloak_pager.specs.declared.held.Held.{Held}
@@ -48,12 +49,6 @@ held_in p f = page_of (right_at p f)
 abbrev pub owed_at : PagerState → ℕ → Option PageId
 owed_at p f = owed_of (right_at p f)
 
--- there is such a page: a domain has 16 resources of 1024 pages
-pub record IsPage (domains : ℕ) (q : PageId) : Type 0 where
-  pub domain : q.domain < domains
-  pub resource : q.resource < 16
-  pub page : q.page < 1024
-
 -- page q has no metadata, and no frame holds it
 abbrev pub IsFresh : PagerState → PageId → Type 0
 IsFresh p q = (meta_at p.table q ≡ None) × ((k : ℕ) → held_in p k ≢ Some q)
@@ -69,8 +64,8 @@ IsNoneHeld p domain resource = (k : ℕ) (q : PageId) → held_in p k ≡ Some q
 -- This right is one for frame k, of a page that there is. A page that is held unchanged has metadata.
 abbrev pub Names : Table → ℕ → Held → Type 0
 Names t k (Outside r) = r.0 ≡ k
-Names t k (Clean r) = (r.frame.0 ≡ k) × IsPage (domains_of t) r.page × (meta_at t r.page ≢ None)
-Names t k (Changed r) = (r.frame.0 ≡ k) × IsPage (domains_of t) r.page
+Names t k (Clean r) = (r.frame.0 ≡ k) × IsIn (domains_of t) r.page × (meta_at t r.page ≢ None)
+Names t k (Changed r) = (r.frame.0 ≡ k) × IsIn (domains_of t) r.page
 Names t k Spent = ⊥
 
 -- what is so of every pager

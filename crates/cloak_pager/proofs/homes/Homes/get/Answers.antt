@@ -1,6 +1,6 @@
 use Rattle.std.proofs.Common.{◌<◌, ◌∙◌, None, sym, ap, length, arith}
 use Rattle.std.proofs.lemmas.List.{get_or_read}
-use Rattle.protect_meta.proofs.Pages.{IsIn}
+use Rattle.protect_meta.specs.Pages.{IsIn}
 use Rattle.cloak_pager.specs.Homes.{HomeTable}
 use Rattle.cloak_pager.proofs.Homing.{home_at_in}
 use Rattle.cloak_pager.proofs.homes.Homes.get.Goals as goal

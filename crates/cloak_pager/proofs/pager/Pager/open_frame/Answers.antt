@@ -1,6 +1,7 @@
 use Rattle.std.proofs.Common.{ℕ, Some, ◌≡◌, ◌≢◌, ◌∙◌, sym, subst, ap}
 use Rattle.protect_meta.specs.Table.{domains_of, meta_at}
-use Rattle.cloak_pager.specs.State.{PagerState, IsPage, IsKept, held_in, page_of}
+use Rattle.protect_meta.specs.Pages.{IsIn}
+use Rattle.cloak_pager.specs.State.{PagerState, IsKept, held_in, page_of}
 use Rattle.cloak_pager.specs.Turns.{IsClean}
 use Rattle.cloak_pager.specs.declared.held.Held.TheVariants.{Outside}
 use Rattle.cloak_pager.proofs.Keeping.{right_seen}
@@ -11,7 +12,7 @@ pub invariant_of-self : goal.invariant_of-self
 invariant_of-self c =
     let p : PagerState = record { frames = c.self.inside.frames; rights = c.self.inside.rights.items; table = c.self.inside.table; key = c.self.inside.key; reads = c.self.inside.reads } in
     let seen = right_seen p c.args.self.now c.self.view_is c.self.invariant.whole c.args.g.0 c.requires.inside c.index_mut.result.now (Outside c.in-Outside.right) c.index_mut.ensures.value c.in-Outside.ensures.value in
-    let page : IsPage (domains_of p.table) c.args.q = record { domain = rw (← c.self.view_is) at c.requires.domain; resource = c.requires.resource; page = c.requires.page } in
+    let page : IsIn (domains_of p.table) c.args.q = record { domain = rw (← c.self.view_is) at c.requires.domain; resource = c.requires.resource; page = c.requires.page } in
     let nowhere : (k : ℕ) → held_in p k ≢ Some c.args.q = rw (← c.self.view_is) at c.requires.nowhere in
     let shown : meta_at p.table c.args.q ≡ Some c.args.m.now = rw (← c.self.view_is) at c.requires.shown in
     open_kept p c.self.inside.homes c.note.new.self c.open_page.new.s c.args.g.0 c.in-Outside.right c.replace.new.dest c.in-Ok.opened c.args.q c.args.m.now c.self.invariant seen.0 seen.1 shown c.in-Ok.ensures.bytes c.in-Ok.ensures.right page nowhere c.note.ensures.each c.note.ensures.domains
