@@ -1,0 +1,14 @@
+pub mod Pages
+pub mod Homing
+pub mod Keeping
+pub mod Turned
+pub mod Stands
+pub mod Touches
+pub mod Writes
+pub mod Copies
+pub mod Calls
+pub mod Offers
+pub mod Placed
+pub mod Behind
+pub mod Closing
+pub mod Opening

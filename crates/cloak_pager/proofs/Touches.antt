@@ -1,0 +1,302 @@
+-- What a touch does, over plain variables.
+use Rattle.std.proofs.Common.{◌≡◌, ◌≢◌, ◌<◌, ℕ, Bool, true, false, List, [], ◌∷◌, Option, None, Some, length, get_or, slice_set, refl, ap, sym, ◌∙◌, subst, arith}
+use Rattle.std.proofs.lemmas.List.{get_or-set_same, get_or-set_other, length-set, set-get_or}
+use Rattle.sha2.specs.Sha256.{sha256}
+use Rattle.cloak_base.specs.declared.names.Frame.{Frame}
+use Rattle.cloak_base.specs.declared.names.PageId.{PageId}
+use Rattle.cloak_base.specs.Pages.{with_page}
+use Rattle.cloak_base.specs.Random.{Random, next_draw}
+use Rattle.cloak_model.specs.Chain.{cbc}
+use Rattle.cloak_model.specs.Memory.{zero_page}
+use Rattle.cloak_model.specs.Cloaking.{CloakedMemory, Settled, settle, settle_if, settle_owed, owed_in, with_frame, with_owed, with_record, with_miss}
+use Rattle.frame_store.specs.Rights.{Holding}
+use Rattle.protect_meta.specs.declared.meta.Meta.{Meta}
+use Rattle.protect_meta.specs.Table.{meta_at}
+use Rattle.cloak_pager.specs.State.{PagerState, IsWhole, Names, page_of, owed_of, right_at, bytes_in, held_in, owed_at}
+use Rattle.cloak_pager.specs.Turns.{Turns, frame, holding, IsResealed, IsSealed, IsWiped, TouchTurns, touched_by, left_by}
+use Rattle.cloak_pager.specs.Relation.{StandsFor, FrameStands, PageStands, HoldsClean}
+use Rattle.cloak_pager.specs.Told.{Told, Moves, Meets, told_touch, shown_by, wiped_with}
+use Rattle.cloak_pager.specs.declared.held.Held.{Held}
+use Rattle.cloak_pager.specs.declared.held.Held.TheVariants.{Outside, Clean, Changed, Spent}
+use Rattle.cloak_pager.specs.declared.touching.Touched.{Touched}
+use Rattle.cloak_pager.specs.declared.touching.Touched.TheVariants.{Quiet, Resealed, Sealed, Wiped}
+use Rattle.cloak_pager.proofs.Pages.{with_page-same, with_page-other}
+use Rattle.cloak_pager.proofs.Keeping.{there_is, whole_turned}
+use Rattle.cloak_pager.proofs.Turned.{set_keeps}
+use Rattle.cloak_pager.proofs.Stands.{Turned, stands_turned, owed_by_right, page_stays}
+
+-- no other frame holds the page that a frame holds
+pub held_alone : (p : PagerState) → IsWhole p → (f : ℕ) (q : PageId) → held_in p f ≡ Some q → (g : ℕ) (o : PageId) → g ≢ f → Some q ≡ Some o → held_in p g ≢ Some o
+held_alone p w f q held g o n e at = n (w.one_home g f o at (held ∙ e))
+
+-- what is owed stays where the frame was owed nothing
+pub owed_nothing : (p : PagerState) (w : PageId → Bool) (m : CloakedMemory) → StandsFor p w m → (f : ℕ) → owed_at p f ≡ None → m.ledger.owed ≡ slice_set m.ledger.owed f None
+owed_nothing p w m s f none = sym (subst (λ (x : Option PageId). slice_set m.ledger.owed f x ≡ m.ledger.owed) (owed_by_right p w m s f ∙ none) (set-get_or m.ledger.owed f None))
+
+pub stands_resealed : (p p' : PagerState) (w : PageId → Bool) (m : CloakedMemory) (f : ℕ) (r : Holding) → StandsFor p w m → IsWhole p' → f < length p.frames → right_at p f ≡ Clean r → IsResealed p p' f r.page → StandsFor p' w m
+stands_resealed p p' w m f r s whole inside at turns =
+    let q : PageId = r.page in
+    let held : held_in p f ≡ Some q = ap page_of at in
+    let clean : HoldsClean p (w q) m f q = subst (λ (h : Held). stands_at h) at (s.frames f inside) in
+    let named : meta_at p.table q ≢ None = (subst (λ (h : Held). named_at h) at (s.whole.named f inside)).2 in
+    let meta = there_is (meta_at p.table q) named in
+    let t = turns meta.0 meta.1 in
+    let bytes : List ℕ = cbc p.key meta.0.iv (bytes_in p f) in
+    let shows : bytes ≡ get_or m.ram f [] = rw (← s.key) (clean.sealed meta.0 meta.1) in
+    stands_turned p p' w w m m f (Outside (frame f)) bytes (Some q) s (record {
+      whole = whole;
+      frames = t.frames_are;
+      rights = t.rights_are;
+      key = t.key_stays;
+      key_same = refl;
+      ram = refl;
+      ram_elsewhere = λ g n. refl;
+      owed = owed_nothing p w m s f (ap owed_of at);
+      plain = λ o n. refl;
+      recorded = λ o n. refl;
+      metas = λ o n. t.metas_are o;
+      lost = λ o n. refl;
+      held = λ o e. sym held ∙ e;
+      alone = held_alone p s.whole f q held;
+      here = λ within. rw t.frames_are (get_or-set_same p.frames f bytes [] inside ∙ shows);
+      page = λ o e. page_stays (w o) (w o) m m o (meta_at p.table o) (meta_at p'.table o) refl (t.metas_are o) refl refl refl (λ free. free) (s.pages o);
+      newest = λ o e kept. s.plain o kept;
+      drained = s.drained;
+    })
+  where
+    stands_at : Held → Type 0
+    stands_at h = FrameStands p w m f h
+    named_at : Held → Type 0
+    named_at h = Names p.table f h
+
+-- a page that is wiped has no draw, so where a draw is there it is not wiped
+pub kept_by_draw : (p : PagerState) (w : PageId → Bool) (m : CloakedMemory) → StandsFor p w m → (q : PageId) (d : List ℕ × Random) → next_draw m.ledger.stream ≡ Some d → w q ≡ false
+kept_by_draw p w m s q d drawn = by_value (w q) (s.drained q)
+  where
+    by_value : (b : Bool) → (b ≡ true → next_draw m.ledger.stream ≡ None) → b ≡ false
+    by_value true drained = absurd (let no : None ≡ Some d = sym (drained refl) ∙ drawn in cc)
+    by_value false drained = refl
+
+-- what is said of a page, where its metadata is this
+pub page_is : (p' : PagerState) (w' : PageId → Bool) (m' : CloakedMemory) (q : PageId) (t : Option Meta) → meta_at p'.table q ≡ t → PageStands (w' q) m' q t → (o : PageId) → Some q ≡ Some o → PageStands (w' o) m' o (meta_at p'.table o)
+page_is p' w' m' q t at here o e =
+    let same : q ≡ o = cc in
+    let P : PageId → Type 0 = λ x. PageStands (w' x) m' x (meta_at p'.table x) in
+    subst P same (let T : Option Meta → Type 0 = λ x. PageStands (w' q) m' q x in subst T (sym at) here)
+
+-- another page than the one that was turned
+pub other_page : (q o : PageId) → Some q ≢ Some o → o ≢ q
+other_page q o n e = n (ap (λ (x : PageId). Some x) (sym e))
+
+-- the memory after frame f, owed page q, was settled with this draw
+abbrev pub sealed_memory : CloakedMemory → ℕ → PageId → List ℕ × Random → CloakedMemory
+sealed_memory m f q d = let c = cbc m.ledger.key d.0 (m.plain q) in with_record q c d.1 (with_owed f None (with_frame f c m))
+
+-- and with none
+abbrev pub wiped_memory : CloakedMemory → ℕ → CloakedMemory
+wiped_memory m f = with_miss (with_owed f None (with_frame f zero_page m))
+
+pub stands_sealed : (p p' : PagerState) (w : PageId → Bool) (m : CloakedMemory) (f : ℕ) (r : Holding) (d : List ℕ × Random) → StandsFor p w m → IsWhole p' → f < length p.frames → right_at p f ≡ Changed r → next_draw m.ledger.stream ≡ Some d → IsSealed p p' f r.page d.0 → StandsFor p' w (sealed_memory m f r.page d)
+stands_sealed p p' w m f r d s whole inside at drawn t =
+    let q : PageId = r.page in
+    let m' : CloakedMemory = sealed_memory m f q d in
+    let held : held_in p f ≡ Some q = ap page_of at in
+    let kept : w q ≡ false = kept_by_draw p w m s q d drawn in
+    let stands : Held → Type 0 = λ h. FrameStands p w m f h in
+    let same : bytes_in p f ≡ m.plain q = subst stands at (s.frames f inside) kept in
+    let c : List ℕ = cbc p.key d.0 (bytes_in p f) in
+    let c' : List ℕ = cbc m.ledger.key d.0 (m.plain q) in
+    let sealed : c ≡ c' = rw (same, s.key) refl in
+    let meta : Meta = record { iv = d.0; digest = sha256 c } in
+    let meta_there : meta_at p'.table q ≡ Some meta = t.metas_are q ∙ with_page-same (meta_at p.table) q (Some meta) in
+    stands_turned p p' w w m m' f (Outside (frame f)) c (Some q) s (record {
+      whole = whole;
+      frames = t.frames_are;
+      rights = t.rights_are;
+      key = t.key_stays;
+      key_same = refl;
+      ram = length-set m.ram f c';
+      ram_elsewhere = λ g n. get_or-set_other m.ram f g c' [] n;
+      owed = refl;
+      plain = λ o n. refl;
+      recorded = λ o n. with_page-other m.ledger.recorded q (Some c') o (other_page q o n);
+      metas = λ o n. t.metas_are o ∙ with_page-other (meta_at p.table) q (Some meta) o (other_page q o n);
+      lost = λ o n. refl;
+      held = λ o e. sym held ∙ e;
+      alone = held_alone p s.whole f q held;
+      here = λ within. rw t.frames_are (get_or-set_same p.frames f c [] inside ∙ (sealed ∙ sym (get_or-set_same m.ram f c' [] (rw s.count inside))));
+      page = page_is p' w m' q (Some meta) meta_there (record {
+        bytes = c';
+        is = with_page-same m.ledger.recorded q (Some c');
+        digest = ap sha256 (sym sealed);
+        sealed = λ free unowed. refl;
+      });
+      newest = λ o e free. s.plain o free;
+      drained = λ o lost. absurd (let no : false ≡ true = sym (kept_by_draw p w m s o d drawn) ∙ lost in cc);
+    })
+
+pub stands_wiped : (p p' : PagerState) (w : PageId → Bool) (m : CloakedMemory) (f : ℕ) (r : Holding) → StandsFor p w m → IsWhole p' → f < length p.frames → right_at p f ≡ Changed r → next_draw m.ledger.stream ≡ None → IsWiped p p' f → StandsFor p' (with_page w r.page true) (wiped_memory m f)
+stands_wiped p p' w m f r s whole inside at none t =
+    let q : PageId = r.page in
+    let w' : PageId → Bool = with_page w q true in
+    let m' : CloakedMemory = wiped_memory m f in
+    let held : held_in p f ≡ Some q = ap page_of at in
+    let lost : w' q ≡ true = with_page-same w q true in
+    stands_turned p p' w w' m m' f (Outside (frame f)) zero_page (Some q) s (record {
+      whole = whole;
+      frames = t.frames_are;
+      rights = t.rights_are;
+      key = t.key_stays;
+      key_same = refl;
+      ram = length-set m.ram f zero_page;
+      ram_elsewhere = λ g n. get_or-set_other m.ram f g zero_page [] n;
+      owed = refl;
+      plain = λ o n. refl;
+      recorded = λ o n. refl;
+      metas = λ o n. t.metas_are o;
+      lost = λ o n. with_page-other w q true o (other_page q o n);
+      held = λ o e. sym held ∙ e;
+      alone = held_alone p s.whole f q held;
+      here = λ within. rw t.frames_are (get_or-set_same p.frames f zero_page [] inside ∙ sym (get_or-set_same m.ram f zero_page [] (rw s.count inside)));
+      page = page_is p' w' m' q (meta_at p.table q) (t.metas_are q) (wiped_page (w q) (w' q) m m' q (meta_at p.table q) lost refl (s.pages q));
+      newest = λ o e free. absurd (let same : q ≡ o = cc in let no : true ≡ false = sym lost ∙ (ap w' same ∙ free) in cc);
+      drained = λ o lost. none;
+    })
+  where
+    wiped_page : (lost lost' : Bool) (m m' : CloakedMemory) (q : PageId) (t : Option Meta) → lost' ≡ true → m'.ledger.recorded q ≡ m.ledger.recorded q → PageStands lost m q t → PageStands lost' m' q t
+    wiped_page lost lost' m m' q None gone same s = (same ∙ s.0, λ free. absurd (let no : true ≡ false = sym gone ∙ free in cc))
+    wiped_page lost lost' m m' q (Some t) gone same s = record {
+      bytes = s.bytes;
+      is = same ∙ s.is;
+      digest = s.digest;
+      sealed = λ free. absurd (let no : true ≡ false = sym gone ∙ free in cc);
+    }
+
+-- Settling.
+
+pub settle_none : (f : ℕ) (m : CloakedMemory) → owed_in m f ≡ None → settle f m ≡ record { memory = m; ciphers = []; missed = false }
+unfolding settle settle_if
+settle_none f m e = ap (λ (x : Option PageId). settle_if f x m) e
+
+pub settle_draw : (f : ℕ) (m : CloakedMemory) (q : PageId) (d : List ℕ × Random) → owed_in m f ≡ Some q → next_draw m.ledger.stream ≡ Some d → settle f m ≡ record { memory = sealed_memory m f q d; ciphers = (f, cbc m.ledger.key d.0 (m.plain q)) ∷ []; missed = false }
+unfolding settle settle_if settle_owed
+settle_draw f m q d e drawn = ap (λ (x : Option PageId). settle_if f x m) e ∙ ap (λ (x : Option (List ℕ × Random)). settle_owed f q x m) drawn
+
+pub settle_miss : (f : ℕ) (m : CloakedMemory) (q : PageId) → owed_in m f ≡ Some q → next_draw m.ledger.stream ≡ None → settle f m ≡ record { memory = wiped_memory m f; ciphers = (f, zero_page) ∷ []; missed = true }
+unfolding settle settle_if settle_owed
+settle_miss f m q e none = ap (λ (x : Option PageId). settle_if f x m) e ∙ ap (λ (x : Option (List ℕ × Random)). settle_owed f q x m) none
+
+-- What is told of a touch, by the settling.
+abbrev pub told_settled : Settled → Option PageId → (PageId → Bool) → Told (List (ℕ × List ℕ) × Bool)
+told_settled s owed w = record { answer = (s.ciphers, s.missed); wiped = wiped_with s.missed owed w; memory = s.memory }
+
+-- frame f, not changed, is settled already
+pub settled_moves : (p' : PagerState) (w : PageId → Bool) (m : CloakedMemory) (f : ℕ) (left : Random) → StandsFor p' w m → owed_in m f ≡ None → m.ledger.stream ≡ left → Moves (List (ℕ × List ℕ) × Bool) p' left ([], false) (told_touch f w m)
+settled_moves p' w m f left s none e =
+    let M : Settled → Type 0 = λ x. Moves (List (ℕ × List ℕ) × Bool) p' left ([], false) (told_settled x (owed_in m f) w) in
+    subst M (sym (settle_none f m none)) (record { answered = refl; stands = s; drawn = e })
+
+pub whole_outside : (p p' : PagerState) (f : ℕ) (bytes : List ℕ) (metas : PageId → Option Meta) → IsWhole p → f < length p.frames → Turns p p' (slice_set p.frames f bytes) (slice_set p.rights f (Outside (frame f))) metas → ((o : PageId) → meta_at p.table o ≢ None → metas o ≢ None) → IsWhole p'
+whole_outside p p' f bytes metas w inside t keeps = whole_turned p p' f (Outside (frame f)) bytes metas w t inside refl keeps (λ g o n e. absurd (let no : None ≡ Some o = e in cc))
+
+pub whole_resealed : (p p' : PagerState) (f : ℕ) (r : Holding) → IsWhole p → f < length p.frames → right_at p f ≡ Clean r → IsResealed p p' f r.page → IsWhole p'
+whole_resealed p p' f r w inside at turns =
+    let N : Held → Type 0 = λ h. Names p.table f h in
+    let meta = there_is (meta_at p.table r.page) (subst N at (w.named f inside)).2 in
+    whole_outside p p' f (cbc p.key meta.0.iv (bytes_in p f)) (meta_at p.table) w inside (turns meta.0 meta.1) (λ o n. n)
+
+pub touch_meets : (p p' : PagerState) (f : ℕ) (stream left : Random) (result : Touched) → f < length p.frames → result ≡ touched_by (right_at p f) (next_draw stream) → left ≡ left_by (right_at p f) (next_draw stream) stream → TouchTurns (right_at p f) (next_draw stream) p p' f → Meets p stream p' left (shown_by result f p') (told_touch f)
+touch_meets p p' f stream left result inside cause drew turns w m s e =
+    by_right (right_at p f) refl (next_draw stream) refl cause drew turns
+  where
+    G : Type 0
+    G = Moves (List (ℕ × List ℕ) × Bool) p' left (shown_by result f p') (told_touch f w m)
+    gives : (t : Touched) → result ≡ t → Moves (List (ℕ × List ℕ) × Bool) p' left (shown_by t f p') (told_touch f w m) → Moves (List (ℕ × List ℕ) × Bool) p' left (shown_by result f p') (told_touch f w m)
+    gives t is moves = let M : Touched → Type 0 = λ x. Moves (List (ℕ × List ℕ) × Bool) p' left (shown_by x f p') (told_touch f w m) in subst M (sym is) moves
+    by_right : (h : Held) → right_at p f ≡ h → (d : Option (List ℕ × Random)) → next_draw stream ≡ d → result ≡ touched_by h d → left ≡ left_by h d stream → TouchTurns h d p p' f → Moves (List (ℕ × List ℕ) × Bool) p' left (shown_by result f p') (told_touch f w m)
+    by_right (Outside r) at d drawn cause drew turns =
+        let S : PagerState → Type 0 = λ x. StandsFor x w m in
+        gives Quiet cause (settled_moves p' w m f left (subst S (sym turns) s) (owed_by_right p w m s f ∙ ap owed_of at) (e ∙ sym drew))
+    by_right (Clean r) at d drawn cause drew turns =
+        gives Resealed cause (settled_moves p' w m f left (stands_resealed p p' w m f r s (whole_resealed p p' f r s.whole inside at turns) inside at turns) (owed_by_right p w m s f ∙ ap owed_of at) (e ∙ sym drew))
+    by_right (Changed r) at (Some d) drawn cause drew turns =
+        let owes : owed_in m f ≡ Some r.page = owed_by_right p w m s f ∙ ap owed_of at in
+        let there : next_draw m.ledger.stream ≡ Some d = rw e drawn in
+        let c : List ℕ = cbc p.key d.0 (bytes_in p f) in
+        let whole : IsWhole p' = whole_outside p p' f c (with_page (meta_at p.table) r.page (Some (record { iv = d.0; digest = sha256 c }))) s.whole inside turns (set_keeps (meta_at p.table) r.page (record { iv = d.0; digest = sha256 c })) in
+        let stands : StandsFor p' w (sealed_memory m f r.page d) = stands_sealed p p' w m f r d s whole inside at there turns in
+        let F : Held → Type 0 = λ h. FrameStands p w m f h in
+        let same : bytes_in p f ≡ m.plain r.page = subst F at (s.frames f inside) (kept_by_draw p w m s r.page d there) in
+        let shown : bytes_in p' f ≡ cbc m.ledger.key d.0 (m.plain r.page) = rw turns.frames_are (get_or-set_same p.frames f c [] inside ∙ rw (same, s.key) refl) in
+        let M : Settled → Type 0 = λ x. Moves (List (ℕ × List ℕ) × Bool) p' left (shown_by Sealed f p') (told_settled x (owed_in m f) w) in
+        gives Sealed cause (subst M (sym (settle_draw f m r.page d owes there)) (record {
+          answered = ap (λ (x : List ℕ). ((f, x) ∷ [], false)) shown;
+          stands = stands;
+          drawn = sym drew;
+        }))
+    by_right (Changed r) at None drawn cause drew turns =
+        let owes : owed_in m f ≡ Some r.page = owed_by_right p w m s f ∙ ap owed_of at in
+        let none : next_draw m.ledger.stream ≡ None = rw e drawn in
+        let whole : IsWhole p' = whole_outside p p' f zero_page (meta_at p.table) s.whole inside turns (λ o n. n) in
+        let stands : StandsFor p' (with_page w r.page true) (wiped_memory m f) = stands_wiped p p' w m f r s whole inside at none turns in
+        let shown : bytes_in p' f ≡ zero_page = rw turns.frames_are (get_or-set_same p.frames f zero_page [] inside) in
+        let M : Settled → Type 0 = λ x. Moves (List (ℕ × List ℕ) × Bool) p' left (shown_by Wiped f p') (told_settled x (owed_in m f) w) in
+        let O : Option PageId → Type 0 = λ x. Moves (List (ℕ × List ℕ) × Bool) p' left (shown_by Wiped f p') (told_settled (record { memory = wiped_memory m f; ciphers = (f, zero_page) ∷ []; missed = true }) x w) in
+        gives Wiped cause (subst M (sym (settle_miss f m r.page owes none)) (subst O (sym owes) (record {
+          answered = ap (λ (x : List ℕ). ((f, x) ∷ [], true)) shown;
+          stands = stands;
+          drawn = e ∙ sym drew;
+        })))
+    by_right Spent at d drawn cause drew turns = absurd turns
+
+-- The arms of a touch.
+
+-- a frame that went outside
+pub outside_now : (p p' : PagerState) (f : Frame) (bytes : List ℕ) (metas : PageId → Option Meta) → IsWhole p → f.0 < length p.frames → Turns p p' (slice_set p.frames f.0 bytes) (slice_set p.rights f.0 (Outside (frame f.0))) metas → right_at p' f.0 ≡ Outside f
+outside_now p p' f bytes metas w inside t = rw t.rights_are (get_or-set_same p.rights f.0 (Outside (frame f.0)) Spent (rw w.count inside))
+
+pub clean_outside : (p p' : PagerState) (f : Frame) (r : Holding) → IsWhole p → f.0 < length p.frames → right_at p f.0 ≡ Clean r → ((q : PageId) → held_in p f.0 ≡ Some q → IsResealed p p' f.0 q) → right_at p' f.0 ≡ Outside f
+clean_outside p p' f r w inside at turns =
+    let N : Held → Type 0 = λ h. Names p.table f.0 h in
+    let meta = there_is (meta_at p.table r.page) (subst N at (w.named f.0 inside)).2 in
+    outside_now p p' f (cbc p.key meta.0.iv (bytes_in p f.0)) (meta_at p.table) w inside (turns r.page (ap page_of at) meta.0 meta.1)
+
+pub quiet_meets : (p : PagerState) (f : ℕ) (r : Frame) (stream : Random) → f < length p.frames → right_at p f ≡ Outside r → Meets p stream p stream ([], false) (told_touch f)
+quiet_meets p f r stream inside at =
+    let d : Option (List ℕ × Random) = next_draw stream in
+    let C : Held → Type 0 = λ h. Quiet ≡ touched_by h d in
+    let L : Held → Type 0 = λ h. stream ≡ left_by h d stream in
+    let T : Held → Type 0 = λ h. TouchTurns h d p p f in
+    touch_meets p p f stream stream Quiet inside (subst C (sym at) refl) (subst L (sym at) refl) (subst T (sym at) refl)
+
+pub resealed_meets : (p p' : PagerState) (f : ℕ) (r : Holding) (stream : Random) → f < length p.frames → right_at p f ≡ Clean r → ((q : PageId) → held_in p f ≡ Some q → IsResealed p p' f q) → Meets p stream p' stream ([], false) (told_touch f)
+resealed_meets p p' f r stream inside at turns =
+    let d : Option (List ℕ × Random) = next_draw stream in
+    let C : Held → Type 0 = λ h. Resealed ≡ touched_by h d in
+    let L : Held → Type 0 = λ h. stream ≡ left_by h d stream in
+    let T : Held → Type 0 = λ h. TouchTurns h d p p' f in
+    touch_meets p p' f stream stream Resealed inside (subst C (sym at) refl) (subst L (sym at) refl) (subst T (sym at) (turns r.page (ap page_of at)))
+
+pub seal_state : (p p' : PagerState) (f : ℕ) (r : Holding) (iv : List ℕ) (stream left : Random) → right_at p f ≡ Changed r → next_draw stream ≡ Some (iv, left) → ((q : PageId) → held_in p f ≡ Some q → IsSealed p p' f q iv) → TouchTurns (right_at p f) (next_draw stream) p p' f
+seal_state p p' f r iv stream left at drawn turns =
+    let T : Held → Option (List ℕ × Random) → Type 0 = λ h d. TouchTurns h d p p' f in
+    subst (λ (h : Held). T h (next_draw stream)) (sym at) (subst (λ (d : Option (List ℕ × Random)). T (Changed r) d) (sym drawn) (turns r.page (ap page_of at)))
+
+pub sealed_meets : (p p' : PagerState) (f : ℕ) (r : Holding) (iv : List ℕ) (stream left : Random) → f < length p.frames → right_at p f ≡ Changed r → next_draw stream ≡ Some (iv, left) → ((q : PageId) → held_in p f ≡ Some q → IsSealed p p' f q iv) → Meets p stream p' left ((f, bytes_in p' f) ∷ [], false) (told_touch f)
+sealed_meets p p' f r iv stream left inside at drawn turns =
+    let C : Held → Option (List ℕ × Random) → Type 0 = λ h d. Sealed ≡ touched_by h d in
+    let L : Held → Option (List ℕ × Random) → Type 0 = λ h d. left ≡ left_by h d stream in
+    touch_meets p p' f stream left Sealed inside
+    (subst (λ (h : Held). C h (next_draw stream)) (sym at) (subst (λ (d : Option (List ℕ × Random)). C (Changed r) d) (sym drawn) refl))
+    (subst (λ (h : Held). L h (next_draw stream)) (sym at) (subst (λ (d : Option (List ℕ × Random)). L (Changed r) d) (sym drawn) refl))
+    (seal_state p p' f r iv stream left at drawn turns)
+
+pub wiped_meets : (p p' : PagerState) (f : ℕ) (r : Holding) (stream left : Random) → f < length p.frames → right_at p f ≡ Changed r → next_draw stream ≡ None → left ≡ stream → IsWiped p p' f → Meets p stream p' left ((f, bytes_in p' f) ∷ [], true) (told_touch f)
+wiped_meets p p' f r stream left inside at none same turns =
+    let C : Held → Option (List ℕ × Random) → Type 0 = λ h d. Wiped ≡ touched_by h d in
+    let L : Held → Option (List ℕ × Random) → Type 0 = λ h d. left ≡ left_by h d stream in
+    let T : Held → Option (List ℕ × Random) → Type 0 = λ h d. TouchTurns h d p p' f in
+    touch_meets p p' f stream left Wiped inside
+    (subst (λ (h : Held). C h (next_draw stream)) (sym at) (subst (λ (d : Option (List ℕ × Random)). C (Changed r) d) (sym none) refl))
+    (subst (λ (h : Held). L h (next_draw stream)) (sym at) (subst (λ (d : Option (List ℕ × Random)). L (Changed r) d) (sym none) same))
+    (subst (λ (h : Held). T h (next_draw stream)) (sym at) (subst (λ (d : Option (List ℕ × Random)). T (Changed r) d) (sym none) turns))

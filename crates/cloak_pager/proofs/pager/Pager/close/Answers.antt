@@ -1,0 +1,22 @@
+use Rattle.std.proofs.Common.{◌<◌, length, arith, subst, refl}
+use Rattle.cloak_pager.specs.State.{PagerState, IsWhole}
+use Rattle.cloak_pager.proofs.Closing.{closed_start, closed_more, closing_stands}
+use Rattle.cloak_pager.proofs.pager.Pager.close.Goals as goal
+
+pub loop-i-init : goal.loop-i-init
+loop-i-init c = record { closed = closed_start _; stands = λ w m s. s }
+
+pub loop-i-preserved : goal.loop-i-preserved
+loop-i-preserved c =
+    let p : PagerState = record { frames = c.self.inside.frames; rights = c.self.inside.rights.items; table = c.self.inside.table; key = c.self.inside.key; reads = c.self.inside.reads } in
+    let whole : IsWhole c.args.self.now = subst IsWhole c.self.view_is c.self.invariant.whole in
+    let there : c.loop-i.i < length p.frames = rw (← c.self.invariant.whole.count) (omega (arith, c.len-i-end.ensures, c.loop-i-test.true, c.self.inside.rights.ok.0)) in
+    let inside : c.loop-i.i < length c.args.self.now.frames = rw (← c.self.view_is) there in
+    let within : c.loop-i.i < length c.loop-i.self.frames = rw c.loop-i.invariant.closed.count inside in
+    record {
+      closed = closed_more c.args.self.now c.loop-i.self c.close_frame.new.self c.loop-i.i whole c.loop-i.invariant.closed inside c.close_frame.ensures;
+      stands = λ w m s. closing_stands c.loop-i.self c.close_frame.new.self c.loop-i.i within c.close_frame.ensures w m (c.loop-i.invariant.stands w m s);
+    }
+
+pub returns-clause-model : goal.returns-clause-model
+returns-clause-model c = λ w m s. record { answered = refl; stands = c.loop-i.invariant.stands w m s; drawn = refl }

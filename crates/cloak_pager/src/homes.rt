@@ -1,0 +1,64 @@
+ghost use Rattle.std.specs.Prelude.{◌≡◌, ◌*◌, ◌+◌, ◌<◌, ◌≤◌, IfOk, Some, if◌then◌else◌};
+ghost use Rattle.cloak_base.specs.declared.names.PageId.{PageId as AnyPage};
+ghost use Rattle.protect_meta.specs.Pages.{same_page, place};
+ghost use Rattle.cloak_pager.specs.Homes.{home_at};
+
+use cloak_base::{Frame, NoMemory, PageId};
+use std::alloc::Global;
+use std::marker::Model;
+
+/// The frame that was last noted for each page. It is right for a page that a frame holds.
+#[derive(Drop)]
+pub struct Homes {
+    domains: u32,
+    frames: Vec<Option<Frame>>,
+}
+
+impl Model for Homes {
+    ghost use Rattle.std.specs.Prelude.{◌≡◌, ◌*◌, length};
+    ghost use Rattle.cloak_pager.specs.Homes.{HomeTable};
+
+    ghost Value = { HomeTable };
+
+    ghost view = { λ t. record { domains = t.domains; frames = t.frames.items } };
+
+    ghost invariant = { λ t. length t.frames.items ≡ t.domains * 16384 };
+}
+
+/// Where a page's frame stands.
+fn place_of(domain: u32, resource: u32, page: u32) -> usize
+    ensures { result ≡ place domain resource page }
+{
+    (domain as usize * 16 + resource as usize) * 1024 + page as usize
+}
+
+impl Homes {
+    /// The one call that takes memory.
+    pub fn open(alloc: Global, domains: u32) -> Result<Homes, NoMemory>
+        requires { domains ≤ 4 }
+        ensures { IfOk result (λ t. t.domains ≡ domains) }
+    {
+        let frames = vec![in alloc; None; domains as usize * 16384]?;
+        Ok(Homes { domains, frames })
+    }
+
+    pub fn get(&self, q: PageId) -> Option<Frame>
+        requires domain { q.domain < self.now.domains }
+        requires resource { q.resource < 16 }
+        requires page { q.page < 1024 }
+        ensures { result ≡ home_at self.now q }
+    {
+        self.frames[place_of(q.domain, q.resource, q.page)]
+    }
+
+    pub fn note(&mut self, q: PageId, f: Frame)
+        requires domain { q.domain < self.old.domains }
+        requires resource { q.resource < 16 }
+        requires page { q.page < 1024 }
+        ensures each { (p : AnyPage) → home_at self.new p ≡ (if same_page p q then Some f else home_at self.old p) }
+        ensures domains { self.new.domains ≡ self.old.domains }
+    {
+        let at = place_of(q.domain, q.resource, q.page);
+        self.frames[at] = Some(f);
+    }
+}

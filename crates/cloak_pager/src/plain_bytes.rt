@@ -1,0 +1,84 @@
+ghost use Rattle.std.specs.Prelude.{◌≡◌, ℕ, ◌<◌, ◌%◌};
+ghost use Rattle.cloak_model.specs.Memory.{with_value_in};
+ghost use Rattle.cloak_pager.specs.Width.{IsWidth, value_in};
+
+use crate::held::Held;
+use crate::pager::Pager;
+use cloak_base::PageId;
+
+impl Pager {
+    ghost use Rattle.protect_meta.specs.Table.{domains_of};
+    ghost use Rattle.cloak_pager.specs.State.{held_in, owed_at, bytes_in};
+    ghost use Rattle.cloak_pager.specs.Turns.{HasBytes};
+    ghost use Rattle.cloak_pager.specs.Told.{MeetsStill, told_write_plain, ReadsNewest};
+
+    /// The `width` bytes at a place of the page as a number.
+    pub fn read_plain(&self, q: PageId, at: u32, width: u32) -> u32
+        requires domain { q.domain < domains_of self.now.table }
+        requires resource { q.resource < 16 }
+        requires page { q.page < 1024 }
+        requires held { (f : ℕ) × (held_in self.now f ≡ Some q) }
+        requires width { IsWidth width }
+        requires aligned { at % width ≡ 0 }
+        requires within { at < 4096 }
+        ensures value { (f : ℕ) → held_in self.now f ≡ Some q → result ≡ value_in (bytes_in self.now f) at width }
+        ensures model { ReadsNewest self.now q at width result }
+    {
+        match self.homes.get(q) {
+            Some(f) => match &self.rights[f.0 as usize] {
+                Held::Clean(right) => get_value(self.frames.plain(right), at, width),
+                Held::Changed(right) => get_value(self.frames.changed(right), at, width),
+                _ => unreachable!(),
+            },
+            None => unreachable!(),
+        }
+    }
+
+    /// Stores the lowest `width` bytes of a value at a place of the page.
+    pub fn write_plain(&mut self, q: PageId, at: u32, width: u32, v: u32)
+        requires domain { q.domain < domains_of self.old.table }
+        requires resource { q.resource < 16 }
+        requires page { q.page < 1024 }
+        requires owed { (f : ℕ) × (owed_at self.old f ≡ Some q) }
+        requires width { IsWidth width }
+        requires aligned { at % width ≡ 0 }
+        requires within { at < 4096 }
+        ensures state { (f : ℕ) → owed_at self.old f ≡ Some q → HasBytes self.old self.new f (with_value_in (bytes_in self.old f) at width v) }
+        ensures model { MeetsStill self.old self.new tt (told_write_plain q at width v) }
+    {
+        match self.homes.get(q) {
+            Some(f) => match &self.rights[f.0 as usize] {
+                Held::Changed(right) => put_value(self.frames.changed_mut(right), at, width, v),
+                _ => unreachable!(),
+            },
+            None => unreachable!(),
+        }
+    }
+}
+
+/// The `width` bytes at a place of a page as a number, the lowest byte first.
+fn get_value(page: &[u8; 4096], at: u32, width: u32) -> u32
+    requires width { IsWidth width }
+    requires aligned { at % width ≡ 0 }
+    requires within { at < 4096 }
+    ensures { result ≡ value_in page.now at width }
+{
+    let at = at as usize;
+    match width {
+        1 => u32::from(page[at]),
+        2 => u32::from(u16::from_le_bytes([page[at], page[at + 1]])),
+        _ => u32::from_le_bytes([page[at], page[at + 1], page[at + 2], page[at + 3]]),
+    }
+}
+
+/// Stores the lowest `width` bytes of a value at a place of a page, the lowest byte first.
+pub(crate) fn put_value(page: &mut [u8; 4096], at: u32, width: u32, v: u32)
+    requires width { IsWidth width }
+    requires aligned { at % width ≡ 0 }
+    requires within { at < 4096 }
+    ensures { page.new ≡ with_value_in page.old at width v }
+{
+    let at = at as usize;
+    let width = width as usize;
+    page[at..at + width].copy_from_slice(&v.to_le_bytes()[..width]);
+}

@@ -1,0 +1,134 @@
+ghost use Rattle.std.specs.Prelude.{◌≡◌, ◌≢◌, ℕ, ◌<◌, length, true, false};
+ghost use Rattle.cloak_base.specs.declared.names.PageId.{PageId as AnyPage};
+ghost use Rattle.sha2.specs.Sha256.{sha256};
+ghost use Rattle.cloak_model.specs.Memory.{zero_page};
+
+use crate::held::Held;
+use crate::pager::Pager;
+use cloak_base::{Frame, PageId};
+use page_states::{change, first_page, open_page, reseal, seal, wipe};
+use protect_meta::Meta;
+use std::mem;
+
+// Each takes the right of one frame out, turns it, and puts the next one in its place.
+impl Pager {
+    ghost use Rattle.protect_meta.specs.Table.{meta_at, domains_of};
+    ghost use Rattle.cloak_pager.specs.State.{right_at, held_in, owed_at, bytes_in};
+    ghost use Rattle.cloak_pager.specs.Turns.{IsClean, IsChanged, IsResealed, IsSealed, IsWiped, Opens, HoldsNow};
+
+    pub(crate) fn reseal_frame(&mut self, f: Frame)
+        requires inside { f.0 < length self.old.frames }
+        requires clean { IsClean (right_at self.old f.0) }
+        ensures { (q : AnyPage) → held_in self.old f.0 ≡ Some q → IsResealed self.old self.new f.0 q }
+    {
+        match mem::replace(&mut self.rights[f.0 as usize], Held::Spent) {
+            Held::Clean(right) => {
+                match self.table.get(right.page()) {
+                    Some(meta) => {
+                        self.rights[f.0 as usize] = Held::Outside(reseal(
+                            &mut self.frames,
+                            right,
+                            &meta,
+                            &self.key,
+                        ));
+                    }
+                    None => unreachable!(),
+                }
+            }
+            _ => unreachable!(),
+        }
+    }
+
+    pub(crate) fn seal_frame(&mut self, f: Frame, iv: [u8; 16])
+        requires inside { f.0 < length self.old.frames }
+        requires changed { IsChanged (right_at self.old f.0) }
+        ensures { (q : AnyPage) → held_in self.old f.0 ≡ Some q → IsSealed self.old self.new f.0 q iv }
+    {
+        match mem::replace(&mut self.rights[f.0 as usize], Held::Spent) {
+            Held::Changed(right) => {
+                let page = right.page();
+                let (right, meta) = seal(&mut self.frames, right, iv, &self.key);
+                self.table.set(page, meta);
+                self.rights[f.0 as usize] = Held::Outside(right);
+            }
+            _ => unreachable!(),
+        }
+    }
+
+    pub(crate) fn wipe_frame(&mut self, f: Frame)
+        requires inside { f.0 < length self.old.frames }
+        requires changed { IsChanged (right_at self.old f.0) }
+        ensures { IsWiped self.old self.new f.0 }
+    {
+        match mem::replace(&mut self.rights[f.0 as usize], Held::Spent) {
+            Held::Changed(right) => {
+                self.rights[f.0 as usize] = Held::Outside(wipe(&mut self.frames, right));
+            }
+            _ => unreachable!(),
+        }
+    }
+
+    /// Opens the outside frame as page `q`, where its bytes have the digest of the metadata.
+    pub(crate) fn open_frame(&mut self, q: PageId, g: Frame, m: &Meta) -> bool
+        requires inside { g.0 < length self.old.frames }
+        requires domain { q.domain < domains_of self.old.table }
+        requires resource { q.resource < 16 }
+        requires page { q.page < 1024 }
+        requires outside { held_in self.old g.0 ≡ None }
+        requires nowhere { (k : ℕ) → held_in self.old k ≢ Some q }
+        requires shown { meta_at self.old.table q ≡ Some m.now }
+        ensures opened { result ≡ true → (sha256 (bytes_in self.old g.0) ≡ m.now.digest) × Opens self.old.key m.now.iv (bytes_in self.old g.0) (λ plain. HoldsNow self.old self.new q g.0 false plain) }
+        ensures clean { result ≡ true → IsClean (right_at self.new g.0) × (held_in self.new g.0 ≡ Some q) }
+        ensures refused { result ≡ false → (sha256 (bytes_in self.old g.0) ≢ m.now.digest) × (self.new ≡ self.old) }
+    {
+        match mem::replace(&mut self.rights[g.0 as usize], Held::Spent) {
+            Held::Outside(right) => {
+                match open_page(&mut self.frames, right, q, m, &self.key) {
+                    Ok(opened) => {
+                        self.rights[g.0 as usize] = Held::Clean(opened);
+                        self.homes.note(q, g);
+                        true
+                    }
+                    Err(same) => {
+                        self.rights[g.0 as usize] = Held::Outside(same);
+                        false
+                    }
+                }
+            }
+            _ => unreachable!(),
+        }
+    }
+
+    /// Gives the outside frame to page `q`, of which nothing was shown yet.
+    pub(crate) fn first_frame(&mut self, q: PageId, g: Frame)
+        requires inside { g.0 < length self.old.frames }
+        requires domain { q.domain < domains_of self.old.table }
+        requires resource { q.resource < 16 }
+        requires page { q.page < 1024 }
+        requires outside { held_in self.old g.0 ≡ None }
+        requires nowhere { (k : ℕ) → held_in self.old k ≢ Some q }
+        ensures { HoldsNow self.old self.new q g.0 true zero_page }
+    {
+        match mem::replace(&mut self.rights[g.0 as usize], Held::Spent) {
+            Held::Outside(right) => {
+                self.rights[g.0 as usize] = Held::Changed(first_page(&mut self.frames, right, q));
+                self.homes.note(q, g);
+            }
+            _ => unreachable!(),
+        }
+    }
+
+    /// Before the first write to a page that the frame holds unchanged.
+    pub(crate) fn change_frame(&mut self, g: Frame)
+        requires inside { g.0 < length self.old.frames }
+        requires clean { IsClean (right_at self.old g.0) }
+        ensures { (q : AnyPage) → held_in self.old g.0 ≡ Some q → HoldsNow self.old self.new q g.0 true (bytes_in self.old g.0) }
+    {
+        match mem::replace(&mut self.rights[g.0 as usize], Held::Spent) {
+            Held::Clean(right) => {
+                self.rights[g.0 as usize] = Held::Changed(change(right));
+            }
+            _ => unreachable!(),
+        }
+    }
+}
