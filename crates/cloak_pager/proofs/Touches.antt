@@ -1,5 +1,5 @@
 -- What a touch does, over plain variables.
-use Rattle.std.proofs.Common.{◌≡◌, ◌≢◌, ◌<◌, ℕ, Bool, true, false, List, [], ◌∷◌, Option, None, Some, length, get_or, slice_set, refl, ap, sym, ◌∙◌, subst, arith}
+use Rattle.std.proofs.Common.{◌≡◌, ◌≢◌, ◌<◌, ℕ, Bool, true, false, List, [], ◌∷◌, Option, None, Some, length, get_or, slice_set, refl, ap, sym, ◌∙◌, subst}
 use Rattle.std.proofs.lemmas.List.{get_or-set_same, get_or-set_other, length-set, set-get_or}
 use Rattle.sha2.specs.Sha256.{sha256}
 use Rattle.cloak_base.specs.declared.names.Frame.{Frame}
@@ -13,7 +13,7 @@ use Rattle.frame_store.specs.Rights.{Holding}
 use Rattle.protect_meta.specs.declared.meta.Meta.{Meta}
 use Rattle.protect_meta.specs.Table.{meta_at}
 use Rattle.cloak_pager.specs.State.{PagerState, IsWhole, Names, page_of, owed_of, right_at, bytes_in, held_in, owed_at}
-use Rattle.cloak_pager.specs.Turns.{Turns, frame, holding, IsResealed, IsSealed, IsWiped, TouchTurns, touched_by, left_by}
+use Rattle.cloak_pager.specs.Turns.{Turns, frame, IsResealed, IsSealed, IsWiped, TouchTurns, touched_by, left_by}
 use Rattle.cloak_pager.specs.Relation.{StandsFor, FrameStands, PageStands, HoldsClean}
 use Rattle.cloak_pager.specs.Told.{Told, Moves, Meets, told_touch, shown_by, wiped_with}
 use Rattle.cloak_pager.specs.declared.held.Held.{Held}
@@ -23,7 +23,7 @@ use Rattle.cloak_pager.specs.declared.touching.Touched.TheVariants.{Quiet, Resea
 use Rattle.cloak_pager.proofs.Pages.{with_page-same, with_page-other}
 use Rattle.cloak_pager.proofs.Keeping.{there_is, whole_turned}
 use Rattle.cloak_pager.proofs.Turned.{set_keeps}
-use Rattle.cloak_pager.proofs.Stands.{Turned, stands_turned, owed_by_right, page_stays}
+use Rattle.cloak_pager.proofs.Stands.{stands_turned, owed_by_right, page_stays}
 
 -- no other frame holds the page that a frame holds
 pub held_alone : (p : PagerState) → IsWhole p → (f : ℕ) (q : PageId) → held_in p f ≡ Some q → (g : ℕ) (o : PageId) → g ≢ f → Some q ≡ Some o → held_in p g ≢ Some o
@@ -66,6 +66,7 @@ stands_resealed p p' w m f r s whole inside at turns =
   where
     stands_at : Held → Type 0
     stands_at h = FrameStands p w m f h
+
     named_at : Held → Type 0
     named_at h = Names p.table f h
 
@@ -211,8 +212,10 @@ touch_meets p p' f stream left result inside cause drew turns w m s e =
   where
     G : Type 0
     G = Moves (List (ℕ × List ℕ) × Bool) p' left (shown_by result f p') (told_touch f w m)
+
     gives : (t : Touched) → result ≡ t → Moves (List (ℕ × List ℕ) × Bool) p' left (shown_by t f p') (told_touch f w m) → Moves (List (ℕ × List ℕ) × Bool) p' left (shown_by result f p') (told_touch f w m)
     gives t is moves = let M : Touched → Type 0 = λ x. Moves (List (ℕ × List ℕ) × Bool) p' left (shown_by x f p') (told_touch f w m) in subst M (sym is) moves
+
     by_right : (h : Held) → right_at p f ≡ h → (d : Option (List ℕ × Random)) → next_draw stream ≡ d → result ≡ touched_by h d → left ≡ left_by h d stream → TouchTurns h d p p' f → Moves (List (ℕ × List ℕ) × Bool) p' left (shown_by result f p') (told_touch f w m)
     by_right (Outside r) at d drawn cause drew turns =
         let S : PagerState → Type 0 = λ x. StandsFor x w m in

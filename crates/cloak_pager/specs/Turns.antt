@@ -1,5 +1,5 @@
 -- What each call makes of a pager, and what its answer is, by the pager alone.
-use Rattle.std.specs.Prelude.{ℕ, ◌≡◌, ◌+◌, ◌-◌, ◌<◌, ◌^◌, Bool, true, false, min, List, [], ◌∷◌, Option, Some, None, Result, Ok, length, replicate, slice_set, slice_index_or, if◌then◌else◌}
+use Rattle.std.specs.Prelude.{ℕ, ◌≡◌, ◌+◌, ◌-◌, ◌<◌, ◌^◌, Bool, true, false, min, List, Option, Some, None, length, replicate, slice_set, if◌then◌else◌}
 use Rattle.std.specs.Str.{bytes_eq}
 use Rattle.sha2.specs.Sha256.{sha256}
 use Rattle.cloak_base.specs.declared.names.Frame.{Frame}
@@ -9,10 +9,10 @@ use Rattle.cloak_base.specs.Random.{Random}
 use Rattle.cloak_model.specs.Chain.{cbc}
 use Rattle.cloak_model.specs.Memory.{zero_page}
 use Rattle.protect_meta.specs.declared.meta.Meta.{Meta}
-use Rattle.protect_meta.specs.Table.{Table, meta_at, domains_of}
+use Rattle.protect_meta.specs.Table.{meta_at, domains_of}
 use Rattle.frame_store.specs.Rights.{Holding}
 use Rattle.page_states.specs.Opening.{IsPlain}
-use Rattle.cloak_pager.specs.State.{PagerState, right_at, bytes_in, owed_of}
+use Rattle.cloak_pager.specs.State.{PagerState, right_at, bytes_in}
 use Rattle.cloak_pager.specs.declared.held.Held.{Held}
 use Rattle.cloak_pager.specs.declared.held.Held.TheVariants.{Outside, Clean, Changed, Spent}
 use Rattle.cloak_pager.specs.declared.touching.Touched.{Touched}
