@@ -95,14 +95,13 @@ pub reseal_turns : (p : PagerState) (frames' : List (List ℕ)) (f : ℕ) (r : H
 reseal_turns p frames' f r t spent out w inside at meta wrote is =
     let here : r.frame.0 ≡ f = (named_as p w f (Clean r) inside at).0 in
     let p' : PagerState = put p frames' f spent (Outside out) p.table in
-    of_held p f (Clean r) r.page (λ q. IsResealed p p' f q) at refl
-    (λ t' meta'.
-    let same : t ≡ t' = (let e = sym meta ∙ meta' in cc) in
-    let turns = turns_put p frames' f spent (Outside out) (Outside (frame f)) (cbc p.key t.iv (bytes_in p f)) p.table (meta_at p.table)
-    (written p.frames frames' r.frame.0 f (λ old. cbc p.key t.iv old) here inside wrote)
-    (ap (λ (x : Frame). Outside x) (frame_is out f (ap (λ (x : Frame). x.0) is ∙ here))) refl (λ o. refl) in
-    let T : Meta → Type 0 = λ x. Turns p p' (slice_set p.frames f (cbc p.key x.iv (bytes_in p f))) (slice_set p.rights f (Outside (frame f))) (meta_at p.table) in
-    subst T same turns)
+    of_held p f (Clean r) r.page (λ q. IsResealed p p' f q) at refl (
+      t,
+      meta,
+      turns_put p frames' f spent (Outside out) (Outside (frame f)) (cbc p.key t.iv (bytes_in p f)) p.table (meta_at p.table)
+          (written p.frames frames' r.frame.0 f (λ old. cbc p.key t.iv old) here inside wrote)
+          (ap (λ (x : Frame). Outside x) (frame_is out f (ap (λ (x : Frame). x.0) is ∙ here))) refl (λ o. refl),
+    )
 
 -- Sealing.
 

@@ -51,7 +51,7 @@ IsChanged Spent = ⊥
 
 -- Frame f, held unchanged as page q, is sealed again under the IV of its metadata.
 abbrev pub IsResealed : PagerState → PagerState → ℕ → PageId → Type 0
-IsResealed old new f q = (t : Meta) → meta_at old.table q ≡ Some t → Turns old new (slice_set old.frames f (cbc old.key t.iv (bytes_in old f))) (slice_set old.rights f (Outside (frame f))) (meta_at old.table)
+IsResealed old new f q = (t : Meta) × (meta_at old.table q ≡ Some t) × Turns old new (slice_set old.frames f (cbc old.key t.iv (bytes_in old f))) (slice_set old.rights f (Outside (frame f))) (meta_at old.table)
 
 -- Frame f, held changed as page q, is sealed under this IV, and the page's metadata tells of that.
 abbrev pub IsSealed : PagerState → PagerState → ℕ → PageId → List ℕ → Type 0
@@ -180,7 +180,7 @@ CloseTurns Spent old new f = ⊥
 -- the bytes of a frame when all is closed: one that was held unchanged shows its record again
 abbrev pub closed_bytes : PagerState → ℕ → Held → List ℕ → Type 0
 closed_bytes old f (Outside r) bytes = bytes ≡ bytes_in old f
-closed_bytes old f (Clean r) bytes = (t : Meta) → meta_at old.table r.page ≡ Some t → bytes ≡ cbc old.key t.iv (bytes_in old f)
+closed_bytes old f (Clean r) bytes = (t : Meta) × (meta_at old.table r.page ≡ Some t) × (bytes ≡ cbc old.key t.iv (bytes_in old f))
 closed_bytes old f (Changed r) bytes = ⊥
 closed_bytes old f Spent bytes = ⊥
 
