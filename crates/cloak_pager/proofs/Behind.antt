@@ -1,17 +1,16 @@
 -- What stands behind a call, for those who call next. That a pager is whole a caller has from `Pager::whole`.
-use Rattle.std.proofs.Common.{◌≡◌, ◌≢◌, ◌<◌, ℕ, Bool, true, false, List, [], Option, None, Some, length, get_or, slice_set, refl, ap, sym, ◌∙◌, subst, ◌⊎◌, inl, inr, if◌then◌else◌}
+use Rattle.std.proofs.Common.{◌≡◌, ◌≢◌, ◌<◌, ℕ, Bool, true, false, List, [], Option, None, Some, length, get_or, slice_set, refl, ap, sym, ◌∙◌, ◌⊎◌, inl, inr, if◌then◌else◌}
 use Rattle.std.proofs.lemmas.List.{get_or-set_same, get_or-set_other, length-set}
 use Rattle.cloak_base.specs.Random.{Random}
 use Rattle.cloak_base.specs.declared.names.PageId.{PageId}
 use Rattle.protect_meta.specs.declared.meta.Meta.{Meta}
-use Rattle.protect_meta.specs.Table.{meta_at, domains_of}
-use Rattle.cloak_pager.specs.State.{PagerState, IsWhole, Names, page_of, owed_of, right_at, bytes_in, held_in, owed_at}
-use Rattle.cloak_pager.specs.Turns.{Turns, holding, TouchTurns, OfferTurns, OfferedTurns, PlaceTurns, HoldsNow, HasBytes, IsReadOnce}
+use Rattle.protect_meta.specs.Table.{domains_of}
+use Rattle.cloak_pager.specs.State.{PagerState, IsWhole, page_of, owed_of, right_at, bytes_in, held_in, owed_at}
+use Rattle.cloak_pager.specs.Turns.{Turns, holding, TouchTurns, OfferTurns, OfferedTurns, PlaceTurns, HoldsNow, IsReadOnce}
 use Rattle.cloak_pager.specs.declared.held.Held.{Held}
 use Rattle.cloak_pager.specs.declared.held.Held.TheVariants.{Outside, Clean, Changed, Spent}
 use Rattle.cloak_pager.specs.declared.offering.Offered.{Offered}
 use Rattle.cloak_pager.specs.declared.offering.Offered.TheVariants.{Ready, Mismatch}
-use Rattle.cloak_pager.proofs.Keeping.{there_is}
 
 -- A call changed frame f at most: all other frames are as they were, and there are as many frames and domains.
 pub record StaysBut (f : ℕ) (old new : PagerState) : Type 0 where
@@ -75,15 +74,15 @@ read_stays f old new once = record {
 
 -- Touching.
 
-touched_if : (h : Held) (draw : Option (List ℕ × Random)) (old new : PagerState) (f : ℕ) → Names old.table f h → TouchTurns h draw old new f → StaysBut f old new
-touched_if (Outside r) draw old new f n t = stays_same f old new t
-touched_if (Clean r) draw old new f n t = let meta = there_is (meta_at old.table r.page) n.2 in turned_stays f old new _ _ _ (t meta.0 meta.1)
-touched_if (Changed r) (Some draw) old new f n t = turned_stays f old new _ _ _ t
-touched_if (Changed r) None old new f n t = turned_stays f old new _ _ _ t
-touched_if Spent draw old new f n t = absurd n
+touched_if : (h : Held) (draw : Option (List ℕ × Random)) (old new : PagerState) (f : ℕ) → TouchTurns h draw old new f → StaysBut f old new
+touched_if (Outside r) draw old new f t = stays_same f old new t
+touched_if (Clean r) draw old new f t = turned_stays f old new _ _ _ t.2
+touched_if (Changed r) (Some draw) old new f t = turned_stays f old new _ _ _ t
+touched_if (Changed r) None old new f t = turned_stays f old new _ _ _ t
+touched_if Spent draw old new f t = absurd t
 
-pub touch_stays : (f : ℕ) (draw : Option (List ℕ × Random)) (old new : PagerState) → IsWhole old → f < length old.frames → TouchTurns (right_at old f) draw old new f → StaysBut f old new
-touch_stays f draw old new w inside t = touched_if (right_at old f) draw old new f (w.named f inside) t
+pub touch_stays : (f : ℕ) (draw : Option (List ℕ × Random)) (old new : PagerState) → TouchTurns (right_at old f) draw old new f → StaysBut f old new
+touch_stays f draw old new t = touched_if (right_at old f) draw old new f t
 
 -- Offering.
 

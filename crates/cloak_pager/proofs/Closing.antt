@@ -1,21 +1,17 @@
 -- Closing frame after frame.
-use Rattle.std.proofs.Common.{◌≡◌, ◌≢◌, ◌<◌, ◌≤◌, ◌+◌, ℕ, List, [], Option, None, Some, length, get_or, slice_set, refl, ap, sym, ◌∙◌, subst, arith, ◌⊎◌, inl, inr}
+use Rattle.std.proofs.Common.{◌≡◌, ◌≢◌, ◌<◌, ◌≤◌, ◌+◌, ℕ, List, [], length, refl, ap, sym, ◌∙◌, subst, arith, inl, inr}
 use Rattle.std.proofs.lemmas.List.{get_or-set_same, get_or-set_other, length-set}
-use Rattle.cloak_base.specs.declared.names.Frame.{Frame}
 use Rattle.cloak_base.specs.declared.names.PageId.{PageId}
 use Rattle.std.proofs.Common.{Bool}
 use Rattle.cloak_model.specs.Chain.{cbc}
 use Rattle.cloak_model.specs.Cloaking.{CloakedMemory}
-use Rattle.frame_store.specs.Rights.{Holding}
-use Rattle.protect_meta.specs.declared.meta.Meta.{Meta}
 use Rattle.protect_meta.specs.Table.{meta_at, domains_of}
-use Rattle.cloak_pager.specs.State.{PagerState, IsWhole, Names, page_of, owed_of, right_at, bytes_in, held_in, owed_at}
-use Rattle.cloak_pager.specs.Turns.{Turns, frame, IsResealed, CloseTurns, IsClosed, closed_bytes}
+use Rattle.cloak_pager.specs.State.{PagerState, IsWhole, Names, right_at, bytes_in}
+use Rattle.cloak_pager.specs.Turns.{frame, CloseTurns, IsClosed, closed_bytes}
 use Rattle.cloak_pager.specs.Relation.{StandsFor}
 use Rattle.cloak_pager.specs.declared.held.Held.{Held}
 use Rattle.cloak_pager.specs.declared.held.Held.TheVariants.{Outside, Clean, Changed, Spent}
 use Rattle.cloak_pager.proofs.Pages.{same_or_not}
-use Rattle.cloak_pager.proofs.Keeping.{there_is}
 use Rattle.cloak_pager.proofs.Touches.{stands_resealed, whole_resealed}
 
 -- the frames below this one are closed, the others are as they were
@@ -94,9 +90,8 @@ closed_more old now next i w c inside turns =
         (subst B (sym at) (c.bytes_later i (omega arith)))
         (λ k n. (refl, refl)) (λ o. refl) refl refl refl)
     by_right (Clean r) at named turns =
-        let meta = there_is (meta_at old.table r.page) named.2 in
-        let t = turns meta.0 (c.metas_stay r.page ∙ meta.1) in
-        let sealed : List ℕ = cbc now.key meta.0.iv (bytes_in now i) in
+        let t = turns.2 in
+        let sealed : List ℕ = cbc now.key turns.0.iv (bytes_in now i) in
         let within : i < length now.frames = rw c.count inside in
         let within' : i < length now.rights = rw (c.places, w.count) inside in
         let B : Held → Type 0 = λ h. closed_bytes old i h (bytes_in next i) in
@@ -106,9 +101,7 @@ closed_more old now next i w c inside turns =
         (rw (t.rights_are, length-set) refl)
         (rw t.rights_are (get_or-set_same now.rights i (Outside (frame i)) Spent within'))
         (subst B (sym at)
-        (λ t' at'.
-        let one : meta.0 ≡ t' = (let e = sym meta.1 ∙ at' in cc) in
-        shows ∙ rw (c.key_stays, c.bytes_later i (omega arith), one) refl))
+        (turns.0, sym (c.metas_stay r.page) ∙ turns.1, shows ∙ rw (c.key_stays, c.bytes_later i (omega arith)) refl))
         (λ k n. (rw t.rights_are (get_or-set_other now.rights i k (Outside (frame i)) Spent n), rw t.frames_are (get_or-set_other now.frames i k sealed [] n)))
         t.metas_are t.domains_stay t.key_stays t.reads_stay
     by_right (Changed r) at named turns = absurd turns

@@ -1,6 +1,6 @@
 -- What is noted for each page after a write.
-use Rattle.std.proofs.Common.{◌≡◌, ◌≢◌, ℕ, ◌+◌, ◌*◌, ◌<◌, ◌≤◌, Bool, true, false, List, Option, None, Some, length, get_or, slice_set, refl, ap, sym, ◌∙◌, inl, inr, arith, if◌then◌else◌, subst}
-use Rattle.std.proofs.lemmas.List.{get_or-set_same, get_or-set_other, length-set}
+use Rattle.std.proofs.Common.{◌≡◌, ◌≢◌, ℕ, ◌*◌, ◌<◌, List, Option, None, Some, length, get_or, slice_set, sym, ◌∙◌, inl, inr, arith, if◌then◌else◌, subst}
+use Rattle.std.proofs.lemmas.List.{get_or-set_same, get_or-set_other}
 use Rattle.cloak_base.specs.declared.names.Frame.{Frame}
 use Rattle.cloak_base.specs.declared.names.PageId.{PageId}
 use Rattle.protect_meta.specs.Pages.{IsIn, same_page, place}

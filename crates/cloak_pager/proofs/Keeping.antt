@@ -1,23 +1,19 @@
 -- What stays so of a pager when one frame turns.
-use Rattle.std.proofs.Common.{◌≡◌, ◌≢◌, ◌<◌, ◌≤◌, ℕ, Bool, true, false, List, [], Option, None, Some, length, get_or, slice_get, slice_set, refl, ap, sym, ◌∙◌, subst, ◌⊎◌, inl, inr, arith, if◌then◌else◌}
-use Rattle.std.proofs.lemmas.List.{get_or-set_same, get_or-set_other, length-set, set-set, get_or_default}
-use Rattle.std.proofs.lemmas.Option.{slice_get-get_or}
-use Rattle.sha2.specs.Sha256.{sha256}
+use Rattle.std.proofs.Common.{◌≡◌, ◌≢◌, ◌<◌, ℕ, Bool, List, Option, None, Some, length, get_or, slice_set, refl, ap, sym, ◌∙◌, subst, ◌⊎◌, inl, inr, if◌then◌else◌}
+use Rattle.std.proofs.lemmas.List.{get_or-set_same, get_or-set_other, length-set, get_or_default}
 use Rattle.cloak_base.specs.declared.names.Frame.{Frame}
 use Rattle.cloak_base.specs.declared.names.PageId.{PageId}
 use Rattle.cloak_base.specs.Pages.{with_page}
-use Rattle.cloak_model.specs.Chain.{cbc}
-use Rattle.frame_store.specs.Rights.{Holding}
 use Rattle.protect_meta.specs.declared.meta.Meta.{Meta}
 use Rattle.protect_meta.specs.Table.{Table, meta_at, domains_of}
 use Rattle.protect_meta.specs.Pages.{same_page as same_meta}
 use Rattle.protect_meta.proofs.Pages.{same_page_tells}
 use Rattle.cloak_pager.specs.Homes.{HomeTable, home_at}
-use Rattle.cloak_pager.specs.State.{PagerState, IsWhole, IsKept, Names, AreNoted, page_of, owed_of, right_at, bytes_in, held_in, owed_at}
-use Rattle.cloak_pager.specs.Turns.{Turns, frame, holding}
+use Rattle.cloak_pager.specs.State.{PagerState, IsWhole, Names, AreNoted, page_of, right_at, held_in}
+use Rattle.cloak_pager.specs.Turns.{Turns, frame}
 use Rattle.cloak_pager.specs.declared.held.Held.{Held}
 use Rattle.cloak_pager.specs.declared.held.Held.TheVariants.{Outside, Clean, Changed, Spent}
-use Rattle.cloak_pager.proofs.Pages.{same_or_not, pages_tell, with_page-same, with_page-other}
+use Rattle.cloak_pager.proofs.Pages.{same_or_not, with_page-same, with_page-other}
 
 -- a map that was set at one page
 pub set_map : {A : Type 0} (m m' : PageId → A) (q : PageId) (v : A) → ((p : PageId) → m' p ≡ (if same_meta p q then v else m p)) → (o : PageId) → m' o ≡ with_page m q v o
@@ -77,13 +73,13 @@ whole_turned p p' f h bytes metas w t inside named keeps alone =
       one_home = λ g k q at at'.
           elim (held g q at) [
             | inl e ↦ elim (held k q at') [
-                  | inl e' ↦ e.0 ∙ sym e'.0
-                  | inr n' ↦ absurd (alone k q n'.0 e.1 n'.1)
-                ]
+              | inl e' ↦ e.0 ∙ sym e'.0
+              | inr n' ↦ absurd (alone k q n'.0 e.1 n'.1)
+            ]
             | inr n ↦ elim (held k q at') [
-                  | inl e' ↦ absurd (alone g q n.0 e'.1 n.1)
-                  | inr n' ↦ w.one_home g k q n.1 n'.1
-                ]
+              | inl e' ↦ absurd (alone g q n.0 e'.1 n.1)
+              | inr n' ↦ w.one_home g k q n.1 n'.1
+            ]
           ];
       few = rw (t.frames_are, length-set) w.few;
     }

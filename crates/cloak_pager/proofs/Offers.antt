@@ -1,17 +1,14 @@
 -- What an offer does, over plain variables.
-use Rattle.std.proofs.Common.{◌≡◌, ◌≢◌, ◌<◌, ◌⊎◌, inl, inr, ℕ, Bool, true, false, not, ◌&&◌, ◌||◌, List, [], ◌∷◌, ◌++◌, Option, None, Some, length, get_or, slice_set, refl, ap, sym, ◌∙◌, subst, arith, if◌then◌else◌}
-use Rattle.std.specs.Prelude.{position}
-use Rattle.std.proofs.lemmas.List.{get_or-set_same, get_or-set_other, length-set, set-set, set-get_or}
+use Rattle.std.proofs.Common.{◌≡◌, ◌≢◌, ◌<◌, ◌⊎◌, inl, inr, ℕ, Bool, true, false, not, ◌&&◌, ◌||◌, List, [], Option, None, Some, length, get_or, refl, ap, sym, ◌∙◌, subst, if◌then◌else◌}
+use Rattle.std.proofs.lemmas.List.{get_or-set_same}
 use Rattle.std.proofs.lemmas.List.Quantifiers.{position-Some}
 use Rattle.std.specs.Str.{bytes_eq}
 use Rattle.std.proofs.lemmas.Slice.Eq.{bytes_eq-Decides}
 use Rattle.std.proofs.lemmas.Bool.{false_from_ne_true}
 use Rattle.sha2.specs.Sha256.{sha256}
-use Rattle.aes_block.specs.Bytes.{IsBytes}
 use Rattle.cloak_base.specs.declared.names.Frame.{Frame}
 use Rattle.cloak_base.specs.declared.names.PageId.{PageId}
-use Rattle.cloak_base.specs.Pages.{same_page, with_page}
-use Rattle.cloak_base.specs.Random.{Random, next_draw}
+use Rattle.cloak_base.specs.Random.{Random}
 use Rattle.cloak_model.specs.Chain.{cbc}
 use Rattle.cloak_model.specs.Memory.{zero_page}
 use Rattle.cloak_model.specs.Cloaking.{CloakedMemory, Settled, Offered as ToldOffered, Offer, Ready as Accepted, Mismatch as Refused, settle, settle_frame_if, offer, owes, owing_frame, compared, unless_missed, taken, is_clash, with_comparison, owed_in, with_owed}
@@ -20,8 +17,8 @@ use Rattle.page_states.specs.Opening.{IsPlain}
 use Rattle.protect_meta.specs.declared.meta.Meta.{Meta}
 use Rattle.protect_meta.specs.Table.{meta_at, domains_of}
 use Rattle.protect_meta.specs.Pages.{IsIn}
-use Rattle.cloak_pager.specs.State.{PagerState, IsWhole, Names, page_of, owed_of, right_at, bytes_in, held_in, owed_at}
-use Rattle.cloak_pager.specs.Turns.{Turns, frame, holding, HoldsNow, Opens, OfferTurns, OfferedTurns, offered_by, shown_by_digest, ShownTurns}
+use Rattle.cloak_pager.specs.State.{PagerState, IsWhole, page_of, owed_of, right_at, bytes_in, held_in, owed_at}
+use Rattle.cloak_pager.specs.Turns.{holding, HoldsNow, OfferTurns, OfferedTurns, offered_by, shown_by_digest, ShownTurns}
 use Rattle.cloak_pager.proofs.Turned.{same_digest, other_digest}
 use Rattle.cloak_pager.specs.Relation.{StandsFor, FrameStands, PageStands, HoldsClean, IsRecorded, IsUnowed}
 use Rattle.cloak_pager.specs.Told.{Told, Moves, MeetsUnclashed, told_offer, answer_of}
@@ -29,10 +26,10 @@ use Rattle.cloak_pager.specs.declared.held.Held.{Held}
 use Rattle.cloak_pager.specs.declared.held.Held.TheVariants.{Outside, Clean, Changed, Spent}
 use Rattle.cloak_pager.specs.declared.offering.Offered.{Offered}
 use Rattle.cloak_pager.specs.declared.offering.Offered.TheVariants.{Ready, Mismatch}
-use Rattle.cloak_pager.proofs.Pages.{with_page-same, with_page-other, same_page-self, same_page-decides}
-use Rattle.cloak_pager.proofs.Keeping.{there_is, whole_turned}
-use Rattle.cloak_pager.proofs.Stands.{Turned, stands_turned, owed_by_right, owed_held, page_stays}
-use Rattle.cloak_pager.proofs.Touches.{page_is, other_page, owed_nothing, settle_none}
+use Rattle.cloak_pager.proofs.Pages.{same_page-self, same_page-decides}
+use Rattle.cloak_pager.proofs.Keeping.{whole_turned}
+use Rattle.cloak_pager.proofs.Stands.{stands_turned, owed_by_right, owed_held, page_stays}
+use Rattle.cloak_pager.proofs.Touches.{page_is, owed_nothing, settle_none}
 
 -- The pager stands for a memory that differs in what the relation does not speak of.
 pub stands_same : (p : PagerState) (w : PageId → Bool) (m m' : CloakedMemory) → StandsFor p w m → m'.ram ≡ m.ram → m'.plain ≡ m.plain → m'.ledger.key ≡ m.ledger.key → m'.ledger.stream ≡ m.ledger.stream → m'.ledger.recorded ≡ m.ledger.recorded → m'.ledger.owed ≡ m.ledger.owed → StandsFor p w m'
@@ -60,6 +57,7 @@ stands_same p w m m' s ram plain key stream recorded owed =
     frame_same f (Clean r) s = record { newest = s.newest; shown = s.shown; long = s.long; sealed = s.sealed }
     frame_same f (Changed r) s = s
     frame_same f Spent s = s
+
     page_same : (q : PageId) (t : Option Meta) → PageStands (w q) m q t → PageStands (w q) (record m { ledger = record m'.ledger { key = m.ledger.key; stream = m.ledger.stream; recorded = m.ledger.recorded; owed = m.ledger.owed } }) q t
     page_same q None s = s
     page_same q (Some t) s = record { bytes = s.bytes; is = s.is; digest = s.digest; sealed = s.sealed }
@@ -83,6 +81,7 @@ none_owing m q free = by_value (owing_frame m q) refl
     owing : (o : Option PageId) → owes q o ≡ true → o ≡ Some q
     owing None e = absurd (let no : false ≡ true = e in cc)
     owing (Some x) e = ap (λ (y : PageId). Some y) ((same_page-decides x q).0 e)
+
     by_value : (o : Option ℕ) → owing_frame m q ≡ o → o ≡ None
     by_value None e = refl
     by_value (Some i) e = absurd (free i (owing (owed_in m i) (position-Some (owes q) m.ledger.owed i None e).1))
@@ -312,12 +311,16 @@ offer_meets p p' q g write result inside page room alone cause turns w m s uncla
   where
     Goal : Offered → Type 0
     Goal r = OfferMoves p' r m.ledger.stream w (offer q g write m)
+
     frame_at : (h : Held) → right_at p g ≡ h → FrameStands p w m g h
     frame_at h at = let F : Held → Type 0 = λ x. FrameStands p w m g x in subst F at (s.frames g inside)
+
     gives : (r : Offered) → result ≡ r → OfferMoves p' r m.ledger.stream w (offer q g write m) → OfferMoves p' result m.ledger.stream w (offer q g write m)
     gives r is moves = let M : Offered → Type 0 = λ x. OfferMoves p' x m.ledger.stream w (offer q g write m) in subst M (sym is) moves
+
     the_page : (r : Holding) → held_in p g ≡ Some r.page → r.page ≡ q
     the_page r held = elim room [ inl e ↦ absurd (let no : None ≡ Some r.page = sym e ∙ held in cc) | inr e ↦ (let same = sym held ∙ e in cc) ]
+
     by_shown : (r : Frame) → right_at p g ≡ Outside r → (t : Meta) → meta_at p.table q ≡ Some t → (found : Offered) → result ≡ found → ((found ≡ Ready) × (sha256 (bytes_in p g) ≡ t.digest)) ⊎ ((found ≡ Mismatch) × (sha256 (bytes_in p g) ≢ t.digest)) → OfferedTurns found (Outside r) (Some t) write p p' q g → OfferMoves p' result m.ledger.stream w (offer q g write m)
     by_shown r at t shown found is how turns =
         let outside : held_in p g ≡ None = ap page_of at in
@@ -344,16 +347,19 @@ offer_meets p p' q g write result inside page room alone cause turns w m s uncla
               let P : PagerState → Type 0 = λ x. OfferMoves x Mismatch m.ledger.stream w (offer q g write m) in
               gives Mismatch (is ∙ h.0) (subst P (sym same) (refused_moves p w m g q write recorded.bytes none free recorded.is differs s))
         ]
+
     by_digest : (t : Meta) (bytes : List ℕ) (b : Bool) → bytes_eq (sha256 bytes) t.digest ≡ b → ((shown_by_digest t bytes ≡ Ready) × (sha256 bytes ≡ t.digest)) ⊎ ((shown_by_digest t bytes ≡ Mismatch) × (sha256 bytes ≢ t.digest))
     by_digest t bytes true e = inl (sym (same_digest t bytes (equal_bytes (sha256 bytes) t.digest e)), equal_bytes (sha256 bytes) t.digest e)
     by_digest t bytes false e =
         let differs : sha256 bytes ≢ t.digest = λ same. (let no : true ≡ false = sym (bytes_equal (sha256 bytes) t.digest same) ∙ e in cc) in
         inr (sym (other_digest t bytes differs), differs)
+
     by_write : (b : Bool) (r : Holding) (t : Option Meta) → held_in p g ≡ Some q → IsUnowed m q → HoldsClean p (w q) m g q → OfferTurns (Clean r) t b p p' q g → StandsFor p' w (taken q g b m)
     by_write true r t held free clean took =
         let whole : IsWhole p' = whole_taken p p' g q true (bytes_in p g) s.whole inside page alone (inr refl) took in
         stands_changed p p' w m g q (bytes_in p g) s whole inside (λ o e. sym held ∙ e) alone free clean.newest took
     by_write false r t held free clean took = (let S : PagerState → Type 0 = λ x. StandsFor x w m in subst S (sym took) s)
+
     by_right : (h : Held) → right_at p g ≡ h → (t : Option Meta) → meta_at p.table q ≡ t → result ≡ offered_by h t (bytes_in p g) → OfferedTurns result h t write p p' q g → OfferMoves p' result m.ledger.stream w (offer q g write m)
     by_right (Outside r) at (Some t) shown cause turns =
         let O : Offered → Type 0 = λ x. OfferedTurns x (Outside r) (Some t) write p p' q g in

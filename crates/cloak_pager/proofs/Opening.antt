@@ -1,5 +1,5 @@
 -- What a pager is at first, over plain variables.
-use Rattle.std.proofs.Common.{◌≡◌, ◌≢◌, ◌<◌, ◌≤◌, ℕ, zero, suc, Bool, true, false, List, [], ◌∷◌, Option, None, Some, length, map, get_or, slice_get, refl, ap, sym, ◌∙◌, subst, arith, replicate, inl, inr, lit<}
+use Rattle.std.proofs.Common.{◌≡◌, ◌<◌, ◌≤◌, ℕ, zero, suc, true, false, List, [], ◌∷◌, Option, None, Some, length, map, get_or, slice_get, refl, ap, sym, ◌∙◌, subst, replicate, inl, inr, lit<}
 use Rattle.std.proofs.lemmas.List.{get_or-map, get_or_past, length-map, length-replicate}
 use Rattle.std.proofs.lemmas.List.Elements.{All-replicate}
 use Rattle.std.proofs.lemmas.Option.{get_or_from_slice_get}
@@ -8,18 +8,17 @@ use Rattle.aes_block.specs.Bytes.{IsBytes}
 use Rattle.cloak_base.specs.declared.names.Frame.{Frame}
 use Rattle.cloak_base.specs.declared.names.PageId.{PageId}
 use Rattle.cloak_model.specs.Memory.{zero_page}
-use Rattle.cloak_model.specs.Cloaking.{CloakedMemory}
 use Rattle.frame_store.specs.Pages.{zeros}
 use Rattle.protect_meta.specs.declared.meta.Meta.{Meta}
-use Rattle.protect_meta.specs.Table.{Table, meta_at, domains_of}
+use Rattle.protect_meta.specs.Table.{meta_at, domains_of}
 use Rattle.page_states.proofs.Zeros.{zeros-zero_page}
-use Rattle.cloak_pager.specs.Homes.{HomeTable, home_at}
-use Rattle.cloak_pager.specs.State.{PagerState, IsWhole, IsKept, Names, AreNoted, page_of, owed_of, right_at, bytes_in, held_in, owed_at}
+use Rattle.cloak_pager.specs.Homes.{HomeTable}
+use Rattle.cloak_pager.specs.State.{PagerState, IsWhole, IsKept, Names, page_of, owed_of, right_at, held_in, owed_at}
 use Rattle.cloak_pager.specs.Turns.{IsOpened, frame}
-use Rattle.cloak_pager.specs.Relation.{StandsFor, FrameStands, PageStands, IsUnowed}
-use Rattle.cloak_pager.specs.Told.{IsBlank, none_wiped, StandsBlank}
+use Rattle.cloak_pager.specs.Relation.{FrameStands, PageStands}
+use Rattle.cloak_pager.specs.Told.{none_wiped, StandsBlank}
 use Rattle.cloak_pager.specs.declared.held.Held.{Held}
-use Rattle.cloak_pager.specs.declared.held.Held.TheVariants.{Outside, Clean, Changed, Spent}
+use Rattle.cloak_pager.specs.declared.held.Held.TheVariants.{Outside, Spent}
 
 -- a page of zeros is a page
 pub IsBytes-zero_page : IsBytes 4096 zero_page

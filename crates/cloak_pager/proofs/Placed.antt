@@ -1,5 +1,5 @@
 -- What placing and restoring do, over plain variables.
-use Rattle.std.proofs.Common.{◌≡◌, ◌≢◌, ◌<◌, ◌≤◌, ℕ, Bool, true, false, List, [], ◌∷◌, Option, None, Some, length, map, get_or, slice_set, refl, ap, sym, ◌∙◌, subst, arith, unwrap_or, if◌then◌else◌}
+use Rattle.std.proofs.Common.{◌≡◌, ◌≢◌, ◌<◌, ◌≤◌, ℕ, Bool, true, false, List, [], Option, None, Some, length, get_or, slice_set, refl, ap, sym, ◌∙◌, subst, arith, unwrap_or, if◌then◌else◌}
 use Rattle.std.proofs.lemmas.List.{get_or-set_same, get_or-set_other, length-set, set-get_or, set_past, get_or_past, length-map}
 use Rattle.sha2.specs.Sha256.{sha256}
 use Rattle.aes_block.specs.Bytes.{IsBytes}
@@ -8,22 +8,22 @@ use Rattle.cloak_base.specs.declared.names.PageId.{PageId}
 use Rattle.cloak_base.specs.Pages.{with_page}
 use Rattle.cloak_base.specs.Random.{Random, next_draw}
 use Rattle.cloak_model.specs.Chain.{cbc}
-use Rattle.cloak_model.specs.Cloaking.{CloakedMemory, owed_in, with_frame, with_record}
+use Rattle.cloak_model.specs.Cloaking.{CloakedMemory, with_frame, with_record}
 use Rattle.cloak_model.specs.PageMoves.{place, place_with, with_plain}
 use Rattle.protect_meta.specs.declared.meta.Meta.{Meta}
 use Rattle.protect_meta.specs.Table.{Table, meta_at, domains_of}
 use Rattle.protect_meta.specs.Pages.{same_page as same_meta}
 use Rattle.cloak_pager.specs.Homes.{HomeTable}
-use Rattle.cloak_pager.specs.State.{PagerState, IsWhole, IsKept, IsFresh, Names, AreNoted, page_of, owed_of, right_at, bytes_in, held_in, owed_at}
-use Rattle.cloak_pager.specs.Turns.{Turns, frame, places, PlaceTurns, IsPlaced, IsRestored}
-use Rattle.cloak_pager.specs.Relation.{StandsFor, FrameStands, PageStands, IsRecorded}
+use Rattle.cloak_pager.specs.State.{PagerState, IsWhole, IsKept, IsFresh, Names, page_of, right_at, held_in}
+use Rattle.cloak_pager.specs.Turns.{Turns, IsPlaced, IsRestored}
+use Rattle.cloak_pager.specs.Relation.{StandsFor, FrameStands}
 use Rattle.cloak_pager.specs.Told.{Told, Moves, Meets, told_place, is_there, with_restored, StandsRestored}
 use Rattle.cloak_pager.specs.declared.held.Held.{Held}
-use Rattle.cloak_pager.specs.declared.held.Held.TheVariants.{Outside, Clean, Changed, Spent}
+use Rattle.cloak_pager.specs.declared.held.Held.TheVariants.{Outside, Spent}
 use Rattle.cloak_pager.proofs.Pages.{with_page-same, with_page-other}
 use Rattle.cloak_pager.proofs.Keeping.{set_map, names_stay, outside_right}
 use Rattle.cloak_pager.proofs.Turned.{set_keeps}
-use Rattle.cloak_pager.proofs.Stands.{Turned, stands_turned, owed_by_right}
+use Rattle.cloak_pager.proofs.Stands.{stands_turned, owed_by_right}
 use Rattle.cloak_pager.proofs.Touches.{page_is, other_page, kept_by_draw}
 
 -- a pager is whole while its rights stay, whatever bytes are in its frames

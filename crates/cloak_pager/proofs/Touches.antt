@@ -1,5 +1,5 @@
 -- What a touch does, over plain variables.
-use Rattle.std.proofs.Common.{◌≡◌, ◌≢◌, ◌<◌, ℕ, Bool, true, false, List, [], ◌∷◌, Option, None, Some, length, get_or, slice_set, refl, ap, sym, ◌∙◌, subst, arith}
+use Rattle.std.proofs.Common.{◌≡◌, ◌≢◌, ◌<◌, ℕ, Bool, true, false, List, [], ◌∷◌, Option, None, Some, length, get_or, slice_set, refl, ap, sym, ◌∙◌, subst}
 use Rattle.std.proofs.lemmas.List.{get_or-set_same, get_or-set_other, length-set, set-get_or}
 use Rattle.sha2.specs.Sha256.{sha256}
 use Rattle.cloak_base.specs.declared.names.Frame.{Frame}
@@ -12,8 +12,8 @@ use Rattle.cloak_model.specs.Cloaking.{CloakedMemory, Settled, settle, settle_if
 use Rattle.frame_store.specs.Rights.{Holding}
 use Rattle.protect_meta.specs.declared.meta.Meta.{Meta}
 use Rattle.protect_meta.specs.Table.{meta_at}
-use Rattle.cloak_pager.specs.State.{PagerState, IsWhole, Names, page_of, owed_of, right_at, bytes_in, held_in, owed_at}
-use Rattle.cloak_pager.specs.Turns.{Turns, frame, holding, IsResealed, IsSealed, IsWiped, TouchTurns, touched_by, left_by}
+use Rattle.cloak_pager.specs.State.{PagerState, IsWhole, page_of, owed_of, right_at, bytes_in, held_in, owed_at}
+use Rattle.cloak_pager.specs.Turns.{Turns, frame, IsResealed, IsSealed, IsWiped, TouchTurns, touched_by, left_by}
 use Rattle.cloak_pager.specs.Relation.{StandsFor, FrameStands, PageStands, HoldsClean}
 use Rattle.cloak_pager.specs.Told.{Told, Moves, Meets, told_touch, shown_by, wiped_with}
 use Rattle.cloak_pager.specs.declared.held.Held.{Held}
@@ -21,9 +21,9 @@ use Rattle.cloak_pager.specs.declared.held.Held.TheVariants.{Outside, Clean, Cha
 use Rattle.cloak_pager.specs.declared.touching.Touched.{Touched}
 use Rattle.cloak_pager.specs.declared.touching.Touched.TheVariants.{Quiet, Resealed, Sealed, Wiped}
 use Rattle.cloak_pager.proofs.Pages.{with_page-same, with_page-other}
-use Rattle.cloak_pager.proofs.Keeping.{there_is, whole_turned}
+use Rattle.cloak_pager.proofs.Keeping.{whole_turned}
 use Rattle.cloak_pager.proofs.Turned.{set_keeps}
-use Rattle.cloak_pager.proofs.Stands.{Turned, stands_turned, owed_by_right, page_stays}
+use Rattle.cloak_pager.proofs.Stands.{stands_turned, owed_by_right, page_stays}
 
 -- no other frame holds the page that a frame holds
 pub held_alone : (p : PagerState) → IsWhole p → (f : ℕ) (q : PageId) → held_in p f ≡ Some q → (g : ℕ) (o : PageId) → g ≢ f → Some q ≡ Some o → held_in p g ≢ Some o
@@ -38,11 +38,10 @@ stands_resealed p p' w m f r s whole inside at turns =
     let q : PageId = r.page in
     let held : held_in p f ≡ Some q = ap page_of at in
     let clean : HoldsClean p (w q) m f q = subst (λ (h : Held). stands_at h) at (s.frames f inside) in
-    let named : meta_at p.table q ≢ None = (subst (λ (h : Held). named_at h) at (s.whole.named f inside)).2 in
-    let meta = there_is (meta_at p.table q) named in
-    let t = turns meta.0 meta.1 in
-    let bytes : List ℕ = cbc p.key meta.0.iv (bytes_in p f) in
-    let shows : bytes ≡ get_or m.ram f [] = rw (← s.key) (clean.sealed meta.0 meta.1) in
+    let meta : Meta = turns.0 in
+    let t = turns.2 in
+    let bytes : List ℕ = cbc p.key meta.iv (bytes_in p f) in
+    let shows : bytes ≡ get_or m.ram f [] = rw (← s.key) (clean.sealed meta turns.1) in
     stands_turned p p' w w m m f (Outside (frame f)) bytes (Some q) s (record {
       whole = whole;
       frames = t.frames_are;
@@ -66,8 +65,6 @@ stands_resealed p p' w m f r s whole inside at turns =
   where
     stands_at : Held → Type 0
     stands_at h = FrameStands p w m f h
-    named_at : Held → Type 0
-    named_at h = Names p.table f h
 
 -- a page that is wiped has no draw, so where a draw is there it is not wiped
 pub kept_by_draw : (p : PagerState) (w : PageId → Bool) (m : CloakedMemory) → StandsFor p w m → (q : PageId) (d : List ℕ × Random) → next_draw m.ledger.stream ≡ Some d → w q ≡ false
@@ -200,10 +197,7 @@ pub whole_outside : (p p' : PagerState) (f : ℕ) (bytes : List ℕ) (metas : Pa
 whole_outside p p' f bytes metas w inside t keeps = whole_turned p p' f (Outside (frame f)) bytes metas w t inside refl keeps (λ g o n e. absurd (let no : None ≡ Some o = e in cc))
 
 pub whole_resealed : (p p' : PagerState) (f : ℕ) (r : Holding) → IsWhole p → f < length p.frames → right_at p f ≡ Clean r → IsResealed p p' f r.page → IsWhole p'
-whole_resealed p p' f r w inside at turns =
-    let N : Held → Type 0 = λ h. Names p.table f h in
-    let meta = there_is (meta_at p.table r.page) (subst N at (w.named f inside)).2 in
-    whole_outside p p' f (cbc p.key meta.0.iv (bytes_in p f)) (meta_at p.table) w inside (turns meta.0 meta.1) (λ o n. n)
+whole_resealed p p' f r w inside at turns = whole_outside p p' f (cbc p.key turns.0.iv (bytes_in p f)) (meta_at p.table) w inside turns.2 (λ o n. n)
 
 pub touch_meets : (p p' : PagerState) (f : ℕ) (stream left : Random) (result : Touched) → f < length p.frames → result ≡ touched_by (right_at p f) (next_draw stream) → left ≡ left_by (right_at p f) (next_draw stream) stream → TouchTurns (right_at p f) (next_draw stream) p p' f → Meets p stream p' left (shown_by result f p') (told_touch f)
 touch_meets p p' f stream left result inside cause drew turns w m s e =
@@ -211,8 +205,10 @@ touch_meets p p' f stream left result inside cause drew turns w m s e =
   where
     G : Type 0
     G = Moves (List (ℕ × List ℕ) × Bool) p' left (shown_by result f p') (told_touch f w m)
+
     gives : (t : Touched) → result ≡ t → Moves (List (ℕ × List ℕ) × Bool) p' left (shown_by t f p') (told_touch f w m) → Moves (List (ℕ × List ℕ) × Bool) p' left (shown_by result f p') (told_touch f w m)
     gives t is moves = let M : Touched → Type 0 = λ x. Moves (List (ℕ × List ℕ) × Bool) p' left (shown_by x f p') (told_touch f w m) in subst M (sym is) moves
+
     by_right : (h : Held) → right_at p f ≡ h → (d : Option (List ℕ × Random)) → next_draw stream ≡ d → result ≡ touched_by h d → left ≡ left_by h d stream → TouchTurns h d p p' f → Moves (List (ℕ × List ℕ) × Bool) p' left (shown_by result f p') (told_touch f w m)
     by_right (Outside r) at d drawn cause drew turns =
         let S : PagerState → Type 0 = λ x. StandsFor x w m in
@@ -257,9 +253,8 @@ outside_now p p' f bytes metas w inside t = rw t.rights_are (get_or-set_same p.r
 
 pub clean_outside : (p p' : PagerState) (f : Frame) (r : Holding) → IsWhole p → f.0 < length p.frames → right_at p f.0 ≡ Clean r → ((q : PageId) → held_in p f.0 ≡ Some q → IsResealed p p' f.0 q) → right_at p' f.0 ≡ Outside f
 clean_outside p p' f r w inside at turns =
-    let N : Held → Type 0 = λ h. Names p.table f.0 h in
-    let meta = there_is (meta_at p.table r.page) (subst N at (w.named f.0 inside)).2 in
-    outside_now p p' f (cbc p.key meta.0.iv (bytes_in p f.0)) (meta_at p.table) w inside (turns r.page (ap page_of at) meta.0 meta.1)
+    let here = turns r.page (ap page_of at) in
+    outside_now p p' f (cbc p.key here.0.iv (bytes_in p f.0)) (meta_at p.table) w inside here.2
 
 pub quiet_meets : (p : PagerState) (f : ℕ) (r : Frame) (stream : Random) → f < length p.frames → right_at p f ≡ Outside r → Meets p stream p stream ([], false) (told_touch f)
 quiet_meets p f r stream inside at =

@@ -1,6 +1,6 @@
 -- What the private turns of a frame make of the pager, over plain variables.
-use Rattle.std.proofs.Common.{◌≡◌, ◌≢◌, ◌<◌, ℕ, Bool, true, false, List, [], Option, None, Some, length, get_or, slice_get, slice_set, refl, ap, sym, ◌∙◌, subst, arith, if◌then◌else◌, inl, inr}
-use Rattle.std.proofs.lemmas.List.{set-set, get_or_default, set-get_or, get_or-set_same}
+use Rattle.std.proofs.Common.{◌≡◌, ◌≢◌, ◌<◌, ℕ, Bool, true, false, List, [], Option, None, Some, length, get_or, slice_get, slice_set, refl, ap, sym, ◌∙◌, subst, if◌then◌else◌, inl, inr}
+use Rattle.std.proofs.lemmas.List.{set-set, set-get_or, get_or-set_same}
 use Rattle.std.proofs.lemmas.Option.{slice_get-get_or}
 use Rattle.sha2.specs.Sha256.{sha256}
 use Rattle.cloak_base.specs.declared.names.Frame.{Frame}
@@ -14,7 +14,7 @@ use Rattle.protect_meta.specs.declared.meta.Meta.{Meta}
 use Rattle.protect_meta.specs.Table.{Table, meta_at, domains_of}
 use Rattle.protect_meta.specs.Pages.{IsIn, same_page as same_meta}
 use Rattle.cloak_pager.specs.Homes.{HomeTable, home_at}
-use Rattle.cloak_pager.specs.State.{PagerState, IsWhole, IsKept, Names, AreNoted, page_of, owed_of, right_at, bytes_in, held_in}
+use Rattle.cloak_pager.specs.State.{PagerState, IsWhole, IsKept, Names, AreNoted, page_of, right_at, bytes_in, held_in}
 use Rattle.cloak_pager.specs.Turns.{Turns, frame, holding, IsResealed, IsSealed, IsWiped, IsPlaced, Opens, HoldsNow, shown_by_digest}
 use Rattle.cloak_pager.specs.declared.held.Held.{Held}
 use Rattle.cloak_pager.specs.declared.held.Held.TheVariants.{Outside, Clean, Changed, Spent}
@@ -23,7 +23,7 @@ use Rattle.std.specs.Str.{bytes_eq}
 use Rattle.std.proofs.lemmas.Slice.Eq.{bytes_eq-Decides}
 use Rattle.std.proofs.lemmas.Bool.{false_from_ne_true}
 use Rattle.cloak_pager.proofs.Pages.{pages_tell, with_page-same, with_page-other}
-use Rattle.cloak_pager.proofs.Keeping.{set_map, right_seen, whole_turned, noted_still, noted_new}
+use Rattle.cloak_pager.proofs.Keeping.{set_map, whole_turned, noted_still, noted_new}
 
 -- the pager with these frames, with this right put in a place from which one was taken, and with this metadata
 abbrev pub put : PagerState → List (List ℕ) → ℕ → Held → Held → Table → PagerState
@@ -95,14 +95,13 @@ pub reseal_turns : (p : PagerState) (frames' : List (List ℕ)) (f : ℕ) (r : H
 reseal_turns p frames' f r t spent out w inside at meta wrote is =
     let here : r.frame.0 ≡ f = (named_as p w f (Clean r) inside at).0 in
     let p' : PagerState = put p frames' f spent (Outside out) p.table in
-    of_held p f (Clean r) r.page (λ q. IsResealed p p' f q) at refl
-    (λ t' meta'.
-    let same : t ≡ t' = (let e = sym meta ∙ meta' in cc) in
-    let turns = turns_put p frames' f spent (Outside out) (Outside (frame f)) (cbc p.key t.iv (bytes_in p f)) p.table (meta_at p.table)
-    (written p.frames frames' r.frame.0 f (λ old. cbc p.key t.iv old) here inside wrote)
-    (ap (λ (x : Frame). Outside x) (frame_is out f (ap (λ (x : Frame). x.0) is ∙ here))) refl (λ o. refl) in
-    let T : Meta → Type 0 = λ x. Turns p p' (slice_set p.frames f (cbc p.key x.iv (bytes_in p f))) (slice_set p.rights f (Outside (frame f))) (meta_at p.table) in
-    subst T same turns)
+    of_held p f (Clean r) r.page (λ q. IsResealed p p' f q) at refl (
+      t,
+      meta,
+      turns_put p frames' f spent (Outside out) (Outside (frame f)) (cbc p.key t.iv (bytes_in p f)) p.table (meta_at p.table)
+          (written p.frames frames' r.frame.0 f (λ old. cbc p.key t.iv old) here inside wrote)
+          (ap (λ (x : Frame). Outside x) (frame_is out f (ap (λ (x : Frame). x.0) is ∙ here))) refl (λ o. refl),
+    )
 
 -- Sealing.
 
@@ -221,11 +220,15 @@ open_kept p homes homes' frames' f r spent n q t k inside at shown opens is page
 pub open_turns : (p : PagerState) (frames' : List (List ℕ)) (f : ℕ) (r : Frame) (spent : Held) (n : Holding) (q : PageId) (t : Meta) → IsWhole p → f < length p.frames → right_at p f ≡ Outside r → ((old : List ℕ) → slice_get p.frames r.0 ≡ Some old → sha256 old ≡ t.digest) → ((old : List ℕ) → slice_get p.frames r.0 ≡ Some old → (plain : List ℕ) × IsPlain p.key t.iv old plain × (frames' ≡ slice_set p.frames r.0 plain)) → n ≡ record { frame = r; page = q } → (sha256 (bytes_in p f) ≡ t.digest) × Opens p.key t.iv (bytes_in p f) (λ plain. HoldsNow p (put p frames' f spent (Clean n) p.table) q f false plain)
 open_turns p frames' f r spent n q t w inside at equal opens is =
     let here : r.0 ≡ f = outside_is p w f r inside at in
-    let made = opened_here p.frames frames' p.key t.iv r.0 f here inside opens in
-    (equal (bytes_in p f) (rw here (slice_get-get_or p.frames f [] inside)),
-    (made.0, made.1,
-    turns_put p frames' f spent (Clean n) (Clean (holding f q)) made.0 p.table (meta_at p.table) made.2
-    (ap (λ (x : Holding). Clean x) (is ∙ holding_is (record { frame = r; page = q }) f q here refl)) refl (λ o. refl)))
+    let made = opened_here p.frames frames' p.key t.iv r.0 f here inside opens in (
+      equal (bytes_in p f) (rw here (slice_get-get_or p.frames f [] inside)),
+      (
+        made.0,
+        made.1,
+        turns_put p frames' f spent (Clean n) (Clean (holding f q)) made.0 p.table (meta_at p.table) made.2
+            (ap (λ (x : Holding). Clean x) (is ∙ holding_is (record { frame = r; page = q }) f q here refl)) refl (λ o. refl),
+      ),
+    )
 
 -- a right that was taken out and put back changes nothing
 pub put_back : (p : PagerState) (frames' : List (List ℕ)) (f : ℕ) (spent : Held) (r same : Frame) → right_at p f ≡ Outside r → (same ≡ r) × (frames' ≡ p.frames) → put p frames' f spent (Outside same) p.table ≡ p

@@ -1,6 +1,5 @@
 -- What contracts see of a pager.
 use Rattle.std.specs.Prelude.{ℕ, ◌≡◌, ◌≢◌, ◌<◌, ◌≤◌, false, List, [], Option, Some, None, length, slice_index_or}
-use Rattle.cloak_base.specs.declared.names.Frame.{Frame}
 use Rattle.cloak_base.specs.declared.names.PageId.{PageId}
 use Rattle.cloak_base.specs.Pages.{is_of}
 use Rattle.protect_meta.specs.Pages.{IsIn}

@@ -1,5 +1,5 @@
 -- What each call makes of a pager, and what its answer is, by the pager alone.
-use Rattle.std.specs.Prelude.{ℕ, ◌≡◌, ◌+◌, ◌-◌, ◌<◌, ◌^◌, Bool, true, false, min, List, [], ◌∷◌, Option, Some, None, Result, Ok, length, replicate, slice_set, slice_index_or, if◌then◌else◌}
+use Rattle.std.specs.Prelude.{ℕ, ◌≡◌, ◌+◌, ◌-◌, ◌<◌, ◌^◌, Bool, true, false, min, List, Option, Some, None, length, replicate, slice_set, if◌then◌else◌}
 use Rattle.std.specs.Str.{bytes_eq}
 use Rattle.sha2.specs.Sha256.{sha256}
 use Rattle.cloak_base.specs.declared.names.Frame.{Frame}
@@ -9,10 +9,10 @@ use Rattle.cloak_base.specs.Random.{Random}
 use Rattle.cloak_model.specs.Chain.{cbc}
 use Rattle.cloak_model.specs.Memory.{zero_page}
 use Rattle.protect_meta.specs.declared.meta.Meta.{Meta}
-use Rattle.protect_meta.specs.Table.{Table, meta_at, domains_of}
+use Rattle.protect_meta.specs.Table.{meta_at, domains_of}
 use Rattle.frame_store.specs.Rights.{Holding}
 use Rattle.page_states.specs.Opening.{IsPlain}
-use Rattle.cloak_pager.specs.State.{PagerState, right_at, bytes_in, owed_of}
+use Rattle.cloak_pager.specs.State.{PagerState, right_at, bytes_in}
 use Rattle.cloak_pager.specs.declared.held.Held.{Held}
 use Rattle.cloak_pager.specs.declared.held.Held.TheVariants.{Outside, Clean, Changed, Spent}
 use Rattle.cloak_pager.specs.declared.touching.Touched.{Touched}
@@ -51,7 +51,7 @@ IsChanged Spent = ⊥
 
 -- Frame f, held unchanged as page q, is sealed again under the IV of its metadata.
 abbrev pub IsResealed : PagerState → PagerState → ℕ → PageId → Type 0
-IsResealed old new f q = (t : Meta) → meta_at old.table q ≡ Some t → Turns old new (slice_set old.frames f (cbc old.key t.iv (bytes_in old f))) (slice_set old.rights f (Outside (frame f))) (meta_at old.table)
+IsResealed old new f q = (t : Meta) × (meta_at old.table q ≡ Some t) × Turns old new (slice_set old.frames f (cbc old.key t.iv (bytes_in old f))) (slice_set old.rights f (Outside (frame f))) (meta_at old.table)
 
 -- Frame f, held changed as page q, is sealed under this IV, and the page's metadata tells of that.
 abbrev pub IsSealed : PagerState → PagerState → ℕ → PageId → List ℕ → Type 0
@@ -180,7 +180,7 @@ CloseTurns Spent old new f = ⊥
 -- the bytes of a frame when all is closed: one that was held unchanged shows its record again
 abbrev pub closed_bytes : PagerState → ℕ → Held → List ℕ → Type 0
 closed_bytes old f (Outside r) bytes = bytes ≡ bytes_in old f
-closed_bytes old f (Clean r) bytes = (t : Meta) → meta_at old.table r.page ≡ Some t → bytes ≡ cbc old.key t.iv (bytes_in old f)
+closed_bytes old f (Clean r) bytes = (t : Meta) × (meta_at old.table r.page ≡ Some t) × (bytes ≡ cbc old.key t.iv (bytes_in old f))
 closed_bytes old f (Changed r) bytes = ⊥
 closed_bytes old f Spent bytes = ⊥
 

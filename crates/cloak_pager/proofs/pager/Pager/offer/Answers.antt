@@ -1,7 +1,7 @@
-use Rattle.std.proofs.Common.{◌≡◌, ◌∙◌, refl, sym, subst, ap, Some, None, Bool, true, false}
+use Rattle.std.proofs.Common.{◌≡◌, ◌∙◌, refl, sym, subst, Some, None, Bool}
 use Rattle.protect_meta.specs.Table.{meta_at, domains_of}
 use Rattle.protect_meta.specs.Pages.{IsIn}
-use Rattle.cloak_pager.specs.State.{PagerState, held_in, page_of}
+use Rattle.cloak_pager.specs.State.{PagerState}
 use Rattle.cloak_pager.specs.Turns.{OfferTurns}
 use Rattle.cloak_pager.specs.declared.held.Held.TheVariants.{Outside, Clean, Changed}
 use Rattle.cloak_pager.specs.declared.offering.Offered.TheVariants.{Ready}

@@ -1,4 +1,4 @@
-use Rattle.std.proofs.Common.{refl, sym, subst, true, false, Bool}
+use Rattle.std.proofs.Common.{refl, sym, subst, Bool}
 use Rattle.cloak_pager.specs.Turns.{ShownTurns}
 use Rattle.cloak_pager.specs.declared.offering.Offered.TheVariants.{Ready}
 use Rattle.cloak_pager.proofs.Turned.{changed_then, other_digest, same_digest}

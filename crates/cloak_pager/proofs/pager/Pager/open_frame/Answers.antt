@@ -1,4 +1,4 @@
-use Rattle.std.proofs.Common.{ℕ, Some, ◌≡◌, ◌≢◌, ◌∙◌, sym, subst, ap}
+use Rattle.std.proofs.Common.{ℕ, Some, ◌≡◌, ◌≢◌, sym, subst, ap}
 use Rattle.protect_meta.specs.Table.{domains_of, meta_at}
 use Rattle.protect_meta.specs.Pages.{IsIn}
 use Rattle.cloak_pager.specs.State.{PagerState, IsKept, held_in, page_of}
@@ -36,9 +36,10 @@ returns-in-Err-clause-refused c =
     let p : PagerState = record { frames = c.self.inside.frames; rights = c.self.inside.rights.items; table = c.self.inside.table; key = c.self.inside.key; reads = c.self.inside.reads } in
     let seen = right_seen p c.args.self.now c.self.view_is c.self.invariant.whole c.args.g.0 c.requires.inside c.index_mut.result.now (Outside c.in-Outside.right) c.index_mut.ensures.value c.in-Outside.ensures.value in
     rw (← c.self.view_is)
-    (λ no.
-    (refused_differs p c.args.g.0 c.in-Outside.right c.args.m.now c.self.invariant.whole seen.0 seen.1 c.in-Err.ensures.refused_where_not,
-    put_back p c.open_page.new.s c.args.g.0 c.replace.new.dest c.in-Outside.right c.in-Err.same seen.1 c.in-Err.ensures.unchanged))
+    (λ no. (
+      refused_differs p c.args.g.0 c.in-Outside.right c.args.m.now c.self.invariant.whole seen.0 seen.1 c.in-Err.ensures.refused_where_not,
+      put_back p c.open_page.new.s c.args.g.0 c.replace.new.dest c.in-Outside.right c.in-Err.same seen.1 c.in-Err.ensures.unchanged,
+    ))
 
 pub returns-in-Ok-clause-clean : goal.returns-in-Ok-clause-clean
 returns-in-Ok-clause-clean c =

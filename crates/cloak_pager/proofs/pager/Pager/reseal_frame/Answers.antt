@@ -5,7 +5,6 @@ use Rattle.cloak_pager.specs.declared.held.Held.TheVariants.{Clean}
 use Rattle.protect_meta.specs.Table.{meta_at}
 use Rattle.cloak_pager.proofs.Keeping.{right_seen}
 use Rattle.cloak_pager.proofs.Turned.{reseal_kept, reseal_turns}
-use Rattle.cloak_pager.proofs.Touches.{stands_resealed}
 use Rattle.cloak_pager.proofs.pager.Pager.reseal_frame.Goals as goal
 
 pub invariant_of-self : goal.invariant_of-self
