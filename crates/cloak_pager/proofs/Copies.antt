@@ -12,8 +12,7 @@ use Rattle.cloak_model.specs.Cloaking.{CloakedMemory}
 use Rattle.cloak_model.specs.PageMoves.{copy_pages, drop_pages}
 use Rattle.protect_meta.specs.declared.meta.Meta.{Meta}
 use Rattle.protect_meta.specs.Table.{Table, meta_at, domains_of}
-use Rattle.protect_meta.specs.Pages.{of_resource}
-use Rattle.protect_meta.proofs.Pages.{of_resource_tells, of_resource-decides}
+use Rattle.cloak_base.proofs.Pages.{is_of_tells, is_of-decides}
 use Rattle.protect_meta.proofs.Tables.{chosen_true, chosen_false}
 use Rattle.cloak_pager.specs.Homes.{HomeTable}
 use Rattle.cloak_pager.specs.State.{PagerState, IsWhole, IsKept, Names, page_of, owed_of, right_at, held_in, owed_at, IsNoneOwed, IsNoneHeld}
@@ -100,23 +99,17 @@ stands_moved p p' w w' m m' metas s v =
 
 -- Copying.
 
-is_of-of_resource : (domain resource : ℕ) (o : PageId) → of_resource domain resource o ≡ is_of domain resource o
-unfolding of_resource
-is_of-of_resource domain resource o = refl
-
 -- whether a page is one of a resource, with its numbers where it is
 pub of_tells : (domain resource : ℕ) (o : PageId) → ((is_of domain resource o ≡ true) × ((o.domain ≡ domain) × (o.resource ≡ resource))) ⊎ (is_of domain resource o ≡ false)
-of_tells domain resource o =
-    let same = is_of-of_resource domain resource o in
-    elim (of_resource_tells domain resource o) [ inl t ↦ inl (sym same ∙ t.0, t.1) | inr f ↦ inr (sym same ∙ f.0) ]
+of_tells domain resource o = elim (is_of_tells domain resource o) [ inl t ↦ inl t | inr f ↦ inr f.0 ]
 
-pub copy_turns : (p now : PagerState) (table' : Table) (domain from to : ℕ) → p ≡ now → ((o : PageId) → meta_at table' o ≡ (if of_resource domain to o then meta_at p.table (page_in from o) else meta_at p.table o)) → domains_of table' ≡ domains_of p.table → IsCopied now (record p { table = table' }) domain from to
+pub copy_turns : (p now : PagerState) (table' : Table) (domain from to : ℕ) → p ≡ now → ((o : PageId) → meta_at table' o ≡ (if is_of domain to o then meta_at p.table (page_in from o) else meta_at p.table o)) → domains_of table' ≡ domains_of p.table → IsCopied now (record p { table = table' }) domain from to
 copy_turns p now table' domain from to view each domains =
     let copied : PagerState → Type 0 = λ x. IsCopied x (record p { table = table' }) domain from to in
     subst copied view (record {
       frames_are = refl;
       rights_are = refl;
-      metas_are = λ o. each o ∙ ap (λ (b : Bool). if b then meta_at p.table (page_in from o) else meta_at p.table o) (is_of-of_resource domain to o);
+      metas_are = λ o. each o;
       domains_stay = domains;
       key_stays = refl;
       reads_stay = refl;
@@ -128,7 +121,7 @@ copy_holds p domain from to away k o held = chosen_false _ _ _ (away k o held)
 
 -- a page beside one of this resource is of the other one
 beside : (domain from : ℕ) (o : PageId) → o.domain ≡ domain → is_of domain from (page_in from o) ≡ true
-beside domain from o d = sym (is_of-of_resource domain from (page_in from o)) ∙ (of_resource-decides domain from (page_in from o)).1 (d, refl)
+beside domain from o d = (is_of-decides domain from (page_in from o)).1 (d, refl)
 
 or_false : (a b : Bool) → (a || b) ≡ false → (a ≡ false) × (b ≡ false)
 or_false true b e = absurd (cc)
@@ -203,14 +196,13 @@ meets_copy p p' domain from to t shown away w m s =
 
 -- Dropping.
 
-pub drop_turns : (p now : PagerState) (table' : Table) (domain resource : ℕ) → p ≡ now → ((o : PageId) → meta_at table' o ≡ (if of_resource domain resource o then None else meta_at p.table o)) → domains_of table' ≡ domains_of p.table → IsDropped now (record p { table = table' }) domain resource
+pub drop_turns : (p now : PagerState) (table' : Table) (domain resource : ℕ) → p ≡ now → ((o : PageId) → meta_at table' o ≡ (if is_of domain resource o then None else meta_at p.table o)) → domains_of table' ≡ domains_of p.table → IsDropped now (record p { table = table' }) domain resource
 drop_turns p now table' domain resource view each domains =
     let dropped : PagerState → Type 0 = λ x. IsDropped x (record p { table = table' }) domain resource in
-    let none : Option Meta = None in
     subst dropped view (record {
       frames_are = refl;
       rights_are = refl;
-      metas_are = λ o. each o ∙ ap (λ (b : Bool). if b then none else meta_at p.table o) (is_of-of_resource domain resource o);
+      metas_are = λ o. each o;
       domains_stay = domains;
       key_stays = refl;
       reads_stay = refl;

@@ -3,8 +3,10 @@ use Rattle.std.proofs.Common.{◌≡◌, ◌≢◌, ℕ, ◌*◌, ◌<◌, List,
 use Rattle.std.proofs.lemmas.List.{get_or-set_same, get_or-set_other}
 use Rattle.cloak_base.specs.declared.names.Frame.{Frame}
 use Rattle.cloak_base.specs.declared.names.PageId.{PageId}
-use Rattle.protect_meta.specs.Pages.{IsIn, same_page, place}
-use Rattle.protect_meta.proofs.Pages.{is_page_tells, same_page_tells, same_numbers}
+use Rattle.cloak_base.specs.Pages.{same_page}
+use Rattle.protect_meta.specs.Pages.{IsIn, place}
+use Rattle.cloak_base.proofs.Pages.{same_page_tells, same_numbers}
+use Rattle.protect_meta.proofs.Pages.{is_page_tells}
 use Rattle.protect_meta.proofs.Tables.{chosen_true, chosen_false}
 use Rattle.cloak_pager.specs.Homes.{HomeTable, home_at}
 

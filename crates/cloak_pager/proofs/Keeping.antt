@@ -6,8 +6,8 @@ use Rattle.cloak_base.specs.declared.names.PageId.{PageId}
 use Rattle.cloak_base.specs.Pages.{with_page}
 use Rattle.protect_meta.specs.declared.meta.Meta.{Meta}
 use Rattle.protect_meta.specs.Table.{Table, meta_at, domains_of}
-use Rattle.protect_meta.specs.Pages.{same_page as same_meta}
-use Rattle.protect_meta.proofs.Pages.{same_page_tells}
+use Rattle.cloak_base.specs.Pages.{same_page}
+use Rattle.cloak_base.proofs.Pages.{same_page_tells}
 use Rattle.cloak_pager.specs.Homes.{HomeTable, home_at}
 use Rattle.cloak_pager.specs.State.{PagerState, IsWhole, Names, AreNoted, page_of, right_at, held_in}
 use Rattle.cloak_pager.specs.Turns.{Turns, frame}
@@ -16,12 +16,8 @@ use Rattle.cloak_pager.specs.declared.held.Held.TheVariants.{Outside, Clean, Cha
 use Rattle.cloak_pager.proofs.Pages.{same_or_not, with_page-same, with_page-other}
 
 -- a map that was set at one page
-pub set_map : {A : Type 0} (m m' : PageId → A) (q : PageId) (v : A) → ((p : PageId) → m' p ≡ (if same_meta p q then v else m p)) → (o : PageId) → m' o ≡ with_page m q v o
-set_map {A} m m' q v each o =
-    elim (same_page_tells o q) [
-      | inl h ↦ each o ∙ (ap (λ (b : Bool). if b then v else m o) h.0 ∙ sym (subst (λ (x : PageId). with_page m q v x ≡ v) (sym h.1) (with_page-same m q v)))
-      | inr h ↦ each o ∙ (ap (λ (b : Bool). if b then v else m o) h.0 ∙ sym (with_page-other m q v o h.1))
-    ]
+pub set_map : {A : Type 0} (m m' : PageId → A) (q : PageId) (v : A) → ((p : PageId) → m' p ≡ (if same_page p q then v else m p)) → (o : PageId) → m' o ≡ with_page m q v o
+set_map {A} m m' q v each o = each o
 
 -- what is there, as a value
 pub there_is : {A : Type 0} (o : Option A) → o ≢ None → (x : A) × (o ≡ Some x)
@@ -93,7 +89,7 @@ noted_still homes rights f h noted inside same k q held =
     ]
 
 -- and where the frame is noted for the page that it takes
-pub noted_new : (homes homes' : HomeTable) (rights : List Held) (f : ℕ) (h : Held) (q : PageId) → AreNoted homes rights → f < length rights → ((p : PageId) → home_at homes' p ≡ (if same_meta p q then Some (frame f) else home_at homes p)) → page_of h ≡ Some q → ((k : ℕ) → page_of (get_or rights k Spent) ≢ Some q) → AreNoted homes' (slice_set rights f h)
+pub noted_new : (homes homes' : HomeTable) (rights : List Held) (f : ℕ) (h : Held) (q : PageId) → AreNoted homes rights → f < length rights → ((p : PageId) → home_at homes' p ≡ (if same_page p q then Some (frame f) else home_at homes p)) → page_of h ≡ Some q → ((k : ℕ) → page_of (get_or rights k Spent) ≢ Some q) → AreNoted homes' (slice_set rights f h)
 noted_new homes homes' rights f h q noted inside each is nowhere k o held =
     let at = set_map (home_at homes) (home_at homes') q (Some (frame f)) each in
     elim (right_put rights f h k o inside held) [

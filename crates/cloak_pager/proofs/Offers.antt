@@ -26,7 +26,7 @@ use Rattle.cloak_pager.specs.declared.held.Held.{Held}
 use Rattle.cloak_pager.specs.declared.held.Held.TheVariants.{Outside, Clean, Changed, Spent}
 use Rattle.cloak_pager.specs.declared.offering.Offered.{Offered}
 use Rattle.cloak_pager.specs.declared.offering.Offered.TheVariants.{Ready, Mismatch}
-use Rattle.cloak_pager.proofs.Pages.{same_page-self, same_page-decides}
+use Rattle.cloak_base.proofs.Pages.{same_page-self, same_page-decides}
 use Rattle.cloak_pager.proofs.Keeping.{whole_turned}
 use Rattle.cloak_pager.proofs.Stands.{stands_turned, owed_by_right, owed_held, page_stays}
 use Rattle.cloak_pager.proofs.Touches.{page_is, owed_nothing, settle_none}

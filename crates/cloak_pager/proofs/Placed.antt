@@ -12,7 +12,7 @@ use Rattle.cloak_model.specs.Cloaking.{CloakedMemory, with_frame, with_record}
 use Rattle.cloak_model.specs.PageMoves.{place, place_with, with_plain}
 use Rattle.protect_meta.specs.declared.meta.Meta.{Meta}
 use Rattle.protect_meta.specs.Table.{Table, meta_at, domains_of}
-use Rattle.protect_meta.specs.Pages.{same_page as same_meta}
+use Rattle.cloak_base.specs.Pages.{same_page}
 use Rattle.cloak_pager.specs.Homes.{HomeTable}
 use Rattle.cloak_pager.specs.State.{PagerState, IsWhole, IsKept, IsFresh, Names, page_of, right_at, held_in}
 use Rattle.cloak_pager.specs.Turns.{Turns, IsPlaced, IsRestored}
@@ -50,7 +50,7 @@ kept_still p p' homes frames metas k t long keeps = record {
 
 -- Restoring.
 
-pub restore_turns : (p : PagerState) (table' : Table) (q : PageId) (t : Meta) → ((o : PageId) → meta_at table' o ≡ (if same_meta o q then Some t else meta_at p.table o)) → domains_of table' ≡ domains_of p.table → IsRestored p (record p { table = table' }) q t
+pub restore_turns : (p : PagerState) (table' : Table) (q : PageId) (t : Meta) → ((o : PageId) → meta_at table' o ≡ (if same_page o q then Some t else meta_at p.table o)) → domains_of table' ≡ domains_of p.table → IsRestored p (record p { table = table' }) q t
 restore_turns p table' q t each domains = record {
   frames_are = refl;
   rights_are = refl;

@@ -12,7 +12,8 @@ use Rattle.frame_store.specs.Rights.{Holding}
 use Rattle.page_states.specs.Opening.{IsPlain}
 use Rattle.protect_meta.specs.declared.meta.Meta.{Meta}
 use Rattle.protect_meta.specs.Table.{Table, meta_at, domains_of}
-use Rattle.protect_meta.specs.Pages.{IsIn, same_page as same_meta}
+use Rattle.protect_meta.specs.Pages.{IsIn}
+use Rattle.cloak_base.specs.Pages.{same_page}
 use Rattle.cloak_pager.specs.Homes.{HomeTable, home_at}
 use Rattle.cloak_pager.specs.State.{PagerState, IsWhole, IsKept, Names, AreNoted, page_of, right_at, bytes_in, held_in}
 use Rattle.cloak_pager.specs.Turns.{Turns, frame, holding, IsResealed, IsSealed, IsWiped, IsPlaced, Opens, HoldsNow, shown_by_digest}
@@ -22,7 +23,8 @@ use Rattle.cloak_pager.specs.declared.offering.Offered.TheVariants.{Ready, Misma
 use Rattle.std.specs.Str.{bytes_eq}
 use Rattle.std.proofs.lemmas.Slice.Eq.{bytes_eq-Decides}
 use Rattle.std.proofs.lemmas.Bool.{false_from_ne_true}
-use Rattle.cloak_pager.proofs.Pages.{pages_tell, with_page-same, with_page-other}
+use Rattle.cloak_base.proofs.Pages.{same_page_tells}
+use Rattle.cloak_pager.proofs.Pages.{with_page-same, with_page-other}
 use Rattle.cloak_pager.proofs.Keeping.{set_map, whole_turned, noted_still, noted_new}
 
 -- the pager with these frames, with this right put in a place from which one was taken, and with this metadata
@@ -78,7 +80,7 @@ kept_outside p homes frames' f spent out bytes table' metas k inside is wrote do
 -- setting metadata takes none away
 pub set_keeps : (m : PageId → Option Meta) (q : PageId) (t : Meta) (o : PageId) → m o ≢ None → with_page m q (Some t) o ≢ None
 set_keeps m q t o there =
-    elim (pages_tell o q) [
+    elim (same_page_tells o q) [
       | inl h ↦ λ e. (let here : with_page m q (Some t) o ≡ Some t = subst (λ (x : PageId). with_page m q (Some t) x ≡ Some t) (sym h.1) (with_page-same m q (Some t)) in let no : None ≡ Some t = sym e ∙ here in cc)
       | inr h ↦ λ e. there (sym (with_page-other m q (Some t) o h.1) ∙ e)
     ]
@@ -105,14 +107,14 @@ reseal_turns p frames' f r t spent out w inside at meta wrote is =
 
 -- Sealing.
 
-pub seal_kept : (p : PagerState) (homes : HomeTable) (frames' : List (List ℕ)) (f : ℕ) (r : Holding) (t : Meta) (iv : List ℕ) (table' : Table) (page : PageId) (spent : Held) (out : Frame) → IsKept p homes → f < length p.frames → right_at p f ≡ Changed r → ((old : List ℕ) → slice_get p.frames r.frame.0 ≡ Some old → frames' ≡ slice_set p.frames r.frame.0 (cbc p.key iv old)) → ((o : PageId) → meta_at table' o ≡ (if same_meta o page then Some t else meta_at p.table o)) → domains_of table' ≡ domains_of p.table → out ≡ r.frame → IsKept (put p frames' f spent (Outside out) table') homes
+pub seal_kept : (p : PagerState) (homes : HomeTable) (frames' : List (List ℕ)) (f : ℕ) (r : Holding) (t : Meta) (iv : List ℕ) (table' : Table) (page : PageId) (spent : Held) (out : Frame) → IsKept p homes → f < length p.frames → right_at p f ≡ Changed r → ((old : List ℕ) → slice_get p.frames r.frame.0 ≡ Some old → frames' ≡ slice_set p.frames r.frame.0 (cbc p.key iv old)) → ((o : PageId) → meta_at table' o ≡ (if same_page o page then Some t else meta_at p.table o)) → domains_of table' ≡ domains_of p.table → out ≡ r.frame → IsKept (put p frames' f spent (Outside out) table') homes
 seal_kept p homes frames' f r t iv table' page spent out k inside at wrote each domains is =
     let here : r.frame.0 ≡ f = (named_as p k.whole f (Changed r) inside at).0 in
     kept_outside p homes frames' f spent out (cbc p.key iv (bytes_in p f)) table' (with_page (meta_at p.table) page (Some t)) k inside
     (ap (λ (x : Frame). x.0) is ∙ here) (written p.frames frames' r.frame.0 f (λ old. cbc p.key iv old) here inside wrote) domains
     (set_map (meta_at p.table) (meta_at table') page (Some t) each) (set_keeps (meta_at p.table) page t)
 
-pub seal_turns : (p : PagerState) (frames' : List (List ℕ)) (f : ℕ) (r : Holding) (t : Meta) (iv : List ℕ) (table' : Table) (page : PageId) (spent : Held) (out : Frame) → IsWhole p → f < length p.frames → right_at p f ≡ Changed r → ((old : List ℕ) → slice_get p.frames r.frame.0 ≡ Some old → frames' ≡ slice_set p.frames r.frame.0 (cbc p.key iv old)) → ((old : List ℕ) → slice_get p.frames r.frame.0 ≡ Some old → t.digest ≡ sha256 (cbc p.key iv old)) → t.iv ≡ iv → page ≡ r.page → ((o : PageId) → meta_at table' o ≡ (if same_meta o page then Some t else meta_at p.table o)) → domains_of table' ≡ domains_of p.table → out ≡ r.frame → (q : PageId) → held_in p f ≡ Some q → IsSealed p (put p frames' f spent (Outside out) table') f q iv
+pub seal_turns : (p : PagerState) (frames' : List (List ℕ)) (f : ℕ) (r : Holding) (t : Meta) (iv : List ℕ) (table' : Table) (page : PageId) (spent : Held) (out : Frame) → IsWhole p → f < length p.frames → right_at p f ≡ Changed r → ((old : List ℕ) → slice_get p.frames r.frame.0 ≡ Some old → frames' ≡ slice_set p.frames r.frame.0 (cbc p.key iv old)) → ((old : List ℕ) → slice_get p.frames r.frame.0 ≡ Some old → t.digest ≡ sha256 (cbc p.key iv old)) → t.iv ≡ iv → page ≡ r.page → ((o : PageId) → meta_at table' o ≡ (if same_page o page then Some t else meta_at p.table o)) → domains_of table' ≡ domains_of p.table → out ≡ r.frame → (q : PageId) → held_in p f ≡ Some q → IsSealed p (put p frames' f spent (Outside out) table') f q iv
 seal_turns p frames' f r t iv table' page spent out w inside at wrote digest drawn of each domains is =
     let here : r.frame.0 ≡ f = (named_as p w f (Changed r) inside at).0 in
     let p' : PagerState = put p frames' f spent (Outside out) table' in
@@ -172,7 +174,7 @@ change_kept p homes f r n spent k inside at is =
 -- A frame takes a page.
 
 -- with a right for this frame and page, and the frame noted for the page
-pub take_kept : (p : PagerState) (homes homes' : HomeTable) (frames' : List (List ℕ)) (f : ℕ) (spent h h' : Held) (q : PageId) (bytes : List ℕ) → IsKept p homes → f < length p.frames → frames' ≡ slice_set p.frames f bytes → h ≡ h' → Names p.table f h' → page_of h' ≡ Some q → ((k : ℕ) → held_in p k ≢ Some q) → ((o : PageId) → home_at homes' o ≡ (if same_meta o q then Some (frame f) else home_at homes o)) → homes'.domains ≡ homes.domains → IsKept (put p frames' f spent h p.table) homes'
+pub take_kept : (p : PagerState) (homes homes' : HomeTable) (frames' : List (List ℕ)) (f : ℕ) (spent h h' : Held) (q : PageId) (bytes : List ℕ) → IsKept p homes → f < length p.frames → frames' ≡ slice_set p.frames f bytes → h ≡ h' → Names p.table f h' → page_of h' ≡ Some q → ((k : ℕ) → held_in p k ≢ Some q) → ((o : PageId) → home_at homes' o ≡ (if same_page o q then Some (frame f) else home_at homes o)) → homes'.domains ≡ homes.domains → IsKept (put p frames' f spent h p.table) homes'
 take_kept p homes homes' frames' f spent h h' q bytes k inside wrote is named of nowhere each domains =
     kept_put p homes homes' frames' f spent h h' bytes p.table (meta_at p.table) k inside
     (turns_put p frames' f spent h h' bytes p.table (meta_at p.table) wrote is refl (λ o. refl))
@@ -186,7 +188,7 @@ outside_is p w f r inside at = named_as p w f (Outside r) inside at
 
 -- First use.
 
-pub first_kept : (p : PagerState) (homes homes' : HomeTable) (frames' : List (List ℕ)) (f : ℕ) (r : Frame) (spent : Held) (n : Holding) (q : PageId) → IsKept p homes → f < length p.frames → right_at p f ≡ Outside r → frames' ≡ slice_set p.frames r.0 zero_page → n ≡ record { frame = r; page = q } → IsIn (domains_of p.table) q → ((k : ℕ) → held_in p k ≢ Some q) → ((o : PageId) → home_at homes' o ≡ (if same_meta o q then Some (frame f) else home_at homes o)) → homes'.domains ≡ homes.domains → IsKept (put p frames' f spent (Changed n) p.table) homes'
+pub first_kept : (p : PagerState) (homes homes' : HomeTable) (frames' : List (List ℕ)) (f : ℕ) (r : Frame) (spent : Held) (n : Holding) (q : PageId) → IsKept p homes → f < length p.frames → right_at p f ≡ Outside r → frames' ≡ slice_set p.frames r.0 zero_page → n ≡ record { frame = r; page = q } → IsIn (domains_of p.table) q → ((k : ℕ) → held_in p k ≢ Some q) → ((o : PageId) → home_at homes' o ≡ (if same_page o q then Some (frame f) else home_at homes o)) → homes'.domains ≡ homes.domains → IsKept (put p frames' f spent (Changed n) p.table) homes'
 first_kept p homes homes' frames' f r spent n q k inside at wrote is page nowhere each domains =
     let here : r.0 ≡ f = outside_is p k.whole f r inside at in
     take_kept p homes homes' frames' f spent (Changed n) (Changed (holding f q)) q zero_page k inside
@@ -209,7 +211,7 @@ opened_here frames frames' key iv k f is inside opens =
     let made : (plain : List ℕ) × IsPlain key iv (get_or frames f []) plain × (frames' ≡ slice_set frames k plain) = opens (get_or frames f []) (rw is (slice_get-get_or frames f [] inside)) in
     (made.0, made.1, made.2 ∙ ap (λ (x : ℕ). slice_set frames x made.0) is)
 
-pub open_kept : (p : PagerState) (homes homes' : HomeTable) (frames' : List (List ℕ)) (f : ℕ) (r : Frame) (spent : Held) (n : Holding) (q : PageId) (t : Meta) → IsKept p homes → f < length p.frames → right_at p f ≡ Outside r → meta_at p.table q ≡ Some t → ((old : List ℕ) → slice_get p.frames r.0 ≡ Some old → (plain : List ℕ) × IsPlain p.key t.iv old plain × (frames' ≡ slice_set p.frames r.0 plain)) → n ≡ record { frame = r; page = q } → IsIn (domains_of p.table) q → ((k : ℕ) → held_in p k ≢ Some q) → ((o : PageId) → home_at homes' o ≡ (if same_meta o q then Some (frame f) else home_at homes o)) → homes'.domains ≡ homes.domains → IsKept (put p frames' f spent (Clean n) p.table) homes'
+pub open_kept : (p : PagerState) (homes homes' : HomeTable) (frames' : List (List ℕ)) (f : ℕ) (r : Frame) (spent : Held) (n : Holding) (q : PageId) (t : Meta) → IsKept p homes → f < length p.frames → right_at p f ≡ Outside r → meta_at p.table q ≡ Some t → ((old : List ℕ) → slice_get p.frames r.0 ≡ Some old → (plain : List ℕ) × IsPlain p.key t.iv old plain × (frames' ≡ slice_set p.frames r.0 plain)) → n ≡ record { frame = r; page = q } → IsIn (domains_of p.table) q → ((k : ℕ) → held_in p k ≢ Some q) → ((o : PageId) → home_at homes' o ≡ (if same_page o q then Some (frame f) else home_at homes o)) → homes'.domains ≡ homes.domains → IsKept (put p frames' f spent (Clean n) p.table) homes'
 open_kept p homes homes' frames' f r spent n q t k inside at shown opens is page nowhere each domains =
     let here : r.0 ≡ f = outside_is p k.whole f r inside at in
     let made = opened_here p.frames frames' p.key t.iv r.0 f here inside opens in
@@ -242,7 +244,7 @@ refused_differs p f r t w inside at differs = differs (bytes_in p f) (rw (outsid
 
 -- Placing.
 
-pub place_turns : (p : PagerState) (rights' : List Held) (frames' : List (List ℕ)) (f : ℕ) (r : Frame) (q : PageId) (bytes iv digest c : List ℕ) (table' : Table) → IsWhole p → f < length p.frames → rights' ≡ p.rights → right_at p f ≡ Outside r → frames' ≡ slice_set p.frames r.0 c → c ≡ cbc p.key iv bytes → digest ≡ sha256 c → ((o : PageId) → meta_at table' o ≡ (if same_meta o q then Some (record { iv = iv; digest = digest }) else meta_at p.table o)) → domains_of table' ≡ domains_of p.table → IsPlaced p (record p { frames = frames'; rights = rights'; table = table' }) q f bytes iv
+pub place_turns : (p : PagerState) (rights' : List Held) (frames' : List (List ℕ)) (f : ℕ) (r : Frame) (q : PageId) (bytes iv digest c : List ℕ) (table' : Table) → IsWhole p → f < length p.frames → rights' ≡ p.rights → right_at p f ≡ Outside r → frames' ≡ slice_set p.frames r.0 c → c ≡ cbc p.key iv bytes → digest ≡ sha256 c → ((o : PageId) → meta_at table' o ≡ (if same_page o q then Some (record { iv = iv; digest = digest }) else meta_at p.table o)) → domains_of table' ≡ domains_of p.table → IsPlaced p (record p { frames = frames'; rights = rights'; table = table' }) q f bytes iv
 place_turns p rights' frames' f r q bytes iv digest c table' w inside same at wrote sealed sum each domains =
     let here : r.0 ≡ f = outside_is p w f r inside at in
     let meta : List ℕ → Meta = λ d. record { iv = iv; digest = d } in

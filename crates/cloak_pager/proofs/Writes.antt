@@ -20,7 +20,8 @@ use Rattle.cloak_pager.specs.State.{PagerState, IsWhole, IsKept, Names, page_of,
 use Rattle.cloak_pager.specs.Turns.{frame, HasBytes}
 use Rattle.cloak_pager.specs.Relation.{StandsFor, FrameStands, PageStands}
 use Rattle.cloak_pager.specs.Told.{MeetsStill, told_write_plain, told_write_outside, told_fill_outside, ReadsNewest}
-use Rattle.cloak_pager.specs.Width.{IsWidth, value_in}
+use Rattle.cloak_model.specs.Effect.{IsWidth}
+use Rattle.cloak_model.specs.Memory.{value_in}
 use Rattle.cloak_pager.specs.declared.held.Held.{Held}
 use Rattle.cloak_pager.specs.declared.held.Held.TheVariants.{Outside, Clean, Changed, Spent}
 use Rattle.cloak_pager.proofs.Pages.{with_page-same, with_page-other}

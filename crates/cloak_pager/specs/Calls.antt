@@ -7,7 +7,7 @@ use Rattle.cloak_base.specs.Random.{Random}
 use Rattle.cloak_model.specs.Chain.{cbc}
 use Rattle.cloak_model.specs.Cloaking.{CloakedMemory}
 use Rattle.protect_meta.specs.declared.meta.Meta.{Meta}
-use Rattle.cloak_pager.specs.Width.{value_in}
+use Rattle.cloak_model.specs.Memory.{value_in}
 use Rattle.cloak_pager.specs.State.{PagerState}
 use Rattle.cloak_pager.specs.Turns.{IsReadOnce}
 use Rattle.cloak_pager.specs.Relation.{StandsFor}

@@ -1,4 +1,3 @@
-pub mod Width
 pub mod Homes
 pub mod State
 pub mod Turns

@@ -12,7 +12,7 @@ use Rattle.cloak_model.specs.PageMoves.{place, with_plain, copy_pages, drop_page
 use Rattle.protect_meta.specs.declared.meta.Meta.{Meta}
 use Rattle.cloak_pager.specs.State.{PagerState, bytes_in}
 use Rattle.cloak_pager.specs.Relation.{StandsFor}
-use Rattle.cloak_pager.specs.Width.{value_in}
+use Rattle.cloak_model.specs.Memory.{value_in}
 use Rattle.cloak_pager.specs.declared.touching.Touched.{Touched}
 use Rattle.cloak_pager.specs.declared.touching.Touched.TheVariants.{Quiet, Resealed, Sealed, Wiped}
 use Rattle.cloak_pager.specs.declared.offering.Offered.{Offered}

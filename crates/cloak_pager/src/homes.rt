@@ -1,6 +1,7 @@
 ghost use Rattle.std.specs.Prelude.{◌≡◌, ◌*◌, ◌+◌, ◌<◌, ◌≤◌, IfOk, Some, if◌then◌else◌};
 ghost use Rattle.cloak_base.specs.declared.names.PageId.{PageId as AnyPage};
-ghost use Rattle.protect_meta.specs.Pages.{same_page, place};
+ghost use Rattle.cloak_base.specs.Pages.{same_page};
+ghost use Rattle.protect_meta.specs.Pages.{place};
 ghost use Rattle.cloak_pager.specs.Homes.{home_at};
 
 use cloak_base::{Frame, NoMemory, PageId};

@@ -1,7 +1,7 @@
 ghost use Rattle.std.specs.Prelude.{◌≡◌, ◌<◌, ◌%◌, length};
 ghost use Rattle.std.specs.Borrow.{sem};
 ghost use Rattle.cloak_model.specs.Memory.{with_value_in};
-ghost use Rattle.cloak_pager.specs.Width.{IsWidth};
+ghost use Rattle.cloak_model.specs.Effect.{IsWidth};
 
 use crate::held::Held;
 use crate::pager::Pager;

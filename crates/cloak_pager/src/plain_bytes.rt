@@ -1,6 +1,7 @@
 ghost use Rattle.std.specs.Prelude.{◌≡◌, ℕ, ◌<◌, ◌%◌};
 ghost use Rattle.cloak_model.specs.Memory.{with_value_in};
-ghost use Rattle.cloak_pager.specs.Width.{IsWidth, value_in};
+ghost use Rattle.cloak_model.specs.Effect.{IsWidth};
+ghost use Rattle.cloak_model.specs.Memory.{value_in};
 
 use crate::held::Held;
 use crate::pager::Pager;
