@@ -1,8 +1,7 @@
 -- What a step does to the world never goes back.
-use Rattle.std.proofs.Common.{◌≡◌, true, false, cond, ℕ, Bool, List, Option, Some, None, Result, Ok, Err}
+use Rattle.std.proofs.Common.{true, false, ℕ, Bool, List, Option, Some, None, Result, Ok, Err}
 use Rattle.cloak_base.specs.declared.names.Mode.{Mode}
 use Rattle.cloak_base.specs.declared.names.Mode.TheVariants.{U, S}
-use Rattle.cloak_base.specs.declared.names.Kind.TheVariants.{Fetch, Load, Store}
 use Rattle.rv_isa.specs.declared.instr.Instr.{Instr}
 use Rattle.rv_isa.specs.Table.{instruction}
 use Rattle.cloak_model.specs.declared.outcome.Effect.{Effect}
@@ -10,7 +9,7 @@ use Rattle.cloak_model.specs.declared.outcome.Effect.TheVariants as does
 use Rattle.cloak_model.specs.Hart.{Hart}
 use Rattle.cloak_model.specs.World.{World}
 use Rattle.cloak_model.specs.HostCalls.{read_block, write_block, read_call, write_call, host_call, ecall_in, ecall}
-use Rattle.cloak_model.specs.KernelStep.{loaded, load, stored, store, is_ecall, done, decoded, executed, fetched, instruction_step, interrupted, kernel_step}
+use Rattle.cloak_model.specs.KernelStep.{loaded, load, stored, store, done, decoded, executed, fetched, instruction_step, interrupted, kernel_step}
 use Rattle.cloak_model.proofs.Later.{IsLater, IsLater-refl, IsLater-trans, IsLater-either, later_translate, later_count, later_value, later_store, later_frame, later_fill}
 
 pub later_loaded : (h : Hart) (rd va width : ℕ) (signed : Bool) (to : Result ℕ ℕ) (w : World) → IsLater w (loaded h rd va width signed to w).world

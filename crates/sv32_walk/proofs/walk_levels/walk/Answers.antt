@@ -1,5 +1,5 @@
 -- Of the world of such a memory the walk is known whole.
-use Rattle.std.proofs.Common.{◌≡◌, ◌∙◌, ap, subst}
+use Rattle.std.proofs.Common.{◌∙◌, ap, subst}
 use Rattle.cloak_model.specs.declared.access.Access.{Access}
 use Rattle.cloak_model.specs.World.{World, Flat}
 use Rattle.cloak_model.specs.Asking.{Told}

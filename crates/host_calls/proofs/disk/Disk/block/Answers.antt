@@ -1,5 +1,5 @@
 -- The bytes of the block are the range that was taken.
-use Rattle.std.proofs.Common.{◌≡◌, ◌∙◌, ◌+◌, ◌-◌, ◌*◌, ℕ, List, take, drop, ap, sym, subst, arith}
+use Rattle.std.proofs.Common.{◌≡◌, ◌∙◌, ◌+◌, ◌-◌, ◌*◌, ℕ, List, take, drop, ap, arith}
 use Rattle.host_calls.proofs.disk.Disk.block.Goals as goal
 
 at_block : (bytes disk : List ℕ) (block : ℕ) → bytes ≡ take (block * 4096 + 4096 - block * 4096) (drop (block * 4096) disk) → bytes ≡ take 4096 (drop (4096 * block) disk)
