@@ -6,19 +6,11 @@ use Rattle.cloak_base.specs.declared.names.PageId.{PageId}
 use Rattle.protect_meta.specs.declared.meta.Meta.{Meta}
 use Rattle.protect_meta.specs.Table.{domains_of}
 use Rattle.cloak_pager.specs.State.{PagerState, IsWhole, page_of, owed_of, right_at, bytes_in, held_in, owed_at}
-use Rattle.cloak_pager.specs.Turns.{Turns, holding, TouchTurns, OfferTurns, OfferedTurns, PlaceTurns, HoldsNow, IsReadOnce}
+use Rattle.cloak_pager.specs.Turns.{Turns, holding, TouchTurns, OfferTurns, OfferedTurns, PlaceTurns, HoldsNow, IsReadOnce, StaysBut}
 use Rattle.cloak_pager.specs.declared.held.Held.{Held}
 use Rattle.cloak_pager.specs.declared.held.Held.TheVariants.{Outside, Clean, Changed, Spent}
 use Rattle.cloak_pager.specs.declared.offering.Offered.{Offered}
 use Rattle.cloak_pager.specs.declared.offering.Offered.TheVariants.{Ready, Mismatch}
-
--- A call changed frame f at most: all other frames are as they were, and there are as many frames and domains.
-pub record StaysBut (f : ℕ) (old new : PagerState) : Type 0 where
-  pub count : length new.frames ≡ length old.frames
-  pub domains : domains_of new.table ≡ domains_of old.table
-  pub key : new.key ≡ old.key
-  pub rights : (k : ℕ) → k ≢ f → right_at new k ≡ right_at old k
-  pub bytes : (k : ℕ) → k ≢ f → bytes_in new k ≡ bytes_in old k
 
 pub stays_same : (f : ℕ) (old new : PagerState) → new ≡ old → StaysBut f old new
 stays_same f old new is = record {

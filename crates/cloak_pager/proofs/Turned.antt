@@ -280,3 +280,6 @@ other_digest t bytes n = ap (λ (b : Bool). if b then Ready else Mismatch) (sym 
 
 pub same_digest : (t : Meta) (bytes : List ℕ) → sha256 bytes ≡ t.digest → Ready ≡ shown_by_digest t bytes
 same_digest t bytes e = ap (λ (b : Bool). if b then Ready else Mismatch) (sym ((bytes_eq-Decides (sha256 bytes) t.digest).1 e))
+
+pub changed_right : (p p' : PagerState) (g : ℕ) (q : PageId) (plain : List ℕ) → IsWhole p → g < length p.frames → HoldsNow p p' q g true plain → right_at p' g ≡ Changed (holding g q)
+changed_right p p' g q plain w inside t = rw t.rights_are (get_or-set_same p.rights g (Changed (holding g q)) Spent (rw w.count inside))

@@ -1,5 +1,5 @@
 -- What each call makes of a pager, and what its answer is, by the pager alone.
-use Rattle.std.specs.Prelude.{ℕ, ◌≡◌, ◌+◌, ◌-◌, ◌<◌, ◌^◌, Bool, true, false, min, List, Option, Some, None, length, replicate, slice_set, if◌then◌else◌}
+use Rattle.std.specs.Prelude.{ℕ, ◌≡◌, ◌≢◌, ◌+◌, ◌-◌, ◌<◌, ◌^◌, Bool, true, false, min, List, Option, Some, None, length, replicate, slice_set, if◌then◌else◌}
 use Rattle.std.specs.Str.{bytes_eq}
 use Rattle.sha2.specs.Sha256.{sha256}
 use Rattle.cloak_base.specs.declared.names.Frame.{Frame}
@@ -29,6 +29,14 @@ pub record Turns (old new : PagerState) (frames : List (List ℕ)) (rights : Lis
   pub domains_stay : domains_of new.table ≡ domains_of old.table
   pub key_stays : new.key ≡ old.key
   pub reads_stay : new.reads ≡ old.reads
+
+-- A call changed frame f at most: all other frames are as they were, and there are as many frames and domains.
+pub record StaysBut (f : ℕ) (old new : PagerState) : Type 0 where
+  pub count : length new.frames ≡ length old.frames
+  pub domains : domains_of new.table ≡ domains_of old.table
+  pub key : new.key ≡ old.key
+  pub rights : (k : ℕ) → k ≢ f → right_at new k ≡ right_at old k
+  pub bytes : (k : ℕ) → k ≢ f → bytes_in new k ≡ bytes_in old k
 
 abbrev pub frame : ℕ → Frame
 frame f = record { 0 = f }

@@ -1,4 +1,4 @@
-ghost use Rattle.std.specs.Prelude.{◌≡◌, ◌≢◌, ℕ, ◌<◌, ◌⊎◌, length};
+ghost use Rattle.std.specs.Prelude.{◌≡◌, ◌≢◌, ℕ, ◌<◌, ◌⊎◌, length, IsTrue};
 ghost use Rattle.cloak_base.specs.Random.{next_draw};
 
 use crate::held::Held;
@@ -20,8 +20,8 @@ pub enum Offered {
 
 impl Pager {
     ghost use Rattle.protect_meta.specs.Table.{meta_at, domains_of};
-    ghost use Rattle.cloak_pager.specs.State.{right_at, held_in, bytes_in, IsFresh};
-    ghost use Rattle.cloak_pager.specs.Turns.{offered_by, shown_by_digest, OfferedTurns, ShownTurns, places, PlaceTurns, IsPlaced, IsRestored};
+    ghost use Rattle.cloak_pager.specs.State.{right_at, held_in, owed_at, bytes_in, IsFresh};
+    ghost use Rattle.cloak_pager.specs.Turns.{offered_by, shown_by_digest, OfferedTurns, ShownTurns, places, PlaceTurns, StaysBut, IsPlaced, IsRestored};
     ghost use Rattle.cloak_pager.specs.Told.{Meets, MeetsUnclashed, told_offer, answer_of, told_place, StandsRestored};
 
     /// Gives the page to the frame, for reading or for writing.
@@ -34,6 +34,9 @@ impl Pager {
         requires alone { (k : ℕ) → held_in self.old k ≡ Some q → k ≡ g.0 }
         ensures exact_cause { result ≡ offered_by (right_at self.old g.0) (meta_at self.old.table q) (bytes_in self.old g.0) }
         ensures state { OfferedTurns result (right_at self.old g.0) (meta_at self.old.table q) write self.old self.new q g.0 }
+        ensures stays { StaysBut g.0 self.old self.new }
+        ensures held { result ≡ Offered.Ready → held_in self.new g.0 ≡ Some q }
+        ensures owed { result ≡ Offered.Ready → IsTrue write → owed_at self.new g.0 ≡ Some q }
         ensures model { MeetsUnclashed self.old self.new (answer_of result) (told_offer q g.0 write) }
     {
         match &self.rights[g.0 as usize] {
@@ -89,6 +92,7 @@ impl Pager {
         requires fresh { IsFresh self.old q }
         ensures exact_cause { result ≡ places (next_draw s.old) }
         ensures state { PlaceTurns (next_draw s.old) s.old self.old self.new s.new q f.0 bytes.now }
+        ensures stays { StaysBut f.0 self.old self.new }
         ensures model { Meets self.old s.old self.new s.new result (told_place q f.0 bytes.now) }
     {
         match s.draw() {

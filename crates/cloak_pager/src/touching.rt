@@ -21,7 +21,7 @@ pub enum Touched {
 
 impl Pager {
     ghost use Rattle.cloak_pager.specs.State.{right_at, owed_at};
-    ghost use Rattle.cloak_pager.specs.Turns.{touched_by, left_by, TouchTurns, CloseTurns, IsClosed};
+    ghost use Rattle.cloak_pager.specs.Turns.{touched_by, left_by, TouchTurns, StaysBut, CloseTurns, IsClosed};
     ghost use Rattle.cloak_pager.specs.Told.{Meets, MeetsStill, told_touch, shown_by, told_close};
 
     /// Makes the frame outside.
@@ -31,6 +31,7 @@ impl Pager {
         ensures state { TouchTurns (right_at self.old f.0) (next_draw s.old) self.old self.new f.0 }
         ensures drawn { s.new ≡ left_by (right_at self.old f.0) (next_draw s.old) s.old }
         ensures outside { right_at self.new f.0 ≡ Held.Outside f }
+        ensures stays { StaysBut f.0 self.old self.new }
         ensures model { Meets self.old s.old self.new s.new (shown_by result f.0 self.new) (told_touch f.0) }
     {
         match &self.rights[f.0 as usize] {
