@@ -12,7 +12,6 @@ mod hart;
 mod lines;
 mod machine;
 mod memory;
-mod page;
 
 pub use cloak_model::{Bundle, Emit, Item, KernelImage, Segment};
 pub use end::End;

@@ -2,13 +2,11 @@ ghost use Rattle.std.specs.Prelude.{◌≡◌, ◌+◌, ◌*◌, ◌%◌, ◌≤
 ghost use Rattle.cloak_model.specs.Bundle.{IsSegmentIn};
 ghost use Rattle.cloak_model.specs.Joint.{with_segments};
 ghost use Rattle.cloak_model.specs.Effect.{IsWidth};
-ghost use Rattle.cloak_model.specs.Walk.{access_fault};
 ghost use Rattle.cloak_model.specs.Memory as memory;
 ghost use Rattle.cloak_model.specs.Memory.{is_in_frames, with_bytes, zero_page, zero_ram};
 
-use crate::page;
 use cloak_base::{Frame, Kind, Mode, NoMemory};
-use cloak_model::Segment;
+use cloak_model::{Segment, access_fault, set_value_in, value_in, word_in};
 use host_calls::Ram;
 use std::alloc::Global;
 use sv32_walk::{Words, walk};
@@ -42,16 +40,6 @@ fn place_of(pa: u32) -> usize
     ((pa - RAM_START) % 4096) as usize
 }
 
-fn access_fault(kind: Kind) -> u32
-    ensures { result ≡ access_fault kind }
-{
-    match kind {
-        Kind::Fetch => 1,
-        Kind::Load => 5,
-        Kind::Store => 7,
-    }
-}
-
 impl Memory {
     /// The address lies in RAM.
     #[inline]
@@ -74,7 +62,7 @@ impl Words for Memory {
             return None;
         }
         let pa = pa as u32;
-        Some(page::word_in(&self.frames[frame_of(pa)], place_of(pa)))
+        Some(word_in(&self.frames[frame_of(pa)], place_of(pa)))
     }
 }
 
@@ -109,11 +97,11 @@ impl Ram for Memory {
     }
 
     fn read(&mut self, pa: u32, width: u32) -> u32 {
-        page::value_in(&self.frames[frame_of(pa)], place_of(pa), width)
+        value_in(&self.frames[frame_of(pa)], place_of(pa), width)
     }
 
     fn write(&mut self, pa: u32, width: u32, v: u32) {
-        page::set_value_in(&mut self.frames[frame_of(pa)], place_of(pa), width, v)
+        set_value_in(&mut self.frames[frame_of(pa)], place_of(pa), width, v)
     }
 
     fn frame(&mut self, f: Frame) -> &[u8; 4096] {

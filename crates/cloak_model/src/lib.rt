@@ -10,17 +10,21 @@
 #![tactic(auto)]
 
 mod access;
+mod bits;
 mod emit;
 mod image;
 mod item;
 mod outcome;
+mod page;
 mod sequence;
 mod status;
 
-pub use access::{Access, Walked};
+pub use access::{Access, Walked, access_fault};
+pub use bits::has_bit;
 pub use emit::Emit;
 pub use image::{Bundle, KernelImage, Program, Segment};
 pub use item::Item;
 pub use outcome::{Effect, Kernel, UsageFault};
+pub use page::{set_value_in, value_in, word_in};
 pub use sequence::Sequence;
 pub use status::Sstatus;

@@ -5,8 +5,8 @@ ghost use Rattle.cloak_model.specs.Effect.{IsWidth};
 
 use crate::held::Held;
 use crate::pager::Pager;
-use crate::plain_bytes::put_value;
 use cloak_base::Frame;
+use cloak_model::set_value_in;
 
 impl Pager {
     ghost use Rattle.cloak_pager.specs.State.{held_in, bytes_in};
@@ -42,7 +42,12 @@ impl Pager {
         ensures model { MeetsStill self.old self.new tt (told_write_outside f.0 at width v) }
     {
         match &self.rights[f.0 as usize] {
-            Held::Outside(right) => put_value(self.frames.outside_mut(right), at, width, v),
+            Held::Outside(right) => set_value_in(
+                self.frames.outside_mut(right),
+                at as usize,
+                width,
+                v,
+            ),
             _ => unreachable!(),
         }
     }

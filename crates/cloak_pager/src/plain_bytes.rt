@@ -6,6 +6,7 @@ ghost use Rattle.cloak_model.specs.Memory.{value_in};
 use crate::held::Held;
 use crate::pager::Pager;
 use cloak_base::PageId;
+use cloak_model::{set_value_in, value_in};
 
 impl Pager {
     ghost use Rattle.protect_meta.specs.Table.{domains_of};
@@ -27,8 +28,8 @@ impl Pager {
     {
         match self.homes.get(q) {
             Some(f) => match &self.rights[f.0 as usize] {
-                Held::Clean(right) => get_value(self.frames.plain(right), at, width),
-                Held::Changed(right) => get_value(self.frames.changed(right), at, width),
+                Held::Clean(right) => value_in(self.frames.plain(right), at as usize, width),
+                Held::Changed(right) => value_in(self.frames.changed(right), at as usize, width),
                 _ => unreachable!(),
             },
             None => unreachable!(),
@@ -49,37 +50,15 @@ impl Pager {
     {
         match self.homes.get(q) {
             Some(f) => match &self.rights[f.0 as usize] {
-                Held::Changed(right) => put_value(self.frames.changed_mut(right), at, width, v),
+                Held::Changed(right) => set_value_in(
+                    self.frames.changed_mut(right),
+                    at as usize,
+                    width,
+                    v,
+                ),
                 _ => unreachable!(),
             },
             None => unreachable!(),
         }
     }
-}
-
-/// The `width` bytes at a place of a page as a number, the lowest byte first.
-fn get_value(page: &[u8; 4096], at: u32, width: u32) -> u32
-    requires width { IsWidth width }
-    requires aligned { at % width ≡ 0 }
-    requires within { at < 4096 }
-    ensures { result ≡ value_in page.now at width }
-{
-    let at = at as usize;
-    match width {
-        1 => u32::from(page[at]),
-        2 => u32::from(u16::from_le_bytes([page[at], page[at + 1]])),
-        _ => u32::from_le_bytes([page[at], page[at + 1], page[at + 2], page[at + 3]]),
-    }
-}
-
-/// Stores the lowest `width` bytes of a value at a place of a page, the lowest byte first.
-pub(crate) fn put_value(page: &mut [u8; 4096], at: u32, width: u32, v: u32)
-    requires width { IsWidth width }
-    requires aligned { at % width ≡ 0 }
-    requires within { at < 4096 }
-    ensures { page.new ≡ with_value_in page.old at width v }
-{
-    let at = at as usize;
-    let width = width as usize;
-    page[at..at + width].copy_from_slice(&v.to_le_bytes()[..width]);
 }

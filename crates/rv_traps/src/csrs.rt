@@ -1,10 +1,10 @@
 ghost use Rattle.std.specs.Prelude.{◌≡◌, ◌%◌, is_some, false};
 ghost use Rattle.cloak_model.specs.Csr as model;
 
-use crate::fields::{TIMER, bit, has_bit, sstatus_of, sstatus_word};
+use crate::fields::{TIMER, bit, sstatus_of, sstatus_word};
 use crate::numbers::{SATP, SCAUSE, SEPC, SIE, SIP, SSCRATCH, SSTATUS, STVAL, STVEC};
 use cloak_base::Mode;
-use cloak_model::Sstatus;
+use cloak_model::{Sstatus, has_bit};
 use std::marker::Model;
 
 /// The control and status registers of a hart.

@@ -1,11 +1,10 @@
 //! Single bits of a word, and the fields of `sstatus`.
 
 ghost use Rattle.std.specs.Prelude.{◌≡◌, ◌<◌, ◌≤◌, ◌^◌};
-ghost use Rattle.cloak_model.specs.Bits as bits;
 ghost use Rattle.cloak_model.specs.Csr as model;
 
 use cloak_base::Mode;
-use cloak_model::Sstatus;
+use cloak_model::{Sstatus, has_bit};
 
 /// STIE of `sie` and STIP of `sip`.
 pub const TIMER: u32 = 5;
@@ -19,15 +18,6 @@ const SPP: u32 = 8;
 const SUM: u32 = 18;
 
 const MXR: u32 = 19;
-
-/// Bit `k` of a word is set.
-#[inline]
-pub fn has_bit(word: u32, k: u32) -> bool
-    requires { k < 32 }
-    ensures { result ≡ bits.has_bit word k }
-{
-    (word >> k) % 2 == 1
-}
 
 /// A word whose bit `k` is set, or 0.
 #[inline]

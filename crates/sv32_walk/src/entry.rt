@@ -5,16 +5,7 @@ ghost use Rattle.cloak_model.specs.Bits as bits;
 ghost use Rattle.cloak_model.specs.Walk as spec;
 
 use cloak_base::{Kind, Mode};
-use cloak_model::Access;
-
-/// Bit `k` of a word is set.
-#[inline]
-pub fn has_bit(word: u32, k: u32) -> bool
-    requires { k < 32 }
-    ensures { result ≡ bits.has_bit word k }
-{
-    (word >> k) % 2 == 1
-}
+use cloak_model::{Access, has_bit};
 
 #[inline]
 pub fn is_valid(entry: u32) -> bool
@@ -71,16 +62,6 @@ pub fn allows(a: &Access, entry: u32) -> bool
 {
     allows_kind(a.kind, a.mxr, entry)
         && (allows_mode(a.mode, a.sum, a.kind, entry) && has_bit(entry, 6))
-}
-
-pub fn access_fault(kind: Kind) -> u32
-    ensures { result ≡ spec.access_fault kind }
-{
-    match kind {
-        Kind::Fetch => 1,
-        Kind::Load => 5,
-        Kind::Store => 7,
-    }
 }
 
 pub fn page_fault(kind: Kind) -> u32

@@ -9,7 +9,7 @@ ghost use Rattle.cloak_model.specs.Ask as ask;
 use crate::entry;
 use crate::words::Words;
 use cloak_base::{Frame, Kind, Mode};
-use cloak_model::{Access, Walked};
+use cloak_model::{Access, Walked, access_fault, has_bit};
 
 #[tactic(auto, unfolding(cloak_model::specs::Walk::first_leaf))]
 fn first_leaf(a: &Access, at1: u64, leaf: u32) -> Result<Walked, u32>
@@ -55,7 +55,7 @@ fn second_level<W: Words>(a: &Access, at1: u64, at0: u64, w: &mut W) -> Result<W
     ensures offset { IfOk result (λ walked. walked.pa % 4096 ≡ a.now.va % 4096) }
 {
     match w.word(at0) {
-        None => Err(entry::access_fault(a.kind)),
+        None => Err(access_fault(a.kind)),
         Some(leaf) => second_leaf(a, at1, at0, leaf),
     }
 }
@@ -67,7 +67,7 @@ fn after_first<W: Words>(a: &Access, at1: u64, word: Option<u32>, w: &mut W) -> 
     ensures offset { IfOk result (λ walked. walked.pa % 4096 ≡ a.now.va % 4096) }
 {
     let Some(pointer) = word else {
-        return Err(entry::access_fault(a.kind));
+        return Err(access_fault(a.kind));
     };
     if !entry::is_valid(pointer) {
         Err(entry::page_fault(a.kind))
@@ -96,7 +96,7 @@ fn walk_access<W: Words>(satp: u32, a: &Access, w: &mut W) -> Result<Walked, u32
     ensures follows { Follows W.stands_for w.old w.new result (ask.ask_walk satp a.now) }
     ensures offset { IfOk result (λ walked. walked.pa % 4096 ≡ a.now.va % 4096) }
 {
-    if entry::has_bit(satp, 31) {
+    if has_bit(satp, 31) {
         first_level(a, entry::first_entry(satp, a.va), w)
     } else {
         Ok(Walked {

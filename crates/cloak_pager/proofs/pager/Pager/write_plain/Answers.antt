@@ -26,7 +26,7 @@ unreachable-requires-in-None c = noted_there _ _ _ _ c.self.view_is c.self.invar
 pub returns-clause-state : goal.returns-clause-state
 returns-clause-state c =
     let o = owing _ _ _ _ c.in-Some.f c.self.view_is c.self.invariant (sym c.get.ensures ∙ c.in-Some.is) c.requires.owed in
-    put_plain _ _ _ _ c.in-Some.f _ _ _ _ (λ (x : List ℕ). with_value_in x c.args.at c.args.width c.args.v) c.self.view_is c.self.invariant (sym c.get.ensures ∙ c.in-Some.is) o c.index.ensures c.in-Changed.is c.changed_mut.ensures.value c.put_value.ensures
+    put_plain _ _ _ _ c.in-Some.f _ _ _ _ (λ (x : List ℕ). with_value_in x c.args.at c.args.width c.args.v) c.self.view_is c.self.invariant (sym c.get.ensures ∙ c.in-Some.is) o c.index.ensures c.in-Changed.is c.changed_mut.ensures.value c.set_value_in.ensures
 
 pub returns-clause-model : goal.returns-clause-model
 returns-clause-model c = meets_plain _ _ c.args.q c.args.at c.args.width c.args.v (whole_now _ _ c.self.view_is c.self.invariant.whole) (returns-clause-state c) c.requires.owed c.requires.width c.requires.aligned c.requires.within
