@@ -1,5 +1,5 @@
 -- What stands behind a call, for those who call next. That a pager is whole a caller has from `Pager::whole`.
-use Rattle.std.proofs.Common.{◌≡◌, ◌≢◌, ◌<◌, ℕ, Bool, true, false, List, [], Option, None, Some, length, get_or, slice_set, refl, ap, sym, ◌∙◌, ◌⊎◌, inl, inr, if◌then◌else◌}
+use Rattle.std.proofs.Common.{◌≡◌, ◌≢◌, ◌<◌, ℕ, Bool, true, false, List, [], Option, None, Some, length, get_or, slice_set, refl, ap, sym, ◌∙◌, ◌⊎◌, inl, inr, if◌then◌else◌, subst}
 use Rattle.std.proofs.lemmas.List.{get_or-set_same, get_or-set_other, length-set}
 use Rattle.cloak_base.specs.Random.{Random}
 use Rattle.cloak_base.specs.declared.names.PageId.{PageId}
@@ -7,6 +7,7 @@ use Rattle.protect_meta.specs.declared.meta.Meta.{Meta}
 use Rattle.protect_meta.specs.Table.{domains_of}
 use Rattle.cloak_pager.specs.State.{PagerState, IsWhole, page_of, owed_of, right_at, bytes_in, held_in, owed_at}
 use Rattle.cloak_pager.specs.Turns.{Turns, holding, TouchTurns, OfferTurns, OfferedTurns, PlaceTurns, HoldsNow, IsReadOnce, StaysBut}
+use Rattle.cloak_pager.proofs.Pages.{same_or_not}
 use Rattle.cloak_pager.specs.declared.held.Held.{Held}
 use Rattle.cloak_pager.specs.declared.held.Held.TheVariants.{Outside, Clean, Changed, Spent}
 use Rattle.cloak_pager.specs.declared.offering.Offered.{Offered}
@@ -140,3 +141,21 @@ offer_owes h shown old new q g w inside room at o = owes h shown at o
 pub place_stays : (draw : Option (List ℕ × Random)) (stream left : Random) (old new : PagerState) (q : PageId) (f : ℕ) (bytes : List ℕ) → PlaceTurns draw stream old new left q f bytes → StaysBut f old new
 place_stays None stream left old new q f bytes t = stays_same f old new t.0
 place_stays (Some draw) stream left old new q f bytes t = written_stays f old new _ _ t.0
+
+-- Where a page is, over calls in turn.
+
+-- a page that no other frame held is in no other frame while others stay
+pub away_still : (f : ℕ) (old new : PagerState) (q : PageId) → ((k : ℕ) → k ≢ f → held_in old k ≢ Some q) → StaysBut f old new → (k : ℕ) → k ≢ f → held_in new k ≢ Some q
+away_still f old new q away stays k n e = away k n (sym (ap page_of (stays.rights k n)) ∙ e)
+
+-- it is in no frame at all where this frame is outside
+pub nowhere_outside : (f : ℕ) (p : PagerState) (q : PageId) → ((k : ℕ) → k ≢ f → held_in p k ≢ Some q) → held_in p f ≡ None → (k : ℕ) → held_in p k ≢ Some q
+nowhere_outside f p q away outside k e =
+    elim (same_or_not k f) [
+      | inl is ↦ (let here : held_in p f ≡ Some q = subst (λ (x : ℕ). held_in p x ≡ Some q) is e in let no : None ≡ Some q = sym outside ∙ here in cc)
+      | inr n ↦ away k n e
+    ]
+
+-- and in this frame alone, if in any
+pub alone_here : (f : ℕ) (p : PagerState) (q : PageId) → ((k : ℕ) → k ≢ f → held_in p k ≢ Some q) → (k : ℕ) → held_in p k ≡ Some q → k ≡ f
+alone_here f p q away k e = elim (same_or_not k f) [ inl is ↦ is | inr n ↦ absurd (away k n e) ]

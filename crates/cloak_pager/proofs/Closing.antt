@@ -1,12 +1,13 @@
 -- Closing frame after frame.
 use Rattle.std.proofs.Common.{◌≡◌, ◌≢◌, ◌<◌, ◌≤◌, ◌+◌, ℕ, List, [], length, refl, ap, sym, ◌∙◌, subst, arith, inl, inr}
-use Rattle.std.proofs.lemmas.List.{get_or-set_same, get_or-set_other, length-set}
+use Rattle.std.proofs.lemmas.List.{get_or-set_same, get_or-set_other, length-set, get_or_past}
+use Rattle.std.proofs.lemmas.Bool.{cases_lt}
 use Rattle.cloak_base.specs.declared.names.PageId.{PageId}
 use Rattle.std.proofs.Common.{Bool}
 use Rattle.cloak_model.specs.Chain.{cbc}
 use Rattle.cloak_model.specs.Cloaking.{CloakedMemory}
 use Rattle.protect_meta.specs.Table.{meta_at, domains_of}
-use Rattle.cloak_pager.specs.State.{PagerState, IsWhole, Names, right_at, bytes_in}
+use Rattle.cloak_pager.specs.State.{PagerState, IsWhole, Names, right_at, bytes_in, page_of}
 use Rattle.cloak_pager.specs.Turns.{frame, CloseTurns, IsClosed, closed_bytes}
 use Rattle.cloak_pager.specs.Relation.{StandsFor}
 use Rattle.cloak_pager.specs.declared.held.Held.{Held}
@@ -41,10 +42,15 @@ closed_start p = record {
   reads_stay = refl;
 }
 
-pub closed_end : (old new : PagerState) (i : ℕ) → ClosedBelow old new i → length old.frames ≤ i → IsClosed old new
-closed_end old new i c all = record {
+pub closed_end : (old new : PagerState) (i : ℕ) → IsWhole old → ClosedBelow old new i → length old.frames ≤ i → IsClosed old new
+closed_end old new i w c all = record {
   count = c.count;
   outside = λ k h. c.outside k (omega arith);
+  empty = λ k.
+      elim (cases_lt k (length old.frames)) [
+        | inl h ↦ ap page_of (c.outside k (omega arith))
+        | inr h ↦ ap page_of (get_or_past new.rights k Spent (rw (c.places, w.count) h))
+      ];
   bytes = λ k h. c.bytes k (omega arith);
   metas_stay = c.metas_stay;
   domains_stay = c.domains_stay;

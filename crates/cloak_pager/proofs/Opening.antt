@@ -41,7 +41,8 @@ opened_state n domains key outside p frames count named rights metas pages is re
   no_reads = reads;
 }
 
-nobody : (n domains : ℕ) (key : List ℕ) (p : PagerState) → IsOpened n domains key p → (k : ℕ) → (held_in p k ≡ None) × (owed_at p k ≡ None)
+-- no frame holds or owes a page
+pub nobody : (n domains : ℕ) (key : List ℕ) (p : PagerState) → IsOpened n domains key p → (k : ℕ) → (held_in p k ≡ None) × (owed_at p k ≡ None)
 nobody n domains key p o k =
     elim (cases_lt k n) [
       | inl h ↦ (ap page_of (o.outside k h), ap owed_of (o.outside k h))

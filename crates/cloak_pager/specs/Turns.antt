@@ -12,7 +12,7 @@ use Rattle.protect_meta.specs.declared.meta.Meta.{Meta}
 use Rattle.protect_meta.specs.Table.{meta_at, domains_of}
 use Rattle.frame_store.specs.Rights.{Holding}
 use Rattle.page_states.specs.Opening.{IsPlain}
-use Rattle.cloak_pager.specs.State.{PagerState, right_at, bytes_in}
+use Rattle.cloak_pager.specs.State.{PagerState, right_at, bytes_in, held_in}
 use Rattle.cloak_pager.specs.declared.held.Held.{Held}
 use Rattle.cloak_pager.specs.declared.held.Held.TheVariants.{Outside, Clean, Changed, Spent}
 use Rattle.cloak_pager.specs.declared.touching.Touched.{Touched}
@@ -196,6 +196,7 @@ closed_bytes old f Spent bytes = ⊥
 pub record IsClosed (old new : PagerState) : Type 0 where
   pub count : length new.frames ≡ length old.frames
   pub outside : (k : ℕ) → k < length old.frames → right_at new k ≡ Outside (frame k)
+  pub empty : (k : ℕ) → held_in new k ≡ None
   pub bytes : (k : ℕ) → k < length old.frames → closed_bytes old k (right_at old k) (bytes_in new k)
   pub metas_stay : (o : PageId) → meta_at new.table o ≡ meta_at old.table o
   pub domains_stay : domains_of new.table ≡ domains_of old.table

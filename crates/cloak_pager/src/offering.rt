@@ -92,6 +92,7 @@ impl Pager {
         requires fresh { IsFresh self.old q }
         ensures exact_cause { result ≡ places (next_draw s.old) }
         ensures state { PlaceTurns (next_draw s.old) s.old self.old self.new s.new q f.0 bytes.now }
+        ensures rights { self.new.rights ≡ self.old.rights }
         ensures stays { StaysBut f.0 self.old self.new }
         ensures model { Meets self.old s.old self.new s.new result (told_place q f.0 bytes.now) }
     {

@@ -1,6 +1,6 @@
-use Rattle.std.proofs.Common.{◌<◌, length, arith, subst, refl}
+use Rattle.std.proofs.Common.{◌<◌, ◌≤◌, length, arith, subst, refl}
 use Rattle.cloak_pager.specs.State.{PagerState, IsWhole}
-use Rattle.cloak_pager.proofs.Closing.{closed_start, closed_more, closing_stands}
+use Rattle.cloak_pager.proofs.Closing.{closed_start, closed_more, closed_end, closing_stands}
 use Rattle.cloak_pager.proofs.pager.Pager.close.Goals as goal
 
 pub loop-i-init : goal.loop-i-init
@@ -20,3 +20,11 @@ loop-i-preserved c =
 
 pub returns-clause-model : goal.returns-clause-model
 returns-clause-model c = λ w m s. record { answered = refl; stands = c.loop-i.invariant.stands w m s; drawn = refl }
+
+pub returns-clause-state : goal.returns-clause-state
+returns-clause-state c =
+    let p : PagerState = record { frames = c.self.inside.frames; rights = c.self.inside.rights.items; table = c.self.inside.table; key = c.self.inside.key; reads = c.self.inside.reads } in
+    let whole : IsWhole c.args.self.now = subst IsWhole c.self.view_is c.self.invariant.whole in
+    let there : length p.frames ≤ c.loop-i.i = rw (← c.self.invariant.whole.count) (omega (arith, c.len-i-end.ensures, c.loop-i-test.false, c.self.inside.rights.ok.0)) in
+    let all : length c.args.self.now.frames ≤ c.loop-i.i = rw (← c.self.view_is) there in
+    closed_end c.args.self.now c.loop-i.self c.loop-i.i whole c.loop-i.invariant.closed all
