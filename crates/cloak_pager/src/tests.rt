@@ -144,58 +144,58 @@ fn is_page(q: PageId) -> bool
     q.domain < 1 && q.resource < 16 && q.page < 1024
 }
 
+/// The bytes from 10 on, so many.
+fn stream_of(rt: &HostRuntime, bytes: u8) -> Result<Stream, Fail>
+    requires { bytes < 100 }
+{
+    let mut drawn = Vec::new(rt.alloc());
+    for i in 0..bytes {
+        drawn.push(0x10 + i)?;
+    }
+    Ok(Stream::bytes(drawn))
+}
+
 impl Run {
-    /// A run whose stream is the bytes from 10 on, so many.
+    /// A run whose stream has so many bytes.
     fn open(rt: &HostRuntime, bytes: u8) -> Result<Run, Fail>
         requires { bytes < 100 }
     {
-        let pager = Pager::open(rt.alloc(), 64, 1, KEY)?;
-        let mut drawn = Vec::new(rt.alloc());
-        for i in 0..bytes {
-            drawn.push(0x10 + i)?;
-        }
         Ok(Run {
-            pager,
-            stream: Stream::bytes(drawn),
+            pager: Pager::open(rt.alloc(), 64, 1, KEY)?,
+            stream: stream_of(rt, bytes)?,
             kept: [0; 4096],
         })
     }
 
-    /// A run of another pager, to which page Q was restored as it is under draw 2 with a 7.
+    /// A run to whose pager page Q is restored, as it is under draw 2 with a 7.
     fn restored(rt: &HostRuntime, kept: [u8; 4096]) -> Result<Run, Fail> {
         let mut pager = Pager::open(rt.alloc(), 64, 1, KEY)?;
         let iv = 0x202122232425262728292a2b2c2d2e2f_u128.to_be_bytes();
-        pager.restore(
-            Q,
-            Meta {
-                iv,
-                digest: SEVEN_2,
-            },
-        );
+        let digest = SEVEN_2;
+        pager.restore(Q, Meta { iv, digest });
+        let stream = stream_of(rt, 0)?;
         Ok(Run {
             pager,
-            stream: Stream::bytes(Vec::new(rt.alloc())),
+            stream,
             kept,
         })
     }
 
-    /// A run whose stream has so many bytes, where page Q was to be placed in frame 5 with a 7, and whether it was.
+    /// A run whose stream had so many bytes when page Q was to be placed in frame 5 with a 7, and whether it was.
     fn placed(rt: &HostRuntime, bytes: u8) -> Result<(Run, bool), Fail>
         requires { bytes < 100 }
     {
-        let mut run = Run::open(rt, bytes)?;
+        let mut pager = Pager::open(rt.alloc(), 64, 1, KEY)?;
+        let mut stream = stream_of(rt, bytes)?;
         let mut page = [0; 4096];
         page[0] = 7;
-        let mut pager = Pager::open(rt.alloc(), 64, 1, KEY)?;
-        let placed = pager.place(Q, F5, &page, &mut run.stream);
-        Ok((
-            Run {
-                pager,
-                stream: run.stream,
-                kept: run.kept,
-            },
-            placed,
-        ))
+        let placed = pager.place(Q, F5, &page, &mut stream);
+        let run = Run {
+            pager,
+            stream,
+            kept: [0; 4096],
+        };
+        Ok((run, placed))
     }
 
     fn is_outside(&self, f: Frame) -> bool
