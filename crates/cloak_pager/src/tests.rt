@@ -33,16 +33,33 @@ const R: PageId = PageId {
     page: 1023,
 };
 
-// SHA-256 of 4096 zeros; of ciphertexts of zeros, and of a page whose first byte is 7 or 8 and the others zero, each
-// under the draw of the name's number.
+/// Page Q under resource 1.
+const Q1: PageId = PageId {
+    domain: 0,
+    resource: 1,
+    page: 0,
+};
+
+// SHA-256 of 4096 zeros, and of a 7 and 4095 zeros. Of ciphertexts of zeros, and of a page whose first byte is 7 or 8 and
+// the others zero, each under the draw of the name's number.
 const PLAIN_ZEROS: [u8; 32] = [
     0xad, 0x7f, 0xac, 0xb2, 0x58, 0x6f, 0xc6, 0xe9, 0x66, 0xc0, 0x04, 0xd7, 0xd1, 0xd1, 0x6b, 0x02,
     0x4f, 0x58, 0x05, 0xff, 0x7c, 0xb4, 0x7c, 0x7a, 0x85, 0xda, 0xbd, 0x8b, 0x48, 0x89, 0x2c, 0xa7,
 ];
 
+const PLAIN_SEVEN: [u8; 32] = [
+    0xde, 0xc1, 0x59, 0x3a, 0x74, 0x56, 0xc8, 0xc9, 0x40, 0x7b, 0x9b, 0x8b, 0x9c, 0x89, 0x68, 0x2d,
+    0xff, 0xf3, 0x3c, 0x38, 0x92, 0xbc, 0xc9, 0xd9, 0xf0, 0x69, 0x56, 0xfe, 0xe0, 0xa1, 0xb9, 0x49,
+];
+
 const ZEROS_1: [u8; 32] = [
     0xff, 0xfa, 0x16, 0xa1, 0x51, 0x8e, 0x5b, 0x6b, 0x33, 0x6d, 0x1e, 0x44, 0xef, 0xb4, 0xec, 0x35,
     0x2f, 0xc0, 0x51, 0x26, 0xe9, 0x62, 0x4f, 0xfe, 0x8a, 0x1d, 0x76, 0x2e, 0x4f, 0x49, 0xd0, 0xba,
+];
+
+const ZEROS_3: [u8; 32] = [
+    0xb2, 0x61, 0x31, 0xf2, 0x3a, 0x0a, 0x45, 0x67, 0x6d, 0xe0, 0x64, 0xfd, 0x91, 0xb5, 0xb3, 0xcd,
+    0xb2, 0xf2, 0x24, 0x14, 0xef, 0x23, 0xeb, 0x97, 0x34, 0xaa, 0x9d, 0xdf, 0xbf, 0x18, 0xa2, 0x22,
 ];
 
 const ZEROS_4: [u8; 32] = [
@@ -76,6 +93,10 @@ enum Step {
     Put(Frame),
     /// The digest of the bytes of the outside frame.
     Look(Frame),
+    /// How often outside frames were read.
+    Reads,
+    /// Stores a word at the start of the outside frame.
+    Store(Frame, u32),
     Offer(PageId, Frame, bool),
     /// Reads the first word of the page.
     Read(PageId),
@@ -83,6 +104,11 @@ enum Step {
     Write(PageId, u32),
     Owed(Frame),
     Touch(Frame),
+    /// Copies the pages of a resource to another.
+    Copy(u32, u32),
+    /// Drops the pages of a resource.
+    Drop(u32),
+    Close,
     /// How many bytes of the stream are left.
     Left,
 }
@@ -95,6 +121,7 @@ enum Seen {
     Offer(Offered),
     Word(u32),
     Owed(bool),
+    Reads(u64),
     Touch(Touched),
     Left(Option<u64>),
     /// A condition of the call is not met, and it was not made.
@@ -117,58 +144,58 @@ fn is_page(q: PageId) -> bool
     q.domain < 1 && q.resource < 16 && q.page < 1024
 }
 
+/// The bytes from 10 on, so many.
+fn stream_of(rt: &HostRuntime, bytes: u8) -> Result<Stream, Fail>
+    requires { bytes < 100 }
+{
+    let mut drawn = Vec::new(rt.alloc());
+    for i in 0..bytes {
+        drawn.push(0x10 + i)?;
+    }
+    Ok(Stream::bytes(drawn))
+}
+
 impl Run {
-    /// A run whose stream is the bytes from 10 on, so many.
+    /// A run whose stream has so many bytes.
     fn open(rt: &HostRuntime, bytes: u8) -> Result<Run, Fail>
         requires { bytes < 100 }
     {
-        let pager = Pager::open(rt.alloc(), 64, 1, KEY)?;
-        let mut drawn = Vec::new(rt.alloc());
-        for i in 0..bytes {
-            drawn.push(0x10 + i)?;
-        }
         Ok(Run {
-            pager,
-            stream: Stream::bytes(drawn),
+            pager: Pager::open(rt.alloc(), 64, 1, KEY)?,
+            stream: stream_of(rt, bytes)?,
             kept: [0; 4096],
         })
     }
 
-    /// A run of another pager, to which page Q was restored as it is under draw 2 with a 7.
+    /// A run to whose pager page Q is restored, as it is under draw 2 with a 7.
     fn restored(rt: &HostRuntime, kept: [u8; 4096]) -> Result<Run, Fail> {
         let mut pager = Pager::open(rt.alloc(), 64, 1, KEY)?;
         let iv = 0x202122232425262728292a2b2c2d2e2f_u128.to_be_bytes();
-        pager.restore(
-            Q,
-            Meta {
-                iv,
-                digest: SEVEN_2,
-            },
-        );
+        let digest = SEVEN_2;
+        pager.restore(Q, Meta { iv, digest });
+        let stream = stream_of(rt, 0)?;
         Ok(Run {
             pager,
-            stream: Stream::bytes(Vec::new(rt.alloc())),
+            stream,
             kept,
         })
     }
 
-    /// A run whose stream has so many bytes, where page Q was to be placed in frame 5 with a 7, and whether it was.
+    /// A run whose stream had so many bytes when page Q was to be placed in frame 5 with a 7, and whether it was.
     fn placed(rt: &HostRuntime, bytes: u8) -> Result<(Run, bool), Fail>
         requires { bytes < 100 }
     {
-        let mut run = Run::open(rt, bytes)?;
+        let mut pager = Pager::open(rt.alloc(), 64, 1, KEY)?;
+        let mut stream = stream_of(rt, bytes)?;
         let mut page = [0; 4096];
         page[0] = 7;
-        let mut pager = Pager::open(rt.alloc(), 64, 1, KEY)?;
-        let placed = pager.place(Q, F5, &page, &mut run.stream);
-        Ok((
-            Run {
-                pager,
-                stream: run.stream,
-                kept: run.kept,
-            },
-            placed,
-        ))
+        let placed = pager.place(Q, F5, &page, &mut stream);
+        let run = Run {
+            pager,
+            stream,
+            kept: [0; 4096],
+        };
+        Ok((run, placed))
     }
 
     fn is_outside(&self, f: Frame) -> bool
@@ -261,6 +288,62 @@ impl Run {
         }
     }
 
+    fn store(&mut self, f: Frame, v: u32) -> Seen {
+        if !self.is_outside(f) {
+            return Seen::Unmet;
+        }
+        self.pager.write_outside(f, 0, 4, v);
+        Seen::Done
+    }
+
+    fn holds_none(&self) -> bool
+        ensures { IsTrue result → (k : ℕ) → held_in self.now.pager k ≡ None }
+    {
+        self.pager.whole();
+        for i in 0..64 {
+            if self.pager.holds(Frame(i)).is_some() {
+                return false;
+            }
+        }
+        true
+    }
+
+    fn owes_none(&self) -> bool
+        ensures { IsTrue result → (k : ℕ) → owed_at self.now.pager k ≡ None }
+    {
+        self.pager.whole();
+        for i in 0..64 {
+            if self.pager.owed(Frame(i)) {
+                return false;
+            }
+        }
+        true
+    }
+
+    fn copy(&mut self, from: u32, to: u32) -> Seen {
+        if from >= 16 || to >= 16 || !self.holds_none() {
+            return Seen::Unmet;
+        }
+        self.pager.copy_pages(0, from, to);
+        Seen::Done
+    }
+
+    fn drop_pages(&mut self, resource: u32) -> Seen {
+        if resource >= 16 || !self.holds_none() {
+            return Seen::Unmet;
+        }
+        self.pager.drop_pages(0, resource);
+        Seen::Done
+    }
+
+    fn close(&mut self) -> Seen {
+        if !self.owes_none() {
+            return Seen::Unmet;
+        }
+        self.pager.close();
+        Seen::Done
+    }
+
     fn step(&mut self, step: Step) -> Seen {
         match step {
             Step::Fill(f, byte) => self.fill(f, &[byte; 4096]),
@@ -270,11 +353,16 @@ impl Run {
                 self.fill(f, &kept)
             }
             Step::Look(f) => self.look(f),
+            Step::Reads => Seen::Reads(self.pager.reads()),
+            Step::Store(f, v) => self.store(f, v),
             Step::Offer(q, g, write) => self.offer(q, g, write),
             Step::Read(q) => self.read(q),
             Step::Write(q, v) => self.write(q, v),
             Step::Owed(f) => self.owed(f),
             Step::Touch(f) => self.touch(f),
+            Step::Copy(from, to) => self.copy(from, to),
+            Step::Drop(resource) => self.drop_pages(resource),
+            Step::Close => self.close(),
             Step::Left => Seen::Left(self.stream.left()),
         }
     }
@@ -350,6 +438,43 @@ static TWO_FRAMES_AND_TWO_NAMES: [(Step, Seen); 20] = [
     (Step::Offer(Q, F6, false), Seen::Offer(Offered::Mismatch)),
 ];
 
+/// A copy is opened by what was shown of the page, also where the page itself is dropped and as never shown.
+static CLOSED_COPIED_AND_DROPPED: [(Step, Seen); 14] = [
+    (Step::Copy(0, 1), Seen::Unmet),
+    (Step::Close, Seen::Done),
+    (Step::Look(F5), Seen::Bytes(SEVEN_2)),
+    (Step::Left, Seen::Left(Some(32))),
+    (Step::Copy(0, 1), Seen::Done),
+    (Step::Drop(0), Seen::Done),
+    (Step::Offer(Q1, F5, false), Seen::Offer(Offered::Ready)),
+    (Step::Read(Q1), Seen::Word(7)),
+    (Step::Offer(Q, F6, false), Seen::Offer(Offered::Ready)),
+    (Step::Read(Q), Seen::Word(0)),
+    (Step::Close, Seen::Unmet),
+    (Step::Touch(F6), Seen::Touch(Touched::Sealed)),
+    (Step::Look(F6), Seen::Bytes(ZEROS_3)),
+    (Step::Reads, Seen::Reads(4)),
+];
+
+/// Where no draw is left, a changed page is not shown, and what was shown of it before is its record still. The kernel's
+/// stores are seen as they are, and refused.
+static WIPED: [(Step, Seen); 14] = [
+    (Step::Offer(Q, F5, true), Seen::Offer(Offered::Ready)),
+    (Step::Touch(F5), Seen::Touch(Touched::Sealed)),
+    (Step::Look(F5), Seen::Bytes(ZEROS_1)),
+    (Step::Offer(Q, F5, true), Seen::Offer(Offered::Ready)),
+    (Step::Write(Q, 7), Seen::Done),
+    (Step::Touch(F5), Seen::Touch(Touched::Wiped)),
+    (Step::Look(F5), Seen::Bytes(PLAIN_ZEROS)),
+    (Step::Left, Seen::Left(Some(15))),
+    (Step::Offer(Q, F5, false), Seen::Offer(Offered::Mismatch)),
+    (Step::Store(F5, 7), Seen::Done),
+    (Step::Look(F5), Seen::Bytes(PLAIN_SEVEN)),
+    (Step::Offer(Q, F5, false), Seen::Offer(Offered::Mismatch)),
+    (Step::Touch(F5), Seen::Touch(Touched::Quiet)),
+    (Step::Look(F5), Seen::Bytes(PLAIN_SEVEN)),
+];
+
 #[test]
 fn a_page_is_sealed_and_opened_in_any_frame(rt: HostRuntime) -> Result<(), Fail> {
     let mut run = Run::open(&rt, 64)?;
@@ -357,6 +482,22 @@ fn a_page_is_sealed_and_opened_in_any_frame(rt: HostRuntime) -> Result<(), Fail>
     run.goes(&rt, &STORE_AND_LOAD);
     run.goes(&rt, &ONLY_READ);
     run.goes(&rt, &TWO_FRAMES_AND_TWO_NAMES);
+    Ok(())
+}
+
+#[test]
+fn a_resource_is_copied_and_dropped(rt: HostRuntime) -> Result<(), Fail> {
+    let mut run = Run::open(&rt, 64)?;
+    run.goes(&rt, &FRESH);
+    run.goes(&rt, &STORE_AND_LOAD);
+    run.goes(&rt, &CLOSED_COPIED_AND_DROPPED);
+    Ok(())
+}
+
+#[test]
+fn a_changed_page_is_wiped_without_a_draw(rt: HostRuntime) -> Result<(), Fail> {
+    let mut run = Run::open(&rt, 31)?;
+    run.goes(&rt, &WIPED);
     Ok(())
 }
 
