@@ -1,9 +1,8 @@
 -- Maps with another value at one page.
-use Rattle.std.proofs.Common.{◌≡◌, ◌≢◌, ◌⊎◌, ℕ, Bool, true, false, Option, None, Some, refl, ap, sym, inl, inr, if◌then◌else◌}
-use Rattle.std.specs.Bool.{Decides}
-use Rattle.std.proofs.lemmas.Bool.Decides.{Decides-eqb, Decides-and, Decides-like, eqb_tells}
+use Rattle.std.proofs.Common.{◌≡◌, ◌≢◌, ◌⊎◌, ℕ, Bool, Option, None, Some, ap, sym, inl, inr, if◌then◌else◌}
+use Rattle.std.proofs.lemmas.Bool.Decides.{eqb_tells}
 use Rattle.cloak_base.specs.declared.names.PageId.{PageId}
-use Rattle.cloak_base.specs.Pages.{same_page, with_page}
+use Rattle.cloak_base.specs.Pages.{with_page}
 use Rattle.cloak_base.proofs.Pages.{same_page_tells, same_page-self, same_page-other}
 
 -- two numbers are equal or differ
