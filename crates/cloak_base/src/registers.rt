@@ -3,7 +3,7 @@ ghost use Rattle.cloak_base.specs.Registers.{zero_registers, with_register};
 
 use std::marker::Model;
 
-/// The 32 registers of a hart. Register 0 reads 0 and takes no write (unprivileged manual, 2.1).
+/// The 32 registers of a hart. Register 0 reads 0 and takes no write (RISC-V unprivileged manual 20191213, 2.1).
 #[derive(Clone, Copy)]
 pub struct Regs {
     words: [u32; 32],

@@ -1,3 +1,5 @@
-mod Opening
+mod Closing
+mod MemoryFacts
+pub mod Opening
 pub mod PutFacts
 mod StepFacts

@@ -1,6 +1,6 @@
 ghost use Rattle.std.specs.Prelude.{◌≡◌, ◌<◌, ◌≤◌, ◌↔◌, length, IfOk, MatchOption, IsTrue, ◌≢◌, ℕ, map};
-ghost use Rattle.cloak_pager.specs.Turns.{IsOpened};
-ghost use Rattle.cloak_pager.specs.Told.{StandsBlank};
+ghost use Rattle.cloak_pager.specs.Turns.{IsNewPager};
+ghost use Rattle.cloak_pager.specs.AfterCall.{StandsBlank};
 
 use crate::held::Held;
 use crate::homes::Homes;
@@ -23,13 +23,16 @@ pub struct Pager {
 }
 
 impl Model for Pager {
-    ghost use Rattle.cloak_pager.specs.State.{PagerState, IsKept};
+    ghost use Rattle.cloak_pager.specs.State.{PagerState, IsWholeWithHomes};
 
     ghost Value = { PagerState };
 
-    ghost view = { λ p. record { frames = p.frames; rights = p.rights.items; table = p.table; key = p.key; reads = p.reads } };
+    ghost view = { λ p.
+        record { frames = p.frames; rights = p.rights.items; table = p.table; key = p.key; reads = p.reads } };
 
-    ghost invariant = { λ p. IsKept (record { frames = p.frames; rights = p.rights.items; table = p.table; key = p.key; reads = p.reads }) p.homes };
+    ghost invariant = { λ p. IsWholeWithHomes
+        (record { frames = p.frames; rights = p.rights.items; table = p.table; key = p.key; reads = p.reads })
+        p.homes };
 }
 
 /// The rights as a pager keeps them.
@@ -52,7 +55,7 @@ impl Pager {
         requires least { 64 ≤ frames }
         requires most { frames ≤ 4096 }
         requires domains { domains ≤ 4 }
-        ensures state { IfOk result (λ p. IsOpened frames domains key p) }
+        ensures state { IfOk result (λ p. IsNewPager frames domains key p) }
         ensures model { IfOk result (λ p. StandsBlank frames key p) }
     {
         let (store, outside) = FrameStore::open(alloc, frames)?;
@@ -67,6 +70,14 @@ impl Pager {
             key: Schedule::new(&key),
             reads: 0,
         })
+    }
+
+    /// How many frames there are.
+    pub fn count(&self) -> u32
+        ensures value { result ≡ length self.now.frames }
+        ensures few { result ≤ 4096 }
+    {
+        self.rights.len() as u32
     }
 
     /// The page that the frame holds. None where it is outside.

@@ -10,7 +10,7 @@ use Rattle.cloak_model.specs.Bits.{word}
 use Rattle.cloak_model.specs.Bundle.{segment_bytes, program_bytes, IsSegmentIn, IsProgramIn}
 use Rattle.cloak_model.specs.declared.image.Segment.{Segment}
 use Rattle.cloak_model.specs.declared.image.Program.{Program}
-use Rattle.guest_bundle.specs.declared.fault.BundleFault.{BundleFault}
+use Rattle.cloak_model.specs.declared.fault.BundleFault.{BundleFault}
 use Rattle.guest_bundle.specs.Fields.{bytes_at, pages_at, number_at, count_at, entry_at}
 use Rattle.guest_bundle.specs.Reading.{turn_at, segment_at, place_at, base_at, program_at, parts_at}
 use Rattle.guest_bundle.proofs.Steps.{behind}

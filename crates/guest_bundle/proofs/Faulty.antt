@@ -5,13 +5,16 @@ use Rattle.cloak_model.specs.Bundle.{largest_bundle}
 use Rattle.cloak_model.specs.declared.image.Segment.{Segment}
 use Rattle.cloak_model.specs.declared.image.Program.{Program}
 use Rattle.cloak_model.specs.declared.image.Bundle.{Bundle}
-use Rattle.guest_bundle.specs.declared.fault.BundleFault.{BundleFault}
-use Rattle.guest_bundle.specs.declared.fault.BundleFault.TheVariants.{BadMagic, BadVersion, TooLarge, BadRange, Extra}
+use Rattle.cloak_model.specs.declared.fault.BundleFault.{BundleFault}
+use Rattle.cloak_model.specs.declared.fault.BundleFault.TheVariants.{Short, BadMagic, BadVersion, TooLarge, BadRange, Extra}
 use Rattle.guest_bundle.specs.declared.header.Header.{Header}
 use Rattle.guest_bundle.specs.Fields.{◌>>=◌, bytes_at, pages_at, number_at, count_at, entry_at}
-use Rattle.guest_bundle.specs.Reading.{version_at, header_at, turn_at, lies_in_ram, segment_at, segment_size, is_base_of, place_at, base_at, program_at, program_size, parts_at, bundle_of, bundle_at}
-use Rattle.guest_bundle.specs.FirstFault as format
-use Rattle.guest_bundle.specs.FirstFault.{Field, first_of, fault_in, first_in, number, free, ruled, first_fault}
+use Rattle.guest_bundle.specs.Reading.{version_at, header_at, turn_at, segment_at, segment_size, place_at, base_at, program_at, program_size, parts_at, bundle_of, bundle_at}
+use Rattle.cloak_model.specs.BundleFault.{lies_in_ram, is_base_of}
+use Rattle.cloak_model.specs.BundleFault as format
+use Rattle.cloak_model.specs.Fields as grammar
+use Rattle.cloak_model.specs.Fields.{first_of, fault_in, first_in, number}
+use Rattle.cloak_model.specs.BundleFault.{Field, free, ruled, bundle_fault}
 use Rattle.guest_bundle.proofs.Steps.{bind_ok, passed, ok_is}
 use Rattle.guest_bundle.proofs.Takes.{bytes_take, pages_take}
 use Rattle.guest_bundle.proofs.Found.{header_from, header_steps}
@@ -27,7 +30,7 @@ segment_tells file frames at is =
     let k2 : ℕ → ℕ → Result Segment BundleFault = λ address size. k3 address size >>= last address in
     let k1 : ℕ → Result Segment BundleFault = λ address. number_at file (at + 4) >>= k2 address in
     let wrong : ℕ → ℕ → ℕ → Option BundleFault = λ f address size. cond (lies_in_ram f address size) None (Some (BadRange at)) in
-    let ruled_field : ℕ → ℕ → ℕ → Field = λ f address size. record { at = at + 4; size = 4; wrong = wrong f address size } in
+    let ruled_field : ℕ → ℕ → ℕ → Field = λ f address size. record { at = at + 4; size = 4; cut = Short (at + 4); wrong = wrong f address size } in
     let rest : ℕ → List Field = λ size. free (at + 8) size ∷ [] in
     let inner : (address size : ℕ) → Tells (k2 address size) (first_of (wrong frames address size) (first_in file (rest size))) = λ address size.
     subst (Tells (k2 address size)) (first_of-assoc (wrong frames address size) (short file (at + 8) size) None)
@@ -192,16 +195,16 @@ abbrev end_fault : List ℕ → ℕ → Option BundleFault
 end_fault file at = cond (eqb at (length file)) None (Some (Extra at))
 
 abbrev programs_fault : List ℕ → ℕ → ℕ → Option BundleFault
-programs_fault file n at = first_of (first_in file (format.parts (format.program file) (format.after_program file) n at)) (end_fault file (format.after_parts (format.after_program file) n at))
+programs_fault file n at = first_of (first_in file (grammar.parts (format.program file) (format.after_program file) n at)) (end_fault file (grammar.after_parts (format.after_program file) n at))
 
 abbrev disk_fault : List ℕ → ℕ → ℕ → Option BundleFault
-disk_fault file n at = first_of (first_in file (format.pages n at)) (programs_fault file (number file 36) (format.after_parts format.after_page n at))
+disk_fault file n at = first_of (first_in file (format.pages n at)) (programs_fault file (number file 36) (grammar.after_parts format.after_page n at))
 
 abbrev segments_fault : List ℕ → ℕ → ℕ → Option BundleFault
-segments_fault file n at = first_of (first_in file (format.parts (format.segment file) (format.after_segment file) n at)) (disk_fault file (number file 32) (format.after_parts (format.after_segment file) n at))
+segments_fault file n at = first_of (first_in file (grammar.parts (format.segment file) (format.after_segment file) n at)) (disk_fault file (number file 32) (grammar.after_parts (format.after_segment file) n at))
 
 abbrev schedule_fault : List ℕ → ℕ → Option BundleFault
-schedule_fault file n = first_of (first_in file (format.parts (format.turn file) format.after_turn n 40)) (segments_fault file (number file 28) (format.after_parts format.after_turn n 40))
+schedule_fault file n = first_of (first_in file (grammar.parts (format.turn file) format.after_turn n 40)) (segments_fault file (number file 28) (grammar.after_parts format.after_turn n 40))
 
 programs_tell : (file : List ℕ) (h : Header) (schedule : List ℕ) (segments : List Segment × ℕ) (disk : List ℕ) (at : ℕ) → NumbersAre file h → at ≡ segments.1 + length disk
     → Tells (after_disk file h schedule segments disk) (programs_fault file (number file 36) at)
@@ -210,7 +213,7 @@ programs_tell file h schedule segments disk at numbers is =
     let next = λ (at : ℕ) (p : Program) (e : program_at h.frames file at ≡ Ok p). after_program_is file h.frames at p e in
     let read = parts_tell file (format.program file) (format.after_program file) (program_at h.frames file) program_size (λ at. program_tells file h.frames at numbers.frames) next h.programs from in
     rw (numbers.programs, is) (bind_tells (parts_at (program_at h.frames file) program_size h.programs from) (at_end file h schedule segments.0 disk)
-    (first_in file (format.parts (format.program file) (format.after_program file) h.programs from)) (end_fault file (format.after_parts (format.after_program file) h.programs from)) read (λ programs e.
+    (first_in file (grammar.parts (format.program file) (format.after_program file) h.programs from)) (end_fault file (grammar.after_parts (format.after_program file) h.programs from)) read (λ programs e.
     subst (λ k. Tells (at_end file h schedule segments.0 disk programs) (end_fault file k)) (sym (parts_end (format.after_program file) (program_at h.frames file) program_size next h.programs from programs e))
     (ruled_tells (eqb programs.1 (length file)) (Extra programs.1) (bundle_of h schedule segments.0 disk programs.0))))
 
@@ -218,9 +221,9 @@ disk_tells : (file : List ℕ) (h : Header) (schedule : List ℕ) (segments : Li
     → Tells (after_segments file h schedule segments) (disk_fault file (number file 32) at)
 disk_tells file h schedule segments at numbers is =
     rw (numbers.blocks, is) (bind_tells (pages_at file segments.1 h.blocks) (after_disk file h schedule segments) (first_in file (format.pages h.blocks segments.1))
-    (programs_fault file (number file 36) (format.after_parts format.after_page h.blocks segments.1)) (pages_tell file segments.1 h.blocks) (λ disk e.
+    (programs_fault file (number file 36) (grammar.after_parts format.after_page h.blocks segments.1)) (pages_tell file segments.1 h.blocks) (λ disk e.
     let size = (pages_take file segments.1 h.blocks disk e).1 in
-    programs_tell file h schedule segments disk (format.after_parts format.after_page h.blocks segments.1) numbers (pages_end h.blocks segments.1 ∙ ap (λ k. segments.1 + k) (sym size))))
+    programs_tell file h schedule segments disk (grammar.after_parts format.after_page h.blocks segments.1) numbers (pages_end h.blocks segments.1 ∙ ap (λ k. segments.1 + k) (sym size))))
 
 segments_tell : (file : List ℕ) (h : Header) (schedule : List ℕ × ℕ) (at : ℕ) → NumbersAre file h → at ≡ schedule.1
     → Tells (after_schedule file h schedule) (segments_fault file (number file 28) at)
@@ -228,8 +231,8 @@ segments_tell file h schedule at numbers is =
     let next = λ (at : ℕ) (s : Segment) (e : segment_at h.frames file at ≡ Ok s). after_segment_is file h.frames at s e in
     let read = parts_tell file (format.segment file) (format.after_segment file) (segment_at h.frames file) segment_size (λ at. segment_tells file h.frames at numbers.frames) next h.segments schedule.1 in
     rw (numbers.segments, is) (bind_tells (parts_at (segment_at h.frames file) segment_size h.segments schedule.1) (after_segments file h schedule.0)
-    (first_in file (format.parts (format.segment file) (format.after_segment file) h.segments schedule.1)) (disk_fault file (number file 32) (format.after_parts (format.after_segment file) h.segments schedule.1)) read (λ segments e.
-    disk_tells file h schedule.0 segments (format.after_parts (format.after_segment file) h.segments schedule.1) numbers (parts_end (format.after_segment file) (segment_at h.frames file) segment_size next h.segments schedule.1 segments e)))
+    (first_in file (grammar.parts (format.segment file) (format.after_segment file) h.segments schedule.1)) (disk_fault file (number file 32) (grammar.after_parts (format.after_segment file) h.segments schedule.1)) read (λ segments e.
+    disk_tells file h schedule.0 segments (grammar.after_parts (format.after_segment file) h.segments schedule.1) numbers (parts_end (format.after_segment file) (segment_at h.frames file) segment_size next h.segments schedule.1 segments e)))
 
 stays : (at : ℕ) → format.after_turn at ≡ at + 1
 stays at = refl
@@ -239,20 +242,20 @@ schedule_tells file h numbers =
     let next = λ (at : ℕ) (x : ℕ) (e : turn_at h.harts file at ≡ Ok x). stays at in
     let read = parts_tell file (format.turn file) format.after_turn (turn_at h.harts file) (λ _. 1) (λ at. turn_tells file h.harts at numbers.harts) next h.turns 40 in
     rw numbers.turns (bind_tells (parts_at (turn_at h.harts file) (λ _. 1) h.turns 40) (after_schedule file h)
-    (first_in file (format.parts (format.turn file) format.after_turn h.turns 40)) (segments_fault file (number file 28) (format.after_parts format.after_turn h.turns 40)) read (λ schedule e.
-    segments_tell file h schedule (format.after_parts format.after_turn h.turns 40) numbers (parts_end format.after_turn (turn_at h.harts file) (λ _. 1) next h.turns 40 schedule e)))
+    (first_in file (grammar.parts (format.turn file) format.after_turn h.turns 40)) (segments_fault file (number file 28) (grammar.after_parts format.after_turn h.turns 40)) read (λ schedule e.
+    segments_tell file h schedule (grammar.after_parts format.after_turn h.turns 40) numbers (parts_end format.after_turn (turn_at h.harts file) (λ _. 1) next h.turns 40 schedule e)))
 
-pub bundle_tells : (file : List ℕ) → Tells (bundle_at file) (first_fault file)
-unfolding bundle_at first_fault
+pub bundle_tells : (file : List ℕ) → Tells (bundle_at file) (bundle_fault file)
+unfolding bundle_at bundle_fault
 bundle_tells file =
     let too_large = ltb largest_bundle (length file) in
     let read : Tells (header_at file >>= after_header file) (first_of (first_in file (format.header file)) (schedule_fault file (number file 20))) =
     bind_tells (header_at file) (after_header file) (first_in file (format.header file)) (schedule_fault file (number file 20)) (header_tells file) (λ h e. schedule_tells file h (numbers_are file h e)) in
     let regrouped = chain file (format.header file)
-    (format.parts (format.turn file) format.after_turn (number file 20) 40)
-    (format.parts (format.segment file) (format.after_segment file) (number file 28) (format.segments_from file))
+    (grammar.parts (format.turn file) format.after_turn (number file 20) 40)
+    (grammar.parts (format.segment file) (format.after_segment file) (number file 28) (format.segments_from file))
     (format.pages (number file 32) (format.disk_from file))
-    (format.parts (format.program file) (format.after_program file) (number file 36) (format.programs_from file))
+    (grammar.parts (format.program file) (format.after_program file) (number file 36) (format.programs_from file))
     (end_fault file (format.fields_end file)) in
     let whole : Tells (header_at file >>= after_header file) (first_of (first_in file (format.fields file)) (end_fault file (format.fields_end file))) = subst (Tells (header_at file >>= after_header file)) (sym regrouped) read in
     subst (λ r. Tells r (cond too_large (Some (TooLarge 0)) (first_of (first_in file (format.fields file)) (end_fault file (format.fields_end file))))) (sym (refused_bind too_large (TooLarge 0) (header_at file) (after_header file)))

@@ -12,8 +12,8 @@ use Rattle.cloak_model.specs.Bundle.{segment_bytes, program_bytes, bundle_bytes,
 use Rattle.cloak_model.specs.declared.image.Segment.{Segment}
 use Rattle.cloak_model.specs.declared.image.Program.{Program}
 use Rattle.cloak_model.specs.declared.image.Bundle.{Bundle}
-use Rattle.guest_bundle.specs.declared.fault.BundleFault.{BundleFault}
-use Rattle.guest_bundle.specs.declared.fault.BundleFault.TheVariants.{BadMagic, BadVersion, TooLarge, Extra}
+use Rattle.cloak_model.specs.declared.fault.BundleFault.{BundleFault}
+use Rattle.cloak_model.specs.declared.fault.BundleFault.TheVariants.{BadMagic, BadVersion, TooLarge, Extra}
 use Rattle.guest_bundle.specs.declared.header.Header.{Header}
 use Rattle.guest_bundle.specs.Fields.{◌>>=◌, bytes_at, pages_at, number_at, count_at, entry_at}
 use Rattle.guest_bundle.specs.Reading.{version_at, header_at, turn_at, segment_at, segment_size, program_at, program_size, parts_at, bundle_of, bundle_at}
@@ -159,8 +159,9 @@ made_spelled h schedule segments disk programs counts =
     rw (counts.turn_count, counts.segment_count, blocks, counts.program_count) refl
 
 made_in_grammar : (h : Header) (schedule : List ℕ) (segments : List Segment) (disk : List ℕ) (programs : List Program) → HeaderFits h → CountsAre h schedule segments disk programs
-    → AllByRecursion (λ x. x < h.harts) schedule → AllByRecursion (IsSegmentIn h.frames) segments → AllByRecursion (IsProgramIn h.frames) programs → IsInGrammar (bundle_of h schedule segments disk programs)
-made_in_grammar h schedule segments disk programs fits counts turns_fit segments_fit programs_fit = record {
+    → AllByRecursion (λ x. x < h.harts) schedule → AllByRecursion (IsSegmentIn h.frames) segments → AllByRecursion (IsProgramIn h.frames) programs
+    → length (bundle_bytes (bundle_of h schedule segments disk programs)) ≤ largest_bundle → IsInGrammar (bundle_of h schedule segments disk programs)
+made_in_grammar h schedule segments disk programs fits counts turns_fit segments_fit programs_fit small = record {
   kernel = record {
     some_frames = fits.some_frames;
     few_frames = fits.few_frames;
@@ -178,6 +179,7 @@ made_in_grammar h schedule segments disk programs fits counts turns_fit segments
   };
   few_programs = omega (arith, counts.program_count, fits.few_programs);
   programs = All-from_recursion (IsProgramIn h.frames) programs programs_fit;
+  not_too_large = small;
 }
 
 made_takes : (file : List ℕ) (h : Header) (schedule : List ℕ × ℕ) (segments : List Segment × ℕ) (disk : List ℕ) (programs : List Program × ℕ) → IsBytes file → length file ≤ largest_bundle
@@ -202,10 +204,10 @@ made_takes file h schedule segments disk programs fits small header_is schedule_
     (Stands-then file segments.1 disk (segments.1 + length disk) (flat_map program_bytes programs.0) programs.1 disk_text p.0))) in
     let nothing : drop programs.1 file ≡ [] = drop_all programs.1 file (omega (arith, end)) in
     let text : file ≡ front ++ body = whole.parts ∙ ap (λ (r : List ℕ). (front ++ body) ++ r) nothing ∙ append-nil (front ++ body) in
+    let spelling : bundle_bytes (bundle_of h schedule.0 segments.0 disk programs.0) ≡ file = made_spelled h schedule.0 segments.0 disk programs.0 counts ∙ sym text in
     record {
-      spelled = made_spelled h schedule.0 segments.0 disk programs.0 counts ∙ sym text;
-      in_grammar = made_in_grammar h schedule.0 segments.0 disk programs.0 a.1 counts b.2 c.2 p.2;
-      not_too_large = small;
+      spelled = spelling;
+      in_grammar = made_in_grammar h schedule.0 segments.0 disk programs.0 a.1 counts b.2 c.2 p.2 (rw spelling small);
     }
 
 -- a file that was read is a bundle's

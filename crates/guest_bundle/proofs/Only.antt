@@ -92,7 +92,8 @@ bundle_again file b is =
     let size : length file ≡ length (bundle_bytes b) = ap length (sym is.spelled) in
     let total : at4 ≡ length (bundle_bytes b) = omega (arith, length-append k.schedule r2, length-append segments_text r3, length-append k.disk programs_text) in
     let end : eqb at4 (length file) ≡ true = eq-eqb _ _ (total ∙ sym size) in
-    rw (le-ltb largest_bundle (length file) is.not_too_large, header, schedule, segments, disk, programs, end) refl
+    let small : length file ≤ largest_bundle = rw (← is.spelled) is.in_grammar.not_too_large in
+    rw (le-ltb largest_bundle (length file) small, header, schedule, segments, disk, programs, end) refl
 
 -- a bundle is determined by its bytes
 pub one_bundle : (file : List ℕ) (a b : Bundle) → IsBundle file a → IsBundle file b → a ≡ b

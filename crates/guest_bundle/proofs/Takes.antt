@@ -10,10 +10,11 @@ use Rattle.cloak_model.specs.Bits.{word}
 use Rattle.cloak_model.specs.Bundle.{segment_bytes, program_bytes, IsSegmentIn, IsProgramIn}
 use Rattle.cloak_model.specs.declared.image.Segment.{Segment}
 use Rattle.cloak_model.specs.declared.image.Program.{Program}
-use Rattle.guest_bundle.specs.declared.fault.BundleFault.{BundleFault}
-use Rattle.guest_bundle.specs.declared.fault.BundleFault.TheVariants.{Short, BadCount, TooLarge, BadRange}
+use Rattle.cloak_model.specs.declared.fault.BundleFault.{BundleFault}
+use Rattle.cloak_model.specs.declared.fault.BundleFault.TheVariants.{Short, BadCount, TooLarge, BadRange}
 use Rattle.guest_bundle.specs.Fields.{◌>>=◌, bytes_at, pages_at, number_at, count_at, entry_at}
-use Rattle.guest_bundle.specs.Reading.{turn_at, lies_in_ram, segment_at, segment_size, is_base_of, place_at, base_at, program_at, program_size, parts_at}
+use Rattle.guest_bundle.specs.Reading.{turn_at, segment_at, segment_size, place_at, base_at, program_at, program_size, parts_at}
+use Rattle.cloak_model.specs.BundleFault.{lies_in_ram, is_base_of}
 use Rattle.guest_bundle.proofs.Steps.{bind_ok, refused_not, passed, ok_is, IsBytes, IsBytes-drop, IsBytes-take, Stands, Stands-then}
 
 front_stands : (file : List ℕ) (at n : ℕ) → Stands file at (take n (drop at file)) (at + n)

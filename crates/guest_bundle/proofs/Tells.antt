@@ -1,11 +1,12 @@
 -- What reading meets is the first fault of the fields that it reads.
 use Rattle.std.proofs.Common.{◌≡◌, ℕ, zero, suc, ◌+◌, ◌-◌, ◌*◌, ◌/◌, ◌%◌, Bool, true, false, cond, ltb, leb, eqb, List, [], ◌∷◌, ◌++◌, length, get_or, take, drop, Option, Some, None, Result, Ok, Err, refl, sym, ap, subst, ◌∙◌, arith, inl, inr}
 use Rattle.std.proofs.lemmas.Bool.{lt-ltb, le-ltb, cases_lt}
-use Rattle.guest_bundle.specs.declared.fault.BundleFault.{BundleFault}
-use Rattle.guest_bundle.specs.declared.fault.BundleFault.TheVariants.{Short, BadCount, TooLarge, BadRange}
+use Rattle.cloak_model.specs.declared.fault.BundleFault.{BundleFault}
+use Rattle.cloak_model.specs.declared.fault.BundleFault.TheVariants.{Short, BadCount, TooLarge, BadRange}
 use Rattle.guest_bundle.specs.Fields.{◌>>=◌, bytes_at, pages_at, number_at, count_at, entry_at}
-use Rattle.guest_bundle.specs.FirstFault.{Field, first_of, fault_in, first_in, number, ruled, count, parts, after_parts, after_page, pages, turn}
-use Rattle.guest_bundle.specs.Reading.{turn_at, is_base_of, place_at, base_at, parts_at}
+use Rattle.cloak_model.specs.Fields.{first_of, fault_in, first_in, number, parts, after_parts}
+use Rattle.cloak_model.specs.BundleFault.{Field, ruled, count, is_base_of, after_page, pages, turn}
+use Rattle.guest_bundle.specs.Reading.{turn_at, place_at, base_at, parts_at}
 use Rattle.guest_bundle.proofs.Steps.{bind_ok, refused_not, ok_is}
 
 -- what reading gives, beside the first fault that there is
@@ -38,7 +39,7 @@ pub passed_tells : {A : Type 0} (b : Bool) (e : BundleFault) (r : Result A Bundl
 passed_tells true e r o h = h
 passed_tells false e r o h = refl
 
--- the fault of a field that is not whole
+-- the fault of so many bytes that are not there
 abbrev pub short : List ℕ → ℕ → ℕ → Option BundleFault
 short file at size = cond (ltb (length file - at) size) (Some (Short at)) None
 
@@ -46,13 +47,17 @@ fault_apart : (b : Bool) (e : BundleFault) (wrong : Option BundleFault) → cond
 fault_apart true e wrong = refl
 fault_apart false e wrong = refl
 
+-- the fault of a field that is not whole
+abbrev pub cut_in : List ℕ → Field → Option BundleFault
+cut_in file f = cond (ltb (length file - f.at) f.size) (Some f.cut) None
+
 -- a field that is read whole, and what is read after it
 pub field_tells : {A B : Type 0} (file : List ℕ) (f : Field) (fs : List Field) (r : Result A BundleFault) (k : A → Result B BundleFault)
-    → Tells r (short file f.at f.size) → ((x : A) → r ≡ Ok x → Tells (k x) (first_of f.wrong (first_in file fs))) → Tells (r >>= k) (first_in file (f ∷ fs))
+    → Tells r (cut_in file f) → ((x : A) → r ≡ Ok x → Tells (k x) (first_of f.wrong (first_in file fs))) → Tells (r >>= k) (first_in file (f ∷ fs))
 field_tells file f fs r k h then =
-    let apart : first_in file (f ∷ fs) ≡ first_of (short file f.at f.size) (first_of f.wrong (first_in file fs)) =
-    ap (λ o. first_of o (first_in file fs)) (fault_apart (ltb (length file - f.at) f.size) (Short f.at) f.wrong) ∙ first_of-assoc (short file f.at f.size) f.wrong (first_in file fs) in
-    subst (Tells (r >>= k)) (sym apart) (bind_tells r k (short file f.at f.size) (first_of f.wrong (first_in file fs)) h then)
+    let apart : first_in file (f ∷ fs) ≡ first_of (cut_in file f) (first_of f.wrong (first_in file fs)) =
+    ap (λ o. first_of o (first_in file fs)) (fault_apart (ltb (length file - f.at) f.size) f.cut f.wrong) ∙ first_of-assoc (cut_in file f) f.wrong (first_in file fs) in
+    subst (Tells (r >>= k)) (sym apart) (bind_tells r k (cut_in file f) (first_of f.wrong (first_in file fs)) h then)
 
 pub number_tells : (file : List ℕ) (at : ℕ) → Tells (number_at file at) (short file at 4)
 number_tells file at = refused_tells (ltb (length file - at) 4) (Short at) (Ok (number file at)) None refl
@@ -68,9 +73,9 @@ bytes_are file at size x e = ok_is _ _ (refused_not (ltb (length file - at) size
 
 -- a field whose value is tested once it is whole
 pub tested_tells : {A B : Type 0} (file : List ℕ) (f : Field) (r : Result A BundleFault) (k : A → Result B BundleFault)
-    → Tells r (short file f.at f.size) → ((x : A) → r ≡ Ok x → Tells (k x) f.wrong) → Tells (r >>= k) (fault_in file f)
+    → Tells r (cut_in file f) → ((x : A) → r ≡ Ok x → Tells (k x) f.wrong) → Tells (r >>= k) (fault_in file f)
 tested_tells file f r k h then =
-    subst (Tells (r >>= k)) (sym (fault_apart (ltb (length file - f.at) f.size) (Short f.at) f.wrong)) (bind_tells r k (short file f.at f.size) f.wrong h then)
+    subst (Tells (r >>= k)) (sym (fault_apart (ltb (length file - f.at) f.size) f.cut f.wrong)) (bind_tells r k (cut_in file f) f.wrong h then)
 
 -- a rule, and what is read where it is kept
 pub guarded_tells : {A B : Type 0} (b : Bool) (e : BundleFault) (r : Result A BundleFault) (k : A → Result B BundleFault) (o : Option BundleFault) → Tells (r >>= k) o → Tells (cond b r (Err e) >>= k) (first_of (cond b None (Some e)) o)

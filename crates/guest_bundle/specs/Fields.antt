@@ -1,8 +1,8 @@
 -- The fields of a file, each at its offset: its value, or the fault that it has.
 use Rattle.std.specs.Prelude.{◌≡◌, ℕ, ◌+◌, ◌-◌, ◌*◌, ◌/◌, ◌%◌, ◌==◌, List, length, take, drop, Result, Ok, Err, MatchResult, nat_lt, if◌then◌else◌}
 use Rattle.std.specs.Int.{w32, from_le_bytes}
-use Rattle.guest_bundle.specs.declared.fault.BundleFault.{BundleFault}
-use Rattle.guest_bundle.specs.declared.fault.BundleFault.TheVariants.{Short, BadMagic, BadVersion, BadCount, TooLarge, BadRange, Extra, NoMemory}
+use Rattle.cloak_model.specs.declared.fault.BundleFault.{BundleFault}
+use Rattle.cloak_model.specs.declared.fault.BundleFault.TheVariants.{Short, BadMagic, BadVersion, BadCount, TooLarge, BadRange, Extra, NoMemory}
 
 infixl 10 ◌>>=◌
 abbrev pub ◌>>=◌ : {A B : Type 0} → Result A BundleFault → (A → Result B BundleFault) → Result B BundleFault
@@ -41,7 +41,8 @@ pages_at file at n =
 
 -- four bytes, the lowest first
 abbrev pub number_at : List ℕ → ℕ → Result ℕ BundleFault
-number_at file at = if nat_lt (length file - at) 4 then Err (Short at) else Ok (from_le_bytes w32 (take 4 (drop at file)))
+number_at file at =
+    if nat_lt (length file - at) 4 then Err (Short at) else Ok (from_le_bytes w32 (take 4 (drop at file)))
 
 -- a number from low to high
 unfoldable pub count_at : List ℕ → ℕ → ℕ → ℕ → Result ℕ BundleFault

@@ -6,8 +6,9 @@ use Rattle.cloak_model.specs.declared.image.Segment.{Segment}
 use Rattle.cloak_model.specs.declared.image.KernelImage.{KernelImage}
 use Rattle.cloak_model.specs.declared.image.Program.{Program}
 use Rattle.cloak_model.specs.declared.image.Bundle.{Bundle}
-use Rattle.guest_bundle.specs.declared.fault.BundleFault.{BundleFault}
-use Rattle.guest_bundle.specs.declared.fault.BundleFault.TheVariants.{Short, BadMagic, BadVersion, TooLarge, BadRange, Extra}
+use Rattle.cloak_model.specs.declared.fault.BundleFault.{BundleFault}
+use Rattle.cloak_model.specs.declared.fault.BundleFault.TheVariants.{Short, BadMagic, BadVersion, TooLarge, BadRange, Extra}
+use Rattle.cloak_model.specs.BundleFault.{lies_in_ram, is_base_of}
 use Rattle.guest_bundle.specs.declared.header.Header.{Header}
 use Rattle.guest_bundle.specs.Fields.{◌>>=◌, bytes_at, pages_at, number_at, count_at, entry_at}
 
@@ -36,16 +37,21 @@ header_at file = do
   segments ← count_at file 28 0 16
   blocks ← count_at file 32 0 4096
   programs ← count_at file 36 0 4
-  Ok (record { frames = frames; harts = harts; turns = turns; entry = entry; segments = segments; blocks = blocks; programs = programs })
+  Ok (record {
+    frames = frames;
+    harts = harts;
+    turns = turns;
+    entry = entry;
+    segments = segments;
+    blocks = blocks;
+    programs = programs;
+  })
 
 -- a byte of the schedule
 abbrev pub turn_at : ℕ → List ℕ → ℕ → Result ℕ BundleFault
 turn_at harts file at =
     if nat_lt (length file - at) 1 then Err (Short at)
     else if nat_lt (slice_index file at) harts then Ok (slice_index file at) else Err (BadRange at)
-
-abbrev pub lies_in_ram : ℕ → ℕ → ℕ → Bool
-lies_in_ram frames address size = nat_le 0x80000000 address && nat_le (address + size) (0x80000000 + 4096 * frames)
 
 unfoldable pub segment_at : ℕ → List ℕ → ℕ → Result Segment BundleFault
 segment_at frames file at = do
@@ -62,9 +68,6 @@ unfoldable pub place_at : ℕ → ℕ → List ℕ → ℕ → Result ℕ Bundle
 place_at frames pages file at = do
   place ← number_at file at
   if nat_le (place + pages) frames then Ok place else Err (BadRange at)
-
-abbrev pub is_base_of : ℕ → ℕ → Bool
-is_base_of pages base = (base % 4096 == 0) && nat_le (base + 4096 * pages) (2 ^ 32)
 
 -- the address of the first of some pages
 unfoldable pub base_at : ℕ → List ℕ → ℕ → Result ℕ BundleFault
@@ -87,7 +90,14 @@ program_size p = 20 + length p.bytes
 
 abbrev pub bundle_of : Header → List ℕ → List Segment → List ℕ → List Program → Bundle
 bundle_of h schedule segments disk programs =
-    let k : KernelImage = record { frames = h.frames; harts = h.harts; schedule = schedule; entry = h.entry; segments = segments; disk = disk } in
+    let k : KernelImage = record {
+      frames = h.frames;
+      harts = h.harts;
+      schedule = schedule;
+      entry = h.entry;
+      segments = segments;
+      disk = disk;
+    } in
     record { kernel = k; programs = programs }
 
 unfoldable pub bundle_at : List ℕ → Result Bundle BundleFault

@@ -7,14 +7,13 @@
 //! Each field is tested as soon as it is read whole, and a fault carries the offset of the field's first byte.
 #![tactic(auto)]
 
-mod fault;
 mod fields;
 mod header;
 mod parts;
 mod reading;
 mod writing;
 
-pub use fault::BundleFault;
+pub use cloak_model::BundleFault;
 pub use reading::read;
 pub use writing::write;
 

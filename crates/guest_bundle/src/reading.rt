@@ -1,9 +1,9 @@
 ghost use Rattle.std.specs.Prelude.{◌≡◌, ◌≢◌, Some, None, IfOk, IfErr, MatchResult};
 ghost use Rattle.cloak_model.specs.Bundle.{IsBundle};
 ghost use Rattle.cloak_model.specs.declared.image.Bundle.{Bundle};
-ghost use Rattle.guest_bundle.specs.declared.fault.BundleFault.TheVariants.{NoMemory};
+ghost use Rattle.cloak_model.specs.declared.fault.BundleFault.TheVariants.{NoMemory};
 ghost use Rattle.guest_bundle.specs.Fields.{Gives};
-ghost use Rattle.guest_bundle.specs.FirstFault.{first_fault};
+ghost use Rattle.cloak_model.specs.BundleFault.{bundle_fault};
 ghost use Rattle.guest_bundle.specs.Reading.{bundle_at};
 
 use crate::BundleFault;
@@ -52,8 +52,8 @@ pub fn read(alloc: Global, b: &[u8]) -> Result<Bundle, BundleFault>
     ensures err { IfErr result (λ e. e ≢ NoMemory → (bundle : Bundle) → IsBundle b.now bundle → ⊥) }
     // It is refused with the first fault in reading order, and a file that is read has none.
     ensures fault { MatchResult result
-        (λ _. first_fault b.now ≡ None)
-        (λ e. e ≢ NoMemory → first_fault b.now ≡ Some e) }
+        (λ _. bundle_fault b.now ≡ None)
+        (λ e. e ≢ NoMemory → bundle_fault b.now ≡ Some e) }
     // A bundle that spells the file is the one that is read.
     ensures only { (bundle : Bundle) → IsBundle b.now bundle → IfOk result (λ read. read ≡ bundle) }
 {

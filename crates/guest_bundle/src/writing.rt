@@ -1,7 +1,7 @@
 ghost use Rattle.std.specs.Prelude.{◌≡◌, ◌<◌, ◌^◌, ◌++◌, length, All, OnOk, IfOk};
 ghost use Rattle.std.specs.List.{flat_map};
 ghost use Rattle.cloak_model.specs.Bits.{word};
-ghost use Rattle.cloak_model.specs.Bundle.{segment_bytes, program_bytes, bundle_bytes, IsInGrammar};
+ghost use Rattle.cloak_model.specs.Bundle.{segment_bytes, program_bytes, bundle_bytes, IsInGrammar, IsBundle};
 ghost use Rattle.guest_bundle.specs.Writing.{header_bytes};
 
 use cloak_base::NoMemory;
@@ -82,10 +82,10 @@ fn put_programs(out: &mut Vec<u8>, programs: &[Program]) -> Result<(), NoMemory>
     Ok(())
 }
 
-/// The one file of a bundle.
+/// The one file of a bundle, which is read as the same bundle.
 pub fn write(alloc: Global, b: &Bundle) -> Result<Vec<u8>, NoMemory>
     requires { IsInGrammar b.now }
-    ensures { IfOk result (λ bytes. bytes.items ≡ bundle_bytes b.now) }
+    ensures { IfOk result (λ bytes. IsBundle bytes.items b.now) }
 {
     let k = &b.kernel;
     let mut out = Vec::new(alloc);

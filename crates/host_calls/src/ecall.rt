@@ -1,6 +1,6 @@
 //! Ecalls outside cloaked mode: host calls, and the resuming of a context.
 ghost use Rattle.std.specs.Prelude.{◌≡◌, ◌<◌, ◌+◌, ◌-◌, ◌*◌, ◌/◌, ◌%◌, length};
-ghost use Rattle.cloak_model.specs.Asking.{Follows};
+ghost use Rattle.cloak_model.specs.Asking.{Follows, Keeps};
 ghost use Rattle.cloak_model.specs.Memory.{frame_of};
 ghost use Rattle.cloak_model.specs.HartStep as hart;
 ghost use Rattle.cloak_model.specs.HostCalls as spec;
@@ -69,9 +69,10 @@ fn is_transfer(d: &Disk, frames: u32, block: u32, pa: u32) -> bool
     d.has_block(block) && pa % 4096 == 0 && pa >= RAM_START && frame_at(pa).0 < frames
 }
 
-#[tactic(auto, using(crate::proofs::StepLater::laters), unfolding(cloak_model::specs::HostCalls::read_call, cloak_model::specs::HostCalls::read_block))]
+#[tactic(auto, using(step_parts::proofs::StepLater::laters), unfolding(cloak_model::specs::HostCalls::read_call, cloak_model::specs::HostCalls::read_block))]
 fn read_block<M: Ram>(h: &mut Hart, d: &Disk, m: &mut M) -> Kernel
     ensures follows { Follows M.stands_for m.old m.new (record { hart = h.new; disk = d.now; ending = result }) (spec.read_call h.old d.now) }
+    ensures keeps { Keeps M.kept m.old m.new }
     ensures same_count { M.count m.new ≡ M.count m.old }
 {
     let block = h.regs.get(10);
@@ -83,9 +84,10 @@ fn read_block<M: Ram>(h: &mut Hart, d: &Disk, m: &mut M) -> Kernel
     answer(h, 0)
 }
 
-#[tactic(auto, using(crate::proofs::StepLater::laters), unfolding(cloak_model::specs::HostCalls::write_call, cloak_model::specs::HostCalls::write_block))]
+#[tactic(auto, using(step_parts::proofs::StepLater::laters), unfolding(cloak_model::specs::HostCalls::write_call, cloak_model::specs::HostCalls::write_block))]
 fn write_block<M: Ram>(h: &mut Hart, d: &mut Disk, m: &mut M) -> Kernel
     ensures follows { Follows M.stands_for m.old m.new (record { hart = h.new; disk = d.new; ending = result }) (spec.write_call h.old d.old) }
+    ensures keeps { Keeps M.kept m.old m.new }
     ensures same_count { M.count m.new ≡ M.count m.old }
 {
     let block = h.regs.get(10);
@@ -97,9 +99,10 @@ fn write_block<M: Ram>(h: &mut Hart, d: &mut Disk, m: &mut M) -> Kernel
     answer(h, 0)
 }
 
-#[tactic(auto, using(crate::proofs::StepLater::laters), unfolding(cloak_model::specs::HostCalls::host_call))]
+#[tactic(auto, using(step_parts::proofs::StepLater::laters), unfolding(cloak_model::specs::HostCalls::host_call))]
 fn host_call<M: Ram>(h: &mut Hart, d: &mut Disk, m: &mut M) -> Kernel
     ensures follows { Follows M.stands_for m.old m.new (record { hart = h.new; disk = d.new; ending = result }) (spec.host_call h.old d.old) }
+    ensures keeps { Keeps M.kept m.old m.new }
     ensures same_count { M.count m.new ≡ M.count m.old }
 {
     match h.regs.get(17) {
@@ -126,9 +129,10 @@ fn resume(h: &mut Hart) -> Kernel
 }
 
 /// Makes an ecall.
-#[tactic(auto, using(crate::proofs::StepLater::laters), unfolding(cloak_model::specs::HostCalls::ecall, cloak_model::specs::HostCalls::ecall_in))]
+#[tactic(auto, using(step_parts::proofs::StepLater::laters), unfolding(cloak_model::specs::HostCalls::ecall, cloak_model::specs::HostCalls::ecall_in))]
 pub fn ecall<M: Ram>(h: &mut Hart, d: &mut Disk, m: &mut M) -> Kernel
     ensures follows { Follows M.stands_for m.old m.new (record { hart = h.new; disk = d.new; ending = result }) (spec.ecall h.old d.old) }
+    ensures keeps { Keeps M.kept m.old m.new }
     ensures same_count { M.count m.new ≡ M.count m.old }
 {
     if h.regs.get(17) == RESUME {

@@ -1,11 +1,12 @@
 //! The plain step of a hart.
 ghost use Rattle.std.specs.Prelude.{◌≡◌, ◌<◌, ◌%◌, IsTrue, IfOk, IfSome};
 ghost use Rattle.rv_isa.specs.Range.{InRange};
-ghost use Rattle.cloak_model.specs.Asking.{Follows};
+ghost use Rattle.cloak_model.specs.Asking.{Follows, Keeps};
 ghost use Rattle.cloak_model.specs.Effect.{IsWidth, EffectInRange};
 ghost use Rattle.cloak_model.specs.Memory.{is_in_frames};
 ghost use Rattle.cloak_model.specs.HartStep as hart;
 ghost use Rattle.cloak_model.specs.KernelStep as spec;
+ghost use Rattle.step_parts.specs.Parts as parts;
 
 use crate::disk::Disk;
 use crate::ecall::ecall;
@@ -35,6 +36,7 @@ fn extended(signed: bool, width: u32, value: u32) -> u32
 /// The address in RAM where an access of this hart leads, or the cause of its fault.
 fn translate<M: Ram>(h: &Hart, kind: Kind, va: u32, m: &mut M) -> Result<u32, u32>
     ensures follows { Follows M.stands_for m.old m.new result (spec.ask_access h.now kind va) }
+    ensures keeps { Keeps M.kept m.old m.new }
     ensures inside { IfOk result (λ pa. IsTrue (is_in_frames (M.count m.old) pa)) }
     ensures offset { IfOk result (λ pa. pa % 4096 ≡ va % 4096) }
     ensures same_count { M.count m.new ≡ M.count m.old }
@@ -42,12 +44,13 @@ fn translate<M: Ram>(h: &Hart, kind: Kind, va: u32, m: &mut M) -> Result<u32, u3
     m.translate(h.csrs.satp(), h.mode, h.csrs.sum(), h.csrs.mxr(), va, kind)
 }
 
-#[tactic(auto, using(crate::proofs::StepLater::laters), unfolding(cloak_model::specs::KernelStep::load, cloak_model::specs::KernelStep::loaded, cloak_model::specs::KernelStep::took))]
+#[tactic(auto, using(step_parts::proofs::StepLater::laters), unfolding(step_parts::specs::Parts::load, step_parts::specs::Parts::loaded, step_parts::specs::Parts::took))]
 fn load<M: Ram>(h: &mut Hart, rd: u32, va: u32, width: u32, signed: bool, m: &mut M) -> Kernel
     requires register { rd < 32 }
     requires width { IsWidth width }
     requires aligned { va % width ≡ 0 }
-    ensures follows { Follows M.stands_for m.old m.new (record { hart = h.new; ending = result }) (spec.load h.old rd va width signed) }
+    ensures follows { Follows M.stands_for m.old m.new (record { hart = h.new; ending = result }) (parts.load h.old rd va width signed) }
+    ensures keeps { Keeps M.kept m.old m.new }
     ensures same_count { M.count m.new ≡ M.count m.old }
 {
     match translate(h, Kind::Load, va, m) {
@@ -59,11 +62,12 @@ fn load<M: Ram>(h: &mut Hart, rd: u32, va: u32, width: u32, signed: bool, m: &mu
     }
 }
 
-#[tactic(auto, using(crate::proofs::StepLater::laters), unfolding(cloak_model::specs::KernelStep::store, cloak_model::specs::KernelStep::stored))]
+#[tactic(auto, using(step_parts::proofs::StepLater::laters), unfolding(step_parts::specs::Parts::store, step_parts::specs::Parts::stored))]
 fn store<M: Ram>(h: &mut Hart, va: u32, width: u32, value: u32, m: &mut M) -> Kernel
     requires width { IsWidth width }
     requires aligned { va % width ≡ 0 }
-    ensures follows { Follows M.stands_for m.old m.new (record { hart = h.new; ending = result }) (spec.store h.old va width value) }
+    ensures follows { Follows M.stands_for m.old m.new (record { hart = h.new; ending = result }) (parts.store h.old va width value) }
+    ensures keeps { Keeps M.kept m.old m.new }
     ensures same_count { M.count m.new ≡ M.count m.old }
 {
     match translate(h, Kind::Store, va, m) {
@@ -100,11 +104,12 @@ fn is_ecall(i: &Instr) -> bool
 }
 
 /// Does what an instruction does.
-#[tactic(auto, using(crate::proofs::StepLater::laters), unfolding(cloak_model::specs::KernelStep::done))]
+#[tactic(auto, using(step_parts::proofs::StepLater::laters), unfolding(step_parts::specs::Parts::done))]
 fn done<M: Ram>(h: &mut Hart, d: &mut Disk, word: u32, i: &Instr, e: &Effect, m: &mut M) -> Kernel
     requires instruction { InRange i.now }
     requires range { EffectInRange e.now }
-    ensures follows { Follows M.stands_for m.old m.new (record { hart = h.new; disk = d.new; ending = result }) (spec.done h.old d.old word i.now e.now) }
+    ensures follows { Follows M.stands_for m.old m.new (record { hart = h.new; disk = d.new; ending = result }) (parts.done h.old d.old word i.now e.now) }
+    ensures keeps { Keeps M.kept m.old m.new }
     ensures same_count { M.count m.new ≡ M.count m.old }
 {
     match *e {
@@ -134,10 +139,11 @@ fn done<M: Ram>(h: &mut Hart, d: &mut Disk, word: u32, i: &Instr, e: &Effect, m:
     }
 }
 
-#[tactic(auto, using(crate::proofs::StepLater::laters), unfolding(cloak_model::specs::KernelStep::decoded))]
+#[tactic(auto, using(step_parts::proofs::StepLater::laters), unfolding(step_parts::specs::Parts::decoded))]
 fn decoded<M: Ram>(h: &mut Hart, d: &mut Disk, word: u32, i: &Option<Instr>, m: &mut M) -> Kernel
     requires { IfSome i.now InRange }
-    ensures follows { Follows M.stands_for m.old m.new (record { hart = h.new; disk = d.new; ending = result }) (spec.decoded h.old d.old word i.now) }
+    ensures follows { Follows M.stands_for m.old m.new (record { hart = h.new; disk = d.new; ending = result }) (parts.decoded h.old d.old word i.now) }
+    ensures keeps { Keeps M.kept m.old m.new }
     ensures same_count { M.count m.new ≡ M.count m.old }
 {
     match i {
@@ -149,9 +155,10 @@ fn decoded<M: Ram>(h: &mut Hart, d: &mut Disk, word: u32, i: &Option<Instr>, m: 
     }
 }
 
-#[tactic(auto, using(crate::proofs::StepLater::laters), unfolding(cloak_model::specs::KernelStep::instruction_step, cloak_model::specs::KernelStep::fetched, cloak_model::specs::KernelStep::executed))]
+#[tactic(auto, using(step_parts::proofs::StepLater::laters), unfolding(step_parts::specs::Parts::instruction_step, step_parts::specs::Parts::fetched, step_parts::specs::Parts::executed))]
 fn instruction_step<M: Ram>(h: &mut Hart, d: &mut Disk, m: &mut M) -> Kernel
-    ensures follows { Follows M.stands_for m.old m.new (record { hart = h.new; disk = d.new; ending = result }) (spec.instruction_step h.old d.old) }
+    ensures follows { Follows M.stands_for m.old m.new (record { hart = h.new; disk = d.new; ending = result }) (parts.instruction_step h.old d.old) }
+    ensures keeps { Keeps M.kept m.old m.new }
     ensures same_count { M.count m.new ≡ M.count m.old }
 {
     match translate(h, Kind::Fetch, h.pc, m) {
@@ -163,8 +170,9 @@ fn instruction_step<M: Ram>(h: &mut Hart, d: &mut Disk, m: &mut M) -> Kernel
     }
 }
 
+/// Counts one step down to the timer interrupt, which is pending as the timer reaches 0. It is not taken.
 #[tactic(auto, unfolding(cloak_model::specs::KernelStep::ticked))]
-fn tick(h: &mut Hart)
+pub fn tick(h: &mut Hart)
     ensures { h.new ≡ spec.ticked h.old }
 {
     match h.timer {
@@ -177,11 +185,11 @@ fn tick(h: &mut Hart)
     }
 }
 
-/// Makes one step of a hart outside cloaked mode: its timer falls, and then it takes the interrupt that is
-/// due or makes one instruction. A hart whose step answers `Resume` is inside afterwards.
-#[tactic(auto, using(crate::proofs::StepLater::laters), unfolding(cloak_model::specs::KernelStep::kernel_step, cloak_model::specs::KernelStep::interrupted))]
-pub fn kernel_step<M: Ram>(h: &mut Hart, d: &mut Disk, m: &mut M) -> Kernel
-    ensures follows { Follows M.stands_for m.old m.new (record { hart = h.new; disk = d.new; ending = result }) (spec.kernel_step h.old d.old) }
+/// The step, by its parts.
+#[tactic(auto, using(step_parts::proofs::StepLater::laters), unfolding(step_parts::specs::Parts::step_in_parts, step_parts::specs::Parts::interrupted))]
+fn step_in_parts<M: Ram>(h: &mut Hart, d: &mut Disk, m: &mut M) -> Kernel
+    ensures follows { Follows M.stands_for m.old m.new (record { hart = h.new; disk = d.new; ending = result }) (parts.step_in_parts h.old d.old) }
+    ensures keeps { Keeps M.kept m.old m.new }
     ensures same_count { M.count m.new ≡ M.count m.old }
 {
     tick(h);
@@ -189,4 +197,14 @@ pub fn kernel_step<M: Ram>(h: &mut Hart, d: &mut Disk, m: &mut M) -> Kernel
         return raise(h, 0x8000_0005, 0);
     }
     instruction_step(h, d, m)
+}
+
+/// Makes one step of a hart outside cloaked mode: its timer falls, and then it takes the interrupt that is
+/// due or makes one instruction. A hart whose step answers `Resume` is inside afterwards.
+pub fn kernel_step<M: Ram>(h: &mut Hart, d: &mut Disk, m: &mut M) -> Kernel
+    ensures follows { Follows M.stands_for m.old m.new (record { hart = h.new; disk = d.new; ending = result }) (spec.kernel_step h.old d.old) }
+    ensures keeps { Keeps M.kept m.old m.new }
+    ensures same_count { M.count m.new ≡ M.count m.old }
+{
+    step_in_parts(h, d, m)
 }

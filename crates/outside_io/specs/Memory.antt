@@ -1,5 +1,5 @@
 -- The values of the shelf and the sink over memory.
-use Rattle.std.specs.Prelude.{ℕ, ◌+◌, ◌-◌, ◌^◌, min, List, [], unwrap_or, refl}
+use Rattle.std.specs.Prelude.{ℕ, ◌+◌, ◌-◌, ◌^◌, min, List, [], unwrap_or, IsSome, refl}
 use Rattle.std.specs.Ordering.{nat_cmp}
 use Rattle.std.specs.Cmp.Lexicographic.{slice_cmp}
 use Rattle.std.specs.Coded.{Coded, code_by, coded×, coded_ℕ, coded_list}
@@ -24,6 +24,10 @@ Files = map.FinMap (slice_cmp nat_cmp) (List ℕ)
 abbrev pub bytes_of : Files → List ℕ → List ℕ
 bytes_of files name = unwrap_or (map.get files name) []
 
+-- a file of this name is there
+abbrev pub IsThere : Files → List ℕ → Type 0
+IsThere files name = IsSome (map.get files name)
+
 -- the files of a shelf, the numbers of the calls that are to fail, and its counts of calls and faults
 pub record MemoryFiles : Type 0 where
   pub files : Files
@@ -35,7 +39,15 @@ pub record MemoryFiles : Type 0 where
 -- a shelf is stored as the tuple of its fields
 abbrev pub memory_files_code : Coded MemoryFiles
 memory_files_code =
-    code_by (Files × (List ℕ × (ℕ × (ℕ × ℕ)))) (coded× (map.code (coded_list coded_ℕ) (coded_list coded_ℕ)) (coded× (coded_list coded_ℕ) (coded× coded_ℕ (coded× coded_ℕ coded_ℕ))))
+    code_by (Files × (List ℕ × (ℕ × (ℕ × ℕ))))
+    (coded× (map.code (coded_list coded_ℕ) (coded_list coded_ℕ))
+    (coded× (coded_list coded_ℕ) (coded× coded_ℕ (coded× coded_ℕ coded_ℕ))))
     (λ s. (s.files, (s.fails, (s.calls, (s.reading_faults, s.writing_faults)))))
-    (λ p. record { files = p.0; fails = p.1.0; calls = p.1.1.0; reading_faults = p.1.1.1.0; writing_faults = p.1.1.1.1 })
+    (λ p. record {
+      files = p.0;
+      fails = p.1.0;
+      calls = p.1.1.0;
+      reading_faults = p.1.1.1.0;
+      writing_faults = p.1.1.1.1;
+    })
     (λ _. refl)

@@ -1,28 +1,33 @@
-ghost use Rattle.std.specs.Prelude.{◌≡◌, ◌≤◌, None, IfOk, IsErr, length};
+ghost use Rattle.std.specs.Prelude.{◌≡◌, None, IfOk, IsErr};
 ghost use Rattle.outside_io.specs.Told.{Counts};
 
 use crate::Shelf;
 use crate::gathered::{Gathered, write_front};
+use crate::named_file::NamedFile;
+use crate::reader::Reader;
 use cloak_base::{Failed, NoMemory};
+use std::fs;
 use std::fs::{File, OpenOptions};
-use std::io::{ErrorKind, Read, Seek, SeekFrom};
+use std::io::ErrorKind;
 use std::marker::Model;
 use std::rt::Files;
-use std::{fs, io};
 
-/// The files of the system, whose names are paths. Appended pieces are gathered for the one file that is
-/// being written, and written out where there is no room for the next, before another file is written,
-/// before any is read, and at `flush`. It tells no content.
+/// The files of the system, whose names are paths of at most 4095 bytes. It tells no content. All memory is taken
+/// at `open`.
 ///
-/// What could not be written out stays gathered, so the file's bytes and the gathered bytes are always
-/// what was appended. Where writing out fails in a reading call, that call fails, and so does the next
-/// writing call or `flush`.
+/// Appended pieces are gathered for the one file that is being written, and written out where there is no room for
+/// the next, before another file is written, before any is read, and at `flush`. What could not be written out
+/// stays gathered, so the file's bytes and the gathered bytes are always what was appended. Where writing out fails
+/// in a reading call, that call fails, and so does the next writing call or `flush`.
+///
+/// The one file that is being read stays open, and is read up to 64 KiB ahead. What was read ahead is forgotten
+/// where another file is read, and at each `begin` and `append`.
 #[derive(Drop)]
 pub struct FileShelf<R: Files + Drop> {
     files: R,
-    open: Option<R::File>,
-    name: String,
+    writing: NamedFile<R::File>,
     gathered: Gathered,
+    reader: Reader<R::File>,
     is_fault_owed: bool,
     reading_faults: u64,
     writing_faults: u64,
@@ -43,13 +48,14 @@ impl<R: Files + Drop> FileShelf<R> {
         R: AllocGlobal,
         ensures { IfOk result (λ shelf. shelf ≡ record { reading = 0; writing = 0 }) }
     {
+        let writing = NamedFile::none(files.alloc())?;
         let gathered = Gathered::open(files.alloc())?;
-        let name = String::new(files.alloc());
+        let reader = Reader::none(files.alloc())?;
         Ok(FileShelf {
             files,
-            open: None,
-            name,
+            writing,
             gathered,
+            reader,
             is_fault_owed: false,
             reading_faults: 0,
             writing_faults: 0,
@@ -67,15 +73,11 @@ impl<R: Files + Drop> FileShelf<R> {
         self.fail_writing()
     }
 
-    fn is_open(&self, name: &str) -> bool {
-        self.open.is_some() && self.name.as_str() == name
-    }
-
     /// Says whether all that is gathered was written out.
     fn write_out(&mut self) -> bool
         ensures { self.new ≡ self.old }
     {
-        match &mut self.open {
+        match &mut self.writing.file {
             Some(file) => self.gathered.write_out(file),
             None => true,
         }
@@ -85,7 +87,7 @@ impl<R: Files + Drop> FileShelf<R> {
     fn write_through(&mut self, bytes: &[u8]) -> bool
         ensures { self.new ≡ self.old }
     {
-        match &mut self.open {
+        match &mut self.writing.file {
             Some(file) => write_front(file, bytes) == bytes.len(),
             None => false,
         }
@@ -108,13 +110,7 @@ impl<R: Files + Drop> FileShelf<R> {
             return false;
         };
         self.gathered.clear();
-        self.open = None;
-        self.name.clear();
-        if self.name.push_str(name).is_err() {
-            return false;
-        }
-        self.open = Some(file);
-        true
+        self.writing.keep(name, file)
     }
 
     fn fail_writing(&mut self) -> Result<(), Failed>
@@ -144,14 +140,15 @@ impl<R: Files + Drop> Shelf for FileShelf<R> {
 
     ghost writing_faults = { λ s. s.writing };
 
+    /// A folder is no file, and has no size.
     fn size(&mut self, name: &str) -> Result<u64, Failed> {
         if !self.settle() {
             return self.fail_reading();
         }
         match fs::metadata(&self.files, name) {
-            Ok(metadata) => Ok(metadata.len()),
+            Ok(metadata) if !metadata.is_dir() => Ok(metadata.len()),
             Err(error) if error.kind() == ErrorKind::NotFound => Ok(0),
-            Err(_) => self.fail_reading(),
+            _ => self.fail_reading(),
         }
     }
 
@@ -162,19 +159,26 @@ impl<R: Files + Drop> Shelf for FileShelf<R> {
         if at > i64::MAX as u64 {
             return Ok(0);
         }
-        match File::open(&self.files, name) {
-            Ok(file) => match read_from(file, at, into) {
-                Ok(n) => Ok(n),
-                Err(_) => self.fail_reading(),
-            },
-            Err(error) if error.kind() == ErrorKind::NotFound => Ok(0),
+        if !self.reader.is_open(name) {
+            let is_kept = match File::open(&self.files, name) {
+                Ok(file) => self.reader.keep(name, file),
+                Err(error) if error.kind() == ErrorKind::NotFound => return Ok(0),
+                Err(_) => false,
+            };
+            if !is_kept {
+                return self.fail_reading();
+            }
+        }
+        match self.reader.read_at(at, into) {
+            Ok(n) => Ok(n),
             Err(_) => self.fail_reading(),
         }
     }
 
     fn begin(&mut self, name: &str) -> Result<(), Failed> {
+        self.reader.close();
         // Where the same file is emptied, what is gathered for it is not written any more.
-        if self.is_fault_owed || !self.is_open(name) && !self.write_out() {
+        if self.is_fault_owed || !self.writing.is_open(name) && !self.write_out() {
             return self.fail_writing();
         }
         if self.start(
@@ -188,10 +192,11 @@ impl<R: Files + Drop> Shelf for FileShelf<R> {
     }
 
     fn append(&mut self, name: &str, bytes: &[u8]) -> Result<(), Failed> {
+        self.reader.close();
         if self.is_fault_owed {
             return self.fail_writing();
         }
-        if !self.is_open(name)
+        if !self.writing.is_open(name)
             && !(self.write_out()
                 && self.start(name, OpenOptions::new().append(true).create(true)))
         {
@@ -211,33 +216,138 @@ impl<R: Files + Drop> Shelf for FileShelf<R> {
     }
 }
 
-/// Reads from an offset on.
-fn read_from<F: Read + Seek + Drop>(mut file: F, at: u64, into: &mut [u8]) -> io::Result<usize>
-    ensures { IfOk result (λ n. n ≤ length into.old) }
-{
-    file.seek(SeekFrom::Start(at))?;
-    file.read(into)
-}
-
 #[cfg(test)]
 mod tests {
     use super::*;
     use std::test::Fail;
 
+    /// Two files by turns, the first of which had more bytes before it was begun.
     #[test]
-    fn appended_pieces_stand_in_the_file(rt: HostRuntime) -> Result<(), Fail> {
-        let name = "file_shelf_test.bytes";
+    fn appended_pieces_stand_in_their_files(rt: HostRuntime) -> Result<(), Fail> {
+        let (a, b) = ("file_shelf_test_a.bytes", "file_shelf_test_b.bytes");
+        fs::write(&rt, a, "what stood there before")?;
         let mut shelf = FileShelf::open(rt.clone()?)?;
-        shelf.begin(name)?;
-        for piece in ["hello", ", ", "world"] {
+        shelf.begin(a)?;
+        for (name, piece) in [(a, "hello"), (b, "two"), (a, ", "), (a, "world")] {
             shelf.append(name, piece.as_bytes())?;
         }
-        shelf.flush()?;
-        assert_eq!(rt; fs::metadata(&rt, name)?.len(), 12);
+        assert_eq!(rt; shelf.size(b), Ok(3));
+        for (name, text) in [(a, "hello, world"), (b, "two")] {
+            assert_eq!(rt; fs::read_to_string(&rt, name)?.as_str(), text);
+            fs::remove_file(&rt, name)?;
+        }
+        Ok(())
+    }
+
+    /// Adds all bytes of a file, read in pieces, and says whether no call failed.
+    fn read_in_pieces<R: Files + Drop>(
+        shelf: &mut FileShelf<R>,
+        name: &str,
+        piece: &mut [u8],
+        seen: &mut Vec<u8>,
+    ) -> bool {
+        for _ in 0..200 {
+            let Ok(n) = shelf.read_at(name, seen.len() as u64, piece) else {
+                return false;
+            };
+            if seen.extend_from_slice(&piece[..n]).is_err() {
+                return false;
+            }
+        }
+        true
+    }
+
+    /// A file of more bytes than are read ahead, in short, long and longer pieces.
+    #[test]
+    fn pieces_that_are_read_follow_one_another(rt: HostRuntime) -> Result<(), Fail> {
+        let name = "file_shelf_test_read.bytes";
+        let bytes: Vec<u8> = (0..150_000u32)
+            .map(|i| (i % 251) as u8)
+            .collect(rt.alloc())?;
+        fs::write(&rt, name, bytes.as_slice())?;
+        let mut shelf = FileShelf::open(rt.clone()?)?;
+        for length in [999, 65_536, 70_000] {
+            let mut piece = vec![in rt.alloc(); 0u8; length]?;
+            let mut seen = Vec::new(rt.alloc());
+            assert!(rt; read_in_pieces(&mut shelf, name, &mut piece, &mut seen));
+            assert!(rt; seen.as_slice() == bytes.as_slice());
+        }
+        fs::remove_file(&rt, name)?;
+        Ok(())
+    }
+
+    /// A file that is begun, by whatever name, is not what was read ahead.
+    #[test]
+    fn what_was_read_ahead_is_forgotten(rt: HostRuntime) -> Result<(), Fail> {
+        let name = "file_shelf_test_ahead.bytes";
+        let mut shelf = FileShelf::open(rt.clone()?)?;
         let mut into = [0u8; 8];
-        assert_eq!(rt; shelf.size(name), Ok(12));
-        assert_eq!(rt; shelf.read_at(name, 7, &mut into), Ok(5));
-        assert_eq!(rt; into, *b"world\0\0\0");
+        for (other, text) in [(name, "old"), ("./file_shelf_test_ahead.bytes", "new!")] {
+            shelf.begin(other)?;
+            shelf.append(other, text.as_bytes())?;
+            let n = shelf.read_at(name, 0, &mut into)?;
+            assert_eq!(rt; &into[..n], text.as_bytes());
+        }
+        fs::remove_file(&rt, name)?;
+        Ok(())
+    }
+
+    #[derive(Clone, Copy)]
+    enum Call {
+        Begin,
+        Append,
+        AppendLong,
+        Size,
+        Read,
+        Flush,
+    }
+
+    /// What a call answers, if it does not fail.
+    fn answer<R: Files + Drop>(shelf: &mut FileShelf<R>, call: Call, name: &str) -> Option<u64> {
+        match call {
+            Call::Begin => shelf.begin(name).ok().map(|()| 0),
+            Call::Append => shelf.append(name, b"a").ok().map(|()| 0),
+            Call::AppendLong => shelf.append(name, &[0; 70_000]).ok().map(|()| 0),
+            Call::Size => shelf.size(name).ok(),
+            Call::Read => shelf.read_at(name, 0, &mut [0; 8]).ok().map(|n| n as u64),
+            Call::Flush => shelf.flush().ok().map(|()| 0),
+        }
+    }
+
+    /// A name that is missing is empty, and a folder a fault. A fault of writing is answered by the call that meets it,
+    /// and where that reads by the next that writes as well; what is gathered is not lost by it.
+    #[test]
+    fn faults_are_answered(rt: HostRuntime) -> Result<(), Fail> {
+        let mut shelf = FileShelf::open(rt.clone()?)?;
+        let (missing, folder, full) = ("no such file", ".", "/dev/full");
+        for (call, name, answered) in [
+            (Call::Size, missing, Some(0)),
+            (Call::Read, missing, Some(0)),
+            (Call::Size, folder, None),
+            (Call::Read, folder, None),
+            (Call::Begin, folder, None),
+            (Call::Append, folder, None),
+            (Call::Begin, full, Some(0)),
+            (Call::AppendLong, full, None),
+            (Call::Append, full, Some(0)),
+            (Call::Flush, full, None),
+            (Call::AppendLong, full, None),
+            (Call::Append, missing, None),
+            (Call::Size, missing, None),
+            (Call::Append, full, None),
+            (Call::Size, missing, None),
+            (Call::Begin, full, None),
+            (Call::Read, missing, None),
+        ] {
+            assert_eq!(rt; answer(&mut shelf, call, name), answered);
+        }
+        // From here on the disk has room.
+        let name = "file_shelf_test_full.bytes";
+        assert!(rt; shelf.writing.keep(name, File::create(&rt, name)?));
+        for answered in [None, Some(0)] {
+            assert_eq!(rt; answer(&mut shelf, Call::Flush, name), answered);
+        }
+        assert_eq!(rt; fs::read_to_string(&rt, name)?.as_str(), "a");
         fs::remove_file(&rt, name)?;
         Ok(())
     }

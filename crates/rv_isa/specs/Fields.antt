@@ -1,6 +1,6 @@
 use Rattle.std.specs.Prelude.{ℕ, suc, ◌+◌, ◌-◌, ◌*◌, ◌/◌, ◌%◌, ◌^◌, nat_lt, ℤ, pos, negsuc, if◌then◌else◌}
 
--- The fields of a word and its immediates: RISC-V unprivileged manual, "Base Instruction Formats" and
+-- The fields of a word and its immediates: RISC-V unprivileged manual 20191213, 2.2, "Base Instruction Formats" and
 -- "Immediate Encoding Variants".
 
 -- inst[high:low]

@@ -3,8 +3,8 @@ use Rattle.rv_isa.specs.Fields.{opcode, rd_of, funct3, rs1_of, rs2_of, funct7, s
 use Rattle.rv_isa.specs.declared.instr.Instr.{Instr}
 use Rattle.rv_isa.specs.declared.instr.Instr.TheVariants.{Lui, Auipc, Jal, Jalr, Beq, Bne, Blt, Bge, Bltu, Bgeu, Lb, Lh, Lw, Lbu, Lhu, Sb, Sh, Sw, Addi, Slti, Sltiu, Xori, Ori, Andi, Slli, Srli, Srai, Add, Sub, Sll, Slt, Sltu, Xor, Srl, Sra, Or, And, Mul, Mulh, Mulhsu, Mulhu, Div, Divu, Rem, Remu, Fence, FenceI, Csrrw, Csrrs, Csrrc, Csrrwi, Csrrsi, Csrrci, Ecall, Ebreak, Sret, Wfi, SfenceVma}
 
--- The instruction table: RISC-V unprivileged manual (the sections named below, and the extensions M, Zicsr and
--- Zifencei) and privileged manual. One line an instruction, grouped by opcode under the manual's names of the
+-- The instruction table: RISC-V unprivileged manual 20191213 (the sections named below, and the extensions M, Zicsr and
+-- Zifencei) and privileged manual 1.12. One line an instruction, grouped by opcode under the manual's names of the
 -- opcodes. A word that no line fits is illegal.
 
 -- JALR, opcode 1100111: "Unconditional Jumps"

@@ -1,10 +1,10 @@
 use Rattle.std.proofs.Common.{◌≡◌, ◌≢◌, List, ℕ, Result, Ok, Err, Some, None, IfOk, IfErr, MatchResult, subst, sym, ◌∙◌, arith}
 use Rattle.cloak_model.specs.Bundle.{IsBundle}
 use Rattle.cloak_model.specs.declared.image.Bundle.{Bundle}
-use Rattle.guest_bundle.specs.declared.fault.BundleFault.{BundleFault}
-use Rattle.guest_bundle.specs.declared.fault.BundleFault.TheVariants.{NoMemory}
+use Rattle.cloak_model.specs.declared.fault.BundleFault.{BundleFault}
+use Rattle.cloak_model.specs.declared.fault.BundleFault.TheVariants.{NoMemory}
 use Rattle.guest_bundle.specs.Fields.{Gives}
-use Rattle.guest_bundle.specs.FirstFault.{first_fault}
+use Rattle.cloak_model.specs.BundleFault.{bundle_fault}
 use Rattle.guest_bundle.specs.Reading.{bundle_at}
 use Rattle.guest_bundle.proofs.Loop.{failed}
 use Rattle.guest_bundle.proofs.Steps.{IsBytes, ok_is}
@@ -29,9 +29,9 @@ is_only : (file : List ℕ) (r : Result Bundle BundleFault) → Gives (λ x. x) 
 is_only file (Ok b) given bundle is = ok_is b bundle (sym given ∙ bundle_again file bundle is)
 is_only file (Err e) given bundle is = tt
 
-is_first : (file : List ℕ) (r : Result Bundle BundleFault) → Gives (λ x. x) r (bundle_at file) → MatchResult r (λ _. first_fault file ≡ None) (λ e. e ≢ NoMemory → first_fault file ≡ Some e)
-is_first file (Ok b) given = subst (λ read. Tells read (first_fault file)) given (bundle_tells file)
-is_first file (Err e) given = λ other. subst (λ read. Tells read (first_fault file)) (failed e (bundle_at file) other given) (bundle_tells file)
+is_first : (file : List ℕ) (r : Result Bundle BundleFault) → Gives (λ x. x) r (bundle_at file) → MatchResult r (λ _. bundle_fault file ≡ None) (λ e. e ≢ NoMemory → bundle_fault file ≡ Some e)
+is_first file (Ok b) given = subst (λ read. Tells read (bundle_fault file)) given (bundle_tells file)
+is_first file (Err e) given = λ other. subst (λ read. Tells read (bundle_fault file)) (failed e (bundle_at file) other given) (bundle_tells file)
 
 pub returns-clause-ok : goal.returns-clause-ok
 returns-clause-ok c = is_found c.args.b.now c.bundle.result (λ i. omega (arith, c.type_inv.b i)) c.bundle.ensures

@@ -1,0 +1,211 @@
+//! Copies between a buffer in cloaked memory and an area that is not cloaked.
+ghost use Rattle.std.specs.Prelude.{◌≡◌, ◌≢◌, ◌↔◌, ◌<◌, ◌%◌, ◌^◌, ◌+◌, ◌-◌, ℕ, IfSome, is_some, Some, None, false};
+ghost use Rattle.cloak_model.specs.World.{World};
+ghost use Rattle.cloak_model.specs.World.{HasPage};
+ghost use Rattle.cloak_model.specs.Asking.{FollowsWhere, Keeps};
+ghost use Rattle.cloak_model.specs.AskPages.{HasPages};
+ghost use Rattle.cloak_model.specs.Resources as resources;
+ghost use Rattle.cloak_model.specs.Contexts as context;
+ghost use Rattle.cloak_model.specs.Calls as spec;
+ghost use Rattle.shim_calls.specs.Copying.{IsMisplaced, NoLongerFits, next_copy};
+
+use crate::pages::page_at;
+use cloak_base::{Kind, PageId};
+use cloak_model::{Answer, Copied, PageSide, Phase};
+use resource_map::Resources;
+use thread_context::Context;
+
+/// The space's regions do not fit the call any more: it is over.
+fn refuse(c: &mut Context) -> Copied
+    ensures refused { spec.copy c.new result ≡ spec.copy (context.in_phase Phase.Plain (context.with_word c.old 10 0xFFFFFFFE)) Copied.Refused }
+    ensures same_space { c.new.space ≡ c.old.space }
+{
+    c.regs.set(10, 0xffff_fffe);
+    c.phase = Phase::Plain;
+    Copied::Refused
+}
+
+/// Makes a step of a copy into the area, of which so many bytes are done.
+#[tactic(auto, using(crate::proofs::CopyLater::copy_laters), unfolding(cloak_model::specs::Calls::copy_in_step, cloak_model::specs::Calls::in_step, cloak_model::specs::Calls::in_placed, cloak_model::specs::Calls::in_reached, cloak_model::specs::Calls::in_put))]
+fn copy_in_step<M: PageSide>(
+    c: &mut Context,
+    r: &Resources,
+    domain: u32,
+    done: u32,
+    m: &mut M,
+) -> Copied
+    requires { domain ≡ M.serves m.old }
+    ensures follows { FollowsWhere (HasPages domain r.now c.old.space) M.stands_for m.old m.new (spec.copy c.new result) (spec.copy_in_step domain r.now c.old done) }
+    ensures refused { (result ≡ Copied.Refused) ↔ ((done < spec.call_length c.old) × IsMisplaced r.now c.old done) }
+    ensures refused_asks_nothing { result ≡ Copied.Refused → m.new ≡ m.old }
+    ensures stopped_unchanged { result ≡ Copied.Stopped → c.new ≡ c.old }
+    ensures same_space { c.new.space ≡ c.old.space }
+    ensures unused { (n : ℕ) → resources.resource_at r.now n ≡ None → M.is_unused m.old n → M.is_unused m.new n }
+    ensures keeps { Keeps M.kept m.old m.new }
+    ensures same_domain { M.serves m.new ≡ M.serves m.old }
+{
+    if c.regs.get(12) <= done {
+        c.phase = Phase::Waiting;
+        return Copied::CallReady;
+    }
+    let from = c.regs.get(11).wrapping_add(done);
+    let to = c.regs.get(13).wrapping_add(done);
+    let Some(q) = page_at(r, domain, c.space, from) else {
+        return refuse(c);
+    };
+    if r.lookup(c.space, to).is_some() {
+        return refuse(c);
+    }
+    match m.reach(q, from, Kind::Load) {
+        Answer::Ok => {
+            let byte = m.read(q, from % 4096, 1);
+            match m.put(to, 1, byte) {
+                Answer::Ok => {
+                    c.phase = Phase::CopyIn { done: done + 1 };
+                    Copied::Loaded {
+                        address: from,
+                        byte,
+                    }
+                }
+                Answer::Absent(cause) => Copied::Absent { cause, address: to },
+                Answer::Word(_) | Answer::Stopped => Copied::Stopped,
+            }
+        }
+        Answer::Absent(cause) => Copied::Absent {
+            cause,
+            address: from,
+        },
+        Answer::Word(_) | Answer::Stopped => Copied::Stopped,
+    }
+}
+
+/// A byte of the area goes to the buffer in page q, which lies at the address of this byte of it.
+#[tactic(auto, using(crate::proofs::CopyLater::copy_laters), unfolding(cloak_model::specs::Calls::out_got, cloak_model::specs::Calls::out_reached))]
+fn store_byte<M: PageSide>(
+    c: &mut Context,
+    q: PageId,
+    done: u32,
+    total: u32,
+    byte: u32,
+    m: &mut M,
+) -> Copied
+    requires done { done < 2 ^ 32 - 1 }
+    requires domain { q.domain ≡ M.serves m.old }
+    requires resource { q.resource < 16 }
+    requires page { q.page < 1024 }
+    ensures follows { FollowsWhere (HasPage (spec.byte_address (spec.buffer c.old) done) q) M.stands_for m.old m.new (spec.copy c.new result) (spec.out_got c.old q done total (Answer.Word byte)) }
+    ensures not_refused { result ≢ Copied.Refused }
+    ensures stopped_unchanged { result ≡ Copied.Stopped → c.new ≡ c.old }
+    ensures same_space { c.new.space ≡ c.old.space }
+    ensures unused { (n : ℕ) → n ≢ q.resource → M.is_unused m.old n → M.is_unused m.new n }
+    ensures keeps { Keeps M.kept m.old m.new }
+    ensures same_domain { M.serves m.new ≡ M.serves m.old }
+{
+    let to = c.regs.get(11).wrapping_add(done);
+    match m.reach(q, to, Kind::Store) {
+        Answer::Ok => {
+            m.write(q, to % 4096, 1, byte);
+            c.phase = Phase::CopyOut {
+                done: done + 1,
+                total,
+            };
+            Copied::Going
+        }
+        Answer::Absent(cause) => Copied::Absent { cause, address: to },
+        Answer::Word(_) | Answer::Stopped => Copied::Stopped,
+    }
+}
+
+/// Byte `done` of the area, at this address, goes to the buffer in page q, which lies at its address there.
+#[tactic(auto, using(crate::proofs::CopyLater::copy_laters), unfolding(cloak_model::specs::Calls::out_placed, cloak_model::specs::Calls::out_got))]
+fn copy_out_byte<M: PageSide>(
+    c: &mut Context,
+    q: PageId,
+    from: u32,
+    done: u32,
+    total: u32,
+    m: &mut M,
+) -> Copied
+    requires from { from ≡ spec.byte_address (spec.area c.old) done }
+    requires done { done < 2 ^ 32 - 1 }
+    requires domain { q.domain ≡ M.serves m.old }
+    requires resource { q.resource < 16 }
+    requires page { q.page < 1024 }
+    ensures follows { FollowsWhere (HasPage (spec.byte_address (spec.buffer c.old) done) q) M.stands_for m.old m.new (spec.copy c.new result) (spec.out_placed c.old done total (Some q) false) }
+    ensures not_refused { result ≢ Copied.Refused }
+    ensures stopped_unchanged { result ≡ Copied.Stopped → c.new ≡ c.old }
+    ensures same_space { c.new.space ≡ c.old.space }
+    ensures unused { (n : ℕ) → n ≢ q.resource → M.is_unused m.old n → M.is_unused m.new n }
+    ensures keeps { Keeps M.kept m.old m.new }
+    ensures same_domain { M.serves m.new ≡ M.serves m.old }
+{
+    match m.get(from, 1) {
+        Answer::Word(byte) => store_byte(c, q, done, total, byte, m),
+        Answer::Absent(cause) => Copied::Absent {
+            cause,
+            address: from,
+        },
+        Answer::Ok | Answer::Stopped => Copied::Stopped,
+    }
+}
+
+/// Makes a step of a copy into the buffer, of which so many bytes of a total are done.
+#[tactic(auto, using(crate::proofs::CopyLater::copy_laters), unfolding(cloak_model::specs::Calls::copy_out_step, cloak_model::specs::Calls::out_step, cloak_model::specs::Calls::out_placed, cloak_model::specs::Calls::out_got))]
+fn copy_out_step<M: PageSide>(
+    c: &mut Context,
+    r: &Resources,
+    domain: u32,
+    done: u32,
+    total: u32,
+    m: &mut M,
+) -> Copied
+    requires { domain ≡ M.serves m.old }
+    ensures follows { FollowsWhere (HasPages domain r.now c.old.space) M.stands_for m.old m.new (spec.copy c.new result) (spec.copy_out_step domain r.now c.old done total) }
+    ensures refused { (result ≡ Copied.Refused) ↔ ((done < total) × IsMisplaced r.now c.old done) }
+    ensures refused_asks_nothing { result ≡ Copied.Refused → m.new ≡ m.old }
+    ensures stopped_unchanged { result ≡ Copied.Stopped → c.new ≡ c.old }
+    ensures same_space { c.new.space ≡ c.old.space }
+    ensures unused { (n : ℕ) → resources.resource_at r.now n ≡ None → M.is_unused m.old n → M.is_unused m.new n }
+    ensures keeps { Keeps M.kept m.old m.new }
+    ensures same_domain { M.serves m.new ≡ M.serves m.old }
+{
+    if total <= done {
+        c.phase = Phase::Plain;
+        return Copied::Done;
+    }
+    let to = c.regs.get(11).wrapping_add(done);
+    let from = c.regs.get(13).wrapping_add(done);
+    let Some(q) = page_at(r, domain, c.space, to) else {
+        return refuse(c);
+    };
+    if r.lookup(c.space, from).is_some() {
+        return refuse(c);
+    }
+    copy_out_byte(c, q, from, done, total, m)
+}
+
+/// Makes the next step of the copy that a context is in; in no copy nothing is left, which is `Done`. `Refused` exactly
+/// where a byte is left that is no longer where the call needs it: nothing was asked then. `Absent` and `Stopped` only
+/// where a question was so answered.
+#[tactic(auto, using(crate::proofs::CopyLater::copy_laters), unfolding(crate::specs::Copying::next_copy))]
+pub fn copy_step<M: PageSide>(c: &mut Context, domain: u32, r: &Resources, m: &mut M) -> Copied
+    requires { domain ≡ M.serves m.old }
+
+    ensures copies { FollowsWhere (HasPages domain r.now c.old.space) M.stands_for m.old m.new (spec.copy c.new result) (next_copy c.old.phase domain r.now c.old) }
+
+    ensures refused { (result ≡ Copied.Refused) ↔ NoLongerFits c.old.phase r.now c.old }
+    ensures refused_asks_nothing { result ≡ Copied.Refused → m.new ≡ m.old }
+    ensures stopped_unchanged { result ≡ Copied.Stopped → c.new ≡ c.old }
+
+    ensures same_space { c.new.space ≡ c.old.space }
+
+    ensures unused { (n : ℕ) → resources.resource_at r.now n ≡ None → M.is_unused m.old n → M.is_unused m.new n }
+    ensures keeps { Keeps M.kept m.old m.new }
+    ensures same_domain { M.serves m.new ≡ M.serves m.old }
+{
+    match c.phase {
+        Phase::CopyIn { done } => copy_in_step(c, r, domain, done, m),
+        Phase::CopyOut { done, total } => copy_out_step(c, r, domain, done, total, m),
+        Phase::Plain | Phase::Waiting => Copied::Done,
+    }
+}

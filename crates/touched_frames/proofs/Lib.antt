@@ -1,3 +1,0 @@
-pub mod Reaching
-pub mod Stepping
-pub mod Sparing
