@@ -1,0 +1,170 @@
+//! Copies between a buffer in cloaked memory and an area that is not cloaked.
+ghost use Rattle.std.specs.Prelude.{◌≡◌, ◌<◌, ◌%◌, ◌^◌, ◌+◌, ◌-◌, ℕ, IfSome, is_some, Some, false};
+ghost use Rattle.cloak_model.specs.World.{World};
+ghost use Rattle.cloak_model.specs.World.{HasPage};
+ghost use Rattle.cloak_model.specs.Asking.{FollowsWhere, Keeps};
+ghost use Rattle.cloak_model.specs.AskPages.{HasPages};
+ghost use Rattle.cloak_model.specs.Resources as resources;
+ghost use Rattle.cloak_model.specs.Contexts as context;
+ghost use Rattle.cloak_model.specs.Calls as spec;
+
+use cloak_base::{Kind, PageId};
+use cloak_model::{Answer, Copied, PageSide, Phase};
+use resource_map::Resources;
+use thread_context::Context;
+
+/// The page of a domain at an address of a space.
+#[tactic(auto, unfolding(cloak_model::specs::Resources::page_at))]
+pub fn page_at(r: &Resources, domain: u32, space: u32, va: u32) -> Option<PageId>
+    ensures value { result ≡ resources.page_at domain r.now space va }
+    ensures domain { IfSome result (λ q. q.domain ≡ domain) }
+    ensures resource { IfSome result (λ q. q.resource < 16) }
+    ensures page { IfSome result (λ q. q.page < 1024) }
+    ensures lies { IfSome result (λ q. (w : World) → HasPages domain r.now space w → HasPage va q w) }
+{
+    let (resource, page) = r.lookup(space, va)?;
+    Some(PageId { domain, resource, page })
+}
+
+/// The space's regions do not fit the call any more: it is over.
+fn refuse(c: &mut Context) -> Copied
+    ensures { spec.copy c.new result ≡ spec.copy (context.in_phase Phase.Plain (context.with_word c.old 10 0xFFFFFFFE)) Copied.Refused }
+{
+    c.regs.set(10, 0xffff_fffe);
+    c.phase = Phase::Plain;
+    Copied::Refused
+}
+
+/// Makes a step of a copy into the area, of which so many bytes are done.
+#[tactic(auto, using(crate::proofs::CopyLater::copy_laters), unfolding(cloak_model::specs::Calls::copy_in_step, cloak_model::specs::Calls::in_step, cloak_model::specs::Calls::in_placed, cloak_model::specs::Calls::in_reached, cloak_model::specs::Calls::in_put))]
+pub fn copy_in_step<M: PageSide>(
+    c: &mut Context,
+    r: &Resources,
+    domain: u32,
+    done: u32,
+    m: &mut M,
+) -> Copied
+    requires { domain ≡ M.serves m.old }
+    ensures follows { FollowsWhere (HasPages domain r.now c.old.space) M.stands_for m.old m.new (spec.copy c.new result) (spec.copy_in_step domain r.now c.old done) }
+    ensures keeps { Keeps M.kept m.old m.new }
+    ensures same_domain { M.serves m.new ≡ M.serves m.old }
+{
+    if c.regs.get(12) <= done {
+        c.phase = Phase::Waiting;
+        return Copied::CallReady;
+    }
+    let from = c.regs.get(11).wrapping_add(done);
+    let to = c.regs.get(13).wrapping_add(done);
+    let Some(q) = page_at(r, domain, c.space, from) else {
+        return refuse(c);
+    };
+    if r.lookup(c.space, to).is_some() {
+        return refuse(c);
+    }
+    match m.reach(q, from, Kind::Load) {
+        Answer::Ok => {
+            let byte = m.read(q, from % 4096, 1);
+            match m.put(to, 1, byte) {
+                Answer::Ok => {
+                    c.phase = Phase::CopyIn { done: done + 1 };
+                    Copied::Loaded {
+                        address: from,
+                        byte,
+                    }
+                }
+                Answer::Absent(cause) => Copied::Absent { cause, address: to },
+                Answer::Word(_) | Answer::Stopped => Copied::Stopped,
+            }
+        }
+        Answer::Absent(cause) => Copied::Absent {
+            cause,
+            address: from,
+        },
+        Answer::Word(_) | Answer::Stopped => Copied::Stopped,
+    }
+}
+
+/// A byte of the area goes to the buffer in page q, which lies at the address of this byte of it.
+#[tactic(auto, using(crate::proofs::CopyLater::copy_laters), unfolding(cloak_model::specs::Calls::out_got, cloak_model::specs::Calls::out_reached))]
+fn store_byte<M: PageSide>(c: &mut Context, q: PageId, done: u32, total: u32, byte: u32, m: &mut M) -> Copied
+    requires done { done < 2 ^ 32 - 1 }
+    requires domain { q.domain ≡ M.serves m.old }
+    requires resource { q.resource < 16 }
+    requires page { q.page < 1024 }
+    ensures follows { FollowsWhere (HasPage (spec.byte_address (spec.buffer c.old) done) q) M.stands_for m.old m.new (spec.copy c.new result) (spec.out_got c.old q done total (Answer.Word byte)) }
+    ensures keeps { Keeps M.kept m.old m.new }
+    ensures same_domain { M.serves m.new ≡ M.serves m.old }
+{
+    let to = c.regs.get(11).wrapping_add(done);
+    match m.reach(q, to, Kind::Store) {
+        Answer::Ok => {
+            m.write(q, to % 4096, 1, byte);
+            c.phase = Phase::CopyOut {
+                done: done + 1,
+                total,
+            };
+            Copied::Going
+        }
+        Answer::Absent(cause) => Copied::Absent { cause, address: to },
+        Answer::Word(_) | Answer::Stopped => Copied::Stopped,
+    }
+}
+
+/// Byte `done` of the area, at this address, goes to the buffer in page q, which lies at its address there.
+#[tactic(auto, using(crate::proofs::CopyLater::copy_laters), unfolding(cloak_model::specs::Calls::out_placed, cloak_model::specs::Calls::out_got))]
+fn copy_out_byte<M: PageSide>(
+    c: &mut Context,
+    q: PageId,
+    from: u32,
+    done: u32,
+    total: u32,
+    m: &mut M,
+) -> Copied
+    requires from { from ≡ spec.byte_address (spec.area c.old) done }
+    requires done { done < 2 ^ 32 - 1 }
+    requires domain { q.domain ≡ M.serves m.old }
+    requires resource { q.resource < 16 }
+    requires page { q.page < 1024 }
+    ensures follows { FollowsWhere (HasPage (spec.byte_address (spec.buffer c.old) done) q) M.stands_for m.old m.new (spec.copy c.new result) (spec.out_placed c.old done total (Some q) false) }
+    ensures keeps { Keeps M.kept m.old m.new }
+    ensures same_domain { M.serves m.new ≡ M.serves m.old }
+{
+    match m.get(from, 1) {
+        Answer::Word(byte) => store_byte(c, q, done, total, byte, m),
+        Answer::Absent(cause) => Copied::Absent {
+            cause,
+            address: from,
+        },
+        Answer::Ok | Answer::Stopped => Copied::Stopped,
+    }
+}
+
+/// Makes a step of a copy into the buffer, of which so many bytes of a total are done.
+#[tactic(auto, using(crate::proofs::CopyLater::copy_laters), unfolding(cloak_model::specs::Calls::copy_out_step, cloak_model::specs::Calls::out_step, cloak_model::specs::Calls::out_placed, cloak_model::specs::Calls::out_got))]
+pub fn copy_out_step<M: PageSide>(
+    c: &mut Context,
+    r: &Resources,
+    domain: u32,
+    done: u32,
+    total: u32,
+    m: &mut M,
+) -> Copied
+    requires { domain ≡ M.serves m.old }
+    ensures follows { FollowsWhere (HasPages domain r.now c.old.space) M.stands_for m.old m.new (spec.copy c.new result) (spec.copy_out_step domain r.now c.old done total) }
+    ensures keeps { Keeps M.kept m.old m.new }
+    ensures same_domain { M.serves m.new ≡ M.serves m.old }
+{
+    if total <= done {
+        c.phase = Phase::Plain;
+        return Copied::Done;
+    }
+    let to = c.regs.get(11).wrapping_add(done);
+    let from = c.regs.get(13).wrapping_add(done);
+    let Some(q) = page_at(r, domain, c.space, to) else {
+        return refuse(c);
+    };
+    if r.lookup(c.space, from).is_some() {
+        return refuse(c);
+    }
+    copy_out_byte(c, q, from, done, total, m)
+}
