@@ -1,0 +1,31 @@
+-- Regions are whole pages: the addresses of a page lie at places of one page, or at none.
+use Rattle.std.proofs.Common.{◌≡◌, ◌+◌, ◌-◌, ◌/◌, ◌%◌, ℕ, Bool, true, false, cond, List, [], ◌∷◌, Some, refl, ap, arith}
+use Rattle.std.specs.Prelude.{find, option_map, All}
+use Rattle.std.proofs.lemmas.Bool.Decides.{nat_tests}
+use Rattle.std.proofs.lemmas.List.Elements.{All-head, All-tail}
+use Rattle.cloak_model.specs.declared.resource.Region.{Region}
+use Rattle.cloak_model.specs.Resources.{is_inside, place_in}
+use Rattle.resource_map.specs.Kept.{IsKept}
+
+-- a region has all addresses of a page, or none
+same_inside : (va other : ℕ) (g : Region) → g.start % 4096 ≡ 0 → other / 4096 ≡ va / 4096 → is_inside other g ≡ is_inside va g
+same_inside va other g aligned page = grind (arith, nat_tests)
+
+same_place : (va other : ℕ) (g : Region) → g.start % 4096 ≡ 0 → other / 4096 ≡ va / 4096 → place_in other g ≡ place_in va g
+same_place va other g aligned page =
+    let same : (other - g.start) / 4096 ≡ (va - g.start) / 4096 = omega arith in
+    ap (λ n. (g.resource, g.first + n)) same
+
+either_way : (va other : ℕ) (g : Region) (regions : List Region) (here : Bool) → place_in other g ≡ place_in va g
+    → option_map (place_in other) (find (is_inside other) regions) ≡ option_map (place_in va) (find (is_inside va) regions)
+    → option_map (place_in other) (cond here (Some g) (find (is_inside other) regions)) ≡ option_map (place_in va) (cond here (Some g) (find (is_inside va) regions))
+either_way va other g regions true place rest = ap Some place
+either_way va other g regions false place rest = rest
+
+pub same_places : (va other : ℕ) (regions : List Region) → All IsKept regions → other / 4096 ≡ va / 4096
+    → option_map (place_in other) (find (is_inside other) regions) ≡ option_map (place_in va) (find (is_inside va) regions)
+same_places va other [] kept page = refl
+same_places va other (g ∷ regions) kept page =
+    let head : IsKept g = All-head IsKept g regions kept in
+    rw (same_inside va other g head.aligned page)
+    (either_way va other g regions (is_inside va g) (same_place va other g head.aligned page) (same_places va other regions (All-tail IsKept g regions kept) page))
