@@ -1,5 +1,5 @@
 -- Bytes that lie in two pages at most pass a test where the first and the last of them do, if it is one for each page.
-use Rattle.std.proofs.Common.{◌≡◌, ◌≢◌, ◌+◌, ◌-◌, ◌*◌, ◌/◌, ◌≤◌, ◌<◌, ℕ, zero, suc, Bool, true, false, ◌&&◌, not, Option, Some, None, refl, ap, sym, ◌∙◌, arith, ◌⊎◌, inl, inr}
+use Rattle.std.proofs.Common.{◌≡◌, ◌≢◌, ◌+◌, ◌-◌, ◌/◌, ◌≤◌, ◌<◌, ℕ, zero, suc, Bool, true, false, ◌&&◌, not, Option, refl, ap, sym, ◌∙◌, arith, ◌⊎◌, inl, inr}
 use Rattle.std.proofs.lemmas.Bool.{cases_eq, and_right}
 use Rattle.std.specs.Prelude.{is_some}
 use Rattle.cloak_model.specs.Resources.{Resources, lookup}
@@ -13,9 +13,9 @@ each_from-true test va (suc n) all =
 each_from-false : (test : ℕ → Bool) (va n b : ℕ) → va ≤ b → b < va + n → test b ≡ false → each_from test va n ≡ false
 each_from-false test va zero b low high fails = absurd (omega arith)
 each_from-false test va (suc n) b low high fails = elim (cases_eq va b) [
-    | inl here ↦ rw here (rw fails refl)
-    | inr other ↦ and_right (test va) _ (each_from-false test (va + 1) n b (omega (arith, other)) (omega arith) fails)
-  ]
+  | inl here ↦ rw here (rw fails refl)
+  | inr other ↦ and_right (test va) _ (each_from-false test (va + 1) n b (omega (arith, other)) (omega arith) fails)
+]
 
 -- each of them lies in the page of the first or in that of the last
 page_of-either : (va n b : ℕ) → n ≤ 4096 → va ≤ b → b < va + n → (b / 4096 ≡ va / 4096) ⊎ (b / 4096 ≡ (va + (n - 1)) / 4096)

@@ -1,5 +1,5 @@
 //! Copies between a buffer in cloaked memory and an area that is not cloaked.
-ghost use Rattle.std.specs.Prelude.{◌≡◌, ◌<◌, ◌%◌, ◌^◌, ◌+◌, ◌-◌, ℕ, IfSome, is_some, Some, false};
+ghost use Rattle.std.specs.Prelude.{◌≡◌, ◌≢◌, ◌↔◌, ◌<◌, ◌%◌, ◌^◌, ◌+◌, ◌-◌, ℕ, IfSome, is_some, Some, false};
 ghost use Rattle.cloak_model.specs.World.{World};
 ghost use Rattle.cloak_model.specs.World.{HasPage};
 ghost use Rattle.cloak_model.specs.Asking.{FollowsWhere, Keeps};
@@ -7,28 +7,18 @@ ghost use Rattle.cloak_model.specs.AskPages.{HasPages};
 ghost use Rattle.cloak_model.specs.Resources as resources;
 ghost use Rattle.cloak_model.specs.Contexts as context;
 ghost use Rattle.cloak_model.specs.Calls as spec;
+ghost use Rattle.shim_calls.specs.Copying.{IsCopying, IsMisplaced, NoLongerFits};
 
+use crate::pages::page_at;
 use cloak_base::{Kind, PageId};
 use cloak_model::{Answer, Copied, PageSide, Phase};
 use resource_map::Resources;
 use thread_context::Context;
 
-/// The page of a domain at an address of a space.
-#[tactic(auto, unfolding(cloak_model::specs::Resources::page_at))]
-pub fn page_at(r: &Resources, domain: u32, space: u32, va: u32) -> Option<PageId>
-    ensures value { result ≡ resources.page_at domain r.now space va }
-    ensures domain { IfSome result (λ q. q.domain ≡ domain) }
-    ensures resource { IfSome result (λ q. q.resource < 16) }
-    ensures page { IfSome result (λ q. q.page < 1024) }
-    ensures lies { IfSome result (λ q. (w : World) → HasPages domain r.now space w → HasPage va q w) }
-{
-    let (resource, page) = r.lookup(space, va)?;
-    Some(PageId { domain, resource, page })
-}
-
 /// The space's regions do not fit the call any more: it is over.
 fn refuse(c: &mut Context) -> Copied
-    ensures { spec.copy c.new result ≡ spec.copy (context.in_phase Phase.Plain (context.with_word c.old 10 0xFFFFFFFE)) Copied.Refused }
+    ensures refused { spec.copy c.new result ≡ spec.copy (context.in_phase Phase.Plain (context.with_word c.old 10 0xFFFFFFFE)) Copied.Refused }
+    ensures same_space { c.new.space ≡ c.old.space }
 {
     c.regs.set(10, 0xffff_fffe);
     c.phase = Phase::Plain;
@@ -37,7 +27,7 @@ fn refuse(c: &mut Context) -> Copied
 
 /// Makes a step of a copy into the area, of which so many bytes are done.
 #[tactic(auto, using(crate::proofs::CopyLater::copy_laters), unfolding(cloak_model::specs::Calls::copy_in_step, cloak_model::specs::Calls::in_step, cloak_model::specs::Calls::in_placed, cloak_model::specs::Calls::in_reached, cloak_model::specs::Calls::in_put))]
-pub fn copy_in_step<M: PageSide>(
+fn copy_in_step<M: PageSide>(
     c: &mut Context,
     r: &Resources,
     domain: u32,
@@ -46,6 +36,10 @@ pub fn copy_in_step<M: PageSide>(
 ) -> Copied
     requires { domain ≡ M.serves m.old }
     ensures follows { FollowsWhere (HasPages domain r.now c.old.space) M.stands_for m.old m.new (spec.copy c.new result) (spec.copy_in_step domain r.now c.old done) }
+    ensures refused { (result ≡ Copied.Refused) ↔ ((done < spec.call_length c.old) × IsMisplaced r.now c.old done) }
+    ensures refused_asks_nothing { result ≡ Copied.Refused → m.new ≡ m.old }
+    ensures stopped_unchanged { result ≡ Copied.Stopped → c.new ≡ c.old }
+    ensures same_space { c.new.space ≡ c.old.space }
     ensures keeps { Keeps M.kept m.old m.new }
     ensures same_domain { M.serves m.new ≡ M.serves m.old }
 {
@@ -86,12 +80,22 @@ pub fn copy_in_step<M: PageSide>(
 
 /// A byte of the area goes to the buffer in page q, which lies at the address of this byte of it.
 #[tactic(auto, using(crate::proofs::CopyLater::copy_laters), unfolding(cloak_model::specs::Calls::out_got, cloak_model::specs::Calls::out_reached))]
-fn store_byte<M: PageSide>(c: &mut Context, q: PageId, done: u32, total: u32, byte: u32, m: &mut M) -> Copied
+fn store_byte<M: PageSide>(
+    c: &mut Context,
+    q: PageId,
+    done: u32,
+    total: u32,
+    byte: u32,
+    m: &mut M,
+) -> Copied
     requires done { done < 2 ^ 32 - 1 }
     requires domain { q.domain ≡ M.serves m.old }
     requires resource { q.resource < 16 }
     requires page { q.page < 1024 }
     ensures follows { FollowsWhere (HasPage (spec.byte_address (spec.buffer c.old) done) q) M.stands_for m.old m.new (spec.copy c.new result) (spec.out_got c.old q done total (Answer.Word byte)) }
+    ensures not_refused { result ≢ Copied.Refused }
+    ensures stopped_unchanged { result ≡ Copied.Stopped → c.new ≡ c.old }
+    ensures same_space { c.new.space ≡ c.old.space }
     ensures keeps { Keeps M.kept m.old m.new }
     ensures same_domain { M.serves m.new ≡ M.serves m.old }
 {
@@ -126,6 +130,9 @@ fn copy_out_byte<M: PageSide>(
     requires resource { q.resource < 16 }
     requires page { q.page < 1024 }
     ensures follows { FollowsWhere (HasPage (spec.byte_address (spec.buffer c.old) done) q) M.stands_for m.old m.new (spec.copy c.new result) (spec.out_placed c.old done total (Some q) false) }
+    ensures not_refused { result ≢ Copied.Refused }
+    ensures stopped_unchanged { result ≡ Copied.Stopped → c.new ≡ c.old }
+    ensures same_space { c.new.space ≡ c.old.space }
     ensures keeps { Keeps M.kept m.old m.new }
     ensures same_domain { M.serves m.new ≡ M.serves m.old }
 {
@@ -141,7 +148,7 @@ fn copy_out_byte<M: PageSide>(
 
 /// Makes a step of a copy into the buffer, of which so many bytes of a total are done.
 #[tactic(auto, using(crate::proofs::CopyLater::copy_laters), unfolding(cloak_model::specs::Calls::copy_out_step, cloak_model::specs::Calls::out_step, cloak_model::specs::Calls::out_placed, cloak_model::specs::Calls::out_got))]
-pub fn copy_out_step<M: PageSide>(
+fn copy_out_step<M: PageSide>(
     c: &mut Context,
     r: &Resources,
     domain: u32,
@@ -151,6 +158,10 @@ pub fn copy_out_step<M: PageSide>(
 ) -> Copied
     requires { domain ≡ M.serves m.old }
     ensures follows { FollowsWhere (HasPages domain r.now c.old.space) M.stands_for m.old m.new (spec.copy c.new result) (spec.copy_out_step domain r.now c.old done total) }
+    ensures refused { (result ≡ Copied.Refused) ↔ ((done < total) × IsMisplaced r.now c.old done) }
+    ensures refused_asks_nothing { result ≡ Copied.Refused → m.new ≡ m.old }
+    ensures stopped_unchanged { result ≡ Copied.Stopped → c.new ≡ c.old }
+    ensures same_space { c.new.space ≡ c.old.space }
     ensures keeps { Keeps M.kept m.old m.new }
     ensures same_domain { M.serves m.new ≡ M.serves m.old }
 {
@@ -167,4 +178,29 @@ pub fn copy_out_step<M: PageSide>(
         return refuse(c);
     }
     copy_out_byte(c, q, from, done, total, m)
+}
+
+/// Makes the next step of the copy that a context is in. `Refused` exactly where a byte is left that is no longer where
+/// the call needs it: nothing was asked then. `Absent` and `Stopped` only where a question was so answered.
+pub fn copy_step<M: PageSide>(c: &mut Context, domain: u32, r: &Resources, m: &mut M) -> Copied
+    requires copying { IsCopying c.old.phase }
+    requires domain { domain ≡ M.serves m.old }
+
+    ensures copies_in { (done : ℕ) → c.old.phase ≡ Phase.CopyIn done → FollowsWhere (HasPages domain r.now c.old.space) M.stands_for m.old m.new (spec.copy c.new result) (spec.copy_in_step domain r.now c.old done) }
+    ensures copies_out { (done total : ℕ) → c.old.phase ≡ Phase.CopyOut done total → FollowsWhere (HasPages domain r.now c.old.space) M.stands_for m.old m.new (spec.copy c.new result) (spec.copy_out_step domain r.now c.old done total) }
+
+    ensures refused { (result ≡ Copied.Refused) ↔ NoLongerFits c.old.phase r.now c.old }
+    ensures refused_asks_nothing { result ≡ Copied.Refused → m.new ≡ m.old }
+    ensures stopped_unchanged { result ≡ Copied.Stopped → c.new ≡ c.old }
+
+    ensures same_space { c.new.space ≡ c.old.space }
+
+    ensures keeps { Keeps M.kept m.old m.new }
+    ensures same_domain { M.serves m.new ≡ M.serves m.old }
+{
+    match c.phase {
+        Phase::CopyIn { done } => copy_in_step(c, r, domain, done, m),
+        Phase::CopyOut { done, total } => copy_out_step(c, r, domain, done, total, m),
+        Phase::Plain | Phase::Waiting => unreachable!(),
+    }
 }

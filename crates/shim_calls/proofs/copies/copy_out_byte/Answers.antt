@@ -1,5 +1,3 @@
-use Rattle.std.proofs.Common.{◌+◌, ◌%◌, ◌^◌, subst}
-use Rattle.cloak_model.specs.Asking.{then_ask, FollowsWhere}
 use Rattle.cloak_model.specs.World.{HasPage}
 use Rattle.cloak_model.specs.AskPages.{ask_get}
 use Rattle.cloak_model.specs.Calls as spec

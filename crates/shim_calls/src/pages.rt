@@ -1,0 +1,25 @@
+ghost use Rattle.std.specs.Prelude.{◌≡◌, ◌<◌, is_some, IfSome};
+ghost use Rattle.cloak_model.specs.World.{World, HasPage};
+ghost use Rattle.cloak_model.specs.AskPages.{HasPages};
+ghost use Rattle.cloak_model.specs.Resources as spec;
+
+use cloak_base::PageId;
+use resource_map::Resources;
+
+/// The page of a domain at an address of a space.
+#[tactic(auto, unfolding(cloak_model::specs::Resources::page_at))]
+pub fn page_at(r: &Resources, domain: u32, space: u32, va: u32) -> Option<PageId>
+    ensures value { result ≡ spec.page_at domain r.now space va }
+    ensures cloaked { is_some result ≡ is_some (spec.lookup r.now space va) }
+    ensures domain { IfSome result (λ q. q.domain ≡ domain) }
+    ensures resource { IfSome result (λ q. q.resource < 16) }
+    ensures page { IfSome result (λ q. q.page < 1024) }
+    ensures lies { IfSome result (λ q. (w : World) → HasPages domain r.now space w → HasPage va q w) }
+{
+    let (resource, page) = r.lookup(space, va)?;
+    Some(PageId {
+        domain,
+        resource,
+        page,
+    })
+}
