@@ -1,0 +1,11 @@
+//! One instruction of a context inside cloaked mode (RISC-V unprivileged manual; this project's rules,
+//! `docs/MACHINE.md`), over any `PageSide`: it is fetched from the cloaked pages of the context's space, and its load or
+//! store reaches such a page, or memory that is not the program's own.
+//!
+//! The context changes in place, and only where the instruction is completed.
+#![tactic(auto)]
+
+mod instruction;
+
+pub use cloak_model::Ran;
+pub use instruction::instruction_step;
