@@ -3,10 +3,13 @@ use Rattle.std.proofs.Common.{ℕ, Bool, true, false, Option, Some, None}
 use Rattle.cloak_base.specs.declared.names.PageId.{PageId}
 use Rattle.cloak_model.specs.declared.answer.Answer.{Answer}
 use Rattle.cloak_model.specs.declared.answer.Answer.TheVariants as told
+use Rattle.cloak_model.specs.declared.context.Phase.{Phase}
+use Rattle.cloak_model.specs.declared.context.Phase.TheVariants.{Plain, CopyIn, Waiting, CopyOut}
 use Rattle.cloak_model.specs.World.{World}
 use Rattle.cloak_model.specs.Contexts.{Context}
 use Rattle.cloak_model.specs.Resources.{Resources}
 use Rattle.cloak_model.specs.Calls.{in_put, in_reached, in_placed, in_step, copy_in_step, out_reached, out_got, out_placed, out_step, copy_out_step}
+use Rattle.shim_calls.specs.Copying.{next_copy}
 use Rattle.cloak_model.proofs.Later.{IsLater, IsLater-refl, IsLater-trans}
 use Rattle.cloak_model.proofs.PagesLater.{later_reach, later_read, later_write, later_get, later_put, HasPage-get}
 
@@ -67,5 +70,12 @@ later_out_step false domain r c done total w = later_out_placed c done total _ _
 pub later_copy_out_step : (domain : ℕ) (r : Resources) (c : Context) (done total : ℕ) (w : World) → IsLater w (copy_out_step domain r c done total w).world
 unfolding copy_out_step
 later_copy_out_step domain r c done total w = later_out_step _ domain r c done total w
+
+pub later_next_copy : (phase : Phase) (domain : ℕ) (r : Resources) (c : Context) (w : World) → IsLater w (next_copy phase domain r c w).world
+unfolding next_copy
+later_next_copy Plain domain r c w = IsLater-refl w
+later_next_copy (CopyIn done) domain r c w = later_copy_in_step domain r c done w
+later_next_copy Waiting domain r c w = IsLater-refl w
+later_next_copy (CopyOut done total) domain r c w = later_copy_out_step domain r c done total w
 
 pub ruleset copy_laters = (later_reach, later_read, later_write, later_get, later_put, later_in_put, later_in_reached, later_in_placed, later_in_step, later_copy_in_step, later_out_reached, later_out_got, later_out_placed, later_out_step, later_copy_out_step, HasPage-get)

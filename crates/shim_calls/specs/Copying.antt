@@ -1,17 +1,19 @@
--- Which contexts copy bytes of a call, and where a byte that is to be copied does not fit.
+-- The step of a copy by the phase of the context, and where a byte that is to be copied does not fit.
 use Rattle.std.specs.Prelude.{◌≡◌, ◌<◌, ◌⊎◌, ℕ, true, false}
 use Rattle.cloak_model.specs.declared.context.Phase.{Phase}
 use Rattle.cloak_model.specs.declared.context.Phase.TheVariants.{Plain, CopyIn, Waiting, CopyOut}
+use Rattle.cloak_model.specs.declared.inside.Copied.TheVariants as copied
+use Rattle.cloak_model.specs.Asking.{Asking}
 use Rattle.cloak_model.specs.Contexts.{Context}
-use Rattle.cloak_model.specs.Calls.{buffer, area, call_length, byte_address, is_cloaked}
+use Rattle.cloak_model.specs.Calls.{Copy, copy_ends, copy_in_step, copy_out_step, buffer, area, call_length, byte_address, is_cloaked}
 use Rattle.cloak_model.specs.Resources.{Resources}
 
--- bytes are copied in this phase
-abbrev pub IsCopying : Phase → Type 0
-IsCopying Plain = ⊥
-IsCopying (CopyIn done) = Unit {0}
-IsCopying Waiting = ⊥
-IsCopying (CopyOut done total) = Unit {0}
+-- the next step of the copy that a context is in, by its phase; in no copy there is nothing left to do
+unfoldable pub next_copy : Phase → ℕ → Resources → Context → Asking Copy
+next_copy Plain domain r c w = copy_ends c copied.Done w
+next_copy (CopyIn done) domain r c w = copy_in_step domain r c done w
+next_copy Waiting domain r c w = copy_ends c copied.Done w
+next_copy (CopyOut done total) domain r c w = copy_out_step domain r c done total w
 
 -- byte `done` of the buffer is not cloaked, or that of the area is
 abbrev pub IsMisplaced : Resources → Context → ℕ → Type 0

@@ -7,7 +7,7 @@ ghost use Rattle.cloak_model.specs.AskPages.{HasPages};
 ghost use Rattle.cloak_model.specs.Resources as resources;
 ghost use Rattle.cloak_model.specs.Contexts as context;
 ghost use Rattle.cloak_model.specs.Calls as spec;
-ghost use Rattle.shim_calls.specs.Copying.{IsCopying, IsMisplaced, NoLongerFits};
+ghost use Rattle.shim_calls.specs.Copying.{IsMisplaced, NoLongerFits, next_copy};
 
 use crate::pages::page_at;
 use cloak_base::{Kind, PageId};
@@ -180,14 +180,14 @@ fn copy_out_step<M: PageSide>(
     copy_out_byte(c, q, from, done, total, m)
 }
 
-/// Makes the next step of the copy that a context is in. `Refused` exactly where a byte is left that is no longer where
-/// the call needs it: nothing was asked then. `Absent` and `Stopped` only where a question was so answered.
+/// Makes the next step of the copy that a context is in; in no copy nothing is left, which is `Done`. `Refused` exactly
+/// where a byte is left that is no longer where the call needs it: nothing was asked then. `Absent` and `Stopped` only
+/// where a question was so answered.
+#[tactic(auto, using(crate::proofs::CopyLater::copy_laters), unfolding(crate::specs::Copying::next_copy))]
 pub fn copy_step<M: PageSide>(c: &mut Context, domain: u32, r: &Resources, m: &mut M) -> Copied
-    requires copying { IsCopying c.old.phase }
-    requires domain { domain ≡ M.serves m.old }
+    requires { domain ≡ M.serves m.old }
 
-    ensures copies_in { (done : ℕ) → c.old.phase ≡ Phase.CopyIn done → FollowsWhere (HasPages domain r.now c.old.space) M.stands_for m.old m.new (spec.copy c.new result) (spec.copy_in_step domain r.now c.old done) }
-    ensures copies_out { (done total : ℕ) → c.old.phase ≡ Phase.CopyOut done total → FollowsWhere (HasPages domain r.now c.old.space) M.stands_for m.old m.new (spec.copy c.new result) (spec.copy_out_step domain r.now c.old done total) }
+    ensures copies { FollowsWhere (HasPages domain r.now c.old.space) M.stands_for m.old m.new (spec.copy c.new result) (next_copy c.old.phase domain r.now c.old) }
 
     ensures refused { (result ≡ Copied.Refused) ↔ NoLongerFits c.old.phase r.now c.old }
     ensures refused_asks_nothing { result ≡ Copied.Refused → m.new ≡ m.old }
@@ -201,6 +201,6 @@ pub fn copy_step<M: PageSide>(c: &mut Context, domain: u32, r: &Resources, m: &m
     match c.phase {
         Phase::CopyIn { done } => copy_in_step(c, r, domain, done, m),
         Phase::CopyOut { done, total } => copy_out_step(c, r, domain, done, total, m),
-        Phase::Plain | Phase::Waiting => unreachable!(),
+        Phase::Plain | Phase::Waiting => Copied::Done,
     }
 }
