@@ -1,1 +1,6 @@
+pub mod Lists
+pub mod RegionLists
+pub mod Arrays
+pub mod Soundness
+pub mod Mapped
 pub mod WholePages
