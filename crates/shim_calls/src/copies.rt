@@ -1,5 +1,5 @@
 //! Copies between a buffer in cloaked memory and an area that is not cloaked.
-ghost use Rattle.std.specs.Prelude.{◌≡◌, ◌≢◌, ◌↔◌, ◌<◌, ◌%◌, ◌^◌, ◌+◌, ◌-◌, ℕ, IfSome, is_some, Some, false};
+ghost use Rattle.std.specs.Prelude.{◌≡◌, ◌≢◌, ◌↔◌, ◌<◌, ◌%◌, ◌^◌, ◌+◌, ◌-◌, ℕ, IfSome, is_some, Some, None, false};
 ghost use Rattle.cloak_model.specs.World.{World};
 ghost use Rattle.cloak_model.specs.World.{HasPage};
 ghost use Rattle.cloak_model.specs.Asking.{FollowsWhere, Keeps};
@@ -40,6 +40,7 @@ fn copy_in_step<M: PageSide>(
     ensures refused_asks_nothing { result ≡ Copied.Refused → m.new ≡ m.old }
     ensures stopped_unchanged { result ≡ Copied.Stopped → c.new ≡ c.old }
     ensures same_space { c.new.space ≡ c.old.space }
+    ensures unused { (n : ℕ) → resources.resource_at r.now n ≡ None → M.is_unused m.old n → M.is_unused m.new n }
     ensures keeps { Keeps M.kept m.old m.new }
     ensures same_domain { M.serves m.new ≡ M.serves m.old }
 {
@@ -96,6 +97,7 @@ fn store_byte<M: PageSide>(
     ensures not_refused { result ≢ Copied.Refused }
     ensures stopped_unchanged { result ≡ Copied.Stopped → c.new ≡ c.old }
     ensures same_space { c.new.space ≡ c.old.space }
+    ensures unused { (n : ℕ) → n ≢ q.resource → M.is_unused m.old n → M.is_unused m.new n }
     ensures keeps { Keeps M.kept m.old m.new }
     ensures same_domain { M.serves m.new ≡ M.serves m.old }
 {
@@ -133,6 +135,7 @@ fn copy_out_byte<M: PageSide>(
     ensures not_refused { result ≢ Copied.Refused }
     ensures stopped_unchanged { result ≡ Copied.Stopped → c.new ≡ c.old }
     ensures same_space { c.new.space ≡ c.old.space }
+    ensures unused { (n : ℕ) → n ≢ q.resource → M.is_unused m.old n → M.is_unused m.new n }
     ensures keeps { Keeps M.kept m.old m.new }
     ensures same_domain { M.serves m.new ≡ M.serves m.old }
 {
@@ -162,6 +165,7 @@ fn copy_out_step<M: PageSide>(
     ensures refused_asks_nothing { result ≡ Copied.Refused → m.new ≡ m.old }
     ensures stopped_unchanged { result ≡ Copied.Stopped → c.new ≡ c.old }
     ensures same_space { c.new.space ≡ c.old.space }
+    ensures unused { (n : ℕ) → resources.resource_at r.now n ≡ None → M.is_unused m.old n → M.is_unused m.new n }
     ensures keeps { Keeps M.kept m.old m.new }
     ensures same_domain { M.serves m.new ≡ M.serves m.old }
 {
@@ -195,6 +199,7 @@ pub fn copy_step<M: PageSide>(c: &mut Context, domain: u32, r: &Resources, m: &m
 
     ensures same_space { c.new.space ≡ c.old.space }
 
+    ensures unused { (n : ℕ) → resources.resource_at r.now n ≡ None → M.is_unused m.old n → M.is_unused m.new n }
     ensures keeps { Keeps M.kept m.old m.new }
     ensures same_domain { M.serves m.new ≡ M.serves m.old }
 {

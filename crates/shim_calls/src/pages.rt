@@ -1,4 +1,4 @@
-ghost use Rattle.std.specs.Prelude.{◌≡◌, ◌<◌, is_some, IfSome};
+ghost use Rattle.std.specs.Prelude.{◌≡◌, ◌<◌, is_some, IfSome, IsSome};
 ghost use Rattle.cloak_model.specs.World.{World, HasPage};
 ghost use Rattle.cloak_model.specs.AskPages.{HasPages};
 ghost use Rattle.cloak_model.specs.Resources as spec;
@@ -14,6 +14,7 @@ pub fn page_at(r: &Resources, domain: u32, space: u32, va: u32) -> Option<PageId
     ensures domain { IfSome result (λ q. q.domain ≡ domain) }
     ensures resource { IfSome result (λ q. q.resource < 16) }
     ensures page { IfSome result (λ q. q.page < 1024) }
+    ensures in_use { IfSome result (λ q. IsSome (spec.resource_at r.now q.resource)) }
     ensures lies { IfSome result (λ q. (w : World) → HasPages domain r.now space w → HasPage va q w) }
 {
     let (resource, page) = r.lookup(space, va)?;
