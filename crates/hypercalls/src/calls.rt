@@ -1,20 +1,32 @@
-//! The hypercalls.
+//! The hypercalls, by the number in x17: each changes contexts and resources, and asks at most for a clearing.
 ghost use Rattle.std.specs.Prelude.{◌≡◌, ◌<◌, IsSome};
+ghost use Rattle.cloak_model.specs.declared.resource.MapFault.{MapFault};
 ghost use Rattle.cloak_model.specs.Asking.{Follows, Keeps};
 ghost use Rattle.cloak_model.specs.Contexts.{context_at, register};
 ghost use Rattle.cloak_model.specs.Hypercalls as spec;
+ghost use Rattle.resource_map.specs.Kept.{IsInUse};
 ghost use Rattle.hypercalls.specs.Slots.{context_of};
 
 use crate::control::{Control, leave_hart};
-use cloak_model::{Begun, MapFault, PageSide, Went, Why};
+use cloak_model::{Begun, MapFault, PageSide, Region, Went, Why};
 use shim_calls::begin;
+use thread_context::Context;
+
+const NEW: u32 = 0x4f56_0001;
+const MAP: u32 = 0x4f56_0002;
+const UNMAP: u32 = 0x4f56_0003;
+const FILE: u32 = 0x4f56_0004;
+const THREAD: u32 = 0x4f56_0005;
+const FORK: u32 = 0x4f56_0006;
+const EXIT: u32 = 0x4f56_0007;
+const CALL: u32 = 0x4f56_0008;
 
 /// The answer to a hypercall that there is not.
 const BAD_CALL: u32 = 0xffff_fffb;
 
 /// A fault as a word.
-fn fault_word(fault: &MapFault) -> u32
-    ensures { result ≡ spec.fault_word fault.now }
+fn fault_word(fault: MapFault) -> u32
+    ensures { result ≡ spec.fault_word fault }
 {
     match fault {
         MapFault::Full => 0xffff_ffff,
@@ -24,7 +36,115 @@ fn fault_word(fault: &MapFault) -> u32
     }
 }
 
+/// The number of a resource, or a fault, as a word.
+fn number_word(made: Result<u32, MapFault>) -> u32
+    ensures { result ≡ spec.number_word made }
+{
+    match made {
+        Ok(n) => n,
+        Err(fault) => fault_word(fault),
+    }
+}
+
 impl Control {
+    /// The context of a slot.
+    fn caller(&self, slot: u32) -> &Context
+        requires { IsSome (context_at self.now.contexts slot) }
+        ensures context { result.now ≡ context_of self.now slot }
+        ensures in_use { IsInUse self.now.resources result.now.space }
+    {
+        match self.contexts.get(slot) {
+            Some(c) => c,
+            None => unreachable!(),
+        }
+    }
+
+    /// 1 NEW: a resource of x10 pages, private to the caller's space.
+    #[tactic(auto, unfolding(cloak_model::specs::Hypercalls::new_call))]
+    fn new_call(&mut self, slot: u32) -> Went
+        requires { IsSome (context_at self.old.contexts slot) }
+        ensures steps { record { control = self.new; went = result } ≡ spec.new_call slot (context_of self.old slot) self.old }
+        ensures number { self.new.number ≡ self.old.number }
+    {
+        let c = self.caller(slot);
+        let space = c.space;
+        let pages = c.regs.get(10);
+        let made = self.resources.new_resource(space, pages);
+        self.answer(slot, number_word(made))
+    }
+
+    /// What MAP and UNMAP answer: 0, where the regions of the caller's space changed, or a fault.
+    #[tactic(auto, unfolding(cloak_model::specs::Hypercalls::remapped))]
+    fn remapped(&mut self, slot: u32, done: Result<(), MapFault>) -> Went
+        requires { IsSome (context_at self.old.contexts slot) }
+        ensures steps { record { control = self.new; went = result } ≡ spec.remapped slot (context_of self.old slot) done self.old }
+        ensures number { self.new.number ≡ self.old.number }
+    {
+        let space = self.caller(slot).space;
+        match done {
+            Ok(()) => {
+                self.answer(slot, 0);
+                Went::Remapped(space)
+            }
+            Err(fault) => self.answer(slot, fault_word(fault)),
+        }
+    }
+
+    /// 2 MAP: resource x10 from x11 on, its pages from x12 on, x13 of them.
+    #[tactic(auto, unfolding(cloak_model::specs::Hypercalls::map_call))]
+    fn map_call(&mut self, slot: u32) -> Went
+        requires { IsSome (context_at self.old.contexts slot) }
+        ensures steps { record { control = self.new; went = result } ≡ spec.map_call slot (context_of self.old slot) self.old }
+        ensures number { self.new.number ≡ self.old.number }
+    {
+        let c = self.caller(slot);
+        let space = c.space;
+        let region = Region {
+            start: c.regs.get(11),
+            pages: c.regs.get(13),
+            resource: c.regs.get(10),
+            first: c.regs.get(12),
+        };
+        let done = self.resources.map(space, region);
+        self.remapped(slot, done)
+    }
+
+    /// 3 UNMAP: the region that starts at x10.
+    #[tactic(auto, unfolding(cloak_model::specs::Hypercalls::unmap_call))]
+    fn unmap_call(&mut self, slot: u32) -> Went
+        requires { IsSome (context_at self.old.contexts slot) }
+        ensures steps { record { control = self.new; went = result } ≡ spec.unmap_call slot (context_of self.old slot) self.old }
+        ensures number { self.new.number ≡ self.old.number }
+    {
+        let c = self.caller(slot);
+        let space = c.space;
+        let start = c.regs.get(10);
+        let done = self.resources.unmap(space, start);
+        self.remapped(slot, done)
+    }
+
+    /// 5 THREAD: a context in the caller's space at pc x10, with stack pointer x11 and argument x12.
+    #[tactic(auto, using(crate::proofs::Stepping::other_slot), unfolding(cloak_model::specs::Hypercalls::thread_call, cloak_model::specs::Hypercalls::thread_at))]
+    fn thread_call(&mut self, slot: u32) -> Went
+        requires { IsSome (context_at self.old.contexts slot) }
+        ensures steps { record { control = self.new; went = result } ≡ spec.thread_call slot (context_of self.old slot) self.old }
+        ensures number { self.new.number ≡ self.old.number }
+    {
+        let c = self.caller(slot);
+        let pc = c.regs.get(10);
+        if pc % 4 != 0 {
+            return self.answer(slot, fault_word(MapFault::BadArg));
+        }
+        let thread = Context::start(c.space, pc, c.regs.get(11), c.regs.get(12));
+        match self.contexts.add(thread) {
+            None => self.answer(slot, fault_word(MapFault::Full)),
+            Some(free) => {
+                let number = self.context_number(free);
+                self.answer(slot, number)
+            }
+        }
+    }
+
     /// 8 CALL: begins the call that the context is at, at the next instruction.
     #[tactic(auto, unfolding(cloak_model::specs::Hypercalls::kernel_call, cloak_model::specs::Hypercalls::call_begun))]
     fn kernel_call(&mut self, slot: u32) -> Went
@@ -37,7 +157,7 @@ impl Control {
         c.pc = c.pc.wrapping_add(4);
         match begin(c, &self.resources) {
             Err(fault) => {
-                c.regs.set(10, fault_word(&fault));
+                c.regs.set(10, fault_word(fault));
                 Went::Stay
             }
             Ok(Begun::Copying) => Went::Stay,
@@ -56,20 +176,13 @@ impl Control {
         ensures same_domain { M.serves m.new ≡ M.serves m.old }
     {
         let _ = m;
-        match self.call_number(slot) {
-            0x4f56_0008 => self.kernel_call(slot),
+        match self.caller(slot).regs.get(17) {
+            NEW => self.new_call(slot),
+            MAP => self.map_call(slot),
+            UNMAP => self.unmap_call(slot),
+            THREAD => self.thread_call(slot),
+            CALL => self.kernel_call(slot),
             _ => self.answer(slot, BAD_CALL),
-        }
-    }
-
-    /// The word in x17 of the context of a slot.
-    fn call_number(&self, slot: u32) -> u32
-        requires { IsSome (context_at self.now.contexts slot) }
-        ensures { result ≡ register (context_of self.now slot) 17 }
-    {
-        match self.contexts.get(slot) {
-            Some(c) => c.regs.get(17),
-            None => unreachable!(),
         }
     }
 }
