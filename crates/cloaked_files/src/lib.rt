@@ -7,6 +7,7 @@
 
 ghost use Rattle.std.specs.Prelude.{◌≡◌};
 ghost use Rattle.cloak_model.specs.Files as spec;
+ghost use Rattle.resource_map.specs.Told.{SameSpaces};
 
 use cloak_model::{MapFault, Owner};
 use resource_map::Resources;
@@ -16,7 +17,8 @@ use resource_map::Resources;
 /// domain's pages with these are more than 1024. A refusal changes nothing.
 #[tactic(auto, unfolding(cloak_model::specs::Files::file_resource, cloak_model::specs::Files::file_found))]
 pub fn file_resource(r: &mut Resources, number: u32, pages: u32) -> Result<u32, MapFault>
-    ensures { record { answer = result; resources = r.new } ≡ spec.file_resource number pages r.old }
+    ensures value { record { answer = result; resources = r.new } ≡ spec.file_resource number pages r.old }
+    ensures spaces { SameSpaces r.old r.new }
 {
     let Some(n) = r.file(number) else {
         return r.new_owned(Owner::File(number), pages);
