@@ -3,4 +3,6 @@ pub mod RegionLists
 pub mod Arrays
 pub mod Soundness
 pub mod Mapped
+pub mod Places
+pub mod Copies
 pub mod WholePages
