@@ -9,6 +9,7 @@ ghost use Rattle.hypercalls.specs.Slots.{context_of};
 
 use crate::control::{Control, leave_hart};
 use cloak_model::{Begun, MapFault, PageSide, Region, Went, Why};
+use cloaked_files::file_resource;
 use shim_calls::begin;
 use thread_context::Context;
 
@@ -60,7 +61,7 @@ impl Control {
     }
 
     /// 1 NEW: a resource of x10 pages, private to the caller's space.
-    #[tactic(auto, unfolding(cloak_model::specs::Hypercalls::new_call))]
+    #[tactic(auto, using(crate::proofs::Fitted::fits_with), unfolding(cloak_model::specs::Hypercalls::new_call))]
     fn new_call(&mut self, slot: u32) -> Went
         requires { IsSome (context_at self.old.contexts slot) }
         ensures steps { record { control = self.new; went = result } ≡ spec.new_call slot (context_of self.old slot) self.old }
@@ -91,7 +92,7 @@ impl Control {
     }
 
     /// 2 MAP: resource x10 from x11 on, its pages from x12 on, x13 of them.
-    #[tactic(auto, unfolding(cloak_model::specs::Hypercalls::map_call))]
+    #[tactic(auto, using(crate::proofs::Fitted::fits_with), unfolding(cloak_model::specs::Hypercalls::map_call))]
     fn map_call(&mut self, slot: u32) -> Went
         requires { IsSome (context_at self.old.contexts slot) }
         ensures steps { record { control = self.new; went = result } ≡ spec.map_call slot (context_of self.old slot) self.old }
@@ -110,7 +111,7 @@ impl Control {
     }
 
     /// 3 UNMAP: the region that starts at x10.
-    #[tactic(auto, unfolding(cloak_model::specs::Hypercalls::unmap_call))]
+    #[tactic(auto, using(crate::proofs::Fitted::fits_with), unfolding(cloak_model::specs::Hypercalls::unmap_call))]
     fn unmap_call(&mut self, slot: u32) -> Went
         requires { IsSome (context_at self.old.contexts slot) }
         ensures steps { record { control = self.new; went = result } ≡ spec.unmap_call slot (context_of self.old slot) self.old }
@@ -123,8 +124,22 @@ impl Control {
         self.remapped(slot, done)
     }
 
+    /// 4 FILE: file x10, of x11 pages.
+    #[tactic(auto, using(crate::proofs::Fitted::fits_with), unfolding(cloak_model::specs::Hypercalls::file_call))]
+    fn file_call(&mut self, slot: u32) -> Went
+        requires { IsSome (context_at self.old.contexts slot) }
+        ensures steps { record { control = self.new; went = result } ≡ spec.file_call slot (context_of self.old slot) self.old }
+        ensures number { self.new.number ≡ self.old.number }
+    {
+        let c = self.caller(slot);
+        let number = c.regs.get(10);
+        let pages = c.regs.get(11);
+        let made = file_resource(&mut self.resources, number, pages);
+        self.answer(slot, number_word(made))
+    }
+
     /// 5 THREAD: a context in the caller's space at pc x10, with stack pointer x11 and argument x12.
-    #[tactic(auto, using(crate::proofs::Stepping::other_slot), unfolding(cloak_model::specs::Hypercalls::thread_call, cloak_model::specs::Hypercalls::thread_at))]
+    #[tactic(auto, using(crate::proofs::Stepping::other_slot, crate::proofs::Fitted::fits_slot), unfolding(cloak_model::specs::Hypercalls::thread_call, cloak_model::specs::Hypercalls::thread_at))]
     fn thread_call(&mut self, slot: u32) -> Went
         requires { IsSome (context_at self.old.contexts slot) }
         ensures steps { record { control = self.new; went = result } ≡ spec.thread_call slot (context_of self.old slot) self.old }
@@ -146,7 +161,7 @@ impl Control {
     }
 
     /// 8 CALL: begins the call that the context is at, at the next instruction.
-    #[tactic(auto, unfolding(cloak_model::specs::Hypercalls::kernel_call, cloak_model::specs::Hypercalls::call_begun))]
+    #[tactic(auto, using(crate::proofs::Fitted::changes), unfolding(cloak_model::specs::Hypercalls::kernel_call, cloak_model::specs::Hypercalls::call_begun))]
     fn kernel_call(&mut self, slot: u32) -> Went
         requires { IsSome (context_at self.old.contexts slot) }
         ensures steps { record { control = self.new; went = result } ≡ spec.kernel_call slot (context_of self.old slot) self.old }
@@ -180,6 +195,7 @@ impl Control {
             NEW => self.new_call(slot),
             MAP => self.map_call(slot),
             UNMAP => self.unmap_call(slot),
+            FILE => self.file_call(slot),
             THREAD => self.thread_call(slot),
             CALL => self.kernel_call(slot),
             _ => self.answer(slot, BAD_CALL),
