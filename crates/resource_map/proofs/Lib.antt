@@ -1,0 +1,5 @@
+pub mod Lists
+pub mod RegionLists
+pub mod Arrays
+pub mod Soundness
+pub mod Mapped

@@ -1,0 +1,17 @@
+-- What is told of resources, and asked for them.
+use Rattle.std.specs.Prelude.{ℕ, IsNone, position}
+use Rattle.cloak_model.specs.declared.resource.Owner.{Owner}
+use Rattle.cloak_model.specs.declared.resource.Owner.TheVariants.{Space, File}
+use Rattle.cloak_model.specs.declared.resource.Resource.{Resource}
+use Rattle.cloak_model.specs.Resources.{Resources}
+use Rattle.cloak_model.specs.Files.{holds_file}
+use Rattle.resource_map.specs.Kept.{IsInUse}
+
+-- what is told of a resource
+abbrev pub owner_and_pages : Resource → Owner × ℕ
+owner_and_pages held = (held.owner, held.pages)
+
+-- what is made for this owner is made for a space in use, or for a file of which there is none
+abbrev pub MayOwn : Owner → Resources → Type 0
+MayOwn (Space space) r = IsInUse r space
+MayOwn (File number) r = IsNone (position (holds_file number) r.held)
