@@ -3,3 +3,5 @@ pub mod RegionLists
 pub mod Arrays
 pub mod Soundness
 pub mod Mapped
+pub mod Places
+pub mod Copies

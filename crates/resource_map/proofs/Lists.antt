@@ -28,7 +28,7 @@ get_or-set_none [] i = refl
 get_or-set_none (x ∷ xs) zero = refl
 get_or-set_none (x ∷ xs) (suc i) = get_or-set_none xs i
 
-none_from_test : {A : Type 0} (o : Option A) → is_none o ≡ true → o ≡ None
+pub none_from_test : {A : Type 0} (o : Option A) → is_none o ≡ true → o ≡ None
 none_from_test None free = refl
 none_from_test (Some x) free = absurd (false≢true free)
 

@@ -1,13 +1,14 @@
 -- Lists of regions that lie one above another.
-use Rattle.std.proofs.Common.{◌≡◌, ℕ, suc, ◌+◌, ◌-◌, ◌<◌, ◌≤◌, Bool, true, false, not, cond, List, [], ◌∷◌, length, get_or, ◌⊎◌, drop, None, Some, unwrap_or, refl, ap, sym, ◌∙◌, subst, inl, inr, arith, one-add}
+use Rattle.std.proofs.Common.{◌≡◌, ℕ, suc, ◌+◌, ◌-◌, ◌<◌, ◌≤◌, Bool, true, false, not, cond, List, [], ◌∷◌, length, get_or, map, ◌⊎◌, drop, None, Some, unwrap_or, refl, ap, sym, ◌∙◌, subst, inl, inr, arith, one-add}
 use Rattle.std.specs.Prelude.{All, AllPairs, find, position, nat_lt, insert}
 use Rattle.std.specs.List.{list_any, position_or_len}
 use Rattle.std.proofs.lemmas.Bool.{cases_lt, ltb-true, ltb-false, lt-ltb, le-ltb, or_parts, and_cases, and_left, lt-leb}
-use Rattle.std.proofs.lemmas.List.{get_or-drop, get_or_default, length-drop}
-use Rattle.std.proofs.lemmas.List.Elements.{All-nil, All-cons, All-head, All-tail, All-weaker}
+use Rattle.std.proofs.lemmas.List.{get_or-drop, get_or_default, get_or-map, length-map, length-drop}
+use Rattle.std.proofs.lemmas.List.Elements.{All-nil, All-cons, All-head, All-tail, All-weaker, All-map}
 use Rattle.std.proofs.lemmas.List.Kept.{AllPairs-cons}
 use Rattle.std.proofs.lemmas.List.Sums.{prefix_len-le-length}
 use Rattle.cloak_model.specs.declared.resource.Region.{Region}
+use Rattle.cloak_model.specs.Fork.{copied_region}
 use Rattle.cloak_model.specs.Resources.{is_inside, region_end, overlaps, with_region}
 use Rattle.resource_map.specs.Kept.{IsPlaced, EndsBelow}
 
@@ -123,3 +124,20 @@ EndsBelow-with_region g (h ∷ xs) one all none apart =
     let none' = or_parts (overlaps g h) (list_any (overlaps g) xs) none in
     let later = EndsBelow-with_region g xs one (All-tail IsPlaced h xs all) none'.1 (AllPairs-tail EndsBelow h xs apart) in
     put_apart (starts_above g h) g h xs refl one first (apart_cases g h none'.0) apart later
+
+-- The regions of a copied space.
+
+AllPairs-map : (R : Region → Region → Type 0) (f : Region → Region) (xs : List Region) → AllPairs (λ x y. R (f x) (f y)) xs → AllPairs R (map f xs)
+AllPairs-map R f xs all i j d l m =
+    let high : j < length xs = omega (arith, length-map xs f) in
+    let first = get_or-map f xs i d d (omega arith) in
+    let second = get_or-map f xs j d d high in
+    rw (first, second) (all i j d l high)
+
+pub IsPlaced-copied : (list : List (ℕ × ℕ)) (xs : List Region) → All IsPlaced xs → All IsPlaced (map (copied_region list) xs)
+IsPlaced-copied list xs all =
+    All-map IsPlaced (copied_region list) xs
+    (All-weaker IsPlaced (λ g. IsPlaced (copied_region list g)) (λ g h. record { aligned = h.aligned; some = h.some; top = h.top }) xs all)
+
+pub EndsBelow-copied : (list : List (ℕ × ℕ)) (xs : List Region) → AllPairs EndsBelow xs → AllPairs EndsBelow (map (copied_region list) xs)
+EndsBelow-copied list xs all = AllPairs-map EndsBelow (copied_region list) xs all

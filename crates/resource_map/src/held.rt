@@ -1,5 +1,5 @@
 //! What is asked of all resources of a domain.
-ghost use Rattle.std.specs.Prelude.{◌≡◌, ◌<◌, ◌≤◌, map, position, sum_by, IfSome};
+ghost use Rattle.std.specs.Prelude.{◌≡◌, ◌<◌, ◌≤◌, length, map, position, sum_by, IfSome, is_none};
 ghost use Rattle.cloak_model.specs.Files as files;
 ghost use Rattle.cloak_model.specs.Fork as fork;
 ghost use Rattle.cloak_model.specs.Resources as spec;
@@ -31,12 +31,12 @@ pub fn all_pages(held: &Held) -> u64
     sum
 }
 
-/// The lowest free number.
-pub fn first_free(held: &Held) -> Option<usize>
-    ensures value { result ≡ spec.first_free held.now }
-    ensures inside { IfSome result (λ n. n < 16) }
+/// The lowest place that is free.
+pub fn first_free<T>(places: &[Option<T>]) -> Option<usize>
+    ensures value { result ≡ spec.first_free places.now }
+    ensures inside { IfSome result (λ n. n < length places.now) }
 {
-    held.iter().position(|one| one.is_none())
+    places.iter().position(|one| one.is_none())
 }
 
 /// A space may map what this one owns.
@@ -120,4 +120,11 @@ pub fn marked(space: u32, held: &Held) -> [bool; 16]
     ensures { result ≡ map (spec.is_private_to space) held.now }
 {
     held.map(|one| is_private_to(space, &one))
+}
+
+/// Which numbers are free.
+pub fn free(held: &Held) -> [bool; 16]
+    ensures { result ≡ map is_none held.now }
+{
+    held.map(|one| one.is_none())
 }
