@@ -1,5 +1,5 @@
 -- Which numbers are free once a space was copied, or has ended.
-use Rattle.std.proofs.Common.{◌≡◌, ◌+◌, ℕ, zero, suc, Bool, true, false, List, [], ◌∷◌, Option, Some, None, refl, map, slice_index_or, slice_set, inl, inr}
+use Rattle.std.proofs.Common.{◌≡◌, ◌⊎◌, ◌+◌, ℕ, zero, suc, Bool, true, false, List, [], ◌∷◌, Option, Some, None, refl, map, slice_index_or, slice_set, inl, inr}
 use Rattle.cloak_model.specs.declared.resource.Resource.{Resource}
 use Rattle.cloak_model.specs.Resources.{Resources, resource_at, is_private_to, without_space, drop_space}
 use Rattle.cloak_model.specs.Fork.{marked, places, private_numbers, with_copies, copies, forked_resources}
@@ -43,3 +43,5 @@ copied_free space held (copy ∷ rest) r n free = set_free held copy.1 n _ (copi
 pub free-forked : (space new : ℕ) (r : Resources) (n : ℕ) → resource_at (forked_resources space new r) n ≡ None → resource_at r n ≡ None
 unfolding forked_resources
 free-forked space new r n free = copied_free new r.held (copies space r) r n free
+
+pub ruleset freed = (free-drop_space, free-forked)

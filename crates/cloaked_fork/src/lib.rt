@@ -6,4 +6,10 @@
 //! that is answered `Stopped`, or there is no room, nothing of the domain changes.
 #![tactic(auto)]
 
+
+mod forking;
 mod pages;
+mod slots;
+
+pub use cloak_model::{Ended, MapFault};
+pub use forking::{fork_fits, fork_space};

@@ -2,7 +2,7 @@
 ghost use Rattle.std.specs.Prelude.{◌≡◌, ◌<◌, ℕ, All, false, true, slice_index_or};
 ghost use Rattle.cloak_model.specs.Asking.{Follows, Keeps};
 ghost use Rattle.cloak_model.specs.Fork as spec;
-ghost use Rattle.cloaked_fork.specs.Marks.{marked_numbers};
+ghost use Rattle.cloaked_fork.specs.Marks.{marked_numbers, AreCleared};
 
 use cloak_model::PageSide;
 
@@ -25,7 +25,7 @@ pub fn copy_all<M: PageSide>(domain: u32, copies: &[(u32, u32)], m: &mut M)
 /// Drops the pages of the marked resources, by rising number.
 pub fn forget_all<M: PageSide>(domain: u32, marked: &[bool; 16], m: &mut M)
     requires domain { domain ≡ M.serves m.old }
-    requires cleared { (n : ℕ) → slice_index_or marked.now n false ≡ true → M.is_cleared m.old n }
+    requires cleared { AreCleared (M.is_cleared m.old) marked.now }
     ensures follows { Follows M.stands_for m.old m.new tt (spec.ask_forgets domain (marked_numbers marked.now)) }
     ensures keeps { Keeps M.kept m.old m.new }
     ensures unused { (n : ℕ) → M.is_unused m.old n → M.is_unused m.new n }
