@@ -5,9 +5,10 @@ use Rattle.cloak_model.specs.declared.answer.Answer.TheVariants as told
 use Rattle.cloak_model.specs.World.{World}
 use Rattle.cloak_model.specs.Asking.{Follows}
 use Rattle.cloak_model.specs.AskPages.{ask_clear}
-use Rattle.cloak_model.specs.Contexts.{Context}
+use Rattle.std.specs.List.{list_any}
+use Rattle.cloak_model.specs.Contexts.{Context, end_at}
 use Rattle.cloak_model.specs.Resources.{Resources}
-use Rattle.cloak_model.specs.Fork.{Fork, End, marked, fork_fits, fork_cleared, fork_if, fork, end_cleared, end_if}
+use Rattle.cloak_model.specs.Fork.{Fork, End, marked, fork_fits, fork_cleared, fork_if, fork, is_of_space, end_cleared, end_if, end_context}
 use Rattle.cloak_model.proofs.Later.{IsLater, IsLater-refl}
 use Rattle.cloak_model.proofs.Following.{then_follows}
 use Rattle.cloaked_fork.specs.Left.{lowest}
@@ -37,10 +38,10 @@ module _ {S : Type 0} (stands_for : S → S → World → Type 0) (old mid new :
       (then_follows stands_for old mid new settled made (ask_clear domain (marked c.space r)) (fork_cleared domain c (lowest contexts) (lowest r.spaces) r contexts) (λ a w. later_fork_cleared _ _ _ _ _ _ a w) clears goes_on)
 
   -- the end of a space's last context
-  pub end_follows : (slot space : ℕ) (r : Resources) (contexts : List (Option Context)) (others : Bool) (settled : Answer) (made : End) → others ≡ false →
-      Follows stands_for old mid settled (ask_clear domain (marked space r)) → Follows stands_for mid new made (end_cleared domain slot space r contexts settled) → Follows stands_for old new made (end_if others domain slot space r contexts)
-  unfolding end_if
-  end_follows slot space r contexts others settled made none clears goes_on =
+  pub end_follows : (slot space : ℕ) (r : Resources) (contexts : List (Option Context)) (settled : Answer) (made : End) → list_any (is_of_space space) (end_at slot contexts) ≡ false →
+      Follows stands_for old mid settled (ask_clear domain (marked space r)) → Follows stands_for mid new made (end_cleared domain slot space r contexts settled) → Follows stands_for old new made (end_context domain slot space r contexts)
+  unfolding end_context end_if
+  end_follows slot space r contexts settled made none clears goes_on =
       subst (λ b. Follows stands_for old new made (end_if b domain slot space r contexts)) (sym none)
       (then_follows stands_for old mid new settled made (ask_clear domain (marked space r)) (end_cleared domain slot space r contexts) (λ a w. later_end_cleared _ _ _ _ _ a w) clears goes_on)
 

@@ -7,9 +7,11 @@
 #![tactic(auto)]
 
 
+mod ending;
 mod forking;
 mod pages;
 mod slots;
 
 pub use cloak_model::{Ended, MapFault};
+pub use ending::end_context;
 pub use forking::{fork_fits, fork_space};
