@@ -12,6 +12,9 @@ mod forking;
 mod pages;
 mod slots;
 
+#[cfg(test)]
+mod tests;
+
 pub use cloak_model::{Ended, MapFault};
 pub use ending::end_context;
 pub use forking::{fork_fits, fork_space};
