@@ -7,6 +7,7 @@ ghost use Rattle.cloak_model.specs.Contexts.{context_at, end_at};
 ghost use Rattle.cloak_model.specs.Resources.{drop_space};
 ghost use Rattle.cloak_model.specs.Fork as spec;
 ghost use Rattle.resource_map.specs.Kept.{IsInUse};
+ghost use Rattle.cloaked_fork.specs.Homes.{AllInUse};
 ghost use Rattle.cloaked_fork.specs.Left as left;
 ghost use Rattle.cloaked_fork.specs.Marks.{AreUnused, AreCleared};
 
@@ -47,6 +48,7 @@ fn end_settled<M: PageSide>(
     requires in_use { IsInUse r.old space }
     requires domain { domain ≡ M.serves m.old }
     requires unused { AreUnused (M.is_unused m.old) r.old }
+    requires last { list_any (spec.is_of_space space) (end_at slot c.old) ≡ false }
     requires cleared { settled ≡ Answer.Ok → AreCleared (M.is_cleared m.old) (spec.marked space r.old) }
     ensures follows { Follows M.stands_for m.old m.new (left.ending result c.new r.new) (spec.end_cleared domain slot space r.old c.old settled) }
     ensures not_kept { result ≢ Ended.Kept }
@@ -55,6 +57,7 @@ fn end_settled<M: PageSide>(
     ensures stopped_unchanged { result ≡ Ended.Stopped → left.spaces c.new r.new ≡ left.spaces c.old r.old }
     ensures keeps { Keeps M.kept m.old m.new }
     ensures unused { AreUnused (M.is_unused m.new) r.new }
+    ensures in_use { AllInUse c.old r.old → AllInUse c.new r.new }
     ensures same_domain { M.serves m.new ≡ M.serves m.old }
 {
     match settled {
@@ -90,6 +93,7 @@ fn end_in_space<M: PageSide>(
     ensures stopped_unchanged { result ≡ Ended.Stopped → left.spaces c.new r.new ≡ left.spaces c.old r.old }
     ensures keeps { Keeps M.kept m.old m.new }
     ensures unused { AreUnused (M.is_unused m.new) r.new }
+    ensures in_use { AllInUse c.old r.old → AllInUse c.new r.new }
     ensures same_domain { M.serves m.new ≡ M.serves m.old }
 {
     if c.has_other(slot, space) {
@@ -121,6 +125,7 @@ pub fn end_context<M: PageSide>(
     ensures stopped_unchanged { result ≡ Ended.Stopped → left.spaces c.new r.new ≡ left.spaces c.old r.old }
     ensures keeps { Keeps M.kept m.old m.new }
     ensures unused { AreUnused (M.is_unused m.new) r.new }
+    ensures in_use { AllInUse c.old r.old → AllInUse c.new r.new }
     ensures same_domain { M.serves m.new ≡ M.serves m.old }
 {
     let space = context(c, slot).space;

@@ -1,11 +1,13 @@
 //! Forking: a context's space is copied, with the context.
 ghost use Rattle.std.specs.Prelude.{◌≡◌, ◌≢◌, ◌<◌, ◌↔◌, ℕ, None, Some, Ok, Err, true, false, slice_index_or, IsSome, IsNone, IfSome, IfErr, OnErr, IfOk, IsOk, IsTrue};
 ghost use Rattle.std.specs.Option.{ForSome};
+ghost use Rattle.cloak_base.specs.declared.names.CtxId.{CtxId};
 ghost use Rattle.cloak_model.specs.Asking.{Follows, Keeps};
 ghost use Rattle.cloak_model.specs.Contexts.{context_at};
 ghost use Rattle.cloak_model.specs.Fork as spec;
 ghost use Rattle.cloak_model.specs.Resources.{resource_at};
 ghost use Rattle.resource_map.specs.Kept.{IsInUse};
+ghost use Rattle.cloaked_fork.specs.Homes.{AllInUse};
 ghost use Rattle.cloaked_fork.specs.Left as left;
 ghost use Rattle.cloaked_fork.specs.Marks.{AreUnused, AreCleared};
 
@@ -76,6 +78,7 @@ fn copy_space(r: &mut Resources, c: &mut Contexts, domain: u32, caller: &Context
     ensures number { result ≡ left.new_context_number domain c.old }
     ensures spaces { left.spaces c.new r.new ≡ left.forked_spaces caller.now r.old c.old }
     ensures none_freed { (n : ℕ) → resource_at r.new n ≡ None → resource_at r.old n ≡ None }
+    ensures in_use { AllInUse c.old r.old → AllInUse c.new r.new }
 {
     let Some(space) = r.free_space() else {
         unreachable!()
@@ -109,6 +112,7 @@ fn fork_settled<M: PageSide>(
     ensures stopped_unchanged { IsNone result → left.spaces c.new r.new ≡ left.spaces c.old r.old }
     ensures keeps { Keeps M.kept m.old m.new }
     ensures unused { AreUnused (M.is_unused m.new) r.new }
+    ensures in_use { AllInUse c.old r.old → AllInUse c.new r.new }
     ensures same_domain { M.serves m.new ≡ M.serves m.old }
 {
     match settled {
@@ -134,12 +138,15 @@ fn fork_caller<M: PageSide>(
     requires domain { domain ≡ M.serves m.old }
     requires unused { AreUnused (M.is_unused m.old) r.old }
     ensures follows { Follows M.stands_for m.old m.new (left.fork result c.new r.new) (spec.fork domain caller.now r.old c.old) }
+    ensures number { (n : CtxId) → result ≡ Ok (Some n) → n ≡ left.new_context_number domain c.old }
+    ensures forked { (n : CtxId) → result ≡ Ok (Some n) → left.spaces c.new r.new ≡ left.forked_spaces caller.now r.old c.old }
     ensures full { (result ≡ Err MapFault.Full) ↔ (spec.fork_fits caller.now.space r.old c.old ≡ Err MapFault.Full) }
     ensures only_full { IfErr result (λ fault. fault ≡ MapFault.Full) }
     ensures refused_unchanged { OnErr result (left.spaces c.new r.new ≡ left.spaces c.old r.old) }
     ensures stopped_unchanged { result ≡ Ok None → left.spaces c.new r.new ≡ left.spaces c.old r.old }
     ensures keeps { Keeps M.kept m.old m.new }
     ensures unused { AreUnused (M.is_unused m.new) r.new }
+    ensures in_use { AllInUse c.old r.old → AllInUse c.new r.new }
     ensures same_domain { M.serves m.new ≡ M.serves m.old }
 {
     match fits(r, c, caller.space) {
@@ -166,12 +173,15 @@ pub fn fork_space<M: PageSide>(
     requires domain { domain ≡ M.serves m.old }
     requires unused { AreUnused (M.is_unused m.old) r.old }
     ensures follows { IfSome (context_at c.old slot) (λ x. Follows M.stands_for m.old m.new (left.fork result c.new r.new) (spec.fork domain x r.old c.old)) }
+    ensures number { (n : CtxId) → result ≡ Ok (Some n) → n ≡ left.new_context_number domain c.old }
+    ensures forked { IfSome (context_at c.old slot) (λ x. (n : CtxId) → result ≡ Ok (Some n) → left.spaces c.new r.new ≡ left.forked_spaces x r.old c.old) }
     ensures full { IfSome (context_at c.old slot) (λ x. (result ≡ Err MapFault.Full) ↔ (spec.fork_fits x.space r.old c.old ≡ Err MapFault.Full)) }
     ensures only_full { IfErr result (λ fault. fault ≡ MapFault.Full) }
     ensures refused_unchanged { OnErr result (left.spaces c.new r.new ≡ left.spaces c.old r.old) }
     ensures stopped_unchanged { result ≡ Ok None → left.spaces c.new r.new ≡ left.spaces c.old r.old }
     ensures keeps { Keeps M.kept m.old m.new }
     ensures unused { AreUnused (M.is_unused m.new) r.new }
+    ensures in_use { AllInUse c.old r.old → AllInUse c.new r.new }
     ensures same_domain { M.serves m.new ≡ M.serves m.old }
 {
     let caller = context(c, slot);

@@ -6,12 +6,10 @@
 //! that is answered `Stopped`, or there is no room, nothing of the domain changes.
 #![tactic(auto)]
 
-
 mod ending;
 mod forking;
 mod pages;
 mod slots;
-
 #[cfg(test)]
 mod tests;
 

@@ -101,7 +101,12 @@ fn region(start: u32, pages: u32, resource: u32) -> Region {
 }
 
 /// Forks by the context of a slot, where it is there and in a space.
-fn fork(r: &mut Resources, c: &mut Contexts, slot: u32, m: &mut Fake) -> Option<Result<Option<CtxId>, MapFault>> {
+fn fork(
+    r: &mut Resources,
+    c: &mut Contexts,
+    slot: u32,
+    m: &mut Fake,
+) -> Option<Result<Option<CtxId>, MapFault>> {
     let space = c.get(slot)?.space;
     if !r.has_space(space) {
         return None;
@@ -125,7 +130,10 @@ fn forks_a_space_with_a_file(rt: HostRuntime) -> Result<(), Fail> {
     let mut c = Contexts::open(0x8010, 0xb000);
     let mut m = Fake::new(Answer::Ok);
     assert_eq!(rt; fork(&mut r, &mut c, 0, &mut m), Some(Ok(Some(CtxId(9)))));
-    assert_eq!(rt; (m.marked[0], m.marked[1], m.copied), (true, false, Some((0, 2))));
+    assert_eq!(rt;
+        (m.marked[0], m.marked[1], m.copied),
+        (true, false, Some((0, 2)))
+    );
     let resources = [
         Some((Owner::Space(0), 3)),
         Some((Owner::File(4), 1)),
@@ -139,7 +147,10 @@ fn forks_a_space_with_a_file(rt: HostRuntime) -> Result<(), Fail> {
     assert_eq!(rt; r.region(1, 1), Some(region(0x0010_0000, 1, 1)));
     assert_eq!(rt; r.region(1, 2), None);
     let child = c.get(1).expect(&rt, "the child");
-    assert_eq!(rt; (child.pc, child.regs.get(2), child.regs.get(10)), (0x8014, 0xb000, 0));
+    assert_eq!(rt;
+        (child.pc, child.regs.get(2), child.regs.get(10)),
+        (0x8014, 0xb000, 0)
+    );
     assert_eq!(rt; (child.space, child.on), (1, None));
     Ok(())
 }
@@ -151,7 +162,10 @@ fn refuses_a_ninth_context(rt: HostRuntime) -> Result<(), Fail> {
     let mut c = Contexts::open(0x8010, 0xb000);
     let mut m = Fake::new(Answer::Ok);
     for slot in 1..8 {
-        assert_eq!(rt; fork(&mut r, &mut c, 0, &mut m), Some(Ok(Some(CtxId(8 + slot)))));
+        assert_eq!(rt;
+            fork(&mut r, &mut c, 0, &mut m),
+            Some(Ok(Some(CtxId(8 + slot))))
+        );
     }
     assert_eq!(rt; fork(&mut r, &mut c, 0, &mut m), Some(Err(MapFault::Full)));
     Ok(())
@@ -165,10 +179,19 @@ fn ends_a_space_with_its_last_context(rt: HostRuntime) -> Result<(), Fail> {
     let mut m = Fake::new(Answer::Ok);
     assert_eq!(rt; c.add(Context::start(0, 0x8020, 0xa000, 7)), Some(1));
     assert_eq!(rt; end(&mut r, &mut c, 0, &mut m), Some(Ended::Kept));
-    assert_eq!(rt; (c.get(0).is_some(), r.has_space(0), m.forgotten), (false, true, None));
+    assert_eq!(rt;
+        (c.get(0).is_some(), r.has_space(0), m.forgotten),
+        (false, true, None)
+    );
     assert_eq!(rt; end(&mut r, &mut c, 1, &mut m), Some(Ended::SpaceGone(0)));
-    assert_eq!(rt; (c.get(1).is_some(), r.has_space(0), m.forgotten), (false, false, Some(0)));
-    assert_eq!(rt; (r.resource(0), r.resource(1)), (None, Some((Owner::File(4), 1))));
+    assert_eq!(rt;
+        (c.get(1).is_some(), r.has_space(0), m.forgotten),
+        (false, false, Some(0))
+    );
+    assert_eq!(rt;
+        (r.resource(0), r.resource(1)),
+        (None, Some((Owner::File(4), 1)))
+    );
     Ok(())
 }
 
@@ -181,7 +204,13 @@ fn stops_with_nothing_changed(rt: HostRuntime) -> Result<(), Fail> {
     assert_eq!(rt; fork(&mut r, &mut c, 0, &mut m), Some(Ok(None)));
     assert_eq!(rt; end(&mut r, &mut c, 0, &mut m), Some(Ended::Stopped));
     assert_eq!(rt; (m.copied, m.forgotten), (None, None));
-    assert_eq!(rt; (r.resource(0), r.resource(2)), (Some((Owner::Space(0), 3)), None));
-    assert_eq!(rt; (c.get(0).is_some(), c.get(1).is_some(), r.has_space(1)), (true, false, false));
+    assert_eq!(rt;
+        (r.resource(0), r.resource(2)),
+        (Some((Owner::Space(0), 3)), None)
+    );
+    assert_eq!(rt;
+        (c.get(0).is_some(), c.get(1).is_some(), r.has_space(1)),
+        (true, false, false)
+    );
     Ok(())
 }

@@ -10,5 +10,5 @@ invariant-loop-copy g l = record {
   keeps : Keeps g.M.PageSide.kept l.fn.m l.m;
   unused : (n : ℕ) → g.M.PageSide.is_unused l.fn.m n → g.M.PageSide.is_unused l.m n;
   cleared : (n : ℕ) → g.M.PageSide.is_cleared l.fn.m n → g.M.PageSide.is_cleared l.m n;
-  same_domain : g.M.PageSide.serves l.m ≡ g.M.PageSide.serves l.fn.m
+  same_domain : g.M.PageSide.serves l.m ≡ g.M.PageSide.serves l.fn.m;
 }

@@ -12,5 +12,5 @@ invariant-loop-n g l = record {
   unused : (n : ℕ) → g.M.PageSide.is_unused l.fn.m n → g.M.PageSide.is_unused l.m n;
   cleared : (n : ℕ) → g.M.PageSide.is_cleared l.fn.m n → g.M.PageSide.is_cleared l.m n;
   dropped : (n : ℕ) → n < l.n → slice_index_or l.marked n false ≡ true → g.M.PageSide.is_unused l.m n;
-  same_domain : g.M.PageSide.serves l.m ≡ g.M.PageSide.serves l.fn.m
+  same_domain : g.M.PageSide.serves l.m ≡ g.M.PageSide.serves l.fn.m;
 }
