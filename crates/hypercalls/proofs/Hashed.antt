@@ -1,6 +1,7 @@
 -- Bytes that are given to a hasher one after another.
-use Rattle.std.proofs.Common.{◌≡◌, ◌+◌, ◌<◌, ◌∙◌, ℕ, List, [], ◌∷◌, ◌++◌, length, take, slice_index_or, refl, ap, sym, subst, append_assoc}
+use Rattle.std.proofs.Common.{◌≡◌, ◌+◌, ◌<◌, ◌≤◌, ◌∙◌, ℕ, List, [], ◌∷◌, ◌++◌, length, take, slice_index_or, refl, ap, sym, subst, append_assoc}
 use Rattle.std.specs.List.{flat_map}
+use Rattle.std.proofs.Math.Nat.{le_refl}
 use Rattle.std.proofs.lemmas.List.{append-nil, take_more, take_all}
 use Rattle.std.proofs.lemmas.List.Concat.{flat_map-append}
 use Rattle.sha2.specs.Hashers.{Holds256}
@@ -29,7 +30,7 @@ flat_map-take_more f xs i d low =
 
 -- what holds so far holds of all at the end
 pub flat_map-take_all : {X : Type 0} (f : X → List ℕ) (xs : List X) (n : ℕ) → length xs ≡ n → flat_map f (take n xs) ≡ flat_map f xs
-flat_map-take_all f xs n is = ap (flat_map f) (take_all n xs (subst (λ m. m ≤ n) (sym is) (≤_refl n)))
+flat_map-take_all f xs n is = ap (flat_map f) (take_all n xs (subst (λ m. m ≤ n) (sym is) (le_refl n)))
 
 -- what a hasher holds that has taken nothing before
 pub all_taken : {a b : Sha256} {x : List ℕ} → Holds256 a [] → Takes a b x → Holds256 b x

@@ -1,17 +1,18 @@
 //! The hypercalls, by the number in x17: each changes contexts and resources, and asks at most for a clearing.
-ghost use Rattle.std.specs.Prelude.{◌≡◌, ◌<◌, IsSome};
-ghost use Rattle.cloak_model.specs.declared.resource.MapFault.{MapFault};
+ghost use Rattle.std.specs.Prelude.{◌≡◌, ℕ, None, IsSome};
 ghost use Rattle.cloak_model.specs.Asking.{Follows, Keeps};
-ghost use Rattle.cloak_model.specs.Contexts.{context_at, register};
+ghost use Rattle.cloak_model.specs.Contexts.{context_at};
+ghost use Rattle.cloak_model.specs.Resources.{resource_at};
 ghost use Rattle.cloak_model.specs.Hypercalls as spec;
-ghost use Rattle.resource_map.specs.Kept.{IsInUse};
+ghost use Rattle.cloaked_fork.specs.Marks.{AreUnused};
 ghost use Rattle.hypercalls.specs.Slots.{context_of};
 
 use crate::control::{Control, leave_hart};
-use cloak_model::{Begun, MapFault, PageSide, Region, Went, Why};
+use cloak_model::{Begun, Ended, MapFault, PageSide, Region, Went, Why};
 use cloaked_files::file_resource;
+use cloaked_fork::{end_context, fork_space};
 use shim_calls::begin;
-use thread_context::Context;
+use thread_context::{Context, shown};
 
 const NEW: u32 = 0x4f56_0001;
 const MAP: u32 = 0x4f56_0002;
@@ -48,26 +49,15 @@ fn number_word(made: Result<u32, MapFault>) -> u32
 }
 
 impl Control {
-    /// The context of a slot.
-    fn caller(&self, slot: u32) -> &Context
-        requires { IsSome (context_at self.now.contexts slot) }
-        ensures context { result.now ≡ context_of self.now slot }
-        ensures in_use { IsInUse self.now.resources result.now.space }
-    {
-        match self.contexts.get(slot) {
-            Some(c) => c,
-            None => unreachable!(),
-        }
-    }
-
     /// 1 NEW: a resource of x10 pages, private to the caller's space.
-    #[tactic(auto, using(crate::proofs::Fitted::fits_with), unfolding(cloak_model::specs::Hypercalls::new_call))]
+    #[tactic(auto, using(crate::proofs::Fitted::fits_with, crate::proofs::Freed::frees), unfolding(cloak_model::specs::Hypercalls::new_call))]
     fn new_call(&mut self, slot: u32) -> Went
         requires { IsSome (context_at self.old.contexts slot) }
         ensures steps { record { control = self.new; went = result } ≡ spec.new_call slot (context_of self.old slot) self.old }
         ensures number { self.new.number ≡ self.old.number }
+        ensures freed { (n : ℕ) → resource_at self.new.resources n ≡ None → resource_at self.old.resources n ≡ None }
     {
-        let c = self.caller(slot);
+        let c = self.running(slot);
         let space = c.space;
         let pages = c.regs.get(10);
         let made = self.resources.new_resource(space, pages);
@@ -80,8 +70,9 @@ impl Control {
         requires { IsSome (context_at self.old.contexts slot) }
         ensures steps { record { control = self.new; went = result } ≡ spec.remapped slot (context_of self.old slot) done self.old }
         ensures number { self.new.number ≡ self.old.number }
+        ensures resources { self.new.resources ≡ self.old.resources }
     {
-        let space = self.caller(slot).space;
+        let space = self.running(slot).space;
         match done {
             Ok(()) => {
                 self.answer(slot, 0);
@@ -92,13 +83,14 @@ impl Control {
     }
 
     /// 2 MAP: resource x10 from x11 on, its pages from x12 on, x13 of them.
-    #[tactic(auto, using(crate::proofs::Fitted::fits_with), unfolding(cloak_model::specs::Hypercalls::map_call))]
+    #[tactic(auto, using(crate::proofs::Fitted::fits_with, crate::proofs::Freed::frees), unfolding(cloak_model::specs::Hypercalls::map_call))]
     fn map_call(&mut self, slot: u32) -> Went
         requires { IsSome (context_at self.old.contexts slot) }
         ensures steps { record { control = self.new; went = result } ≡ spec.map_call slot (context_of self.old slot) self.old }
         ensures number { self.new.number ≡ self.old.number }
+        ensures freed { (n : ℕ) → resource_at self.new.resources n ≡ None → resource_at self.old.resources n ≡ None }
     {
-        let c = self.caller(slot);
+        let c = self.running(slot);
         let space = c.space;
         let region = Region {
             start: c.regs.get(11),
@@ -111,13 +103,14 @@ impl Control {
     }
 
     /// 3 UNMAP: the region that starts at x10.
-    #[tactic(auto, using(crate::proofs::Fitted::fits_with), unfolding(cloak_model::specs::Hypercalls::unmap_call))]
+    #[tactic(auto, using(crate::proofs::Fitted::fits_with, crate::proofs::Freed::frees), unfolding(cloak_model::specs::Hypercalls::unmap_call))]
     fn unmap_call(&mut self, slot: u32) -> Went
         requires { IsSome (context_at self.old.contexts slot) }
         ensures steps { record { control = self.new; went = result } ≡ spec.unmap_call slot (context_of self.old slot) self.old }
         ensures number { self.new.number ≡ self.old.number }
+        ensures freed { (n : ℕ) → resource_at self.new.resources n ≡ None → resource_at self.old.resources n ≡ None }
     {
-        let c = self.caller(slot);
+        let c = self.running(slot);
         let space = c.space;
         let start = c.regs.get(10);
         let done = self.resources.unmap(space, start);
@@ -125,13 +118,14 @@ impl Control {
     }
 
     /// 4 FILE: file x10, of x11 pages.
-    #[tactic(auto, using(crate::proofs::Fitted::fits_with), unfolding(cloak_model::specs::Hypercalls::file_call))]
+    #[tactic(auto, using(crate::proofs::Fitted::fits_with, crate::proofs::Freed::frees), unfolding(cloak_model::specs::Hypercalls::file_call))]
     fn file_call(&mut self, slot: u32) -> Went
         requires { IsSome (context_at self.old.contexts slot) }
         ensures steps { record { control = self.new; went = result } ≡ spec.file_call slot (context_of self.old slot) self.old }
         ensures number { self.new.number ≡ self.old.number }
+        ensures freed { (n : ℕ) → resource_at self.new.resources n ≡ None → resource_at self.old.resources n ≡ None }
     {
-        let c = self.caller(slot);
+        let c = self.running(slot);
         let number = c.regs.get(10);
         let pages = c.regs.get(11);
         let made = file_resource(&mut self.resources, number, pages);
@@ -144,8 +138,9 @@ impl Control {
         requires { IsSome (context_at self.old.contexts slot) }
         ensures steps { record { control = self.new; went = result } ≡ spec.thread_call slot (context_of self.old slot) self.old }
         ensures number { self.new.number ≡ self.old.number }
+        ensures resources { self.new.resources ≡ self.old.resources }
     {
-        let c = self.caller(slot);
+        let c = self.running(slot);
         let pc = c.regs.get(10);
         if pc % 4 != 0 {
             return self.answer(slot, fault_word(MapFault::BadArg));
@@ -166,6 +161,7 @@ impl Control {
         requires { IsSome (context_at self.old.contexts slot) }
         ensures steps { record { control = self.new; went = result } ≡ spec.kernel_call slot (context_of self.old slot) self.old }
         ensures number { self.new.number ≡ self.old.number }
+        ensures resources { self.new.resources ≡ self.old.resources }
     {
         let number = self.context_number(slot);
         let c = self.contexts.get_mut(slot);
@@ -180,23 +176,68 @@ impl Control {
         }
     }
 
+    /// 6 FORK: the caller's space is copied, with its context.
+    #[tactic(auto, using(crate::proofs::Forking::forks), unfolding(cloak_model::specs::Hypercalls::fork_call, cloak_model::specs::Hypercalls::fork_told))]
+    fn fork_call<M: PageSide>(&mut self, slot: u32, m: &mut M) -> Went
+        requires used { IsSome (context_at self.old.contexts slot) }
+        requires domain { self.old.number ≡ M.serves m.old }
+        requires unused { AreUnused (M.is_unused m.old) self.old.resources }
+        ensures follows { Follows M.stands_for m.old m.new (record { control = self.new; went = result }) (spec.fork_call slot (context_of self.old slot) self.old) }
+        ensures stopped_unchanged { result ≡ Went.Stopped → self.new ≡ self.old }
+        ensures unused { AreUnused (M.is_unused m.new) self.new.resources }
+        ensures keeps { Keeps M.kept m.old m.new }
+        ensures number { self.new.number ≡ self.old.number }
+        ensures same_domain { M.serves m.new ≡ M.serves m.old }
+    {
+        match fork_space(&mut self.resources, &mut self.contexts, self.number, slot, m) {
+            Err(fault) => self.answer(slot, fault_word(fault)),
+            Ok(None) => Went::Stopped,
+            Ok(Some(ctx)) => self.answer(slot, ctx.0),
+        }
+    }
+
+    /// 7 EXIT: the context ends, and with the last one its space.
+    #[tactic(auto, using(crate::proofs::Forking::forks), unfolding(cloak_model::specs::Hypercalls::exit_call, cloak_model::specs::Hypercalls::end_told))]
+    fn exit_call<M: PageSide>(&mut self, slot: u32, m: &mut M) -> Went
+        requires used { IsSome (context_at self.old.contexts slot) }
+        requires domain { self.old.number ≡ M.serves m.old }
+        requires unused { AreUnused (M.is_unused m.old) self.old.resources }
+        ensures follows { Follows M.stands_for m.old m.new (record { control = self.new; went = result }) (spec.exit_call slot (context_of self.old slot) self.old) }
+        ensures stopped_unchanged { result ≡ Went.Stopped → self.new ≡ self.old }
+        ensures unused { AreUnused (M.is_unused m.new) self.new.resources }
+        ensures keeps { Keeps M.kept m.old m.new }
+        ensures number { self.new.number ≡ self.old.number }
+        ensures same_domain { M.serves m.new ≡ M.serves m.old }
+    {
+        let seen = shown(self.running(slot), self.context_number(slot), &Why::Exit);
+        match end_context(&mut self.resources, &mut self.contexts, self.number, slot, m) {
+            Ended::Kept => Went::Leave(seen),
+            Ended::SpaceGone(space) => Went::SpaceGone(space, seen),
+            Ended::Stopped => Went::Stopped,
+        }
+    }
+
     /// Makes the hypercall that the context of a slot is at.
     #[tactic(auto, unfolding(cloak_model::specs::Hypercalls::hypercall))]
     pub fn hypercall<M: PageSide>(&mut self, slot: u32, m: &mut M) -> Went
         requires used { IsSome (context_at self.old.contexts slot) }
         requires domain { self.old.number ≡ M.serves m.old }
+        requires unused { AreUnused (M.is_unused m.old) self.old.resources }
         ensures follows { Follows M.stands_for m.old m.new (record { control = self.new; went = result }) (spec.hypercall (spec.hypercall_of (context_of self.old slot)) slot (context_of self.old slot) self.old) }
+        ensures stopped_unchanged { result ≡ Went.Stopped → self.new ≡ self.old }
+        ensures unused { AreUnused (M.is_unused m.new) self.new.resources }
         ensures keeps { Keeps M.kept m.old m.new }
         ensures number { self.new.number ≡ self.old.number }
         ensures same_domain { M.serves m.new ≡ M.serves m.old }
     {
-        let _ = m;
-        match self.caller(slot).regs.get(17) {
+        match self.running(slot).regs.get(17) {
             NEW => self.new_call(slot),
             MAP => self.map_call(slot),
             UNMAP => self.unmap_call(slot),
             FILE => self.file_call(slot),
             THREAD => self.thread_call(slot),
+            FORK => self.fork_call(slot, m),
+            EXIT => self.exit_call(slot, m),
             CALL => self.kernel_call(slot),
             _ => self.answer(slot, BAD_CALL),
         }

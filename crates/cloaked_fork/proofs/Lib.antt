@@ -1,0 +1,4 @@
+pub mod Asks
+pub mod Freed
+pub mod Room
+pub mod Laters

@@ -1,0 +1,189 @@
+//! Forking: a context's space is copied, with the context.
+ghost use Rattle.std.specs.Prelude.{◌≡◌, ◌≢◌, ◌<◌, ◌↔◌, ℕ, None, Some, Ok, Err, true, false, slice_index_or, IsSome, IsNone, IfSome, IfErr, OnErr, IfOk, IsOk, IsTrue};
+ghost use Rattle.std.specs.Option.{ForSome};
+ghost use Rattle.cloak_base.specs.declared.names.CtxId.{CtxId};
+ghost use Rattle.cloak_model.specs.Asking.{Follows, Keeps};
+ghost use Rattle.cloak_model.specs.Contexts.{context_at};
+ghost use Rattle.cloak_model.specs.Fork as spec;
+ghost use Rattle.cloak_model.specs.Resources.{resource_at};
+ghost use Rattle.resource_map.specs.Kept.{IsInUse};
+ghost use Rattle.cloaked_fork.specs.Homes.{AllInUse};
+ghost use Rattle.cloaked_fork.specs.Left as left;
+ghost use Rattle.cloaked_fork.specs.Marks.{AreUnused, AreCleared};
+
+use crate::pages::copy_all;
+use crate::slots::context;
+use cloak_base::CtxId;
+use cloak_model::{Answer, MapFault, PageSide};
+use resource_map::Resources;
+use thread_context::{Context, Contexts};
+
+/// The new context of a fork: at the next instruction, with 0 as its answer, in the new space and on no hart.
+fn child(c: &Context, space: u32) -> Context
+    ensures { result ≡ spec.child space c.now }
+{
+    let mut child = *c;
+    child.pc = c.pc.wrapping_add(4);
+    child.regs.set(10, 0);
+    child.space = space;
+    child.on = None;
+    child
+}
+
+/// There is room for a fork of a space: a slot, a space, and numbers and pages for the copies.
+#[tactic(auto, unfolding(cloak_model::specs::Fork::fork_fits))]
+fn fits(r: &Resources, c: &Contexts, space: u32) -> Result<(), MapFault>
+    ensures as_defined { result ≡ spec.fork_fits space r.now c.now }
+    ensures room { IsOk result → IsTrue (spec.has_room space r.now c.now) }
+    ensures only_full { IfErr result (λ fault. fault ≡ MapFault.Full) }
+{
+    if c.free_slot().is_some() && r.has_room_for_copy(space) {
+        Ok(())
+    } else {
+        Err(MapFault::Full)
+    }
+}
+
+/// There is room for a fork by the context of a slot.
+pub fn fork_fits(r: &Resources, c: &Contexts, slot: u32) -> Result<(), MapFault>
+    requires used { IsSome (context_at c.now slot) }
+    requires in_use { ForSome (context_at c.now slot) (λ x. IsInUse r.now x.space) }
+    ensures as_defined { IfSome (context_at c.now slot) (λ x. result ≡ spec.fork_fits x.space r.now c.now) }
+    ensures only_full { IfErr result (λ fault. fault ≡ MapFault.Full) }
+{
+    let caller = context(c, slot);
+    fits(r, c, caller.space)
+}
+
+/// The pages of a space's private resources are copied to free numbers, once the frames that are owed them are settled.
+fn copy_pages<M: PageSide>(r: &Resources, domain: u32, space: u32, m: &mut M)
+    requires domain { domain ≡ M.serves m.old }
+    requires unused { AreUnused (M.is_unused m.old) r.now }
+    requires cleared { AreCleared (M.is_cleared m.old) (spec.marked space r.now) }
+    ensures follows { Follows M.stands_for m.old m.new tt (spec.ask_copies domain (spec.copies space r.now)) }
+    ensures keeps { Keeps M.kept m.old m.new }
+    ensures unused { (n : ℕ) → M.is_unused m.old n → M.is_unused m.new n }
+    ensures same_domain { M.serves m.new ≡ M.serves m.old }
+{
+    let copies = r.copies(space);
+    copy_all(domain, copies.as_slice(), m);
+}
+
+/// The caller's space is copied, with its context, to the lowest free numbers. Answers the new context's number.
+#[tactic(auto, using(crate::proofs::Freed::freed), unfolding(cloak_model::specs::Fork::forked))]
+fn copy_space(r: &mut Resources, c: &mut Contexts, domain: u32, caller: &Context) -> CtxId
+    requires number { domain < 4 }
+    requires in_use { IsInUse r.old caller.now.space }
+    requires room { IsTrue (spec.has_room caller.now.space r.old c.old) }
+    ensures number { result ≡ left.new_context_number domain c.old }
+    ensures spaces { left.spaces c.new r.new ≡ left.forked_spaces caller.now r.old c.old }
+    ensures none_freed { (n : ℕ) → resource_at r.new n ≡ None → resource_at r.old n ≡ None }
+    ensures in_use { AllInUse c.old r.old → AllInUse c.new r.new }
+{
+    let Some(space) = r.free_space() else {
+        unreachable!()
+    };
+    r.copy_space(caller.space, space);
+    let Some(slot) = c.add(child(caller, space)) else {
+        unreachable!()
+    };
+    CtxId(8 * domain + slot)
+}
+
+/// A fork goes on once its question for settled frames has this answer: the space is copied, or nothing is.
+#[tactic(auto, using(crate::proofs::Laters::fork_laters), unfolding(cloak_model::specs::Fork::fork_cleared))]
+fn fork_settled<M: PageSide>(
+    settled: Answer,
+    r: &mut Resources,
+    c: &mut Contexts,
+    domain: u32,
+    caller: &Context,
+    m: &mut M,
+) -> Option<CtxId>
+    requires number { domain < 4 }
+    requires in_use { IsInUse r.old caller.now.space }
+    requires room { IsTrue (spec.has_room caller.now.space r.old c.old) }
+    requires domain { domain ≡ M.serves m.old }
+    requires unused { AreUnused (M.is_unused m.old) r.old }
+    requires cleared { settled ≡ Answer.Ok → AreCleared (M.is_cleared m.old) (spec.marked caller.now.space r.old) }
+    ensures follows { Follows M.stands_for m.old m.new (left.fork (Ok result) c.new r.new) (spec.fork_cleared domain caller.now (left.lowest c.old) (left.lowest r.old.spaces) r.old c.old settled) }
+    ensures made { IfSome result (λ made. made ≡ left.new_context_number domain c.old) }
+    ensures copied { IsSome result → left.spaces c.new r.new ≡ left.forked_spaces caller.now r.old c.old }
+    ensures stopped_unchanged { IsNone result → left.spaces c.new r.new ≡ left.spaces c.old r.old }
+    ensures keeps { Keeps M.kept m.old m.new }
+    ensures unused { AreUnused (M.is_unused m.new) r.new }
+    ensures in_use { AllInUse c.old r.old → AllInUse c.new r.new }
+    ensures same_domain { M.serves m.new ≡ M.serves m.old }
+{
+    match settled {
+        Answer::Ok => {
+            copy_pages(r, domain, caller.space, m);
+            Some(copy_space(r, c, domain, caller))
+        }
+        Answer::Absent(_) | Answer::Word(_) | Answer::Stopped => None,
+    }
+}
+
+/// Copies the caller's space, with its context, where there is room.
+#[tactic(auto, using(crate::proofs::Laters::fork_laters), unfolding(cloak_model::specs::Fork::fork, cloak_model::specs::Fork::fork_if))]
+fn fork_caller<M: PageSide>(
+    r: &mut Resources,
+    c: &mut Contexts,
+    domain: u32,
+    caller: &Context,
+    m: &mut M,
+) -> Result<Option<CtxId>, MapFault>
+    requires number { domain < 4 }
+    requires in_use { IsInUse r.old caller.now.space }
+    requires domain { domain ≡ M.serves m.old }
+    requires unused { AreUnused (M.is_unused m.old) r.old }
+    ensures follows { Follows M.stands_for m.old m.new (left.fork result c.new r.new) (spec.fork domain caller.now r.old c.old) }
+    ensures number { (n : CtxId) → result ≡ Ok (Some n) → n ≡ left.new_context_number domain c.old }
+    ensures forked { (n : CtxId) → result ≡ Ok (Some n) → left.spaces c.new r.new ≡ left.forked_spaces caller.now r.old c.old }
+    ensures full { (result ≡ Err MapFault.Full) ↔ (spec.fork_fits caller.now.space r.old c.old ≡ Err MapFault.Full) }
+    ensures only_full { IfErr result (λ fault. fault ≡ MapFault.Full) }
+    ensures refused_unchanged { OnErr result (left.spaces c.new r.new ≡ left.spaces c.old r.old) }
+    ensures stopped_unchanged { result ≡ Ok None → left.spaces c.new r.new ≡ left.spaces c.old r.old }
+    ensures keeps { Keeps M.kept m.old m.new }
+    ensures unused { AreUnused (M.is_unused m.new) r.new }
+    ensures in_use { AllInUse c.old r.old → AllInUse c.new r.new }
+    ensures same_domain { M.serves m.new ≡ M.serves m.old }
+{
+    match fits(r, c, caller.space) {
+        Err(fault) => Err(fault),
+        Ok(()) => {
+            let settled = m.clear(domain, &r.marked(caller.space));
+            Ok(fork_settled(settled, r, c, domain, caller, m))
+        }
+    }
+}
+
+/// Copies the space of a slot's context, with that context: the new one answers 0 and is at the next instruction.
+/// Answers the number of the new context, and nothing where the question for settled frames is answered `Stopped`.
+pub fn fork_space<M: PageSide>(
+    r: &mut Resources,
+    c: &mut Contexts,
+    domain: u32,
+    slot: u32,
+    m: &mut M,
+) -> Result<Option<CtxId>, MapFault>
+    requires number { domain < 4 }
+    requires used { IsSome (context_at c.old slot) }
+    requires in_use { ForSome (context_at c.old slot) (λ x. IsInUse r.old x.space) }
+    requires domain { domain ≡ M.serves m.old }
+    requires unused { AreUnused (M.is_unused m.old) r.old }
+    ensures follows { IfSome (context_at c.old slot) (λ x. Follows M.stands_for m.old m.new (left.fork result c.new r.new) (spec.fork domain x r.old c.old)) }
+    ensures number { (n : CtxId) → result ≡ Ok (Some n) → n ≡ left.new_context_number domain c.old }
+    ensures forked { IfSome (context_at c.old slot) (λ x. (n : CtxId) → result ≡ Ok (Some n) → left.spaces c.new r.new ≡ left.forked_spaces x r.old c.old) }
+    ensures full { IfSome (context_at c.old slot) (λ x. (result ≡ Err MapFault.Full) ↔ (spec.fork_fits x.space r.old c.old ≡ Err MapFault.Full)) }
+    ensures only_full { IfErr result (λ fault. fault ≡ MapFault.Full) }
+    ensures refused_unchanged { OnErr result (left.spaces c.new r.new ≡ left.spaces c.old r.old) }
+    ensures stopped_unchanged { result ≡ Ok None → left.spaces c.new r.new ≡ left.spaces c.old r.old }
+    ensures keeps { Keeps M.kept m.old m.new }
+    ensures unused { AreUnused (M.is_unused m.new) r.new }
+    ensures in_use { AllInUse c.old r.old → AllInUse c.new r.new }
+    ensures same_domain { M.serves m.new ≡ M.serves m.old }
+{
+    let caller = context(c, slot);
+    fork_caller(r, c, domain, &caller, m)
+}
