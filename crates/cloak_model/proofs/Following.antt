@@ -21,3 +21,8 @@ pub then_follows : {S A B : Type 0} (stands_for : S → S → World → Type 0) 
     ((x : A) (w : World) → IsLater w (next x w).world) → Follows stands_for old mid a ask → Follows stands_for mid new b (next a) → Follows stands_for old new b (then_ask ask next)
 then_follows stands_for old mid new a b ask next later first_follows next_follows first w stands unclashed =
     then_follows_where (λ x. Unit {0}) (λ x. Unit {0}) stands_for old mid new a b ask next (λ x holds. tt) later (λ f x holds. first_follows f x) (λ f x holds. next_follows f x) first w tt stands unclashed
+
+-- what follows a question follows one that is the same in every world
+pub follows_same : {S A : Type 0} (stands_for : S → S → World → Type 0) (old new : S) (a : A) (ask same : Asking A) → ((w : World) → ask w ≡ same w) → Follows stands_for old new a same → Follows stands_for old new a ask
+follows_same stands_for old new a ask same is follows first w stands unclashed =
+    subst (λ t. is_clashed t.world ≡ false → FollowsFrom (stands_for first) new a t) (sym (is w)) (follows first w stands) unclashed

@@ -9,7 +9,7 @@ use Rattle.cloak_model.specs.declared.outcome.Effect.TheVariants as does
 use Rattle.cloak_model.specs.Hart.{Hart}
 use Rattle.cloak_model.specs.World.{World}
 use Rattle.cloak_model.specs.HostCalls.{read_block, write_block, read_call, write_call, host_call, ecall_in, ecall}
-use Rattle.cloak_model.specs.KernelStep.{loaded, load, stored, store, done, decoded, executed, fetched, instruction_step, interrupted, kernel_step}
+use Rattle.step_parts.specs.Parts.{loaded, load, stored, store, done, decoded, executed, fetched, instruction_step, interrupted, step_in_parts}
 use Rattle.cloak_model.proofs.Later.{IsLater, IsLater-refl, IsLater-trans, IsLater-either, later_translate, later_count, later_value, later_store, later_frame, later_fill}
 
 pub later_loaded : (h : Hart) (rd va width : ℕ) (signed : Bool) (to : Result ℕ ℕ) (w : World) → IsLater w (loaded h rd va width signed to w).world
@@ -93,8 +93,8 @@ unfolding interrupted
 later_interrupted true h disk w = IsLater-refl w
 later_interrupted false h disk w = later_instruction_step h disk w
 
-pub later_kernel_step : (h : Hart) (disk : List ℕ) (w : World) → IsLater w (kernel_step h disk w).world
-unfolding kernel_step
-later_kernel_step h disk w = later_interrupted _ _ disk w
+pub later_step_in_parts : (h : Hart) (disk : List ℕ) (w : World) → IsLater w (step_in_parts h disk w).world
+unfolding step_in_parts
+later_step_in_parts h disk w = later_interrupted _ _ disk w
 
-pub ruleset laters = (later_translate, later_count, later_value, later_store, later_frame, later_fill, later_loaded, later_load, later_stored, later_made_store, later_read_block, later_write_block, later_read_call, later_write_call, later_host_call, later_ecall_in, later_ecall, later_done, later_decoded, later_executed, later_fetched, later_instruction_step, later_interrupted, later_kernel_step)
+pub ruleset laters = (later_translate, later_count, later_value, later_store, later_frame, later_fill, later_loaded, later_load, later_stored, later_made_store, later_read_block, later_write_block, later_read_call, later_write_call, later_host_call, later_ecall_in, later_ecall, later_done, later_decoded, later_executed, later_fetched, later_instruction_step, later_interrupted, later_step_in_parts)

@@ -1,0 +1,80 @@
+-- The plain step taken apart, one definition for each function that makes it, with the world as an argument: for the
+-- code and for laws that go from question to question. `law_of_parts` says that it is the step.
+use Rattle.std.specs.Prelude.{ℕ, ◌==◌, Bool, true, false, List, Option, Some, None, Result, Ok, Err, if◌then◌else◌}
+use Rattle.cloak_base.specs.declared.names.Kind.TheVariants.{Fetch, Load, Store}
+use Rattle.rv_isa.specs.Table.{instruction}
+use Rattle.rv_isa.specs.declared.instr.Instr.{Instr}
+use Rattle.cloak_model.specs.Csr.{interrupt_due}
+use Rattle.cloak_model.specs.Effect.{effect}
+use Rattle.cloak_model.specs.declared.outcome.Effect.{Effect}
+use Rattle.cloak_model.specs.declared.outcome.Effect.TheVariants as does
+use Rattle.cloak_model.specs.Hart.{Hart}
+use Rattle.cloak_model.specs.Asking.{Asking, answered, then_ask}
+use Rattle.cloak_model.specs.Ask.{ask_value, ask_store}
+use Rattle.cloak_model.specs.HartStep.{Made, with_word, gone_on, stays, raised, illegal, system}
+use Rattle.cloak_model.specs.HostCalls.{After, over, ends, ecall}
+use Rattle.cloak_model.specs.KernelStep.{ask_access, extended, is_ecall, ticked}
+
+-- the value of a load
+unfoldable pub took : Hart → ℕ → ℕ → Bool → ℕ → Made
+took h rd width is_signed value = stays (gone_on (with_word h rd (extended is_signed width value)))
+
+-- where a load leads
+unfoldable pub loaded : Hart → ℕ → ℕ → ℕ → Bool → Result ℕ ℕ → Asking Made
+loaded h rd va width is_signed (Err cause) world = answered (raised h cause va) world
+loaded h rd va width is_signed (Ok pa) world = then_ask (ask_value pa width) (λ value. answered (took h rd width is_signed value)) world
+
+-- a load
+unfoldable pub load : Hart → ℕ → ℕ → ℕ → Bool → Asking Made
+load h rd va width is_signed world = then_ask (ask_access h Load va) (loaded h rd va width is_signed) world
+
+-- where a store leads
+unfoldable pub stored : Hart → ℕ → ℕ → ℕ → Result ℕ ℕ → Asking Made
+stored h va width value (Err cause) world = answered (raised h cause va) world
+stored h va width value (Ok pa) world = then_ask (ask_store pa width value) (λ done. answered (stays (gone_on h))) world
+
+-- a store
+unfoldable pub store : Hart → ℕ → ℕ → ℕ → Asking Made
+store h va width value world = then_ask (ask_access h Store va) (stored h va width value) world
+
+-- a step that leaves the disk
+abbrev pub off_disk : List ℕ → Asking Made → Asking After
+off_disk disk ask world = let told = ask world in record { answer = over disk told.answer; world = told.world }
+
+-- what an instruction does is done
+unfoldable pub done : Hart → List ℕ → ℕ → Instr → Effect → Asking After
+done h disk w i (does.Write rd value) world = ends disk (stays (gone_on (with_word h rd value))) world
+done h disk w i (does.Jump rd link target) world = ends disk (stays (record (with_word h rd link) { pc = target })) world
+done h disk w i (does.Go target) world = ends disk (stays (record h { pc = target })) world
+done h disk w i (does.Load rd va width is_signed) world = off_disk disk (load h rd va width is_signed) world
+done h disk w i (does.Store va width value) world = off_disk disk (store h va width value) world
+done h disk w i does.System world = if is_ecall i then ecall h disk world else ends disk (system h w i) world
+done h disk w i does.Nothing world = ends disk (stays (gone_on h)) world
+done h disk w i (does.Raise cause value) world = ends disk (raised h cause value) world
+
+-- a word, which may be an instruction
+unfoldable pub decoded : Hart → List ℕ → ℕ → Option Instr → Asking After
+decoded h disk w None world = ends disk (illegal h w) world
+decoded h disk w (Some i) world = done h disk w i (effect i h.regs h.pc) world
+
+-- the word at the program counter
+unfoldable pub executed : Hart → List ℕ → ℕ → Asking After
+executed h disk w world = decoded h disk w (instruction w) world
+
+-- where the program counter leads
+unfoldable pub fetched : Hart → List ℕ → Result ℕ ℕ → Asking After
+fetched h disk (Err cause) world = ends disk (raised h cause h.pc) world
+fetched h disk (Ok pa) world = then_ask (ask_value pa 4) (executed h disk) world
+
+-- one instruction
+unfoldable pub instruction_step : Hart → List ℕ → Asking After
+instruction_step h disk world = then_ask (ask_access h Fetch h.pc) (fetched h disk) world
+
+-- the interrupt, where it is due, and otherwise the instruction
+unfoldable pub interrupted : Bool → Hart → List ℕ → Asking After
+interrupted true h disk world = ends disk (raised h 0x80000005 0) world
+interrupted false h disk world = instruction_step h disk world
+
+-- one step
+unfoldable pub step_in_parts : Hart → List ℕ → Asking After
+step_in_parts h disk world = let h' = ticked h in interrupted (interrupt_due h'.mode h'.csrs) h' disk world
