@@ -1,0 +1,124 @@
+-- A joint run with a budget of steps, as one value, and what is read off it: the exchange and its halves, the record, and
+-- the one list of what is written to record and output.
+use Rattle.std.specs.Prelude.{ℕ, zero, suc, List, [], ◌∷◌, ◌++◌, codes, length, map, Option, Some, None, unwrap_or, Result, if◌then◌else◌}
+use Rattle.std.specs.Result.{result_map_both}
+use Rattle.cloak_base.specs.Random.{Random}
+use Rattle.cloak_base.specs.declared.causes.Stop.{Stop}
+use Rattle.cloak_base.specs.declared.causes.Stop.TheVariants as stop
+use Rattle.cloak_model.specs.declared.image.Bundle.{Bundle}
+use Rattle.cloak_model.specs.declared.item.Item.{Item}
+use Rattle.cloak_model.specs.declared.item.Item.TheVariants as item
+use Rattle.cloak_model.specs.World.{Cloak, settled_in}
+use Rattle.cloak_model.specs.Exchange.{Piece, recorded, shown, record_magic, record_of, items_in_order, item_pieces, shown_each}
+use Rattle.cloak_model.specs.Halves as half
+use Rattle.cloak_model.specs.Opening.{Lack, Opened, opening}
+use Rattle.cloak_model.specs.Report.{report}
+use Rattle.cloak_model.specs.Parts.{Joint}
+use Rattle.cloak_model.specs.Joint.{Moment, Turn, joint_step, after_turn, stop_of, cloak_outside, hart_in}
+
+-- A run: the machine as it was opened and what the kernel was shown then; its steps; why it stopped; the machine as it was
+-- closed and what the kernel was shown then.
+pub record Run : Type 0 where
+  pub opened : Opened
+  pub turns : List Turn
+  pub stop : Stop
+  pub closed : Opened
+
+-- The steps.
+
+-- what follows a step: nothing where it stopped the run
+abbrev pub unless_stopped : Option Stop → (Moment → List Turn) → Moment → List Turn
+unless_stopped (Some cause) more m = []
+unless_stopped None more m = more m
+
+-- from a moment on, one after another: at most so many, and none behind one that stops the run
+unfoldable pub turns_from : ℕ → Moment → List Turn
+turns_from zero m = []
+turns_from (suc n) m = let t = joint_step m in t ∷ unless_stopped (stop_of t) (turns_from n) (after_turn m t)
+
+-- the machine behind these steps
+unfoldable pub joint_after : Joint → List Turn → Joint
+joint_after j [] = j
+joint_after j (t ∷ turns) = joint_after t.joint turns
+
+-- why the last of these steps stopped the run, if it did
+unfoldable pub last_stop : Option Stop → List Turn → Option Stop
+last_stop so_far [] = so_far
+last_stop so_far (t ∷ turns) = last_stop (stop_of t) turns
+
+-- The closing.
+
+-- the frames below n are settled, by rising number
+unfoldable pub settled_below : ℕ → Cloak → Cloak
+settled_below zero c = c
+settled_below (suc n) c = settled_in n (settled_below n c)
+
+-- all frames are settled; in the view of hart 0, since nobody asks
+unfoldable pub closing : Joint → Opened
+closing j =
+    let c = settled_below (length j.memory.ram) (cloak_outside j.memory (hart_in j 0)) in
+    record { joint = record j { memory = c.memory }; items = c.items }
+
+-- Why a run stopped: a draw that is missing as it closes goes before all, and where no step stopped it, its budget is used
+-- up.
+abbrev pub cause_of : Joint → Option Stop → Stop
+cause_of closed stopped = if closed.memory.ledger.missed then stop.NoRandom else unwrap_or stopped stop.Budget
+
+-- The run.
+
+-- the moment at which the run of a bundle begins
+abbrev pub first_moment : Bundle → Joint → Moment
+first_moment b j = record { schedule = b.kernel.schedule; steps = 0; joint = j }
+
+-- the run that was opened so, and made these steps
+abbrev pub run_of_turns : Opened → List Turn → Run
+run_of_turns o turns =
+    let c = closing (joint_after o.joint turns) in
+    record { opened = o; turns = turns; stop = cause_of c.joint (last_stop None turns); closed = c }
+
+unfoldable pub run_of : Bundle → ℕ → Opened → Run
+run_of b budget o = run_of_turns o (turns_from budget (first_moment b o.joint))
+
+-- The joint run of a bundle under a random stream, with at most so many steps.
+abbrev pub joint_run : Bundle → Random → ℕ → Result Run Lack
+joint_run b stream budget = result_map_both (run_of b budget) (λ lack. lack) (opening b stream)
+
+-- What is read off a run.
+
+-- all items
+abbrev pub exchange : Run → List Item
+exchange r = items_in_order r.opened.items (map (λ (t : Turn). t.items) r.turns) r.closed.items
+
+-- what the kernel could see, and what a domain could see
+abbrev pub outward_half : Run → List Item
+outward_half r = half.outward_half (exchange r)
+
+abbrev pub inward_half : ℕ → Run → List Item
+inward_half d r = half.inward_half d (exchange r)
+
+-- the bytes of the record
+abbrev pub record_bytes : Run → List ℕ
+record_bytes r = record_of (exchange r)
+
+-- the report
+abbrev pub report_of : Run → List ℕ
+report_of r = report r.stop (length r.turns) r.closed.joint
+
+-- What is written of it, in order: the magic, the opening; of each step the marker, the items and then the console's byte;
+-- the closing; an empty rest of the console's line, and the report.
+
+abbrev pub turn_pieces : ℕ → Turn → List Piece
+turn_pieces number t = item_pieces (item.Step number ∷ t.items) ++ shown_each t.console
+
+-- steps, of which the first has this number
+unfoldable pub turns_pieces : ℕ → List Turn → List Piece
+turns_pieces number [] = []
+turns_pieces number (t ∷ turns) = turn_pieces number t ++ turns_pieces (suc number) turns
+
+abbrev pub closing_pieces : Run → List Piece
+closing_pieces r = item_pieces (item.Close (length r.turns) ∷ (r.closed.items ++ item.End ∷ []))
+
+unfoldable pub due : Run → List Piece
+due r =
+    recorded record_magic ∷ (item_pieces r.opened.items ++ (turns_pieces 1 r.turns
+    ++ (closing_pieces r ++ (shown (codes "\n") ∷ shown (report_of r) ∷ []))))
