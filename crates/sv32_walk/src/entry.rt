@@ -1,7 +1,7 @@
 //! The fields of an address and of a table entry, and what an entry allows.
 
 ghost use Rattle.std.specs.Prelude.{◌≡◌, ◌==◌, ◌+◌, ◌*◌, ◌<◌, ◌%◌, ◌^◌};
-ghost use Rattle.cloak_model.specs.Bits as bits;
+ghost use Rattle.rv_isa.specs.Fields as fields;
 ghost use Rattle.cloak_model.specs.Walk as spec;
 
 use cloak_base::{Kind, Mode};
@@ -102,14 +102,14 @@ pub fn second_entry(entry: u32, va: u32) -> u64
 
 /// PPN[0] is 0, as it must be in a superpage.
 pub fn is_aligned_superpage(entry: u32) -> bool
-    ensures { result ≡ (bits.bits entry 19 10 == 0) }
+    ensures { result ≡ (fields.bits entry 19 10 == 0) }
 {
     (entry >> 10) & 0x3ff == 0
 }
 
 /// The address in a superpage.
 pub fn superpage_address(entry: u32, va: u32) -> u64
-    ensures value { result ≡ 4194304 * bits.bits entry 31 20 + bits.bits va 21 0 }
+    ensures value { result ≡ 4194304 * fields.bits entry 31 20 + fields.bits va 21 0 }
     ensures offset { result % 4096 ≡ va % 4096 }
 {
     4194304 * (entry >> 20) as u64 + (va & 0x3f_ffff) as u64
@@ -117,7 +117,7 @@ pub fn superpage_address(entry: u32, va: u32) -> u64
 
 /// The address in a page.
 pub fn page_address(entry: u32, va: u32) -> u64
-    ensures value { result ≡ 4096 * bits.bits entry 31 10 + bits.bits va 11 0 }
+    ensures value { result ≡ 4096 * fields.bits entry 31 10 + fields.bits va 11 0 }
     ensures offset { result % 4096 ≡ va % 4096 }
 {
     4096 * (entry >> 10) as u64 + (va & 0xfff) as u64
