@@ -1,133 +1,247 @@
--- A step of the machine, by how the hart's step ended.
-use Rattle.std.proofs.Common.{◌≡◌, ◌<◌, ℕ, ◌+◌, ◌%◌, List, [], ◌∷◌, ◌++◌, length, get_or, slice_index, slice_index_or, slice_set, All, append_assoc, refl, sym, ◌∙◌, ap, subst}
+-- A step of the machine, by the hart whose turn it is and by how its step ended.
+use Rattle.std.proofs.Common.{◌≡◌, ◌<◌, ℕ, zero, suc, ◌+◌, ◌%◌, true, false, List, [], ◌∷◌, ◌++◌, length, get_or, replicate, slice_index, slice_index_or, slice_set, append_assoc, refl, sym, ◌∙◌, ap, subst, Option, Some, None}
+use Rattle.std.specs.Prelude.{is_some}
 use Rattle.std.proofs.Math.Nat.{mod-lt}
+use Rattle.std.proofs.lemmas.Bool.{false≢true}
 use Rattle.std.proofs.lemmas.List.{append-nil, get_or_default, get_or_read_under}
+use Rattle.cloak_base.specs.declared.causes.Stop.{Stop}
+use Rattle.cloak_base.specs.declared.causes.Stop.TheVariants as stop
+use Rattle.cloak_base.specs.declared.causes.Violation.TheVariants as violation
+use Rattle.cloak_base.specs.declared.names.PageId.{PageId}
 use Rattle.cloak_model.specs.Hart.{Hart, started}
-use Rattle.cloak_model.specs.World.{World, Flat}
+use Rattle.cloak_model.specs.Memory.{zero_page}
+use Rattle.cloak_model.specs.Cloaking.{Settled}
+use Rattle.cloak_model.specs.World.{World, Cloak, Flat, Cloaked, ram_of}
 use Rattle.cloak_model.specs.Asking.{Told, Follows}
-use Rattle.cloak_model.proofs.Later.{unclashed_after_flat}
-use Rattle.host_calls.proofs.StepLater.{later_kernel_step}
+use Rattle.cloak_model.specs.Ahead.{unsettled, is_owed, made_after, settled_step}
+use Rattle.cloak_model.proofs.Later.{IsLater, unclashed_after_flat}
+use Rattle.step_parts.proofs.Same.{same_step}
+use Rattle.step_parts.proofs.StepLater.{later_step_in_parts}
+use Rattle.settling_ahead.proofs.Laws.{settles_nothing}
 use Rattle.cloak_model.specs.HostCalls.{After}
-use Rattle.cloak_model.specs.KernelStep.{kernel_step}
-use Rattle.cloak_model.specs.declared.outcome.Kernel.{Kernel}
+use Rattle.cloak_model.specs.KernelStep.{kernel_step, ticked}
 use Rattle.cloak_model.specs.declared.item.Item.TheVariants.{Step}
-use Rattle.cloak_model.specs.Exchange.{Piece, recorded, item_bytes, Emits}
-use Rattle.cloak_model.specs.Joint.{Moment, Stepped, joint_step, outside_step, next_hart, hart_at, console_byte, stop_of, shown_each}
+use Rattle.cloak_model.specs.declared.outcome.Kernel.{Kernel}
+use Rattle.cloak_model.specs.declared.outcome.Kernel.TheVariants.{Stay, Put, Halt, Resume}
+use Rattle.cloak_model.specs.Exchange.{Piece, Emits, item_pieces, shown_each}
+use Rattle.cloak_model.specs.Parts.{Joint}
+use Rattle.cloak_model.specs.Resuming.{resume, by_domain}
+use Rattle.cloak_model.specs.Joint.{Moment, Turn, joint_step, turn_of, outside_step, after_outside, outside_ended, inside_step, with_hart, cloak_outside, hart_in}
 use Rattle.cloak_machine.specs.Console.{Shows}
 use Rattle.cloak_machine.specs.declared.console.Console.{Console}
-use Rattle.cloak_machine.specs.Standing.{StandsFor, MakesStep}
+use Rattle.cloak_machine.specs.Standing.{StandsForMoment, MakesTurn, moment_of}
 use Rattle.cloak_machine.specs.declared.machine.Machine.{Machine}
 use Rattle.cloak_machine.specs.declared.memory.Memory.{Memory}
+
+-- Nothing is owed.
+
+pub owed_nothing : (n f : ℕ) → let none : Option PageId = None in get_or (replicate n none) f none ≡ none
+owed_nothing zero f = refl
+owed_nothing (suc n) zero = refl
+owed_nothing (suc n) (suc f) = owed_nothing n f
+
+owes_nothing : (n f : ℕ) → (let none : Option PageId = None in is_some (get_or (replicate n none) f none)) ≡ false
+owes_nothing n f = ap (λ (o : Option PageId). is_some o) (owed_nothing n f)
+
+none_of : (o : Option ℕ) → is_some o ≡ false → o ≡ None
+none_of None none = refl
+none_of (Some x) none = absurd (false≢true (sym none))
+
+-- The step of a hart outside.
 
 -- what a step told, of this hart, disk and ending, and these frames
 abbrev told_of : Hart → List ℕ → Kernel → List (List ℕ) → Told After
 told_of h disk k ram = record { answer = record { hart = h; disk = disk; ending = k }; world = Flat ram }
 
--- the step of this hart, made so
-joint_step-made : (m : Moment) (number : ℕ) (h : Hart) (told : Told After) → next_hart m ≡ number → hart_at m number ≡ h →
-    kernel_step h m.joint.kernel.disk (Flat m.joint.kernel.ram) ≡ told → joint_step m ≡ outside_step m number told
-unfolding joint_step
-joint_step-made m number h told turn is made = rw (turn, is, made) refl
+told_as : {A : Type 0} (told : Told A) (a : A) (w : World) → told.answer ≡ a → told.world ≡ w → told ≡ record { answer = a; world = w }
+told_as told a w e f i = record { answer = e i; world = f i }
 
--- what a step of a hart left of the machine
+later_kernel_step : (h : Hart) (disk : List ℕ) (w : World) → IsLater w (kernel_step h disk w).world
+later_kernel_step h disk w = subst (λ (told : Told After). IsLater w told.world) (sym (same_step h disk w)) (later_step_in_parts h disk w)
+
+-- the step over the machine's memory
+pub step_of_memory : (old new : Memory) (h h' : Hart) (disk disk' : List ℕ) (k : Kernel) →
+    Follows (λ (first side : Memory) w. w ≡ Flat side.frames.items) old new (record { hart = h'; disk = disk'; ending = k }) (kernel_step h disk) →
+    kernel_step h disk (Flat old.frames.items) ≡ told_of h' disk' k new.frames.items
+step_of_memory old new h h' disk disk' k follows =
+    let followed = follows old (Flat old.frames.items) refl (unclashed_after_flat old.frames.items _ (later_kernel_step h disk (Flat old.frames.items))) in
+    told_as _ _ _ (sym followed.answer) followed.stands
+
+-- where nothing is owed, the step is the plain step on RAM
+made_plainly : (h : Hart) (disk : List ℕ) (c : Cloak) (told : Told After) → kernel_step h disk (Flat c.memory.ram) ≡ told →
+    made_after h disk c (unsettled c.memory) ≡ record { answer = told.answer; world = Cloaked (record c { memory = record c.memory { ram = ram_of told.world }; items = c.items ++ [] }) }
+unfolding made_after
+made_plainly h disk c told made = rw made refl
+
+settled_plainly : (h : Hart) (disk : List ℕ) (c : Cloak) (told : Told After) → ((f : ℕ) → is_owed c.memory f ≡ false) → kernel_step h disk (Flat c.memory.ram) ≡ told →
+    settled_step h disk c ≡ record { answer = told.answer; world = Cloaked (record c { memory = record c.memory { ram = ram_of told.world }; items = c.items ++ [] }) }
+unfolding settled_step
+settled_plainly h disk c told none made =
+    ap (λ (s : Settled). made_after h disk c s) (settles_nothing h disk c.memory none) ∙ made_plainly h disk c told made
+
+-- the joint machine after the step of a hart, over this disk and these frames
+abbrev after_plain : Machine → List ℕ → ℕ → Hart → List ℕ → List (List ℕ) → Joint
+after_plain old console number h disk ram =
+    let j = (moment_of old console).joint in
+    record (with_hart number h j) { disk = disk; memory = record j.memory { ram = ram } }
+
+-- the turn of a hart whose step ended so
+abbrev turn_by : Machine → List ℕ → ℕ → Hart → List ℕ → List (List ℕ) → Kernel → Turn
+turn_by old console number h disk ram k = outside_ended (after_plain old console number h disk ram) number [] k
+
+-- The next step of the machine is this turn, whatever its console showed.
+pub MakesNext : Machine → ℕ → Hart → List ℕ → List (List ℕ) → Kernel → Type 0
+MakesNext old number h disk ram k = (console : List ℕ) → joint_step (moment_of old console) ≡ turn_by old console number h disk ram k
+
+-- it is the turn of this hart
+pub record IsNext (old : Machine) (number : ℕ) (h : Hart) : Type 0 where
+  pub turn : number ≡ slice_index old.schedule.items (old.steps % length old.schedule.items)
+  pub hart : slice_index_or old.harts.items number (started 0 0) ≡ h
+
+joint_step-of : (old : Machine) (number : ℕ) (h : Hart) (console : List ℕ) → IsNext old number h →
+    joint_step (moment_of old console) ≡ turn_of (moment_of old console).joint number h h.inside
+unfolding joint_step
+joint_step-of old number h console is =
+    let j = (moment_of old console).joint in
+    ap (λ (n : ℕ). turn_of j n (hart_in j n) (hart_in j n).inside) (sym is.turn) ∙ ap (λ (x : Hart). turn_of j number x x.inside) is.hart
+
+-- the turn of a hart outside, whose step was made so
+pub outside_turn : (old : Machine) (number : ℕ) (h h' : Hart) (disk : List ℕ) (k : Kernel) (ram : List (List ℕ)) → IsNext old number h → is_some h.inside ≡ false →
+    kernel_step h old.disk (Flat old.memory.frames.items) ≡ told_of h' disk k ram → MakesNext old number h' disk ram k
+unfolding MakesNext turn_of outside_step after_outside
+outside_turn old number h h' disk k ram is outside made console =
+    let j = (moment_of old console).joint in
+    joint_step-of old number h console is
+    ∙ ap (λ (o : Option ℕ). turn_of j number h o) (none_of h.inside outside)
+    ∙ ap (λ (told : Told After). after_outside j number told)
+    (settled_plainly h old.disk (cloak_outside j.memory h) (told_of h' disk k ram) (owes_nothing (length old.memory.frames.items)) made)
+
+-- the turn of a hart inside a context that there is not
+pub inside_turn : (old : Machine) (number : ℕ) (h : Hart) → IsNext old number h → is_some h.inside ≡ true → MakesNext old number (ticked h) old.disk old.memory.frames.items Stay
+unfolding MakesNext turn_of inside_step outside_ended
+inside_turn old number h is inside console = joint_step-of old number h console is ∙ by h.inside inside
+  where
+    by : (o : Option ℕ) → is_some o ≡ true → turn_of (moment_of old console).joint number h o ≡ turn_by old console number (ticked h) old.disk old.memory.frames.items Stay
+    by None some = absurd (false≢true some)
+    by (Some ctx) some = refl
+
+-- What a step left of the machine, apart from its console.
 pub record Leaves (old new : Machine) (number : ℕ) (h : Hart) (disk : List ℕ) (ram : List (List ℕ)) : Type 0 where
   pub schedule : new.schedule.items ≡ old.schedule.items
   pub steps : new.steps ≡ old.steps + 1
   pub harts : new.harts.items ≡ slice_set old.harts.items number h
   pub frames : new.memory.frames.items ≡ ram
+  pub count : length new.memory.frames.items ≡ length old.memory.frames.items
   pub disk_is : new.disk ≡ disk
   pub key : new.key ≡ old.key
   pub stream : new.stream ≡ old.stream
   pub draws : new.draws ≡ old.draws
 
--- the machine of the moment after the step
-after_outside_step : (old new : Machine) (m : Moment) (number : ℕ) (h : Hart) (disk : List ℕ) (k : Kernel) (ram : List (List ℕ)) → StandsFor old m → Leaves old new number h disk ram →
-    Shows new.console (m.joint.kernel.console ++ console_byte k) →
-    StandsFor new (outside_step m number (told_of h disk k ram)).moment
-unfolding outside_step
-after_outside_step old new m number h disk k ram stands left console = record {
-  schedule = left.schedule ∙ stands.schedule;
-  steps = left.steps ∙ ap (λ n. n + 1) stands.steps;
-  harts = left.harts ∙ ap (λ (hs : List Hart). slice_set hs number h) stands.harts;
-  ram = left.frames;
-  disk = left.disk_is;
-  console = console;
-  key = left.key ∙ stands.key;
-  stream = left.stream ∙ stands.stream;
-  draws = left.draws ∙ stands.draws;
+-- the moment of the machine that a step left
+moment_after : (old new : Machine) (console : List ℕ) (number : ℕ) (h : Hart) (disk : List ℕ) (ram : List (List ℕ)) → Leaves old new number h disk ram →
+    record { schedule = old.schedule.items; steps = old.steps + 1; joint = after_plain old console number h disk ram } ≡ moment_of new console
+moment_after old new console number h disk ram left i = record {
+  schedule = sym left.schedule i;
+  steps = sym left.steps i;
+  joint = record {
+    harts = sym left.harts i;
+    disk = sym left.disk_is i;
+    console = console;
+    memory = record {
+      ram = sym left.frames i;
+      plain = λ page. zero_page;
+      ledger = record {
+        key = sym left.key i;
+        stream = sym left.stream i;
+        draws = sym left.draws i;
+        recorded = λ page. None;
+        owed = replicate (sym left.count i) None;
+        root = λ space. None;
+        missed = false;
+        clashed = false;
+      };
+    };
+    domains = [];
+  };
 }
 
--- what it emits
-pieces_of : (m : Moment) (number : ℕ) (h : Hart) (disk : List ℕ) (k : Kernel) (ram : List (List ℕ)) (n : ℕ) → n ≡ m.steps →
-    (outside_step m number (told_of h disk k ram)).pieces ≡ recorded (item_bytes (Step (n + 1))) ∷ shown_each (console_byte k)
-unfolding outside_step
-pieces_of m number h disk k ram n same = ap (λ n. recorded (item_bytes (Step (n + 1))) ∷ shown_each (console_byte k)) (sym same)
+-- what an ending shows on the console, and why it stops the run
+abbrev pub console_byte : Kernel → List ℕ
+console_byte Stay = []
+console_byte (Put b) = b ∷ []
+console_byte (Halt value) = []
+console_byte (Resume ctx answer) = []
 
-stop_is : (m : Moment) (number : ℕ) (h : Hart) (disk : List ℕ) (k : Kernel) (ram : List (List ℕ)) →
-    (outside_step m number (told_of h disk k ram)).stop ≡ stop_of k
-unfolding outside_step
-stop_is m number h disk k ram = refl
+abbrev pub stop_by : Kernel → Option Stop
+stop_by Stay = None
+stop_by (Put b) = None
+stop_by (Halt value) = Some (stop.Halt value)
+stop_by (Resume ctx answer) = Some (stop.Violation (violation.Context ctx))
 
-told_as : {A : Type 0} (told : Told A) (a : A) (w : World) → told.answer ≡ a → told.world ≡ w → told ≡ record { answer = a; world = w }
-told_as told a w e f i = record { answer = e i; world = f i }
-
--- the step over the machine's memory
-pub step_of_memory : (old new : Memory) (h h' : Hart) (disk disk' : List ℕ) (k : Kernel) →
-    Follows (λ (side : Memory) w. w ≡ Flat side.frames.items) old new (record { hart = h'; disk = disk'; ending = k }) (kernel_step h disk) →
-    kernel_step h disk (Flat old.frames.items) ≡ told_of h' disk' k new.frames.items
-step_of_memory old new h h' disk disk' k follows =
-    let followed = follows (Flat old.frames.items) refl (unclashed_after_flat old.frames.items _ (later_kernel_step h disk (Flat old.frames.items))) in
-    told_as _ _ _ (sym followed.answer) followed.stands
-
--- the hart whose turn it is
-turn_of : (old : Machine) (m : Moment) (number : ℕ) → StandsFor old m → number ≡ slice_index old.schedule.items (old.steps % length old.schedule.items) → next_hart m ≡ number
-turn_of old m number stands turn =
-    ap (λ (s : List ℕ). slice_index s (m.steps % length s)) (sym stands.schedule)
-    ∙ ap (λ n. slice_index old.schedule.items (n % length old.schedule.items)) (sym stands.steps)
-    ∙ sym turn
-
-hart_of : (old : Machine) (m : Moment) (number : ℕ) (h : Hart) → StandsFor old m → number < length old.harts.items → h ≡ slice_index_or old.harts.items number h → hart_at m number ≡ h
-hart_of old m number h stands there is =
-    ap (λ (hs : List Hart). slice_index_or hs number (started 0 0)) (sym stands.harts)
-    ∙ get_or_default old.harts.items number (started 0 0) h there ∙ sym is
+-- a turn by its ending
+made_by : {E : Type 0} (gave : E → E → List Piece → Type 0) (e e' : E) (old new : Machine) (console : List ℕ) (number : ℕ) (h : Hart) (disk : List ℕ) (ram : List (List ℕ)) (k : Kernel) →
+    Leaves old new number h disk ram → Shows new.console (console ++ console_byte k) →
+    Emits gave e e' (item_pieces (Step (old.steps + 1) ∷ []) ++ shown_each (console_byte k)) →
+    MakesTurn gave e e' new (stop_by k) (moment_of old console) (turn_by old console number h disk ram k)
+unfolding outside_ended resume by_domain
+made_by gave e e' old new console number h disk ram Stay left shows emits = record {
+  emits = emits;
+  answer = refl;
+  stands = record {
+    console = subst (λ (bytes : List ℕ). Shows new.console bytes) (append-nil console) shows;
+    moment = moment_after old new console number h disk ram left;
+  };
+}
+made_by gave e e' old new console number h disk ram (Put b) left shows emits = record {
+  emits = emits;
+  answer = refl;
+  stands = record { console = shows; moment = moment_after old new (console ++ b ∷ []) number h disk ram left };
+}
+made_by gave e e' old new console number h disk ram (Halt value) left shows emits = record {
+  emits = emits;
+  answer = refl;
+  stands = record {
+    console = subst (λ (bytes : List ℕ). Shows new.console bytes) (append-nil console) shows;
+    moment = moment_after old new console number h disk ram left;
+  };
+}
+made_by gave e e' old new console number h disk ram (Resume ctx answer) left shows emits = record {
+  emits = emits;
+  answer = refl;
+  stands = record {
+    console = subst (λ (bytes : List ℕ). Shows new.console bytes) (append-nil console) shows;
+    moment = moment_after old new console number h disk ram left;
+  };
+}
 
 -- A whole step.
-pub step_made : {E : Type 0} (gave : E → E → List Piece → Type 0) (e e' : E) (old new : Machine) (m : Moment) (number : ℕ) (h h' : Hart) (disk : List ℕ) (k : Kernel) (ram : List (List ℕ)) →
-    StandsFor old m →
-    number ≡ slice_index old.schedule.items (old.steps % length old.schedule.items) →
-    number < length old.harts.items → h ≡ slice_index_or old.harts.items number h →
-    kernel_step h old.disk (Flat old.memory.frames.items) ≡ told_of h' disk k ram →
-    Emits gave e e' (recorded (item_bytes (Step (old.steps + 1))) ∷ shown_each (console_byte k)) →
-    Leaves old new number h' disk ram →
-    Shows new.console (m.joint.kernel.console ++ console_byte k) →
-    MakesStep gave e e' new (stop_of k) (joint_step m)
-step_made {E} gave e e' old new m number h h' disk k ram stands turn there is made emits left console =
-    let told : Told After = told_of h' disk k ram in
-    let over : kernel_step h m.joint.kernel.disk (Flat m.joint.kernel.ram) ≡ told =
-    subst (λ (d : List ℕ). kernel_step h d (Flat m.joint.kernel.ram) ≡ told) stands.disk
-    (subst (λ (frames : List (List ℕ)). kernel_step h old.disk (Flat frames) ≡ told) stands.ram made) in
-    let step = joint_step-made m number h told (turn_of old m number stands turn) (hart_of old m number h stands there is) over in
-    subst (λ (s : Stepped). MakesStep gave e e' new (stop_of k) s) (sym step) (record {
-      emits = subst (λ (pieces : List Piece). Emits gave e e' pieces) (sym (pieces_of m number h' disk k ram old.steps stands.steps)) emits;
-      answer = sym (stop_is m number h' disk k ram);
-      stands = after_outside_step old new m number h' disk k ram stands left console;
-    })
+pub step_made : {E : Type 0} {gave : E → E → List Piece → Type 0} {e e' : E} {old new : Machine} {m : Moment} {number : ℕ} {h : Hart} {disk : List ℕ} {ram : List (List ℕ)} (k : Kernel) →
+    StandsForMoment old m → MakesNext old number h disk ram k → Leaves old new number h disk ram →
+    ((bytes : List ℕ) → Shows old.console bytes → Shows new.console (bytes ++ console_byte k)) →
+    Emits gave e e' (item_pieces (Step (old.steps + 1) ∷ []) ++ shown_each (console_byte k)) →
+    MakesTurn gave e e' new (stop_by k) m (joint_step m)
+unfolding MakesNext
+step_made {E} {gave} {e} {e'} {old} {new} {m} {number} {h} {disk} {ram} k stands next left console emits =
+    let bytes = m.joint.console in
+    subst (λ (x : Moment). MakesTurn gave e e' new (stop_by k) x (joint_step x)) (sym stands.moment)
+    (subst (λ (t : Turn). MakesTurn gave e e' new (stop_by k) (moment_of old bytes) t) (sym (next bytes))
+    (made_by gave e e' old new bytes number h disk ram k left (console bytes stands.console) emits))
 
 -- a console that was shown nothing more
 pub shows_same : (c : Console) (bytes : List ℕ) → Shows c bytes → Shows c (bytes ++ [])
 shows_same c bytes shows = subst (λ (l : List ℕ). Shows c l) (sym (append-nil bytes)) shows
 
--- the turn of the schedule, as it is read
-pub read_turn : (schedule : List ℕ) (x steps n : ℕ) → x ≡ get_or schedule (steps % n) x → n ≡ length schedule → 0 < length schedule → x ≡ slice_index schedule (steps % length schedule)
-read_turn schedule x steps n read same some =
-    get_or_read_under schedule (steps % length schedule) (length schedule) x 0
-    (subst (λ (k : ℕ). x ≡ get_or schedule (steps % k) x) same read) (mod-lt steps some) refl
-
--- the hart of the turn is there
-pub turn_there : (schedule : List ℕ) (harts x steps n : ℕ) → x ≡ get_or schedule (steps % n) x → n ≡ length schedule → 0 < length schedule → All (λ h. h < harts) schedule → x < harts
-turn_there schedule harts x steps n read same some turns =
-    let at = subst (λ (k : ℕ). x ≡ get_or schedule (steps % k) x) same read in
-    subst (λ (k : ℕ). k < harts) (sym at) (turns (steps % length schedule) x (mod-lt steps some))
+-- The turn of the schedule, as it is read, is that of a hart that is there.
+pub is_next : (old : Machine) (x n : ℕ) (h : Hart) → x ≡ get_or old.schedule.items (old.steps % n) x → n ≡ length old.schedule.items → h ≡ get_or old.harts.items x h → IsNext old x h
+is_next old x n h read same at =
+    let turns = old.schedule.items in
+    let here : x ≡ get_or turns (old.steps % length turns) x = subst (λ (k : ℕ). x ≡ get_or turns (old.steps % k) x) same read in
+    let inside = mod-lt old.steps old.some_turns in
+    let there : x < length old.harts.items = subst (λ (k : ℕ). k < length old.harts.items) (sym here) (old.turns (old.steps % length turns) x inside) in
+    record {
+      turn = get_or_read_under turns (old.steps % length turns) (length turns) x 0 here inside refl;
+      hart = get_or_default old.harts.items x (started 0 0) h there ∙ sym at;
+    }
 
 -- pieces, and then others
 pub emits_then : {E : Type 0} {gave : E → E → List Piece → Type 0} {e f h : E} {ps qs : List Piece} → Emits gave e f ps → Emits gave f h qs → Emits gave e h (ps ++ qs)

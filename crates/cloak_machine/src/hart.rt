@@ -1,5 +1,5 @@
-ghost use Rattle.std.specs.Prelude.{◌≡◌, ◌%◌, IfOk};
-ghost use Rattle.cloak_model.specs.Joint.{started_harts};
+ghost use Rattle.std.specs.Prelude.{◌≡◌, ◌%◌, is_some, IfOk};
+ghost use Rattle.cloak_model.specs.Opening.{started_harts};
 
 use cloak_base::NoMemory;
 use host_calls::Hart;
@@ -15,4 +15,11 @@ pub fn start_all(alloc: Global, entry: u32, count: u32) -> Result<Vec<Hart>, NoM
         harts.push(Hart::start(entry, number))?;
     }
     Ok(harts)
+}
+
+/// The hart runs a context.
+pub fn is_inside(hart: &Hart) -> bool
+    ensures { result ≡ is_some hart.now.inside }
+{
+    hart.inside.is_some()
 }

@@ -3,6 +3,7 @@ ghost use Rattle.cloak_model.specs.Bundle.{IsInGrammar};
 ghost use Rattle.cloak_model.specs.Command.{most_steps};
 ghost use Rattle.cloak_model.specs.Exchange.{EmitsSome};
 ghost use Rattle.cloak_model.specs.Joint.{Moment, joint_step};
+ghost use Rattle.cloak_model.specs.Run.{closing};
 
 use crate::console::Console;
 use crate::end::{End, KernelLines};
@@ -10,7 +11,7 @@ use crate::hart;
 use crate::memory::{self, Memory};
 use cloak_base::{NoMemory, Stop, Violation};
 use cloak_model::{Bundle, Emit, Item};
-use host_calls::{Disk, Hart, Kernel, kernel_step};
+use host_calls::{Disk, Hart, Kernel, kernel_step, tick};
 use outside_io::Stream;
 use std::alloc::{AllocError, Global};
 
@@ -62,7 +63,7 @@ pub struct Machine {
 }
 
 impl Machine {
-    ghost use Rattle.cloak_machine.specs.Standing.{Opens, StandsFor, MakesStep, EndsRun, steps_made};
+    ghost use Rattle.cloak_machine.specs.Standing.{EndsAs, MakesTurn, Opens, StandsForMoment, steps_made};
 
     /// The machine of a guest image without programs, before its first step. Its key is the first draw of
     /// the stream.
@@ -94,18 +95,24 @@ impl Machine {
         })
     }
 
-    /// Makes the next step of the schedule, and answers why it stopped the run, if it did. No step is made
-    /// after that.
+    /// Makes the next step of the schedule, and answers why it stopped the run, if it did. A hart that was
+    /// left inside by a refused resume counts its timer and does nothing else.
     pub fn step<E: Emit>(&mut self, e: &mut E) -> Option<Stop>
         requires { steps_made self.old < most_steps }
         ensures steps { steps_made self.new ≡ steps_made self.old + 1 }
         ensures emits_some { EmitsSome E.gave e.old e.new }
-        ensures makes { (m : Moment) → StandsFor self.old m → MakesStep E.gave e.old e.new self.new result (joint_step m) }
+        ensures makes { (m : Moment) → StandsForMoment self.old m →
+            MakesTurn E.gave e.old e.new self.new result m (joint_step m) }
     {
         let number = self.schedule[self.steps as usize % self.schedule.len()] as usize;
         self.steps += 1;
         e.item(&Item::Step { number: self.steps });
-        match kernel_step(&mut self.harts[number], &mut self.disk, &mut self.memory) {
+        let hart = &mut self.harts[number];
+        if hart::is_inside(hart) {
+            tick(hart);
+            return None;
+        }
+        match kernel_step(hart, &mut self.disk, &mut self.memory) {
             Kernel::Stay => None,
             Kernel::Put(b) => {
                 self.console.put(b);
@@ -121,7 +128,8 @@ impl Machine {
     pub fn finish<E: Emit>(self, stop: Stop, e: &mut E) -> End
         ensures stop { result.stop ≡ stop }
         ensures emits_some { EmitsSome E.gave e.old e.new }
-        ensures ends { (m : Moment) → StandsFor self m → EndsRun E.gave e.old e.new result stop m }
+        ensures ends { (m : Moment) → StandsForMoment self m →
+            EndsAs E.gave e.old e.new result stop m (closing m.joint) }
     {
         e.item(&Item::Close { steps: self.steps });
         e.item(&Item::End);

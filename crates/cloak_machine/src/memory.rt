@@ -1,6 +1,6 @@
 ghost use Rattle.std.specs.Prelude.{◌≡◌, ◌+◌, ◌*◌, ◌%◌, ◌≤◌, ◌<◌, length, IfOk, All};
 ghost use Rattle.cloak_model.specs.Bundle.{IsSegmentIn};
-ghost use Rattle.cloak_model.specs.Joint.{with_segments};
+ghost use Rattle.cloak_model.specs.Opening.{with_segments};
 ghost use Rattle.cloak_model.specs.Effect.{IsWidth};
 ghost use Rattle.cloak_model.specs.Memory as memory;
 ghost use Rattle.cloak_model.specs.Memory.{is_in_frames, with_bytes, zero_page, zero_ram};
@@ -55,7 +55,9 @@ impl Words for Memory {
     ghost use Rattle.std.specs.Prelude.{◌≡◌};
     ghost use Rattle.cloak_model.specs.World.{Flat};
 
-    ghost stands_for = { λ side w. w ≡ Flat side.frames.items };
+    ghost stands_for = { λ first side w. w ≡ Flat side.frames.items };
+
+    ghost kept = { λ first side. Unit {0} };
 
     fn word(&mut self, pa: u64) -> Option<u32> {
         if !self.is_inside(pa) {
@@ -71,7 +73,9 @@ impl Ram for Memory {
     ghost use Rattle.std.specs.Prelude.{◌≡◌, length};
     ghost use Rattle.cloak_model.specs.World.{Flat};
 
-    ghost stands_for = { λ side w. w ≡ Flat side.frames.items };
+    ghost stands_for = { λ first side w. w ≡ Flat side.frames.items };
+
+    ghost kept = { λ first side. Unit {0} };
 
     ghost count = { λ side. length side.frames.items };
 

@@ -20,7 +20,7 @@ mod ram;
 pub use cloak_model::Kernel;
 pub use disk::Disk;
 pub use hart::{Hart, leave};
-pub use plain_step::kernel_step;
+pub use plain_step::{kernel_step, tick};
 pub use ram::Ram;
 
 #[cfg(test)]

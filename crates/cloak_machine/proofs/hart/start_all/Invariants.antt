@@ -1,5 +1,5 @@
 use Rattle.std.proofs.Common.{◌≡◌}
-use Rattle.cloak_model.specs.Joint.{started_harts}
+use Rattle.cloak_model.specs.Opening.{started_harts}
 use Rattle.cloak_machine.proofs.hart.start_all.Given as goal
 
 abbrev pub invariant-loop-number : goal.invariant-loop-number

@@ -1,5 +1,5 @@
 use Rattle.std.proofs.Common.{◌≡◌, drop, length}
-use Rattle.cloak_model.specs.Joint.{with_segments}
+use Rattle.cloak_model.specs.Opening.{with_segments}
 use Rattle.cloak_model.specs.Memory.{zero_ram}
 use Rattle.cloak_machine.proofs.memory.load.Given as goal
 
