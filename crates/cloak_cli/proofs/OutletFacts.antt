@@ -1,12 +1,15 @@
 -- What an outlet wrote, piece by piece.
-use Rattle.std.proofs.Common.{◌≡◌, ℕ, Bool, true, false, List, [], ◌∷◌, ◌++◌, refl, sym, ◌∙◌, ap, subst, append_assoc, inl, inr, Option, Result, Ok, Err, OnOk, OnErr, is_err}
+use Rattle.std.proofs.Common.{◌≡◌, ℕ, Bool, true, false, List, [], ◌∷◌, ◌++◌, length, take, refl, sym, ◌∙◌, ap, subst, append_assoc, arith, length-append, Option, Some, None, Result, Ok, Err, OnOk, OnErr, is_err}
 use Rattle.std.proofs.lemmas.List.{append-nil}
 use Rattle.cloak_base.specs.declared.causes.Failed.{Failed}
-use Rattle.outside_io.specs.Told.{Puts, Grows, GrowsByFront, Rose, Counts, OtherFiles}
-use Rattle.outside_io.proofs.ToldFacts.{Grows-none, Grows-append, GrowsByFront-append, GrowsByFront-first, GrowsByFront-whole}
+use Rattle.outside_io.specs.Told.{Tells, Puts, Grows, GrowsByFront, Counts, OtherFiles}
+use Rattle.outside_io.proofs.ToldFacts.{Grows-none, Grows-append, Rose-after}
 use Rattle.cloak_model.specs.Exchange.{Piece, recorded, shown, recorded_bytes, shown_bytes, Emits}
 use Rattle.cloak_cli.specs.declared.outlet.Outlet.{Outlet}
-use Rattle.cloak_cli.specs.Outlet.{Faults, Writes, Wrote, Gave}
+use Rattle.cloak_cli.specs.Outside.{Files, Output, Outside, files, output, outside}
+use Rattle.cloak_cli.specs.Outlet.{Wrote, WroteAll, WroteFront, Writes, Gave}
+
+-- Bytes of pieces.
 
 pub recorded_bytes-append : (ps qs : List Piece) → recorded_bytes (ps ++ qs) ≡ recorded_bytes ps ++ recorded_bytes qs
 recorded_bytes-append [] qs = refl
@@ -30,63 +33,124 @@ shown_one ps bytes = ap (λ (l : List ℕ). shown_bytes ps ++ l) (sym (append-ni
 shown_same : (ps : List Piece) (bytes : List ℕ) → shown_bytes ps ≡ shown_bytes (ps ++ recorded bytes ∷ [])
 shown_same ps bytes = sym (append-nil (shown_bytes ps)) ∙ sym (shown_bytes-append ps (recorded bytes ∷ []))
 
--- after a fault nothing is written any more, which is a front of all that comes
-writes_none : (file file' output output' : Option (List ℕ)) (before now : Faults) (ps qs : List Piece) →
-    Writes true file file' output output' before now ps → Writes true file file' output output' before now (ps ++ qs)
-writes_none file file' output output' before now ps qs w = (
-  subst (λ (l : List ℕ). GrowsByFront file file' l) (sym (recorded_bytes-append ps qs)) (GrowsByFront-first file file' (recorded_bytes ps) (recorded_bytes qs) w.0),
-  subst (λ (l : List ℕ). GrowsByFront output output' l) (sym (shown_bytes-append ps qs)) (GrowsByFront-first output output' (shown_bytes ps) (shown_bytes qs) w.1),
-  w.2,
-)
+-- A front that was written has one length, whatever stood before it.
+fixed_front : (old new : Option (List ℕ)) (piece : List ℕ) → GrowsByFront old new piece → (n : ℕ) × Grows old new (take n piece)
+fixed_front (Some x) new piece front = let f = front x refl in
+    (f.0, λ before told. subst (λ (l : List ℕ). Tells new (l ++ take f.0 piece)) told f.2)
+fixed_front None None piece front = (0, λ before told. tt)
+fixed_front None (Some y) piece front =
+    let f = front (y ++ 0 ∷ []) tt in
+    absurd (let long = ap (λ (l : List ℕ). length l) f.2 in let one = length-append y (0 ∷ []) in let more = length-append (y ++ 0 ∷ []) (take f.0 piece) in omega (arith, long, one, more))
 
--- a piece more of the record
-writes_recorded : (r : Result Unit Failed) (file mid file' output output' : Option (List ℕ)) (before now : Faults) (files : ℕ) (ps : List Piece) (bytes : List ℕ) →
-    Writes false file mid output output' before now ps → OnOk r (Grows mid file' bytes) → OnErr r (GrowsByFront mid file' bytes) → Counts now.files files r →
-    Writes (is_err r) file file' output output' before (record { files = files; output = now.output }) (ps ++ recorded bytes ∷ [])
-writes_recorded (Ok u) file mid file' output output' before now files ps bytes w ok err counts = (
-  subst (λ (l : List ℕ). Grows file file' l) (recorded_one ps bytes) (Grows-append file mid file' (recorded_bytes ps) bytes w.0 ok),
-  subst (λ (l : List ℕ). Grows output output' l) (shown_same ps bytes) w.1,
-  ap (λ (n : ℕ). let f : Faults = record { files = n; output = now.output } in f) counts ∙ w.2,
-)
-writes_recorded (Err e) file mid file' output output' before now files ps bytes w ok err counts = (
-  subst (λ (l : List ℕ). GrowsByFront file file' l) (recorded_one ps bytes) (GrowsByFront-append file mid file' (recorded_bytes ps) bytes w.0 err),
-  subst (λ (l : List ℕ). GrowsByFront output output' l) (shown_same ps bytes) (GrowsByFront-whole output output' (shown_bytes ps) w.1),
-  inl (subst (λ (f : Faults). Rose f.files files) w.2 counts, ap (λ (f : Faults). f.output) w.2),
-)
+-- The calls.
 
--- a piece more of the output
-writes_shown : (r : Result Unit Failed) (file file' output mid output' : Option (List ℕ)) (before now : Faults) (faults : ℕ) (ps : List Piece) (bytes : List ℕ) →
-    Writes false file file' output mid before now ps → OnOk r (Grows mid output' bytes) → OnErr r (GrowsByFront mid output' bytes) → Counts now.output faults r →
-    Writes (is_err r) file file' output output' before (record { files = now.files; output = faults }) (ps ++ shown bytes ∷ [])
-writes_shown (Ok u) file file' output mid output' before now faults ps bytes w ok err counts = (
-  subst (λ (l : List ℕ). Grows file file' l) (recorded_same ps bytes) w.0,
-  subst (λ (l : List ℕ). Grows output output' l) (shown_one ps bytes) (Grows-append output mid output' (shown_bytes ps) bytes w.1 ok),
-  ap (λ (n : ℕ). let f : Faults = record { files = now.files; output = n } in f) counts ∙ w.2,
-)
-writes_shown (Err e) file file' output mid output' before now faults ps bytes w ok err counts = (
-  subst (λ (l : List ℕ). GrowsByFront file file' l) (recorded_same ps bytes) (GrowsByFront-whole file file' (recorded_bytes ps) w.0),
-  subst (λ (l : List ℕ). GrowsByFront output output' l) (shown_one ps bytes) (GrowsByFront-append output mid output' (shown_bytes ps) bytes w.1 err),
-  inr (ap (λ (f : Faults). f.files) w.2, subst (λ (f : Faults). Rose f.output faults) w.2 counts),
-)
+-- what an append to this file did
+pub record Appends {S O : Type 0} (r : Result Unit Failed) (name bytes : List ℕ) (mid after : Outside S O) : Type 0 where
+  pub ok : OnOk r (Grows (mid.files.held name) (after.files.held name) bytes)
+  pub err : OnErr r (GrowsByFront (mid.files.held name) (after.files.held name) bytes)
+  pub others : OtherFiles name mid.files.held after.files.held
+  pub writing : Counts mid.files.writing after.files.writing r
+  pub reading : after.files.reading ≡ mid.files.reading
+  pub output : after.output ≡ mid.output
+
+-- what putting to the output did
+pub record Shows {S O : Type 0} (r : Result Unit Failed) (bytes : List ℕ) (mid after : Outside S O) : Type 0 where
+  pub ok : OnOk r (Grows mid.output.taken after.output.taken bytes)
+  pub err : OnErr r (GrowsByFront mid.output.taken after.output.taken bytes)
+  pub faults : Counts mid.output.faults after.output.faults r
+  pub files : after.files ≡ mid.files
+
+-- these pieces, and one more of the record
+wrote_recorded : {S O : Type 0} (name : List ℕ) (before mid after : Outside S O) (ps : List Piece) (bytes : List ℕ) → Wrote name before mid ps →
+    Grows (mid.files.held name) (after.files.held name) bytes → OtherFiles name mid.files.held after.files.held → after.files.reading ≡ mid.files.reading → after.output ≡ mid.output →
+    Wrote name before after (ps ++ recorded bytes ∷ [])
+wrote_recorded {S} {O} name before mid after ps bytes w grows others reading output = record {
+  file = subst (λ (l : List ℕ). Grows (before.files.held name) (after.files.held name) l) (recorded_one ps bytes)
+      (Grows-append (before.files.held name) (mid.files.held name) (after.files.held name) (recorded_bytes ps) bytes w.file grows);
+  output = subst (λ (l : List ℕ). Grows before.output.taken after.output.taken l) (shown_same ps bytes)
+      (subst (λ (o : Output O). Grows before.output.taken o.taken (shown_bytes ps)) (sym output) w.output);
+  others = λ other apart. others other apart ∙ w.others other apart;
+  reading = reading ∙ w.reading;
+}
+
+-- these pieces, and one more of the output
+wrote_shown : {S O : Type 0} (name : List ℕ) (before mid after : Outside S O) (ps : List Piece) (bytes : List ℕ) → Wrote name before mid ps →
+    Grows mid.output.taken after.output.taken bytes → after.files ≡ mid.files → Wrote name before after (ps ++ shown bytes ∷ [])
+wrote_shown {S} {O} name before mid after ps bytes w grows files = record {
+  file = subst (λ (l : List ℕ). Grows (before.files.held name) (after.files.held name) l) (recorded_same ps bytes)
+      (subst (λ (f : Files S). Grows (before.files.held name) (f.held name) (recorded_bytes ps)) (sym files) w.file);
+  output = subst (λ (l : List ℕ). Grows before.output.taken after.output.taken l) (shown_one ps bytes)
+      (Grows-append before.output.taken mid.output.taken after.output.taken (shown_bytes ps) bytes w.output grows);
+  others = subst (λ (f : Files S). OtherFiles name before.files.held f.held) (sym files) w.others;
+  reading = ap (λ (f : Files S). f.reading) files ∙ w.reading;
+}
+
+writes_recorded : {S O : Type 0} (r : Result Unit Failed) (name : List ℕ) (before mid after : Outside S O) (ps : List Piece) (bytes : List ℕ) →
+    WroteAll name before mid ps → Appends r name bytes mid after → Writes (is_err r) name before after (ps ++ recorded bytes ∷ [])
+writes_recorded {S} {O} (Ok u) name before mid after ps bytes w call = record {
+  wrote = wrote_recorded name before mid after ps bytes w.wrote call.ok call.others call.reading call.output;
+  nothing_rose = record {
+    reading = call.reading ∙ w.nothing_rose.reading;
+    writing = call.writing ∙ w.nothing_rose.writing;
+    faults = ap (λ (o : Output O). o.faults) call.output ∙ w.nothing_rose.faults;
+  };
+}
+writes_recorded {S} {O} (Err e) name before mid after ps bytes w call =
+    let front = fixed_front _ _ bytes call.err in
+    record {
+      cut = record { whole = ps; piece = recorded bytes; rest = []; place = refl; bytes = front.0 };
+      wrote = wrote_recorded name before mid after ps (take front.0 bytes) w.wrote front.1 call.others call.reading call.output;
+      fault = (Rose-after _ _ _ w.nothing_rose.writing call.writing, ap (λ (o : Output O). o.faults) call.output ∙ w.nothing_rose.faults);
+    }
+
+writes_shown : {S O : Type 0} (r : Result Unit Failed) (name : List ℕ) (before mid after : Outside S O) (ps : List Piece) (bytes : List ℕ) →
+    WroteAll name before mid ps → Shows r bytes mid after → Writes (is_err r) name before after (ps ++ shown bytes ∷ [])
+writes_shown {S} {O} (Ok u) name before mid after ps bytes w call = record {
+  wrote = wrote_shown name before mid after ps bytes w.wrote call.ok call.files;
+  nothing_rose = record {
+    reading = ap (λ (f : Files S). f.reading) call.files ∙ w.nothing_rose.reading;
+    writing = ap (λ (f : Files S). f.writing) call.files ∙ w.nothing_rose.writing;
+    faults = call.faults ∙ w.nothing_rose.faults;
+  };
+}
+writes_shown {S} {O} (Err e) name before mid after ps bytes w call =
+    let front = fixed_front _ _ bytes call.err in
+    record {
+      cut = record { whole = ps; piece = shown bytes; rest = []; place = refl; bytes = front.0 };
+      wrote = wrote_shown name before mid after ps (take front.0 bytes) w.wrote front.1 call.files;
+      fault = (ap (λ (f : Files S). f.writing) call.files ∙ w.nothing_rose.writing, Rose-after _ _ _ w.nothing_rose.faults call.faults);
+    }
+
+-- after a fault nothing is written any more of what comes
+writes_none : {S O : Type 0} (name : List ℕ) (before after : Outside S O) (ps qs : List Piece) → WroteFront name before after ps → WroteFront name before after (ps ++ qs)
+writes_none name before after ps qs w = record {
+  cut = record {
+    whole = w.cut.whole;
+    piece = w.cut.piece;
+    rest = w.cut.rest ++ qs;
+    place = ap (λ (l : List Piece). l ++ qs) w.cut.place ∙ append_assoc w.cut.whole (w.cut.piece ∷ w.cut.rest) qs;
+    bytes = w.cut.bytes;
+  };
+  wrote = w.wrote;
+  fault = w.fault;
+}
+
+-- The outlet.
 
 -- an outlet that failed takes pieces and does nothing
 pub emits_none : {S O : Type 0} (held : S → List ℕ → Option (List ℕ)) (reading_faults writing_faults : S → ℕ) (taken : O → Option (List ℕ)) (faults : O → ℕ) (o : Outlet S O) (ps : List Piece) →
     o.failed ≡ true → Emits (Gave held reading_faults writing_faults taken faults) o o ps
 emits_none {S} {O} held reading_faults writing_faults taken faults o ps failed = record {
-  more = λ first before gave. record {
-    shelf = gave.shelf;
-    output = gave.output;
-    name = gave.name;
-    wrote = λ fresh. let w = gave.wrote fresh in record {
-      writes = subst (λ (b : Bool). Writes b (held first.shelf.now first.name.now) (held o.shelf.now first.name.now) (taken first.out.now) (taken o.out.now)
-          (record { files = writing_faults first.shelf.now; output = faults first.out.now }) (record { files = writing_faults o.shelf.now; output = faults o.out.now }) (before ++ ps))
-          (sym failed) (writes_none _ _ _ _ _ _ before ps
-          (subst (λ (b : Bool). Writes b (held first.shelf.now first.name.now) (held o.shelf.now first.name.now) (taken first.out.now) (taken o.out.now)
-          (record { files = writing_faults first.shelf.now; output = faults first.out.now }) (record { files = writing_faults o.shelf.now; output = faults o.out.now }) before) failed w.writes));
-      others = w.others;
-      reading = w.reading;
-    };
-  };
+  more = λ first before gave.
+      let at = λ (x : Outlet S O). outside held reading_faults writing_faults taken faults x.shelf.now x.out.now in
+      record {
+        shelf = gave.shelf;
+        output = gave.output;
+        name = gave.name;
+        wrote = λ fresh.
+            subst (λ (b : Bool). Writes b first.name.now (at first) (at o) (before ++ ps)) (sym failed)
+            (writes_none first.name.now (at first) (at o) before ps (subst (λ (b : Bool). Writes b first.name.now (at first) (at o) before) failed (gave.wrote fresh)));
+      };
 }
 
 -- a piece that was appended to the record
@@ -98,33 +162,29 @@ pub emits_recorded : {S O : Type 0} (held : S → List ℕ → Option (List ℕ)
     Counts (writing_faults old.shelf.now) (writing_faults new.shelf.now) r →
     reading_faults new.shelf.now ≡ reading_faults old.shelf.now →
     Emits (Gave held reading_faults writing_faults taken faults) old new (recorded bytes ∷ [])
-emits_recorded {S} {O} held reading_faults writing_faults taken faults old new bytes r fresh failed shelf out name ok err others writing reading =
-    record {
-      more = λ first before gave.
-          let same : old.name.now ≡ first.name.now = ap (λ (n : _). n.now) gave.name in
-          let start : Faults = record { files = writing_faults first.shelf.now; output = faults first.out.now } in
-          let held_first = held first.shelf.now first.name.now in
-          let held_old = held old.shelf.now first.name.now in
-          let held_new = held new.shelf.now first.name.now in
-          let pieces : List Piece = before ++ recorded bytes ∷ [] in
-          record {
-            shelf = shelf ∙ gave.shelf;
-            output = ap (λ (o : _). o.ghost_name) out ∙ gave.output;
-            name = name ∙ gave.name;
-            wrote = λ begun. let w = gave.wrote begun in record {
-              writes =
-                  subst (λ (b : Bool). Writes b held_first held_new (taken first.out.now) (taken new.out.now) start (record { files = writing_faults new.shelf.now; output = faults new.out.now }) pieces) (sym failed)
-                  (subst (λ (o : _). Writes (is_err r) held_first held_new (taken first.out.now) (taken o.now) start (record { files = writing_faults new.shelf.now; output = faults o.now }) pieces) (sym out)
-                  (writes_recorded r held_first held_old held_new (taken first.out.now) (taken old.out.now) start (record { files = writing_faults old.shelf.now; output = faults old.out.now }) (writing_faults new.shelf.now) before bytes
-                  (subst (λ (b : Bool). Writes b held_first held_old (taken first.out.now) (taken old.out.now) start (record { files = writing_faults old.shelf.now; output = faults old.out.now }) before) fresh w.writes)
-                  (subst (λ (n : List ℕ). OnOk r (Grows (held old.shelf.now n) (held new.shelf.now n) bytes)) same ok)
-                  (subst (λ (n : List ℕ). OnErr r (GrowsByFront (held old.shelf.now n) (held new.shelf.now n) bytes)) same err)
-                  writing));
-              others = λ other apart. others other (λ e. apart (e ∙ same)) ∙ w.others other apart;
-              reading = reading ∙ w.reading;
-            };
-          };
-    }
+emits_recorded {S} {O} held reading_faults writing_faults taken faults old new bytes r fresh failed shelf out name ok err others writing reading = record {
+  more = λ first before gave.
+      let at = λ (x : Outlet S O). outside held reading_faults writing_faults taken faults x.shelf.now x.out.now in
+      let same : old.name.now ≡ first.name.now = ap (λ (n : _). n.now) gave.name in
+      let call : Appends r old.name.now bytes (at old) (at new) = record {
+        ok = ok;
+        err = err;
+        others = others;
+        writing = writing;
+        reading = reading;
+        output = ap (λ (o : _). output taken faults o.now) out;
+      } in
+      record {
+        shelf = shelf ∙ gave.shelf;
+        output = ap (λ (o : _). o.ghost_name) out ∙ gave.output;
+        name = name ∙ gave.name;
+        wrote = λ begun.
+            subst (λ (b : Bool). Writes b first.name.now (at first) (at new) (before ++ recorded bytes ∷ [])) (sym failed)
+            (writes_recorded r first.name.now (at first) (at old) (at new) before bytes
+            (subst (λ (b : Bool). Writes b first.name.now (at first) (at old) before) fresh (gave.wrote begun))
+            (subst (λ (n : List ℕ). Appends r n bytes (at old) (at new)) same call));
+      };
+}
 
 -- a piece that was put to the output
 pub emits_shown : {S O : Type 0} (held : S → List ℕ → Option (List ℕ)) (reading_faults writing_faults : S → ℕ) (taken : O → Option (List ℕ)) (faults : O → ℕ) (old new : Outlet S O) (bytes : List ℕ) (r : Result Unit Failed) →
@@ -133,65 +193,31 @@ pub emits_shown : {S O : Type 0} (held : S → List ℕ → Option (List ℕ)) (
     OnErr r (GrowsByFront (taken old.out.now) (taken new.out.now) bytes) →
     Counts (faults old.out.now) (faults new.out.now) r →
     Emits (Gave held reading_faults writing_faults taken faults) old new (shown bytes ∷ [])
-emits_shown {S} {O} held reading_faults writing_faults taken faults old new bytes r fresh failed out shelf name ok err counts =
-    record {
-      more = λ first before gave.
-          let start : Faults = record { files = writing_faults first.shelf.now; output = faults first.out.now } in
-          let held_first = held first.shelf.now first.name.now in
-          let pieces : List Piece = before ++ shown bytes ∷ [] in
-          record {
-            shelf = ap (λ (s : _). s.ghost_name) shelf ∙ gave.shelf;
-            output = out ∙ gave.output;
-            name = name ∙ gave.name;
-            wrote = λ begun. let w = gave.wrote begun in
-                subst (λ (s : _). Wrote new.failed first.name.now (held first.shelf.now) (held s.now) (reading_faults first.shelf.now) (reading_faults s.now) (taken first.out.now) (taken new.out.now) start (record { files = writing_faults s.now; output = faults new.out.now }) pieces) (sym shelf)
-                (record {
-                  writes =
-                      subst (λ (b : Bool). Writes b held_first (held old.shelf.now first.name.now) (taken first.out.now) (taken new.out.now) start (record { files = writing_faults old.shelf.now; output = faults new.out.now }) pieces) (sym failed)
-                      (writes_shown r held_first (held old.shelf.now first.name.now) (taken first.out.now) (taken old.out.now) (taken new.out.now) start (record { files = writing_faults old.shelf.now; output = faults old.out.now }) (faults new.out.now) before bytes
-                      (subst (λ (b : Bool). Writes b held_first (held old.shelf.now first.name.now) (taken first.out.now) (taken old.out.now) start (record { files = writing_faults old.shelf.now; output = faults old.out.now }) before) fresh w.writes)
-                      ok err counts);
-                  others = w.others;
-                  reading = w.reading;
-                });
-          };
-    }
-
--- pieces with the same bytes are written alike
-writes_same : (failed : Bool) (file file' output output' : Option (List ℕ)) (before now : Faults) (ps qs : List Piece) →
-    recorded_bytes ps ≡ recorded_bytes qs → shown_bytes ps ≡ shown_bytes qs →
-    Writes failed file file' output output' before now ps → Writes failed file file' output output' before now qs
-writes_same false file file' output output' before now ps qs rs ss w =
-    (subst (λ (l : List ℕ). Grows file file' l) rs w.0, subst (λ (l : List ℕ). Grows output output' l) ss w.1, w.2)
-writes_same true file file' output output' before now ps qs rs ss w =
-    (subst (λ (l : List ℕ). GrowsByFront file file' l) rs w.0, subst (λ (l : List ℕ). GrowsByFront output output' l) ss w.1, w.2)
+emits_shown {S} {O} held reading_faults writing_faults taken faults old new bytes r fresh failed out shelf name ok err counts = record {
+  more = λ first before gave.
+      let at = λ (x : Outlet S O). outside held reading_faults writing_faults taken faults x.shelf.now x.out.now in
+      let call : Shows r bytes (at old) (at new) = record {
+        ok = ok;
+        err = err;
+        faults = counts;
+        files = ap (λ (s : _). files held reading_faults writing_faults s.now) shelf;
+      } in
+      record {
+        shelf = ap (λ (s : _). s.ghost_name) shelf ∙ gave.shelf;
+        output = out ∙ gave.output;
+        name = name ∙ gave.name;
+        wrote = λ begun.
+            subst (λ (b : Bool). Writes b first.name.now (at first) (at new) (before ++ shown bytes ∷ [])) (sym failed)
+            (writes_shown r first.name.now (at first) (at old) (at new) before bytes
+            (subst (λ (b : Bool). Writes b first.name.now (at first) (at old) before) fresh (gave.wrote begun)) call);
+      };
+}
 
 -- the parts of what a text that was put did
 pub Puts-parts : (old new : Option (List ℕ)) (before now : ℕ) (text : List ℕ) (r : Result Unit Failed) → Puts old new before now text r →
     OnOk r (Grows old new text) × OnErr r (GrowsByFront old new text) × Counts before now r
 Puts-parts old new before now text (Ok u) puts = (puts.0, tt, puts.1)
 Puts-parts old new before now text (Err e) puts = (tt, puts.0, puts.1)
-
--- pieces with the same bytes
-pub emits_same : {S O : Type 0} {held : S → List ℕ → Option (List ℕ)} {reading_faults writing_faults : S → ℕ} {taken : O → Option (List ℕ)} {faults : O → ℕ} {old new : Outlet S O} {ps : List Piece} (qs : List Piece) →
-    Emits (Gave held reading_faults writing_faults taken faults) old new ps → recorded_bytes ps ≡ recorded_bytes qs → shown_bytes ps ≡ shown_bytes qs →
-    Emits (Gave held reading_faults writing_faults taken faults) old new qs
-emits_same {S} {O} {held} {reading_faults} {writing_faults} {taken} {faults} {old} {new} {ps} qs emits same_record same_output = record {
-  more = λ first before gave.
-      let now = emits.more first before gave in
-      let rs = recorded_bytes-append before ps ∙ ap (λ (l : List ℕ). recorded_bytes before ++ l) same_record ∙ sym (recorded_bytes-append before qs) in
-      let ss = shown_bytes-append before ps ∙ ap (λ (l : List ℕ). shown_bytes before ++ l) same_output ∙ sym (shown_bytes-append before qs) in
-      record {
-        shelf = now.shelf;
-        output = now.output;
-        name = now.name;
-        wrote = λ begun. let w = now.wrote begun in record {
-          writes = writes_same _ _ _ _ _ _ _ (before ++ ps) (before ++ qs) rs ss w.writes;
-          others = w.others;
-          reading = w.reading;
-        };
-      };
-}
 
 -- an outlet to which nothing was given yet
 gave_start : {S O : Type 0} (held : S → List ℕ → Option (List ℕ)) (reading_faults writing_faults : S → ℕ) (taken : O → Option (List ℕ)) (faults : O → ℕ) (o : Outlet S O) →
@@ -200,16 +226,24 @@ gave_start held reading_faults writing_faults taken faults o = record {
   shelf = refl;
   output = refl;
   name = refl;
-  wrote = λ fresh. record {
-    writes = subst (λ (b : Bool). Writes b (held o.shelf.now o.name.now) (held o.shelf.now o.name.now) (taken o.out.now) (taken o.out.now)
-        (record { files = writing_faults o.shelf.now; output = faults o.out.now }) (record { files = writing_faults o.shelf.now; output = faults o.out.now }) [])
-        (sym fresh) (Grows-none (held o.shelf.now o.name.now), Grows-none (taken o.out.now), refl);
-    others = λ other apart. refl;
-    reading = refl;
-  };
+  wrote = λ fresh.
+      let at = outside held reading_faults writing_faults taken faults o.shelf.now o.out.now in
+      subst (λ (b : Bool). Writes b o.name.now at at []) (sym fresh) (record {
+        wrote = record {
+          file = Grows-none (held o.shelf.now o.name.now);
+          output = Grows-none (taken o.out.now);
+          others = λ other apart. refl;
+          reading = refl;
+        };
+        nothing_rose = record { reading = refl; writing = refl; faults = refl };
+      });
 }
 
 -- what was given to an outlet from its start on
 pub gave_all : {S O : Type 0} {held : S → List ℕ → Option (List ℕ)} {reading_faults writing_faults : S → ℕ} {taken : O → Option (List ℕ)} {faults : O → ℕ} {old new : Outlet S O} {pieces : List Piece} →
     Emits (Gave held reading_faults writing_faults taken faults) old new pieces → Gave held reading_faults writing_faults taken faults old new pieces
 gave_all {S} {O} {held} {reading_faults} {writing_faults} {taken} {faults} {old} {new} {pieces} emits = emits.more old [] (gave_start held reading_faults writing_faults taken faults old)
+
+-- a piece of the record under another name
+pub recorded_as : {E : Type 0} {gave : E → E → List Piece → Type 0} {e f : E} {x y : List ℕ} → x ≡ y → Emits gave e f (recorded x ∷ []) → Emits gave e f (recorded y ∷ [])
+recorded_as {E} {gave} {e} {f} {x} {y} same emits = subst (λ (bytes : List ℕ). Emits gave e f (recorded bytes ∷ [])) same emits

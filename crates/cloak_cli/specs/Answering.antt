@@ -1,20 +1,17 @@
 -- What the program answers, each status with its cause.
-use Rattle.std.specs.Prelude.{ℕ, ◌≡◌, ◌<◌, ◌⊎◌, List, [], length, codes, Option, Some, IfSome, Result, Ok, Err}
+use Rattle.std.specs.Prelude.{ℕ, ◌≡◌, ◌<◌, ◌⊎◌, List, [], length, codes, Option, IfSome, Ok}
 use Rattle.cloak_base.specs.Random.{numbered}
-use Rattle.outside_io.specs.Told.{Tells, Grows, Rose, SameFiles, OtherFiles}
+use Rattle.outside_io.specs.Told.{Tells, Grows, GrowsByFront, SameFiles, OtherFiles}
 use Rattle.cloak_model.specs.declared.image.Bundle.{Bundle}
 use Rattle.cloak_model.specs.declared.outcome.UsageFault.{UsageFault}
 use Rattle.cloak_model.specs.Bundle.{IsBundle}
 use Rattle.cloak_model.specs.Command as spec
 use Rattle.cloak_model.specs.Exchange.{recorded_bytes, shown_bytes}
-use Rattle.cloak_model.specs.Joint.{Moment, opening}
-use Rattle.cloak_model.specs.Due.{steps_after, cause_of, due}
-use Rattle.cloak_machine.specs.declared.machine.Machine.{Machine}
-use Rattle.cloak_machine.specs.Standing.{StandsFor, steps_made}
-use Rattle.cloak_cli.specs.declared.prepare.Refusal.{Refusal}
-use Rattle.cloak_cli.specs.declared.prepare.Refusal.TheVariants as refusal
+use Rattle.cloak_model.specs.Run.{Run, joint_run, due}
 use Rattle.cloak_cli.specs.declared.status.Status.{Status}
 use Rattle.cloak_cli.specs.declared.status.Status.TheVariants as status
+use Rattle.cloak_cli.specs.Outside.{Outside, NothingRose}
+use Rattle.cloak_cli.specs.Outlet.{Cut, pieces_left, FailedAt}
 use Rattle.cloak_cli.specs.Running.{status_of}
 
 -- a guest image of the first form: one hart with its schedule, one segment, and no program
@@ -28,124 +25,156 @@ pub record IsFirstForm (b : Bundle) : Type 0 where
 abbrev pub IsOtherForm : List ℕ → Type 0
 IsOtherForm bytes = (b : Bundle) → IsBundle bytes b → IsFirstForm b → ⊥
 
--- these bytes are a bundle of the first form, whose run under this stream opens at this moment
-pub record OpensAt (bytes : List ℕ) (number : ℕ) (m : Moment) : Type 0 where
-  pub bundle : Bundle
-  pub is : IsBundle bytes bundle
-  pub first_form : IsFirstForm bundle
-  pub opens : opening bundle (numbered number) ≡ Some m
+-- Why there is no run.
 
--- What the outside tells: the bytes of files by their names, the counts of faults of reading and writing
--- them, the bytes of the output, and its count of faults.
-pub record Outside : Type 0 where
-  pub held : List ℕ → Option (List ℕ)
-  pub reading : ℕ
-  pub writing : ℕ
-  pub taken : Option (List ℕ)
-  pub faults : ℕ
-
--- what this shelf and this output tell
-abbrev pub outside : {S O : Type 0} → (S → List ℕ → Option (List ℕ)) → (S → ℕ) → (S → ℕ) → (O → Option (List ℕ)) → (O → ℕ) → S → O → Outside
-outside held reading writing taken faults shelf out =
-    record { held = held shelf; reading = reading shelf; writing = writing shelf; taken = taken out; faults = faults out }
-
--- no count rose
-pub record NothingRose (before after : Outside) : Type 0 where
-  pub reading : after.reading ≡ before.reading
-  pub writing : after.writing ≡ before.writing
-  pub faults : after.faults ≡ before.faults
-
--- this line was shown, and nothing else was done
-pub record Says (line : List ℕ) (before after : Outside) : Type 0 where
-  pub nothing_rose : NothingRose before after
-  pub files : SameFiles before.held after.held
-  pub line_shown : Grows before.taken after.taken line
-
--- The words are faulty.
-pub record IsUsage (asked : spec.Asked) (before after : Outside) : Type 0 where
+-- The words are faulty; no file is asked for anything.
+pub record IsUsage {S O : Type 0} (asked : spec.Asked) (before after : Outside S O) : Type 0 where
   pub fault : UsageFault
   pub faulty : asked ≡ spec.Faulty fault
-  pub says : Says (spec.usage_line fault) before after
+  pub untouched : after.files ≡ before.files
 
--- The words ask for what is not built.
-pub record IsNotBuilt (asked : spec.Asked) (before after : Outside) : Type 0 where
+-- The words ask for what is not built; no file is asked for anything.
+pub record IsNotBuilt {S O : Type 0} (asked : spec.Asked) (before after : Outside S O) : Type 0 where
   pub not_built : asked ≡ spec.NotBuilt
-  pub says : Says (codes "unbuilt 0\n") before after
+  pub untouched : after.files ≡ before.files
+
+-- The words ask for the run of a file.
+pub record AsksFile (asked : spec.Asked) (bundle_name : List ℕ) : Type 0 where
+  pub record_name : List ℕ
+  pub steps : ℕ
+  pub number : ℕ
+  pub run : asked ≡ spec.Run bundle_name record_name steps number
 
 -- The file of a run, where its bytes are told, is no bundle of the first form.
-pub record IsRefusedFile (asked : spec.Asked) (before after : Outside) : Type 0 where
+pub record IsRefusedFile {S O : Type 0} (asked : spec.Asked) (before after : Outside S O) : Type 0 where
   pub bundle_name : List ℕ
-  pub record_name : List ℕ
+  pub asks : AsksFile asked bundle_name
+  pub other_form : IfSome (before.files.held bundle_name) IsOtherForm
+  pub reading : after.files.reading ≡ before.files.reading
+
+-- A call that reads the file of a run failed.
+pub record IsReadFault {S O : Type 0} (asked : spec.Asked) (before after : Outside S O) : Type 0 where
+  pub bundle_name : List ℕ
+  pub asks : AsksFile asked bundle_name
+  pub reading : before.files.reading < after.files.reading
+
+-- A growth was refused in opening the machine of a run. (What refused it, no clause can name.)
+pub record IsNoMemory {S O : Type 0} (asked : spec.Asked) (before after : Outside S O) : Type 0 where
+  pub bundle_name : List ℕ
+  pub asks : AsksFile asked bundle_name
+  pub reading : after.files.reading ≡ before.files.reading
+
+-- the cause of each status that refuses
+abbrev pub HasCause : {S O : Type 0} → spec.Asked → Outside S O → Outside S O → Status → Type 0
+HasCause asked before after status.Usage = IsUsage asked before after
+HasCause asked before after status.ReadFault = IsReadFault asked before after
+HasCause asked before after status.NoMemory = IsNoMemory asked before after
+HasCause asked before after status.Unbuilt = IsNotBuilt asked before after ⊎ IsRefusedFile asked before after
+HasCause asked before after _ = ⊥
+
+-- the line of a status that refuses
+abbrev pub words_line : spec.Asked → List ℕ
+words_line (spec.Faulty fault) = spec.usage_line fault
+words_line _ = []
+
+abbrev pub refusal_line : spec.Asked → Status → List ℕ
+refusal_line asked status.Usage = words_line asked
+refusal_line asked status.ReadFault = codes "read fault\n"
+refusal_line asked status.NoMemory = codes "no memory\n"
+refusal_line asked status.Unbuilt = codes "unbuilt 0\n"
+refusal_line asked _ = []
+
+-- There is no run, and this status says why; no file was written.
+pub record NoRun {S O : Type 0} (asked : spec.Asked) (refused : Status) (before after : Outside S O) : Type 0 where
+  pub cause : HasCause asked before after refused
+  pub held : SameFiles before.files.held after.files.held
+  pub writing : after.files.writing ≡ before.files.writing
+
+-- The line of the status was shown, and nothing else was done.
+pub record IsRefused {S O : Type 0} (asked : spec.Asked) (refused : Status) (before after : Outside S O) : Type 0 where
+  pub no_run : NoRun asked refused before after
+  pub line : Grows before.output.taken after.output.taken (refusal_line asked refused)
+  pub faults : after.output.faults ≡ before.output.faults
+
+-- The run.
+
+-- The words ask for a run of this file, which, where its bytes are told, is a bundle of the first form, and this is its
+-- joint run.
+pub record AsksRun (asked : spec.Asked) (held : List ℕ → Option (List ℕ)) (record_name : List ℕ) (r : Run) : Type 0 where
+  pub bundle_name : List ℕ
   pub steps : ℕ
   pub number : ℕ
   pub run : asked ≡ spec.Run bundle_name record_name steps number
-  pub other_form : IfSome (before.held bundle_name) IsOtherForm
-  pub says : Says (codes "unbuilt 0\n") before after
+  pub bundle : Bundle
+  pub is : IfSome (held bundle_name) (λ bytes. IsBundle bytes bundle)
+  pub first_form : IsFirstForm bundle
+  pub joint : joint_run bundle (numbered number) steps ≡ Ok r
 
--- The joint run of this moment was written whole, with this status of its stop.
-pub record WroteRun (record_name : List ℕ) (steps : ℕ) (answer : Status) (before after : Outside) (m : Moment) : Type 0 where
-  pub file : Tells (after.held record_name) (recorded_bytes (due m steps))
-  pub output : Grows before.taken after.taken (shown_bytes (due m steps))
-  pub answer_is : answer ≡ status_of (cause_of (steps_after steps m).stop)
-
--- A run was made, of a file whose bytes, where they are told, are a bundle of the first form.
-pub record HasRun (asked : spec.Asked) (answer : Status) (before after : Outside) : Type 0 where
-  pub bundle_name : List ℕ
+-- The run was made and written whole, and this is the status of its stop.
+pub record HasRun {S O : Type 0} (asked : spec.Asked) (answer : Status) (before after : Outside S O) : Type 0 where
   pub record_name : List ℕ
-  pub steps : ℕ
-  pub number : ℕ
-  pub run : asked ≡ spec.Run bundle_name record_name steps number
+  pub made : Run
+  pub asks : AsksRun asked before.files.held record_name made
+  pub status : answer ≡ status_of made.stop
+  pub file : Tells (after.files.held record_name) (recorded_bytes (due made))
+  pub output : Grows before.output.taken after.output.taken (shown_bytes (due made))
+  pub others : OtherFiles record_name before.files.held after.files.held
   pub nothing_rose : NothingRose before after
-  pub moment : Moment
-  pub opens : IfSome (before.held bundle_name) (λ bytes. OpensAt bytes number moment)
-  pub wrote : WroteRun record_name steps answer before after moment
 
--- Only the count of reading faults rose.
-pub record IsReadFault (before after : Outside) : Type 0 where
-  pub reading : before.reading < after.reading
-  pub writing : after.writing ≡ before.writing
-  pub faults : after.faults ≡ before.faults
-  pub files : SameFiles before.held after.held
-  pub line_shown : Grows before.taken after.taken (codes "read fault\n")
+-- Faults of writing.
 
--- A count of what is written to rose.
-abbrev pub IsWriteFault : Outside → Outside → Type 0
-IsWriteFault before after = (before.writing < after.writing) ⊎ (before.faults < after.faults)
+-- A front of the line of a status that refuses was shown.
+pub record LineFailed {S O : Type 0} (asked : spec.Asked) (before after : Outside S O) : Type 0 where
+  pub refused : Status
+  pub no_run : NoRun asked refused before after
+  pub line : GrowsByFront before.output.taken after.output.taken (refusal_line asked refused)
+  pub faults : before.output.faults < after.output.faults
+
+-- The record of a run could not be begun: it is empty or has its bytes, and nothing was done to the output.
+pub record BeginFailed {S O : Type 0} (asked : spec.Asked) (before after : Outside S O) : Type 0 where
+  pub record_name : List ℕ
+  pub due_run : Run
+  pub asks : AsksRun asked before.files.held record_name due_run
+  pub file : (after.files.held record_name ≡ before.files.held record_name) ⊎ Tells (after.files.held record_name) []
+  pub others : OtherFiles record_name before.files.held after.files.held
+  pub reading : after.files.reading ≡ before.files.reading
+  pub writing : before.files.writing < after.files.writing
+  pub untouched : after.output ≡ before.output
+
+-- A run broke off. Of the one list of what is due of it, record and output have what is left where it is cut at one place,
+-- and the count of faults of where the piece there goes rose.
+pub record BrokeOff {S O : Type 0} (asked : spec.Asked) (before after : Outside S O) : Type 0 where
+  pub record_name : List ℕ
+  pub due_run : Run
+  pub asks : AsksRun asked before.files.held record_name due_run
+  pub cut : Cut (due due_run)
+  pub file : Tells (after.files.held record_name) (recorded_bytes (pieces_left cut))
+  pub output : Grows before.output.taken after.output.taken (shown_bytes (pieces_left cut))
+  pub others : OtherFiles record_name before.files.held after.files.held
+  pub reading : after.files.reading ≡ before.files.reading
+  pub fault : FailedAt ◌<◌ cut.piece before after
+
+abbrev pub IsWriteFault : {S O : Type 0} → spec.Asked → Outside S O → Outside S O → Type 0
+IsWriteFault asked before after = LineFailed asked before after ⊎ (BeginFailed asked before after ⊎ BrokeOff asked before after)
 
 -- What each status says. Its causes exclude each other, so each status comes exactly there; only want of
 -- memory may stand in the place of another, before anything is written.
-abbrev pub Answers : spec.Asked → Outside → Outside → Status → Type 0
+abbrev pub Answers : {S O : Type 0} → spec.Asked → Outside S O → Outside S O → Status → Type 0
 Answers asked before after status.Done = HasRun asked status.Done before after
 Answers asked before after status.Violation = HasRun asked status.Violation before after
-Answers asked before after status.Usage = IsUsage asked before after
+Answers asked before after status.Usage = IsRefused asked status.Usage before after
 Answers asked before after status.BadBundle = ⊥
-Answers asked before after status.ReadFault = IsReadFault before after
-Answers asked before after status.WriteFault = IsWriteFault before after
-Answers asked before after status.NoMemory = Says (codes "no memory\n") before after
+Answers asked before after status.ReadFault = IsRefused asked status.ReadFault before after
+Answers asked before after status.WriteFault = IsWriteFault asked before after
+Answers asked before after status.NoMemory = IsRefused asked status.NoMemory before after
 Answers asked before after status.NoRandom = ⊥
 Answers asked before after status.BadRecord = ⊥
-Answers asked before after status.Unbuilt = IsNotBuilt asked before after ⊎ IsRefusedFile asked before after
+Answers asked before after status.Unbuilt = IsRefused asked status.Unbuilt before after
 
--- every file but the record of a run keeps its bytes
-abbrev pub KeepsFiles : spec.Asked → (List ℕ → Option (List ℕ)) → (List ℕ → Option (List ℕ)) → Type 0
-KeepsFiles spec.NotBuilt held held' = SameFiles held held'
-KeepsFiles (spec.Faulty fault) held held' = SameFiles held held'
-KeepsFiles (spec.Run bundle_name record_name steps number) held held' = OtherFiles record_name held held'
-
--- what opening the machine of a run answers: a machine before its first step at the run's opening, or why
--- there is none
-abbrev pub Prepares : Option (List ℕ) → ℕ → ℕ → ℕ → Result Machine Refusal → Type 0
-Prepares told number before now (Ok machine) = (now ≡ before) × (steps_made machine ≡ 0) × ((m : Moment) × StandsFor machine m × IfSome told (λ bytes. OpensAt bytes number m))
-Prepares told number before now (Err refusal.ReadFault) = Rose before now
-Prepares told number before now (Err refusal.NoMemory) = now ≡ before
-Prepares told number before now (Err refusal.Unbuilt) = (now ≡ before) × IfSome told IsOtherForm
-
--- what showing a line that refuses answers
-abbrev pub Refuses : Option (List ℕ) → Option (List ℕ) → ℕ → ℕ → Status → List ℕ → Status → Type 0
-Refuses told told' before now answer line given = ((given ≡ answer) × Grows told told' line × (now ≡ before)) ⊎ ((given ≡ status.WriteFault) × Rose before now)
-
--- what writing the run of a machine at this moment answers
-pub record Records (record_name : List ℕ) (steps : ℕ) (before after : Outside) (given : Status) (m : Moment) : Type 0 where
-  pub reading : after.reading ≡ before.reading
-  pub others : OtherFiles record_name before.held after.held
-  pub outcome : (NothingRose before after × WroteRun record_name steps given before after m) ⊎ ((given ≡ status.WriteFault) × (Rose before.writing after.writing ⊎ Rose before.faults after.faults))
+-- Every file keeps its bytes, save the record's of a run that was begun, or might have been. (A write fault says by its
+-- cause which.)
+abbrev pub KeepsFiles : spec.Asked → Status → (List ℕ → Option (List ℕ)) → (List ℕ → Option (List ℕ)) → Type 0
+KeepsFiles (spec.Run bundle_name record_name steps number) status.Done held held' = OtherFiles record_name held held'
+KeepsFiles (spec.Run bundle_name record_name steps number) status.Violation held held' = OtherFiles record_name held held'
+KeepsFiles (spec.Run bundle_name record_name steps number) status.WriteFault held held' = OtherFiles record_name held held'
+KeepsFiles asked answer held held' = SameFiles held held'

@@ -1,6 +1,9 @@
 pub mod Answering
 pub mod Files
 pub mod Outlet
+pub mod Outside
+pub mod Preparing
+pub mod Recording
 pub mod Request
 pub mod Running
 pub mod Status

@@ -1,31 +1,56 @@
 -- What an outlet wrote.
-use Rattle.std.specs.Prelude.{ℕ, ◌≡◌, ◌⊎◌, Bool, true, false, List, Option}
-use Rattle.outside_io.specs.Told.{Grows, GrowsByFront, Rose, OtherFiles}
-use Rattle.cloak_model.specs.Exchange.{Piece, recorded_bytes, shown_bytes}
+use Rattle.std.specs.Prelude.{ℕ, ◌≡◌, Bool, true, false, List, [], ◌∷◌, ◌++◌, take, Option}
+use Rattle.outside_io.specs.Told.{Grows, Rose, OtherFiles}
+use Rattle.cloak_model.specs.Exchange.{Piece, recorded, shown, recorded_bytes, shown_bytes}
+use Rattle.cloak_cli.specs.Outside.{Outside, NothingRose, outside}
 use Rattle.cloak_cli.specs.declared.outlet.Outlet.{Outlet}
 
--- the counts of faults of what is written to
-pub record Faults : Type 0 where
-  pub files : ℕ
-  pub output : ℕ
+-- a front of a piece
+abbrev pub front_of : ℕ → Piece → Piece
+front_of n (recorded bytes) = recorded (take n bytes)
+front_of n (shown bytes) = shown (take n bytes)
 
--- one of the two counts rose
-abbrev pub OneRose : Faults → Faults → Type 0
-OneRose before now = (Rose before.files now.files × (now.output ≡ before.output)) ⊎ ((now.files ≡ before.files) × Rose before.output now.output)
+-- One list of pieces is cut at one place: those before it are whole, of the piece there a front is left, and nothing of
+-- those behind it.
+pub record Cut (pieces : List Piece) : Type 0 where
+  pub whole : List Piece
+  pub piece : Piece
+  pub rest : List Piece
+  pub place : pieces ≡ whole ++ piece ∷ rest
+  -- the bytes of the front
+  pub bytes : ℕ
 
--- what was written of these pieces: all of them, or up to the fault a front of the record's and one of
--- the output's
-abbrev pub Writes : Bool → Option (List ℕ) → Option (List ℕ) → Option (List ℕ) → Option (List ℕ) → Faults → Faults → List Piece → Type 0
-Writes false file file' output output' before now pieces =
-    Grows file file' (recorded_bytes pieces) × Grows output output' (shown_bytes pieces) × (now ≡ before)
-Writes true file file' output output' before now pieces =
-    GrowsByFront file file' (recorded_bytes pieces) × GrowsByFront output output' (shown_bytes pieces) × OneRose before now
+-- the pieces that are left
+abbrev pub pieces_left : {pieces : List Piece} → Cut pieces → List Piece
+pieces_left cut = cut.whole ++ front_of cut.bytes cut.piece ∷ []
 
--- from one state of shelf and output to a later one these pieces were written
-pub record Wrote (failed : Bool) (name : List ℕ) (held held' : List ℕ → Option (List ℕ)) (was_read is_read : ℕ) (output output' : Option (List ℕ)) (before now : Faults) (pieces : List Piece) : Type 0 where
-  pub writes : Writes failed (held name) (held' name) output output' before now pieces
-  pub others : OtherFiles name held held'
-  pub reading : is_read ≡ was_read
+-- the count of faults of where the piece goes rose so, and no other
+abbrev pub FailedAt : {S O : Type 0} → (ℕ → ℕ → Type 0) → Piece → Outside S O → Outside S O → Type 0
+FailedAt rose (recorded bytes) before after = rose before.files.writing after.files.writing × (after.output.faults ≡ before.output.faults)
+FailedAt rose (shown bytes) before after = (after.files.writing ≡ before.files.writing) × rose before.output.faults after.output.faults
+
+-- these pieces were written, those for the record to the file of this name, and nothing else was done
+pub record Wrote {S O : Type 0} (name : List ℕ) (before after : Outside S O) (pieces : List Piece) : Type 0 where
+  pub file : Grows (before.files.held name) (after.files.held name) (recorded_bytes pieces)
+  pub output : Grows before.output.taken after.output.taken (shown_bytes pieces)
+  pub others : OtherFiles name before.files.held after.files.held
+  pub reading : after.files.reading ≡ before.files.reading
+
+-- all of these pieces were written
+pub record WroteAll {S O : Type 0} (name : List ℕ) (before after : Outside S O) (pieces : List Piece) : Type 0 where
+  pub wrote : Wrote name before after pieces
+  pub nothing_rose : NothingRose before after
+
+-- of these pieces was written what is left where they are cut at a fault
+pub record WroteFront {S O : Type 0} (name : List ℕ) (before after : Outside S O) (pieces : List Piece) : Type 0 where
+  pub cut : Cut pieces
+  pub wrote : Wrote name before after (pieces_left cut)
+  pub fault : FailedAt Rose cut.piece before after
+
+-- what was written, by whether the outlet failed
+abbrev pub Writes : {S O : Type 0} → Bool → List ℕ → Outside S O → Outside S O → List Piece → Type 0
+Writes false name before after pieces = WroteAll name before after pieces
+Writes true name before after pieces = WroteFront name before after pieces
 
 -- From an earlier state of an outlet to a later one these pieces were given to it: it writes to the same
 -- places, and wrote them.
@@ -33,7 +58,6 @@ pub record Gave {S O : Type 0} (held : S → List ℕ → Option (List ℕ)) (re
   pub shelf : now.shelf.ghost_name ≡ first.shelf.ghost_name
   pub output : now.out.ghost_name ≡ first.out.ghost_name
   pub name : now.name ≡ first.name
-  pub wrote : first.failed ≡ false → Wrote now.failed first.name.now (held first.shelf.now) (held now.shelf.now)
-      (reading_faults first.shelf.now) (reading_faults now.shelf.now) (taken first.out.now) (taken now.out.now)
-      (record { files = writing_faults first.shelf.now; output = faults first.out.now })
-      (record { files = writing_faults now.shelf.now; output = faults now.out.now }) pieces
+  pub wrote : first.failed ≡ false → Writes now.failed first.name.now
+      (outside held reading_faults writing_faults taken faults first.shelf.now first.out.now)
+      (outside held reading_faults writing_faults taken faults now.shelf.now now.out.now) pieces

@@ -1,10 +1,15 @@
 //! The top call.
-ghost use Rattle.std.specs.Prelude.{◌≡◌, ◌<◌, ◌-◌, ◌^◌, map, string_bytes};
+ghost use Rattle.std.specs.Prelude.{◌≡◌, ◌<◌, ◌-◌, ◌^◌, [], map, string_bytes};
+ghost use Rattle.cloak_model.specs.declared.image.Bundle.{Bundle};
 ghost use Rattle.cloak_model.specs.Command as spec;
-ghost use Rattle.cloak_model.specs.Joint.{Moment};
-ghost use Rattle.cloak_machine.specs.Standing.{StandsFor, steps_made};
-ghost use Rattle.cloak_cli.specs.Answering.{Answers, KeepsFiles, Records, Refuses, outside};
+ghost use Rattle.cloak_model.specs.Opening.{Opened};
+ghost use Rattle.cloak_model.specs.Run.{first_moment, run_of};
+ghost use Rattle.cloak_machine.specs.Standing.{StandsForMoment, steps_made};
+ghost use Rattle.cloak_cli.specs.Answering.{Answers, KeepsFiles};
+ghost use Rattle.cloak_cli.specs.Outside.{output, outside};
+ghost use Rattle.cloak_cli.specs.Recording.{Records, Refuses};
 
+use crate::item_bytes::LONGEST;
 use crate::outlet::Outlet;
 use crate::prepare::{Refusal, prepare};
 use crate::request::{Request, read_words};
@@ -18,7 +23,7 @@ use std::alloc::Global;
 
 /// Shows a line that refuses, and answers the status, or the write fault.
 fn refuse<O: Sink>(out: &mut O, status: Status, line: &[u8]) -> Status
-    ensures { Refuses (O.taken out.old) (O.taken out.new) (O.faults out.old) (O.faults out.new) status line.now result }
+    ensures { Refuses (output O.taken O.faults out.old) (output O.taken O.faults out.new) status line.now result }
 {
     match put_all(out, line) {
         Ok(()) => status,
@@ -28,7 +33,8 @@ fn refuse<O: Sink>(out: &mut O, status: Status, line: &[u8]) -> Status
 
 /// Shows what is wrong with the words.
 fn refuse_words<O: Sink>(out: &mut O, fault: UsageFault) -> Status
-    ensures { Refuses (O.taken out.old) (O.taken out.new) (O.faults out.old) (O.faults out.new) Status.Usage (spec.usage_line fault) result }
+    ensures { Refuses (output O.taken O.faults out.old) (output O.taken O.faults out.new)
+        Status.Usage (spec.usage_line fault) result }
 {
     match fault {
         UsageFault::NoCommand => refuse(out, Status::Usage, b"usage: no command\n"),
@@ -47,9 +53,11 @@ fn record_run<S: Shelf, O: Sink>(
     out: &mut O,
 ) -> Status
     requires { steps_made machine ≡ 0 }
-    ensures { (m : Moment) → StandsFor machine m → Records run.now.record_name.now run.now.steps
+    ensures { (b : Bundle) (o : Opened) → o.items ≡ [] → StandsForMoment machine (first_moment b o.joint) →
+        Records run.now.record_name.now
         (outside S.held S.reading_faults S.writing_faults O.taken O.faults shelf.old out.old)
-        (outside S.held S.reading_faults S.writing_faults O.taken O.faults shelf.new out.new) result m }
+        (outside S.held S.reading_faults S.writing_faults O.taken O.faults shelf.new out.new)
+        result (run_of b run.now.steps o) }
 {
     if shelf.begin(run.record_name).is_err() {
         return Status::WriteFault;
@@ -59,6 +67,7 @@ fn record_run<S: Shelf, O: Sink>(
         name: run.record_name,
         out,
         failed: false,
+        piece: [0; LONGEST],
     };
     let status = write_run(machine, run.steps, &mut outlet);
     if outlet.failed {
@@ -77,10 +86,9 @@ fn run_command<S: Shelf, O: Sink>(
     requires reading { S.reading_faults shelf.old < 2 ^ 64 - 1 }
     requires writing { S.writing_faults shelf.old < 2 ^ 64 - 1 }
     requires output { O.faults out.old < 2 ^ 64 - 1 }
-    ensures answers { Answers (spec.Run run.now.bundle.now run.now.record_name.now run.now.steps run.now.number)
+    ensures { Answers (spec.Run run.now.bundle.now run.now.record_name.now run.now.steps run.now.number)
         (outside S.held S.reading_faults S.writing_faults O.taken O.faults shelf.old out.old)
         (outside S.held S.reading_faults S.writing_faults O.taken O.faults shelf.new out.new) result }
-    ensures kept { KeepsFiles (spec.Run run.now.bundle.now run.now.record_name.now run.now.steps run.now.number) (S.held shelf.old) (S.held shelf.new) }
 {
     match prepare(alloc, run.bundle, run.number, shelf) {
         Ok(machine) => record_run(machine, run, shelf, out),
@@ -103,7 +111,8 @@ pub fn cloak<S: Shelf, O: Sink>(
     ensures answers { Answers (spec.words_of (map string_bytes words.now.items))
         (outside S.held S.reading_faults S.writing_faults O.taken O.faults shelf.old out.old)
         (outside S.held S.reading_faults S.writing_faults O.taken O.faults shelf.new out.new) result }
-    ensures kept { KeepsFiles (spec.words_of (map string_bytes words.now.items)) (S.held shelf.old) (S.held shelf.new) }
+    ensures kept { KeepsFiles (spec.words_of (map string_bytes words.now.items)) result
+        (S.held shelf.old) (S.held shelf.new) }
 {
     match read_words(words.as_slice()) {
         Request::NotBuilt => refuse(out, Status::Unbuilt, b"unbuilt 0\n"),

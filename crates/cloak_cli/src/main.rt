@@ -10,6 +10,7 @@ mod command;
 mod files;
 #[cfg(test)]
 mod image_tests;
+mod item_bytes;
 mod number;
 mod outlet;
 mod prepare;

@@ -3,6 +3,7 @@ ghost use Rattle.std.specs.Prelude.{◌≡◌, [], ◌∷◌};
 ghost use Rattle.cloak_model.specs.Exchange.{recorded, shown, Emits};
 ghost use Rattle.cloak_machine.specs.Ending.{report_of};
 
+use crate::item_bytes::{LONGEST, write_cipher, write_item};
 use cloak_machine::End;
 use cloak_model::{Emit, Item};
 use outside_io::{Shelf, Sink, put_all};
@@ -14,6 +15,8 @@ pub struct Outlet<'s, 'n, 'o, S: Shelf, O: Sink> {
     pub name: &'n str,
     pub out: &'o mut O,
     pub failed: bool,
+    /// Room for the bytes of an item.
+    pub piece: [u8; LONGEST],
 }
 
 impl<'s, 'n, 'o, S: Shelf, O: Sink> Emit for Outlet<'s, 'n, 'o, S, O> {
@@ -22,17 +25,19 @@ impl<'s, 'n, 'o, S: Shelf, O: Sink> Emit for Outlet<'s, 'n, 'o, S, O> {
     ghost gave = { Gave S.held S.reading_faults S.writing_faults O.taken O.faults };
 
     fn item(&mut self, i: &Item) {
-        match *i {
-            Item::Step { number } => {
-                let [a, b, c, d] = number.to_le_bytes();
-                self.append(&[0x10, a, b, c, d]);
-            }
-            Item::Close { steps } => {
-                let [a, b, c, d] = steps.to_le_bytes();
-                self.append(&[0x11, a, b, c, d]);
-            }
-            Item::End => self.append(&[0x12]),
+        if self.failed {
+            return;
         }
+        let n = write_item(i, &mut self.piece);
+        self.failed = self.shelf.append(self.name, &self.piece[..n]).is_err();
+    }
+
+    fn cipher(&mut self, frame: u32, bytes: &[u8; 4096]) {
+        if self.failed {
+            return;
+        }
+        let n = write_cipher(frame, bytes, &mut self.piece);
+        self.failed = self.shelf.append(self.name, &self.piece[..n]).is_err();
     }
 
     fn console(&mut self, b: u8) {

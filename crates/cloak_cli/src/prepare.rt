@@ -2,8 +2,10 @@
 ghost use Rattle.std.specs.Prelude.{◌≡◌, true, IfOk, IsErrOf};
 ghost use Rattle.std.specs.Bool.{OnTrue};
 ghost use Rattle.cloak_model.specs.Bundle.{IsBundle};
+ghost use Rattle.cloak_machine.specs.Standing.{steps_made};
 ghost use Rattle.outside_io.specs.Told.{SameFiles};
-ghost use Rattle.cloak_cli.specs.Answering.{IsFirstForm, IsOtherForm, Prepares};
+ghost use Rattle.cloak_cli.specs.Answering.{IsFirstForm, IsOtherForm};
+ghost use Rattle.cloak_cli.specs.Preparing.{Prepares};
 
 use crate::files::{ReadFailure, read_whole};
 use cloak_machine::{Machine, OpenFault};
@@ -64,7 +66,9 @@ pub fn prepare<S: Shelf>(
     number: u64,
     shelf: &mut S,
 ) -> Result<Machine, Refusal>
-    ensures prepares { Prepares (S.held shelf.old name.now) number (S.reading_faults shelf.old) (S.reading_faults shelf.new) result }
+    ensures prepares { Prepares (S.held shelf.old name.now) number
+        (S.reading_faults shelf.old) (S.reading_faults shelf.new) result }
+    ensures fresh { IfOk result (λ machine. steps_made machine ≡ 0) }
     ensures files { SameFiles (S.held shelf.old) (S.held shelf.new) }
     ensures writing { S.writing_faults shelf.new ≡ S.writing_faults shelf.old }
 {

@@ -1,12 +1,14 @@
 //! A run from its first step to its report.
-ghost use Rattle.std.specs.Prelude.{◌≡◌, ◌≤◌, false};
+ghost use Rattle.std.specs.Prelude.{◌≡◌, ◌≤◌, [], Some, false};
+ghost use Rattle.cloak_model.specs.declared.image.Bundle.{Bundle};
 ghost use Rattle.cloak_model.specs.Command.{most_steps};
-ghost use Rattle.cloak_model.specs.Due.{written_last};
 ghost use Rattle.cloak_model.specs.Exchange.{Emits};
 ghost use Rattle.cloak_model.specs.Joint.{Moment};
-ghost use Rattle.cloak_machine.specs.Standing.{StandsFor, steps_made};
+ghost use Rattle.cloak_model.specs.Opening.{Opened};
+ghost use Rattle.cloak_model.specs.Run.{cause_of, closing, first_moment, run_of, turns_from};
+ghost use Rattle.cloak_machine.specs.Standing.{StandsForMoment, steps_made};
 ghost use Rattle.cloak_cli.specs.Outlet.{Gave};
-ghost use Rattle.cloak_cli.specs.Running.{RunsSteps, WritesRun, status_of};
+ghost use Rattle.cloak_cli.specs.Running.{EndsRun, RunsSteps, WritesRun, status_of};
 
 use crate::outlet::Outlet;
 use crate::status::Status;
@@ -25,8 +27,9 @@ fn run_steps<S: Shelf, O: Sink>(
     requires few { steps ≤ most_steps }
     ensures same_shelf { outlet.new.shelf.ghost_name ≡ outlet.old.shelf.ghost_name }
     ensures same_out { outlet.new.out.ghost_name ≡ outlet.old.out.ghost_name }
-    ensures runs { (m : Moment) → StandsFor machine.old m →
-        RunsSteps (Gave S.held S.reading_faults S.writing_faults O.taken O.faults) outlet.new.failed outlet.old outlet.new machine.new result steps m }
+    ensures runs { (m : Moment) → StandsForMoment machine.old m →
+        RunsSteps (Gave S.held S.reading_faults S.writing_faults O.taken O.faults) outlet.new.failed
+        outlet.old outlet.new machine.new result m (turns_from steps m) }
 {
     for made in 0..steps {
         let _ = made;
@@ -51,17 +54,23 @@ fn status(stop: &Stop) -> Status
     }
 }
 
-/// Writes the closing of the record, the rest of the console's line, and the report.
-fn write_end<S: Shelf, O: Sink>(machine: Machine, stop: Stop, outlet: &mut Outlet<'_, '_, '_, S, O>)
+/// Writes the closing of the record, the rest of the console's line, and the report of a run that this
+/// stopped, and answers its status.
+fn write_end<S: Shelf, O: Sink>(
+    machine: Machine,
+    stop: Stop,
+    outlet: &mut Outlet<'_, '_, '_, S, O>,
+) -> Status
     ensures same_shelf { outlet.new.shelf.ghost_name ≡ outlet.old.shelf.ghost_name }
     ensures same_out { outlet.new.out.ghost_name ≡ outlet.old.out.ghost_name }
-    ensures runs { (m : Moment) → StandsFor machine m →
-        Emits (Gave S.held S.reading_faults S.writing_faults O.taken O.faults) outlet.old outlet.new
-        (written_last stop m) }
+    ensures ends { (m : Moment) → StandsForMoment machine m →
+        EndsRun (Gave S.held S.reading_faults S.writing_faults O.taken O.faults)
+        outlet.old outlet.new result stop m.steps (closing m.joint) }
 {
     let end = machine.finish(stop, outlet);
     outlet.show(b"\n");
     outlet.report(&end);
+    status(&end.stop)
 }
 
 /// Makes a run whose record is begun, and writes it.
@@ -72,10 +81,11 @@ pub fn write_run<S: Shelf, O: Sink>(
 ) -> Status
     requires fresh { steps_made machine ≡ 0 }
     requires few { steps ≤ most_steps }
-    requires unfailed { outlet.old.failed ≡ false }
     ensures same_shelf { outlet.new.shelf.ghost_name ≡ outlet.old.shelf.ghost_name }
     ensures same_out { outlet.new.out.ghost_name ≡ outlet.old.out.ghost_name }
-    ensures runs { (m : Moment) → StandsFor machine m → WritesRun (Gave S.held S.reading_faults S.writing_faults O.taken O.faults) outlet.new.failed outlet.old outlet.new result steps m }
+    ensures runs { (b : Bundle) (o : Opened) → o.items ≡ [] → StandsForMoment machine (first_moment b o.joint) →
+        WritesRun (Gave S.held S.reading_faults S.writing_faults O.taken O.faults) outlet.new.failed
+        outlet.old outlet.new result (run_of b steps o) }
 {
     let mut machine = machine;
     outlet.append(b"CLOAKREC");
@@ -83,7 +93,5 @@ pub fn write_run<S: Shelf, O: Sink>(
     if outlet.failed {
         return Status::WriteFault;
     }
-    let stop = stopped.unwrap_or(Stop::Budget);
-    write_end(machine, stop, outlet);
-    status(&stop)
+    write_end(machine, stopped.unwrap_or(Stop::Budget), outlet)
 }

@@ -1,5 +1,5 @@
 mod Closing
 mod MemoryFacts
-mod Opening
+pub mod Opening
 pub mod PutFacts
 mod StepFacts

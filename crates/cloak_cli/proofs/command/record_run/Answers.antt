@@ -1,21 +1,34 @@
-use Rattle.std.proofs.Common.{refl, ◌∙◌, sym}
+use Rattle.std.proofs.Common.{refl, ◌∙◌, sym, inl, inr}
 use Rattle.cloak_cli.proofs.OutletFacts.{gave_all}
-use Rattle.cloak_cli.proofs.AnswerFacts.{succeeded, counted, recorded_failed, recorded_whole}
+use Rattle.cloak_cli.proofs.AnswerFacts.{succeeded, failed, counted, risen, recorded_front, recorded_all}
 use Rattle.cloak_cli.proofs.command.record_run.Goals as goal
 
+pub returns-then-is_err : goal.returns-then-is_err
+returns-then-is_err g c = λ b o none stands.
+    let ill = sym c.is_err.ensures.value ∙ c.if-is_err.true in
+    record {
+      reading = c.begin.ensures.reading;
+      others = c.begin.ensures.others;
+      outcome = inr (inl (record {
+        answer = refl;
+        file = failed c.begin.result _ ill c.begin.ensures.err;
+        writing = risen _ _ c.begin.result ill c.begin.ensures.writing;
+        untouched = refl;
+      }));
+    }
+
 pub returns-then-outlet : goal.returns-then-outlet
-returns-then-outlet g c = λ m stands.
+returns-then-outlet g c = λ b o none stands.
     let well = sym c.is_err.ensures.value ∙ c.if-is_err.false in
-    recorded_failed _ _ _ _ m (gave_all (c.write_run-status.ensures.runs m stands).emits) refl c.if-outlet.true
+    recorded_front _ _ _ _ (gave_all (c.write_run-status.ensures.runs b o none stands).emits) refl c.if-outlet.true
     (c.shelf-1.given.1 (sym c.write_run-status.ensures.same_shelf)) (c.out-1.given.1 (sym c.write_run-status.ensures.same_out))
-    c.begin.ensures.others c.begin.ensures.reading (counted _ _ c.begin.result well c.begin.ensures.writing)
+    (succeeded c.begin.result _ well c.begin.ensures.emptied) c.begin.ensures.others c.begin.ensures.reading (counted _ _ c.begin.result well c.begin.ensures.writing)
 
 pub returns : goal.returns
-returns g c = λ m stands.
-    let run = c.write_run-status.ensures.runs m stands in
+returns g c = λ b o none stands.
+    let run = c.write_run-status.ensures.runs b o none stands in
     let well = sym c.is_err.ensures.value ∙ c.if-is_err.false in
-    let whole = run.whole c.if-outlet.false in
-    recorded_whole _ _ _ _ _ m (gave_all run.emits) refl c.if-outlet.false
+    recorded_all _ _ _ _ _ (gave_all run.emits) refl c.if-outlet.false
     (c.shelf-1.given.1 (sym c.write_run-status.ensures.same_shelf)) (c.out-1.given.1 (sym c.write_run-status.ensures.same_out))
-    c.begin.ensures.others c.begin.ensures.reading (counted _ _ c.begin.result well c.begin.ensures.writing)
-    (succeeded c.begin.result _ well c.begin.ensures.emptied) whole.0 whole.1
+    (run.status c.if-outlet.false)
+    (succeeded c.begin.result _ well c.begin.ensures.emptied) c.begin.ensures.others c.begin.ensures.reading (counted _ _ c.begin.result well c.begin.ensures.writing)

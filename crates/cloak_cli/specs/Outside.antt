@@ -1,0 +1,36 @@
+-- What is outside: the files of a shelf, and an output.
+use Rattle.std.specs.Prelude.{ℕ, ◌≡◌, List, Option}
+
+-- a shelf, the bytes of its files by their names as far as it tells them, and how often reading and writing them failed
+pub record Files (S : Type 0) : Type 0 where
+  pub shelf : S
+  pub held : List ℕ → Option (List ℕ)
+  pub reading : ℕ
+  pub writing : ℕ
+
+-- an output, its bytes as far as it tells them, and how often it failed
+pub record Output (O : Type 0) : Type 0 where
+  pub out : O
+  pub taken : Option (List ℕ)
+  pub faults : ℕ
+
+pub record Outside (S O : Type 0) : Type 0 where
+  pub files : Files S
+  pub output : Output O
+
+-- what this shelf and this output tell
+
+abbrev pub files : {S : Type 0} → (S → List ℕ → Option (List ℕ)) → (S → ℕ) → (S → ℕ) → S → Files S
+files held reading writing shelf = record { shelf = shelf; held = held shelf; reading = reading shelf; writing = writing shelf }
+
+abbrev pub output : {O : Type 0} → (O → Option (List ℕ)) → (O → ℕ) → O → Output O
+output taken faults out = record { out = out; taken = taken out; faults = faults out }
+
+abbrev pub outside : {S O : Type 0} → (S → List ℕ → Option (List ℕ)) → (S → ℕ) → (S → ℕ) → (O → Option (List ℕ)) → (O → ℕ) → S → O → Outside S O
+outside held reading writing taken faults shelf out = record { files = files held reading writing shelf; output = output taken faults out }
+
+-- no call failed
+pub record NothingRose {S O : Type 0} (before after : Outside S O) : Type 0 where
+  pub reading : after.files.reading ≡ before.files.reading
+  pub writing : after.files.writing ≡ before.files.writing
+  pub faults : after.output.faults ≡ before.output.faults
