@@ -10,7 +10,8 @@ use Rattle.cloak_cli.specs.Outlet.{Cut, pieces_left, FailedAt}
 use Rattle.cloak_cli.specs.Running.{IsStatusOf}
 
 -- the line was shown, and this is the answer
-pub record ShowsLine {O : Type 0} (before after : Output O) (refused : Status) (line : List ℕ) (given : Status) : Type 0 where
+pub record ShowsLine {O : Type 0} (before after : Output O) (refused : Status) (line : List ℕ) (given : Status) : Type 0
+  where
   pub answer : given ≡ refused
   pub line_shown : Grows before.taken after.taken line
   pub faults : after.faults ≡ before.faults
@@ -25,7 +26,8 @@ abbrev pub Refuses : {O : Type 0} → Output O → Output O → Status → List 
 Refuses before after refused line given = ShowsLine before after refused line given ⊎ ShowsFront before after line given
 
 -- the whole run was written
-pub record RecordsAll {S O : Type 0} (name : List ℕ) (before after : Outside S O) (given : Status) (r : Run) : Type 0 where
+pub record RecordsAll {S O : Type 0} (name : List ℕ) (before after : Outside S O) (given : Status) (r : Run) : Type 0
+  where
   pub answer : IsStatusOf given r.stop
   pub file : Tells (after.files.held name) (recorded_bytes (due r))
   pub output : Grows before.output.taken after.output.taken (shown_bytes (due r))
@@ -39,7 +41,8 @@ pub record BeginsNot {S O : Type 0} (name : List ℕ) (before after : Outside S 
   pub untouched : after.output ≡ before.output
 
 -- the run broke off
-pub record RecordsFront {S O : Type 0} (name : List ℕ) (before after : Outside S O) (given : Status) (r : Run) : Type 0 where
+pub record RecordsFront {S O : Type 0} (name : List ℕ) (before after : Outside S O) (given : Status) (r : Run) : Type 0
+  where
   pub answer : given ≡ status.WriteFault
   pub cut : Cut (due r)
   pub file : Tells (after.files.held name) (recorded_bytes (pieces_left cut))
@@ -50,4 +53,5 @@ pub record RecordsFront {S O : Type 0} (name : List ℕ) (before after : Outside
 pub record Records {S O : Type 0} (name : List ℕ) (before after : Outside S O) (given : Status) (r : Run) : Type 0 where
   pub reading : after.files.reading ≡ before.files.reading
   pub others : OtherFiles name before.files.held after.files.held
-  pub outcome : RecordsAll name before after given r ⊎ (BeginsNot name before after given ⊎ RecordsFront name before after given r)
+  pub outcome : RecordsAll name before after given r ⊎
+      (BeginsNot name before after given ⊎ RecordsFront name before after given r)

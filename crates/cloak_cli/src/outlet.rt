@@ -41,7 +41,11 @@ impl<'s, 'n, 'o, S: Shelf, O: Sink> Emit for Outlet<'s, 'n, 'o, S, O> {
     }
 
     fn console(&mut self, b: u8) {
-        self.show(&[b]);
+        if self.failed {
+            return;
+        }
+        // One byte is taken in one call, or not at all.
+        self.failed = self.out.put(&[b]).is_err();
     }
 }
 
@@ -52,7 +56,8 @@ impl<'s, 'n, 'o, S: Shelf, O: Sink> Outlet<'s, 'n, 'o, S, O> {
     pub fn append(&mut self, bytes: &[u8])
         ensures same_shelf { self.new.shelf.ghost_name ≡ self.old.shelf.ghost_name }
         ensures same_out { self.new.out.ghost_name ≡ self.old.out.ghost_name }
-        ensures emits { Emits (Gave S.held S.reading_faults S.writing_faults O.taken O.faults) self.old self.new (recorded bytes.now ∷ []) }
+        ensures emits { Emits (Gave S.held S.reading_faults S.writing_faults O.taken O.faults)
+            self.old self.new (recorded bytes.now ∷ []) }
     {
         if self.failed {
             return;
@@ -64,7 +69,8 @@ impl<'s, 'n, 'o, S: Shelf, O: Sink> Outlet<'s, 'n, 'o, S, O> {
     pub fn show(&mut self, bytes: &[u8])
         ensures same_shelf { self.new.shelf.ghost_name ≡ self.old.shelf.ghost_name }
         ensures same_out { self.new.out.ghost_name ≡ self.old.out.ghost_name }
-        ensures emits { Emits (Gave S.held S.reading_faults S.writing_faults O.taken O.faults) self.old self.new (shown bytes.now ∷ []) }
+        ensures emits { Emits (Gave S.held S.reading_faults S.writing_faults O.taken O.faults)
+            self.old self.new (shown bytes.now ∷ []) }
     {
         if self.failed {
             return;
@@ -76,7 +82,8 @@ impl<'s, 'n, 'o, S: Shelf, O: Sink> Outlet<'s, 'n, 'o, S, O> {
     pub fn report(&mut self, end: &End)
         ensures same_shelf { self.new.shelf.ghost_name ≡ self.old.shelf.ghost_name }
         ensures same_out { self.new.out.ghost_name ≡ self.old.out.ghost_name }
-        ensures emits { Emits (Gave S.held S.reading_faults S.writing_faults O.taken O.faults) self.old self.new (shown (report_of end.now) ∷ []) }
+        ensures emits { Emits (Gave S.held S.reading_faults S.writing_faults O.taken O.faults)
+            self.old self.new (shown (report_of end.now) ∷ []) }
     {
         if self.failed {
             return;
