@@ -1,0 +1,123 @@
+-- Names that open definitions, so that a row is computed: a row's `unfolding` line has one or two of these. Of the cipher and
+-- the digest nothing is opened: `cbc` and `sha256` stand in a row as they are applied.
+use Rattle.rv_isa.specs.Table as table
+use Rattle.cloak_base.specs.Registers as registers
+use Rattle.cloak_base.specs.Pages as pages
+use Rattle.cloak_base.specs.Random as random
+use Rattle.cloak_model.specs.Memory as memory
+use Rattle.cloak_model.specs.Effect as effect
+use Rattle.cloak_model.specs.Csr as csr
+use Rattle.cloak_model.specs.Hart as hart
+use Rattle.cloak_model.specs.Walk as walk
+use Rattle.cloak_model.specs.Ask as ask
+use Rattle.cloak_model.specs.HartStep as hart_step
+use Rattle.cloak_model.specs.HostCalls as host_calls
+use Rattle.cloak_model.specs.KernelStep as kernel_step
+use Rattle.cloak_model.specs.Resources as resources
+use Rattle.cloak_model.specs.Contexts as contexts
+use Rattle.cloak_model.specs.Calls as calls
+use Rattle.cloak_model.specs.Files as files
+use Rattle.cloak_model.specs.Fork as fork
+use Rattle.cloak_model.specs.AskPages as ask_pages
+use Rattle.cloak_model.specs.InsideStep as inside_step
+use Rattle.cloak_model.specs.Hypercalls as hypercalls
+use Rattle.cloak_model.specs.DomainState as domain_state
+use Rattle.cloak_model.specs.DomainStep as domain_step
+use Rattle.cloak_model.specs.Cloaking as cloaking
+use Rattle.cloak_model.specs.PageMoves as page_moves
+use Rattle.cloak_model.specs.Touched as touched
+use Rattle.cloak_model.specs.Ahead as ahead
+use Rattle.cloak_model.specs.Leaving as leaving
+use Rattle.cloak_model.specs.Resuming as resuming
+use Rattle.cloak_model.specs.Opening as opening
+use Rattle.cloak_model.specs.Joint as joint
+use Rattle.cloak_model.specs.Run as run
+use Rattle.cloak_model.specs.Exchange as exchange
+use Rattle.cloak_model.specs.KernelAlone as kernel_alone
+use Rattle.cloak_model.specs.DomainAlone as domain_alone
+use Rattle.worked_rows.specs.Runs as runs
+
+-- the plain step of a hart
+unfoldable pub plain_steps : Unit {0}
+unfolding
+    table.jalr_line table.branch_line table.load_line table.store_line table.op_imm_line table.op_line
+    table.misc_mem_line table.privileged_line table.system_line table.instruction registers.zero_registers
+    effect.effect csr.with_pending csr.csr_read csr.csr_write csr.trap_entry csr.trap_return csr.interrupt_due
+    hart.started walk.first_leaf walk.second_leaf walk.first_word walk.second_word walk.walk walk.walk_tables
+    ask.ask_word ask.ask_second ask.ask_after ask.ask_first ask.ask_walk ask.ask_inside ask.ask_translate
+    ask.ask_count ask.ask_value ask.ask_store ask.ask_frame ask.ask_fill ask.ask_settled hart_step.raised
+    hart_step.csr_written hart_step.csr_found hart_step.csr_step hart_step.returned hart_step.idle hart_step.system
+    host_calls.put_call host_calls.timer_call host_calls.halt_call host_calls.read_block host_calls.write_block
+    host_calls.read_call host_calls.write_call host_calls.host_call host_calls.resumed host_calls.ecall_in
+    host_calls.ecall kernel_step.carried_out kernel_step.instruction_step kernel_step.ticked kernel_step.kernel_step
+plain_steps = tt
+
+-- the step of a cloaked program but for its reaching of pages
+unfoldable pub told_steps : Unit {0}
+unfolding
+    table.jalr_line table.branch_line table.load_line table.store_line table.op_imm_line table.op_line
+    table.misc_mem_line table.privileged_line table.system_line table.instruction registers.zero_registers
+    pages.same_page pages.is_of effect.effect resources.lookup resources.page_at resources.started_resources
+    resources.made_at resources.new_resource resources.mapped resources.map_region resources.unmap_region
+    resources.drop_space contexts.started_contexts contexts.resume_if contexts.resume_at contexts.shown contexts.admit
+    calls.is_good calls.copy_begin calls.call_begin calls.begin_call calls.in_put calls.in_reached calls.in_placed
+    calls.in_step calls.copy_in_step calls.out_reached calls.out_got calls.out_placed calls.out_step
+    calls.copy_out_step calls.finish_call files.file_found files.file_resource fork.fork_fits fork.forked_resources
+    fork.forked fork.ask_copies fork.fork_cleared fork.fork_if fork.fork fork.ask_forgets fork.end_cleared fork.end_if
+    fork.end_context ask_pages.answers ask_pages.if_drawn ask_pages.ask_inside_address ask_pages.offered_by
+    ask_pages.ask_offer ask_pages.reached ask_pages.reach_by_table ask_pages.got ask_pages.get_by_table
+    ask_pages.put_at ask_pages.stored_inside ask_pages.put_by_table ask_pages.settled_if_marked ask_pages.clear_from
+    ask_pages.next_answer ask_pages.ask_read ask_pages.ask_write ask_pages.ask_get
+    ask_pages.ask_put ask_pages.ask_clear ask_pages.ask_copy ask_pages.ask_forget inside_step.loaded
+    inside_step.load_reached inside_step.load_got inside_step.load inside_step.store_reached inside_step.store_put
+    inside_step.store inside_step.system inside_step.done inside_step.decoded inside_step.executed inside_step.fetched
+    inside_step.fetch inside_step.instruction_step hypercalls.remapped hypercalls.new_call hypercalls.map_call
+    hypercalls.unmap_call hypercalls.file_call hypercalls.thread_at hypercalls.thread_call hypercalls.fork_told
+    hypercalls.fork_call hypercalls.end_told hypercalls.exit_call hypercalls.call_begun hypercalls.kernel_call
+    hypercalls.hypercall domain_state.started_control domain_state.started_domain domain_step.instruction_ended
+    domain_step.copy_ended domain_step.phase_step domain_step.step_if domain_step.domain_step domain_step.interrupt_if
+    domain_step.interrupt domain_step.answer_in domain_step.take_answer domain_step.resume_told domain_step.resume
+told_steps = tt
+
+-- the step of a cloaked program
+unfoldable pub program_steps : Unit {0}
+unfolding told_steps ask_pages.ask_reach memory.zero_page runs.run
+program_steps = tt
+
+-- a joint run but for what is compared in offers
+unfoldable pub joint_steps : Unit {0}
+unfolding
+    plain_steps told_steps random.next_draw random.numbered cloaking.settle_owed cloaking.settle_if cloaking.settle
+    cloaking.unless_missed page_moves.place_with page_moves.place
+    page_moves.copy_pages page_moves.drop_pages touched.access_frames touched.transfer_frames touched.effect_frames
+    touched.touched_after touched.touched ahead.settle_while ahead.settle_touched ahead.made_after ahead.settled_step
+    leaving.shown_registers leaving.leave resuming.by_root resuming.by_context resuming.by_domain resuming.resume
+    opening.started_ledger opening.started_kernel opening.started_memory opening.started_joint opening.opened_with
+    opening.opened_by joint.outside_ended joint.after_outside joint.outside_step joint.domain_ended
+    joint.after_domain_step joint.interrupt_ended joint.after_interrupt joint.by_interrupt joint.inside_step
+    joint.turn_of joint.joint_step run.turns_from run.joint_after run.last_stop run.settled_below run.closing
+    run.run_of run.turns_pieces run.due exchange.item_bytes exchange.steps_items
+joint_steps = tt
+
+-- a joint run: opening, steps, closing
+unfoldable pub joint_runs : Unit {0}
+unfolding joint_steps program_steps cloaking.compared cloaking.offer
+joint_runs = tt
+
+-- the kernel alone
+unfoldable pub lone_kernels : Unit {0}
+unfolding
+    plain_steps kernel_alone.take_cipher kernel_alone.take_put kernel_alone.take_leave kernel_alone.plain_step
+    kernel_alone.ended kernel_alone.begun kernel_alone.take_step kernel_alone.take_fit kernel_alone.take_item
+    kernel_alone.taken_from opening.started_ledger opening.started_kernel opening.started_memory opening.started_joint
+    opening.opened_with opening.opened_by leaving.shown_registers leaving.leave
+lone_kernels = tt
+
+-- a program alone
+unfoldable pub lone_programs : Unit {0}
+unfolding
+    program_steps domain_alone.run_of domain_alone.run_with domain_alone.answered_by domain_alone.take_answer
+    domain_alone.take_timer domain_alone.resumed_by domain_alone.take_resume domain_alone.made_by domain_alone.ended
+    domain_alone.slot_on domain_alone.begun domain_alone.take_step domain_alone.take_fit domain_alone.take_item
+    domain_alone.taken_from
+lone_programs = tt

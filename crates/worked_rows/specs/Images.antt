@@ -1,0 +1,68 @@
+-- Guest images of the rows: words in their order, each with its instruction beside it.
+use Rattle.std.specs.Prelude.{ℕ, List, [], ◌∷◌, ◌++◌, replicate, take}
+use Rattle.std.specs.List.{flat_map}
+use Rattle.cloak_base.specs.declared.names.Start.{Start}
+use Rattle.cloak_model.specs.Bits.{word}
+use Rattle.cloak_model.specs.declared.image.KernelImage.{KernelImage}
+use Rattle.cloak_model.specs.declared.image.Program.{Program}
+use Rattle.cloak_model.specs.declared.image.Bundle.{Bundle}
+
+-- The kernel sets its trap vector to the word behind this, and resumes context 0.
+abbrev pub boot : List ℕ
+boot =
+    0x00000317 ∷  -- auipc x6, 0
+    0x01430313 ∷  -- addi x6, x6, 20
+    0x10531073 ∷  -- csrrw x0, stvec, x6
+    0x4F5608B7 ∷  -- lui x17, 0x4F560
+    0x00000073 ∷  -- ecall
+    []
+
+-- it halts with x10
+abbrev pub halt : List ℕ
+halt =
+    0x00400893 ∷  -- addi x17, x0, 4
+    0x00000073 ∷  -- ecall
+    []
+
+-- The program stores 7, loads it again, and makes call 9 with it.
+abbrev pub program_words : List ℕ
+program_words =
+    0x00700513 ∷  -- addi x10, x0, 7
+    0x00A12023 ∷  -- sw x10, 0(x2)
+    0x00012583 ∷  -- lw x11, 0(x2)
+    0x00900813 ∷  -- addi x16, x0, 9
+    0x4F5608B7 ∷  -- lui x17, 0x4F560
+    0x00888893 ∷  -- addi x17, x17, 8
+    0x00000073 ∷  -- ecall
+    []
+
+-- a page that begins with these words
+abbrev pub page_of : List ℕ → List ℕ
+page_of words = take 4096 (flat_map word words ++ replicate 4096 0)
+
+abbrev pub program_page : List ℕ
+program_page = page_of program_words
+
+-- 64 frames, and these words from the beginning of RAM on
+abbrev pub kernel_of : ℕ → List ℕ → List ℕ → KernelImage
+kernel_of harts schedule words = record {
+  frames = 64;
+  harts = harts;
+  schedule = schedule;
+  entry = 0x80000000;
+  segments = record { address = 0x80000000; bytes = flat_map word words } ∷ [];
+  disk = [];
+}
+
+-- one page at the address that its frame 8 has, with a stack in the page
+abbrev pub program_start : Start
+program_start = record { pages = 1; base = 0x80008000; entry = 0x80008000; sp = 0x80008100 }
+
+abbrev pub program_of : List ℕ → Program
+program_of page = record { place = 8; start = program_start; bytes = page }
+
+abbrev pub image_of : ℕ → List ℕ → List ℕ → Bundle
+image_of harts schedule words = record { kernel = kernel_of harts schedule words; programs = program_of program_page ∷ [] }
+
+abbrev pub whole_image : Bundle
+whole_image = image_of 1 (0 ∷ []) (boot ++ halt)
