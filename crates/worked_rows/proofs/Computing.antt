@@ -81,8 +81,13 @@ told_steps = tt
 
 -- the step of a cloaked program
 unfoldable pub program_steps : Unit {0}
-unfolding told_steps ask_pages.ask_reach memory.zero_page runs.run
+unfolding told_steps ask_pages.ask_reach
 program_steps = tt
+
+-- steps of a program by itself, with pages of zeros
+unfoldable pub program_runs : Unit {0}
+unfolding program_steps runs.run memory.zero_page
+program_runs = tt
 
 -- a joint run but for what is compared in offers
 unfoldable pub joint_steps : Unit {0}

@@ -1,3 +1,5 @@
 pub mod Images
 pub mod Runs
 pub mod DomainRows
+pub mod JointRuns
+pub mod JointRows
