@@ -1,5 +1,7 @@
 -- Names that open definitions, so that a row is computed: a row's `unfolding` line has one or two of these. Of the cipher and
 -- the digest nothing is opened: `cbc` and `sha256` stand in a row as they are applied.
+use Rattle.std.specs.Fmt as fmt
+use Rattle.hex.specs.Hex as hex
 use Rattle.rv_isa.specs.Table as table
 use Rattle.cloak_base.specs.Registers as registers
 use Rattle.cloak_base.specs.Pages as pages
@@ -126,3 +128,8 @@ unfolding
     domain_alone.slot_on domain_alone.begun domain_alone.take_step domain_alone.take_fit domain_alone.take_item
     domain_alone.taken_from
 lone_programs = tt
+
+-- numbers as texts
+unfoldable pub texts : Unit {0}
+unfolding fmt.digits hex.encode_with
+texts = tt

@@ -5,14 +5,11 @@ use Rattle.std.specs.Prelude.{replicate}
 use Rattle.std.specs.List.{flat_map}
 use Rattle.cloak_base.specs.Pages.{with_page}
 use Rattle.cloak_base.specs.Random.{Random}
-use Rattle.cloak_base.specs.declared.names.HartId.{HartId}
 use Rattle.cloak_base.specs.declared.names.Kind.TheVariants.{Fetch, Store}
-use Rattle.cloak_base.specs.declared.names.Mode.TheVariants.{S, U}
 use Rattle.cloak_base.specs.declared.names.PageId.{PageId}
 use Rattle.cloak_base.specs.declared.names.SpaceId.{SpaceId}
 use Rattle.cloak_model.specs.declared.answer.Answer.{Answer}
 use Rattle.cloak_model.specs.declared.answer.Answer.TheVariants as told
-use Rattle.cloak_model.specs.declared.context.Phase.TheVariants as phase
 use Rattle.cloak_model.specs.declared.item.Item.{Item}
 use Rattle.cloak_model.specs.declared.item.Item.TheVariants as item
 use Rattle.cloak_model.specs.Bits.{word}
@@ -31,8 +28,8 @@ use Rattle.cloak_model.specs.Joint.{Moment, Turn, joint_step, quiet, after_turn,
 use Rattle.cloak_model.specs.Run.{turns_from}
 use Rattle.worked_rows.specs.Images.{boot, program_page}
 use Rattle.worked_rows.specs.Runs.{running, registers_from}
-use Rattle.worked_rows.specs.JointRuns.{key, csrs_of}
-use Rattle.worked_rows.specs.JointRows.{opening_cipher, program_resources, program_with, program_at_call, kernel_hart}
+use Rattle.worked_rows.specs.JointRuns.{key, csrs_of, outside_hart, inside_hart}
+use Rattle.worked_rows.specs.JointRows.{opening_cipher, program_resources, program_with, program_at_call, kernel_hart, started, not_started}
 use Rattle.worked_rows.proofs.Computing.{joint_steps, told_steps, joint_runs}
 use Rattle.worked_rows.proofs.Offers.{reach-shown}
 use Rattle.worked_rows.proofs.Turns.{first_turns, moment_after, goes_on, plus, turns_from-plus, turns_from-step}
@@ -89,12 +86,12 @@ abbrev pub stored_memory : List ℕ → Random → CloakedMemory
 stored_memory rest stream =
     memory_of rest stream bare_root (with_page opened_plain page stored_page) (replicate 8 None ++ (Some page ∷ replicate 55 None))
 
--- a hart as it starts, and inside context 0
-abbrev pub started_hart : Hart
-started_hart = record { regs = replicate 32 0; csrs = csrs_of 0 0 0; mode = S; pc = 0x80000000; timer = 0; inside = None }
+-- the hart as it starts, and as it runs the program
+abbrev pub first_hart : Hart
+first_hart = outside_hart 0x80000000 (replicate 32 0) (csrs_of 0 0 0 0)
 
-abbrev pub inside_hart : Hart
-inside_hart = record { regs = replicate 32 0; csrs = csrs_of 0x80000014 0 0; mode = U; pc = 0x00001000; timer = 0; inside = Some 0 }
+abbrev pub program_hart : Hart
+program_hart = inside_hart 0 (csrs_of 0x80000014 0 0 0)
 
 abbrev pub machine : Hart → Domain → CloakedMemory → Joint
 machine h d m = record { harts = h ∷ []; disk = []; console = []; memory = m; domains = d ∷ [] }
@@ -103,27 +100,21 @@ machine h d m = record { harts = h ∷ []; disk = []; console = []; memory = m; 
 abbrev pub at_step : ℕ → Joint → Moment
 at_step steps j = record { schedule = 0 ∷ []; steps = steps; joint = j }
 
--- the program with its stack pointer, and with what it loaded into x10
-abbrev pub not_started : Context
-not_started = record { pc = 0x80008000; regs = registers_from 2 (0x80008100 ∷ []) (replicate 32 0); phase = phase.Plain; space = 0; on = None }
-
-abbrev pub starting : Context
-starting = running 0x80008000 (registers_from 2 (0x80008100 ∷ []) (replicate 32 0))
-
+-- the program with what it loaded into x10
 abbrev pub with_seven : ℕ → Context
 with_seven pc = running pc (registers_from 2 (0x80008100 ∷ []) (registers_from 10 (7 ∷ []) (replicate 32 0)))
 
 abbrev pub opened_moment : List ℕ → Random → Moment
-opened_moment rest stream = at_step 0 (machine started_hart (program_with not_started []) (opened_memory rest stream))
+opened_moment rest stream = at_step 0 (machine first_hart (program_with not_started []) (opened_memory rest stream))
 
 abbrev pub resumed_moment : List ℕ → Random → Moment
-resumed_moment rest stream = at_step 5 (machine inside_hart (program_with starting []) (resumed_memory rest stream))
+resumed_moment rest stream = at_step 5 (machine program_hart (program_with started []) (resumed_memory rest stream))
 
 abbrev pub fetched_moment : List ℕ → Random → Moment
-fetched_moment rest stream = at_step 6 (machine inside_hart (program_with (with_seven 0x80008004) []) (resumed_memory rest stream))
+fetched_moment rest stream = at_step 6 (machine program_hart (program_with (with_seven 0x80008004) []) (resumed_memory rest stream))
 
 abbrev pub stored_moment : List ℕ → Random → Moment
-stored_moment rest stream = at_step 7 (machine inside_hart (program_with (with_seven 0x80008008) []) (stored_memory rest stream))
+stored_moment rest stream = at_step 7 (machine program_hart (program_with (with_seven 0x80008008) []) (stored_memory rest stream))
 
 abbrev pub left_moment : List ℕ → Random → Moment
 left_moment rest stream = at_step 12 (machine (kernel_hart 0x80000014 9) program_at_call (stored_memory rest stream))
@@ -145,11 +136,11 @@ calls rest stream = refl
 -- a step of the one context whose fetch was told so
 fetched_step : Domain → Context → CloakedMemory → Told Answer → Turn
 unfolding told_steps
-fetched_step d c m told = after_domain_step (machine inside_hart d m) 0 inside_hart 0 (then_ask (fetched 0 program_resources c page told.answer) (λ made. instruction_ended 0 d made.context made.ending) told.world)
+fetched_step d c m told = after_domain_step (machine program_hart d m) 0 program_hart 0 (then_ask (fetched 0 program_resources c page told.answer) (λ made. instruction_ended 0 d made.context made.ending) told.world)
 
 -- the memory as the context asks
 cloak_for : Domain → Context → CloakedMemory → Cloak
-cloak_for d c m = cloak_of m inside_hart 0 (pages_for d (Some c))
+cloak_for d c m = cloak_of m program_hart 0 (pages_for d (Some c))
 
 -- its fetch was granted, and changed nothing
 fetch_granted : Domain → Context → CloakedMemory → Told Answer
@@ -158,21 +149,21 @@ fetch_granted d c m = record { answer = told.Ok; world = Cloaked (record (cloak_
 
 -- A step whose fetch compares the frame with the bytes that were last shown, which it has.
 record IsFetching (n : ℕ) (d : Domain) (c : Context) (m : CloakedMemory) (t : Turn) : Type 0 where
-  asks : joint_step (at_step n (machine inside_hart d m)) ≡ fetched_step d c m (ask_reach page c.pc Fetch (Cloaked (cloak_for d c m)))
+  asks : joint_step (at_step n (machine program_hart d m)) ≡ fetched_step d c m (ask_reach page c.pc Fetch (Cloaked (cloak_for d c m)))
   granted : ask_reach page c.pc Fetch (Cloaked (cloak_for d c m)) ≡ fetch_granted d c m
   ends : fetched_step d c m (fetch_granted d c m) ≡ t
 
-joint_step-fetching : (n : ℕ) (d : Domain) (c : Context) (m : CloakedMemory) (t : Turn) → IsFetching n d c m t → joint_step (at_step n (machine inside_hart d m)) ≡ t
+joint_step-fetching : (n : ℕ) (d : Domain) (c : Context) (m : CloakedMemory) (t : Turn) → IsFetching n d c m t → joint_step (at_step n (machine program_hart d m)) ≡ t
 joint_step-fetching n d c m t f = f.asks ∙ ap (fetched_step d c m) f.granted ∙ f.ends
 
 abbrev first_turn : List ℕ → Random → Turn
-first_turn rest stream = quiet (machine inside_hart (program_with (with_seven 0x80008004) []) (resumed_memory rest stream)) (item.Ok 0 ∷ [])
+first_turn rest stream = quiet (machine program_hart (program_with (with_seven 0x80008004) []) (resumed_memory rest stream)) (item.Ok 0 ∷ [])
 
 first : (rest : List ℕ) (stream : Random) → joint_step (resumed_moment rest stream) ≡ first_turn rest stream
 unfolding joint_steps fetched_step cloak_for fetch_granted
-first rest stream = joint_step-fetching 5 (program_with starting []) starting (resumed_memory rest stream) (first_turn rest stream) (record {
+first rest stream = joint_step-fetching 5 (program_with started []) started (resumed_memory rest stream) (first_turn rest stream) (record {
   asks = refl;
-  granted = reach-shown page 0x80008000 Fetch (cloak_for (program_with starting []) starting (resumed_memory rest stream)) (record { bare = refl; inside = refl; drawn = refl }) (record { owed = refl; owing = refl; shown = refl });
+  granted = reach-shown page 0x80008000 Fetch (cloak_for (program_with started []) started (resumed_memory rest stream)) (record { bare = refl; inside = refl; drawn = refl }) (record { owed = refl; owing = refl; shown = refl });
   ends = refl;
 })
 
@@ -181,7 +172,7 @@ store_step : (rest : List ℕ) (stream : Random) → Told Answer → Turn
 unfolding told_steps
 store_step rest stream told =
     let d = program_with (with_seven 0x80008004) [] in
-    after_domain_step (machine inside_hart d (resumed_memory rest stream)) 0 inside_hart 0
+    after_domain_step (machine program_hart d (resumed_memory rest stream)) 0 program_hart 0
       (then_ask (store_reached (with_seven 0x80008004) page 0x80008100 4 7 told.answer) (λ made. instruction_ended 0 d made.context made.ending) told.world)
 
 -- the memory as it asks for that
@@ -190,7 +181,7 @@ unfolding cloak_for
 storing rest stream = record (cloak_for (program_with (with_seven 0x80008004) []) (with_seven 0x80008004) (resumed_memory rest stream)) { items = item.Ok 0 ∷ [] }
 
 abbrev second_turn : List ℕ → Random → Turn
-second_turn rest stream = quiet (machine inside_hart (program_with (with_seven 0x80008008) []) (stored_memory rest stream)) (item.Ok 0 ∷ item.Ok 0 ∷ [])
+second_turn rest stream = quiet (machine program_hart (program_with (with_seven 0x80008008) []) (stored_memory rest stream)) (item.Ok 0 ∷ item.Ok 0 ∷ [])
 
 second_stores : (rest : List ℕ) (stream : Random)
     → fetched_step (program_with (with_seven 0x80008004) []) (with_seven 0x80008004) (resumed_memory rest stream)

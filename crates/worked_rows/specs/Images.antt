@@ -36,6 +36,69 @@ program_words =
     0x00000073 ∷  -- ecall
     []
 
+-- A kernel alone: it shows an A and halts with 0.
+abbrev pub letter_words : List ℕ
+letter_words =
+    0x04100513 ∷ -- addi x10, x0, 65
+    0x00000073 ∷ -- ecall
+    0x00400893 ∷ -- addi x17, x0, 4
+    0x00000073 ∷ -- ecall
+    []
+
+-- It flips the lowest bit of a word of the program's frame and resumes context 0.
+abbrev pub flip_and_resume : List ℕ
+flip_and_resume =
+    0x00008317 ∷ -- auipc x6, 8
+    0x00032383 ∷ -- lw x7, 0(x6)
+    0x0013C393 ∷ -- xori x7, x7, 1
+    0x00732023 ∷ -- sw x7, 0(x6)
+    0x4F5608B7 ∷ -- lui x17, 0x4F560
+    0x00000073 ∷ -- ecall
+    []
+
+-- The same without the store.
+abbrev pub look_and_resume : List ℕ
+look_and_resume =
+    0x00008317 ∷ -- auipc x6, 8
+    0x00032383 ∷ -- lw x7, 0(x6)
+    0x0013C393 ∷ -- xori x7, x7, 1
+    0x00000013 ∷ -- addi x0, x0, 0
+    0x4F5608B7 ∷ -- lui x17, 0x4F560
+    0x00000073 ∷ -- ecall
+    []
+
+-- It sets satp to 0x00400000 and resumes context 0.
+abbrev pub remap_and_resume : List ℕ
+remap_and_resume =
+    0x00400337 ∷ -- lui x6, 0x400
+    0x18031073 ∷ -- csrrw x0, satp, x6
+    0x4F5608B7 ∷ -- lui x17, 0x4F560
+    0x00000073 ∷ -- ecall
+    []
+
+-- It resumes context 0.
+abbrev pub resume_words : List ℕ
+resume_words =
+    0x4F5608B7 ∷ -- lui x17, 0x4F560
+    0x00000073 ∷ -- ecall
+    []
+
+-- It resumes context 3.
+abbrev pub resume_third : List ℕ
+resume_third =
+    0x00300293 ∷ -- addi x5, x0, 3
+    0x4F5608B7 ∷ -- lui x17, 0x4F560
+    0x00000073 ∷ -- ecall
+    []
+
+-- The program ends.
+abbrev pub exit_words : List ℕ
+exit_words =
+    0x4F5608B7 ∷ -- lui x17, 0x4F560
+    0x00788893 ∷ -- addi x17, x17, 7
+    0x00000073 ∷ -- ecall
+    []
+
 -- a page that begins with these words
 abbrev pub page_of : List ℕ → List ℕ
 page_of words = take 4096 (flat_map word words ++ replicate 4096 0)
@@ -61,8 +124,14 @@ program_start = record { pages = 1; base = 0x80008000; entry = 0x80008000; sp = 
 abbrev pub program_of : List ℕ → Program
 program_of page = record { place = 8; start = program_start; bytes = page }
 
-abbrev pub image_of : ℕ → List ℕ → List ℕ → Bundle
-image_of harts schedule words = record { kernel = kernel_of harts schedule words; programs = program_of program_page ∷ [] }
+-- a kernel of these words, and a program whose page begins with those
+abbrev pub image_of : ℕ → List ℕ → List ℕ → List ℕ → Bundle
+image_of harts schedule words program = record { kernel = kernel_of harts schedule words; programs = program_of (page_of program) ∷ [] }
 
-abbrev pub whole_image : Bundle
-whole_image = image_of 1 (0 ∷ []) (boot ++ halt)
+-- one hart, and the program above
+abbrev pub image : List ℕ → Bundle
+image words = image_of 1 (0 ∷ []) words program_words
+
+-- a kernel alone
+abbrev pub lone_image : List ℕ → Bundle
+lone_image words = record { kernel = kernel_of 1 (0 ∷ []) words; programs = [] }

@@ -1,8 +1,9 @@
 -- Joint runs, and what is seen of one.
-use Rattle.std.specs.Prelude.{ℕ, List, [], ◌∷◌, length, Result}
+use Rattle.std.specs.Prelude.{ℕ, List, [], ◌∷◌, length, replicate, Some, None, Result}
 use Rattle.std.specs.Result.{result_map_both}
 use Rattle.cloak_base.specs.Random.{Random, handed}
 use Rattle.cloak_base.specs.declared.causes.Stop.{Stop}
+use Rattle.cloak_base.specs.declared.names.Mode.TheVariants.{S, U}
 use Rattle.cloak_model.specs.declared.image.Bundle.{Bundle}
 use Rattle.cloak_model.specs.declared.item.Item.{Item}
 use Rattle.cloak_model.specs.Csr.{Csrs}
@@ -58,8 +59,16 @@ seen image stream budget = result_map_both seen_of (λ lack. lack) (joint_run im
 
 -- Harts.
 
--- the words of stvec, sepc and scause; all others are 0
-abbrev pub csrs_of : ℕ → ℕ → ℕ → Csrs
-csrs_of vector address cause =
+-- the words of stvec, sepc, scause and satp; all others are 0
+abbrev pub csrs_of : ℕ → ℕ → ℕ → ℕ → Csrs
+csrs_of vector address cause root =
     (csr.sstatus, 0) ∷ (csr.sie, 0) ∷ (csr.stvec, vector) ∷ (csr.sscratch, 0) ∷ (csr.sepc, address) ∷ (csr.scause, cause)
-    ∷ (csr.stval, 0) ∷ (csr.sip, 0) ∷ (csr.satp, 0) ∷ []
+    ∷ (csr.stval, 0) ∷ (csr.sip, 0) ∷ (csr.satp, root) ∷ []
+
+-- a hart of the kernel that set no timer
+abbrev pub outside_hart : ℕ → List ℕ → Csrs → Hart
+outside_hart pc regs csrs = record { regs = regs; csrs = csrs; mode = S; pc = pc; timer = 0; inside = None }
+
+-- a hart that runs a context: of this the kernel sees nothing
+abbrev pub inside_hart : ℕ → Csrs → Hart
+inside_hart ctx csrs = record { regs = replicate 32 0; csrs = csrs; mode = U; pc = 0x00001000; timer = 0; inside = Some ctx }

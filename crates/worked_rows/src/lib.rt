@@ -7,6 +7,8 @@
 //! bytes of the ciphertext.
 #![tactic(auto)]
 
+mod joint_runs;
 mod programs;
 
+pub use joint_runs::rows_of_joint_runs;
 pub use programs::rows_of_a_program;
