@@ -1,6 +1,8 @@
 -- Rows of joint runs.
-use Rattle.std.specs.Prelude.{◌≡◌, ℕ, List, [], ◌∷◌, ◌++◌, length, replicate, codes, Some, None, Ok, Err}
-use Rattle.std.specs.List.{concat}
+use Rattle.std.specs.Prelude.{◌≡◌, ℕ, List, [], ◌∷◌, ◌++◌, length, replicate, take, codes, Some, None, Ok, Err}
+use Rattle.std.specs.List.{concat, flat_map}
+use Rattle.hex.specs.Hex.{encode_lower}
+use Rattle.sha2.specs.Sha256.{sha256}
 use Rattle.cloak_base.specs.Random.{numbered}
 use Rattle.cloak_base.specs.declared.causes.Shown.{Shown}
 use Rattle.cloak_base.specs.declared.causes.Stop.TheVariants as stop
@@ -17,12 +19,13 @@ use Rattle.cloak_model.specs.Resources.{Resources}
 use Rattle.cloak_model.specs.DomainState.{Domain}
 use Rattle.cloak_model.specs.Bits.{word}
 use Rattle.cloak_model.specs.Bundle.{bundle_bytes}
-use Rattle.cloak_model.specs.Exchange.{record_of}
+use Rattle.cloak_model.specs.Exchange.{record_of, recorded, shown}
 use Rattle.cloak_model.specs.Opening.{NoKey, NoPageDraw}
-use Rattle.cloak_model.specs.Report.{stop_line, harts_lines}
+use Rattle.cloak_model.specs.Report.{stop_line}
+use Rattle.cloak_model.specs.Run.{report_of, due}
 use Rattle.worked_rows.specs.Images.{boot, halt, letter_words, remap_and_resume, resume_words, resume_third, program_words, program_page, image, image_of, lone_image}
 use Rattle.worked_rows.specs.Runs.{registers_from, running}
-use Rattle.worked_rows.specs.JointRuns.{counted, key, draw_1, draw_2, Seen, seen, csrs_of, outside_hart, inside_hart}
+use Rattle.worked_rows.specs.JointRuns.{counted, key, draw_1, draw_2, Seen, seen, read_off, csrs_of, outside_hart, inside_hart}
 
 -- The whole cloaked program.
 
@@ -198,6 +201,13 @@ letter = record {
   domains = [];
 }
 
+-- the lines of its hart
+abbrev pub letter_hart : List ℕ
+letter_hart = concat (
+    codes "hart 0 S pc 80000010 inside - timer 0\n"
+    ∷ codes "regs" ∷ concat (replicate 16 (codes " 00000000")) ∷ codes " 00000004" ∷ concat (replicate 14 (codes " 00000000")) ∷ codes "\n"
+    ∷ codes "csrs" ∷ concat (replicate 9 (codes " 00000000")) ∷ codes "\n" ∷ [])
+
 -- The smallest run: a kernel shows an A and halts. Its image, its record, and its lines.
 pub record SmallestRun : Type 0 where
   pub run : seen (lone_image letter_words) (numbered 0) 10 ≡ Ok letter
@@ -208,11 +218,16 @@ pub record SmallestRun : Type 0 where
   pub record_bytes : record_of letter.items ≡ concat (
       codes "CLOAKREC" ∷ (0x10 ∷ word 1) ∷ (0x10 ∷ word 2) ∷ (0x10 ∷ word 3) ∷ (0x10 ∷ word 4) ∷ (0x11 ∷ word 4) ∷ (0x12 ∷ []) ∷ [])
   pub record_size : length (record_of letter.items) ≡ 34
-  pub stop_line : stop_line letter.stop ≡ codes "stop halt 0\n"
-  pub hart_lines : harts_lines 0 letter.harts ≡ concat (
-      codes "hart 0 S pc 80000010 inside - timer 0\n"
-      ∷ codes "regs" ∷ concat (replicate 16 (codes " 00000000")) ∷ codes " 00000004" ∷ concat (replicate 14 (codes " 00000000")) ∷ codes "\n"
-      ∷ codes "csrs" ∷ concat (replicate 9 (codes " 00000000")) ∷ codes "\n" ∷ [])
+  -- what is written, up to the report: the marker of a step goes before its letter
+  pub pieces : read_off (λ r. take 9 (due r)) (lone_image letter_words) (numbered 0) 10 ≡ Ok (
+      recorded (codes "CLOAKREC")
+      ∷ recorded (0x10 ∷ word 1) ∷ recorded (0x10 ∷ word 2) ∷ shown (codes "A") ∷ recorded (0x10 ∷ word 3) ∷ recorded (0x10 ∷ word 4)
+      ∷ recorded (0x11 ∷ word 4) ∷ recorded (0x12 ∷ []) ∷ shown (codes "\n") ∷ [])
+  -- the report, with its digests
+  pub report : read_off report_of (lone_image letter_words) (numbered 0) 10 ≡ Ok (
+      codes "stop halt 0\nsteps 4\ndraws 0\nconsole 1 " ++ (((encode_lower (sha256 (codes "A")) ++ codes "\n")
+      ++ ((codes "ram " ++ (encode_lower (sha256 (flat_map word letter_words ++ replicate 262128 0)) ++ codes "\n"))
+      ++ ((codes "disk " ++ (encode_lower (sha256 []) ++ codes "\n")) ++ letter_hart))) ++ []))
 
 -- The same image without a step.
 pub record NoStep : Type 0 where
@@ -229,8 +244,9 @@ pub record NoStep : Type 0 where
 
 -- Texts.
 
--- the other lines of a stop
+-- The first line of a report.
 pub record StopLines : Type 0 where
+  pub halt : stop_line (stop.Halt 7) ≡ codes "stop halt 7\n"
   pub budget : stop_line stop.Budget ≡ codes "stop budget\n"
   pub no_random : stop_line stop.NoRandom ≡ codes "stop norandom\n"
   pub page : stop_line (stop.Violation (violation.Page (record { domain = 0; resource = 0; page = 0 }) (record { 0 = 8 }))) ≡ codes "stop violation page domain 0 resource 0 page 0 frame 8\n"

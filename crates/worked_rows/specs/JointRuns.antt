@@ -57,6 +57,10 @@ seen_of r =
 abbrev pub seen : Bundle → Random → ℕ → Result Seen Lack
 seen image stream budget = result_map_both seen_of (λ lack. lack) (joint_run image stream budget)
 
+-- what is read off the run otherwise
+abbrev pub read_off : {A : Type 0} → (Run → A) → Bundle → Random → ℕ → Result A Lack
+read_off what image stream budget = result_map_both what (λ lack. lack) (joint_run image stream budget)
+
 -- Harts.
 
 -- the words of stvec, sepc, scause and satp; all others are 0

@@ -37,7 +37,7 @@ returns-clause-other_root c = other_root
 
 pub returns-clause-smallest : goal.returns-clause-smallest
 unfolding joint_runs zero_page bundle_bytes item_bytes texts
-returns-clause-smallest c = record { run = refl; image = refl; image_size = refl; record_bytes = refl; record_size = refl; stop_line = refl; hart_lines = refl }
+returns-clause-smallest c = record { run = refl; image = refl; image_size = refl; record_bytes = refl; record_size = refl; pieces = refl; report = refl }
 
 pub returns-clause-no_step : goal.returns-clause-no_step
 unfolding joint_runs zero_page item_bytes
@@ -45,4 +45,4 @@ returns-clause-no_step c = record { run = refl; record_bytes = refl }
 
 pub returns-clause-stop_lines : goal.returns-clause-stop_lines
 unfolding texts
-returns-clause-stop_lines c = record { budget = refl; no_random = refl; page = refl; context = refl; mapping = refl }
+returns-clause-stop_lines c = record { halt = refl; budget = refl; no_random = refl; page = refl; context = refl; mapping = refl }
