@@ -39,11 +39,17 @@ use Rattle.cloak_model.specs.KernelAlone as kernel_alone
 use Rattle.cloak_model.specs.DomainAlone as domain_alone
 use Rattle.worked_rows.specs.Runs as runs
 
+-- which instruction a word is
+unfoldable pub instructions : Unit {0}
+unfolding
+    table.jalr_line table.branch_line table.load_line table.store_line table.op_imm_line table.op_line
+    table.misc_mem_line table.privileged_line table.system_line table.instruction
+instructions = tt
+
 -- the plain step of a hart
 unfoldable pub plain_steps : Unit {0}
 unfolding
-    table.jalr_line table.branch_line table.load_line table.store_line table.op_imm_line table.op_line
-    table.misc_mem_line table.privileged_line table.system_line table.instruction registers.zero_registers
+    instructions registers.zero_registers
     effect.effect csr.with_pending csr.csr_read csr.csr_write csr.trap_entry csr.trap_return csr.interrupt_due
     hart.started walk.first_leaf walk.second_leaf walk.first_word walk.second_word walk.walk walk.walk_tables
     ask.ask_word ask.ask_second ask.ask_after ask.ask_first ask.ask_walk ask.ask_inside ask.ask_translate
@@ -57,8 +63,7 @@ plain_steps = tt
 -- the step of a cloaked program but for its reaching of pages
 unfoldable pub told_steps : Unit {0}
 unfolding
-    table.jalr_line table.branch_line table.load_line table.store_line table.op_imm_line table.op_line
-    table.misc_mem_line table.privileged_line table.system_line table.instruction registers.zero_registers
+    instructions registers.zero_registers
     pages.same_page pages.is_of effect.effect resources.lookup resources.page_at resources.started_resources
     resources.made_at resources.new_resource resources.mapped resources.map_region resources.unmap_region
     resources.drop_space contexts.started_contexts contexts.resume_if contexts.resume_at contexts.shown contexts.admit

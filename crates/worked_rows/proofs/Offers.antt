@@ -5,6 +5,7 @@ use Rattle.std.specs.Str.{bytes_eq}
 use Rattle.std.proofs.lemmas.Slice.Eq.{bytes_eq-Decides}
 use Rattle.std.proofs.lemmas.List.{append-nil}
 use Rattle.cloak_base.specs.declared.names.Kind.{Kind}
+use Rattle.cloak_base.specs.declared.causes.Violation.TheVariants as violation
 use Rattle.cloak_base.specs.declared.names.PageId.{PageId}
 use Rattle.cloak_model.specs.declared.answer.Answer.{Answer}
 use Rattle.cloak_model.specs.declared.answer.Answer.TheVariants as told
@@ -12,7 +13,7 @@ use Rattle.cloak_model.specs.declared.item.Item.TheVariants as item
 use Rattle.cloak_model.specs.Memory.{frame_of, is_in_ram}
 use Rattle.cloak_model.specs.Walk.{has_paging}
 use Rattle.cloak_model.specs.Cloaking as cloaking
-use Rattle.cloak_model.specs.Cloaking.{CloakedMemory, Offered, Ready, owed_in, owing_frame, taken, compared, offer}
+use Rattle.cloak_model.specs.Cloaking.{CloakedMemory, Offered, Ready, Mismatch, with_comparison, owed_in, owing_frame, taken, compared, offer}
 use Rattle.cloak_model.specs.World.{World, Cloak, Cloaked, is_missed, cipher_items}
 use Rattle.cloak_model.specs.Asking.{Told, Asking}
 use Rattle.cloak_model.specs.Ask as ask
@@ -45,6 +46,19 @@ pub offer-shown : (q : PageId) (g : ℕ) (write : Bool) (m : CloakedMemory) → 
     → offer q g write m ≡ record { memory = taken q g write m; ciphers = []; answer = Ready }
 unfolding cloaking.offer cloaking.settle cloaking.settle_if cloaking.unless_missed
 offer-shown q g write m h = rw (h.owed, h.owing, h.shown, compared-shown q g write _ m refl) refl
+
+-- Frame g has other bytes than those that were last shown of page q, and neither is owed.
+pub record HasChanged (q : PageId) (g : ℕ) (m : CloakedMemory) : Type 0 where
+  pub last : List ℕ
+  pub owed : owed_in m g ≡ None
+  pub owing : owing_frame m q ≡ None
+  pub shown : m.ledger.recorded q ≡ Some last
+  pub other : bytes_eq (slice_index_or m.ram g []) last ≡ false
+
+pub offer-changed : (q : PageId) (g : ℕ) (write : Bool) (m : CloakedMemory) (h : HasChanged q g m)
+    → offer q g write m ≡ record { memory = with_comparison (slice_index_or m.ram g []) h.last m; ciphers = []; answer = Mismatch }
+unfolding cloaking.offer cloaking.settle cloaking.settle_if cloaking.unless_missed cloaking.compared
+offer-changed q g write m h = rw (h.owed, h.owing, h.shown, h.other) refl
 
 -- Questions of a hart without paging, for an address of RAM, where no draw was missing.
 pub record IsPlainAccess (va : ℕ) (c : Cloak) : Type 0 where
@@ -79,3 +93,16 @@ pub reach-shown : (q : PageId) (va : ℕ) (kind : Kind) (c : Cloak) → IsPlainA
       }
 unfolding offer_asked
 reach-shown q va kind c p h = reach-offer q va kind c p ∙ ap (offer_asked q (frame_of va) c) (offer-shown q (frame_of va) (is_store kind) c.memory h) ∙ rw (append-nil c.items) refl
+
+-- a page is not reached in a frame that has other bytes: the step meets the violation
+pub reach-changed : (q : PageId) (va : ℕ) (kind : Kind) (c : Cloak) → IsPlainAccess va c → (h : HasChanged q (frame_of va) c.memory)
+    → ask_reach q va kind (Cloaked c) ≡ record {
+        answer = told.Stopped;
+        world = Cloaked (record c {
+          memory = with_comparison (slice_index_or c.memory.ram (frame_of va) []) h.last c.memory;
+          items = c.items ++ item.Stopped c.view.domain ∷ [];
+          violation = Some (violation.Page q (record { 0 = frame_of va }));
+        })
+      }
+unfolding offer_asked
+reach-changed q va kind c p h = reach-offer q va kind c p ∙ ap (offer_asked q (frame_of va) c) (offer-changed q (frame_of va) (is_store kind) c.memory h) ∙ rw (append-nil c.items) refl

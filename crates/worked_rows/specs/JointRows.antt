@@ -23,7 +23,7 @@ use Rattle.cloak_model.specs.Exchange.{record_of, recorded, shown}
 use Rattle.cloak_model.specs.Opening.{NoKey, NoPageDraw}
 use Rattle.cloak_model.specs.Report.{stop_line}
 use Rattle.cloak_model.specs.Run.{report_of, due}
-use Rattle.worked_rows.specs.Images.{boot, halt, letter_words, remap_and_resume, resume_words, resume_third, program_words, program_page, image, image_of, lone_image}
+use Rattle.worked_rows.specs.Images.{boot, halt, flip_and_resume, look_and_resume, remap_and_resume, resume_words, resume_third, exit_words, letter_words, program_words, page_of, program_page, image, image_of, lone_image}
 use Rattle.worked_rows.specs.Runs.{registers_from, running}
 use Rattle.worked_rows.specs.JointRuns.{counted, key, draw_1, draw_2, Seen, seen, read_off, csrs_of, outside_hart, inside_hart}
 
@@ -186,6 +186,75 @@ OtherRoot = seen (image (boot ++ remap_and_resume)) (counted 256) 100 ≡ Ok (re
   harts = inside_hart 0 (csrs_of 0x80000014 0x00001000 8 0x00400000) ∷ [];
   console = [];
   domains = program_at_call ∷ [];
+})
+
+-- what an ending shows
+abbrev pub shown_exit : Shown
+shown_exit = record { cause = 8; stval = 0; ctx = 0; number = 0x4F560007; args = replicate 6 0 }
+
+-- nothing is left of a program
+abbrev pub gone_program : Domain
+gone_program = record { control = record { number = 0; contexts = replicate 8 None; resources = record { held = replicate 16 None; spaces = replicate 8 None } }; loads = [] }
+
+-- The program's only context ends, and is resumed again.
+abbrev pub AfterExit : Type 0
+AfterExit = seen (image_of 1 (0 ∷ []) (boot ++ resume_words) exit_words) (counted 256) 100 ≡ Ok (record {
+  stop = stop.Violation (violation.Context 0);
+  steps = 10;
+  draws = 1;
+  items =
+      item.Cipher 8 (cbc key draw_1 (page_of exit_words))
+      ∷ item.Step 1 ∷ item.Step 2 ∷ item.Step 3 ∷ item.Step 4
+      ∷ item.Step 5 ∷ item.Resume 0 0 0
+      ∷ item.Step 6 ∷ item.Ok 0
+      ∷ item.Step 7 ∷ item.Ok 0
+      ∷ item.Step 8 ∷ item.Ok 0 ∷ item.Ok 0 ∷ item.Leave shown_exit
+      ∷ item.Step 9 ∷ item.Step 10 ∷ item.Close 10 ∷ item.End ∷ [];
+  harts = inside_hart 0 (csrs_of 0x80000014 0x00001000 8 0) ∷ [];
+  console = [];
+  domains = gone_program ∷ [];
+})
+
+-- What the kernel does to a frame.
+
+-- the program behind its call, which was answered 7
+abbrev pub answered : Context
+answered = running 0x8000801C waiting.regs
+
+-- up to the resume: the kernel looks into the program's frame in step 14, which shows the page
+abbrev pub items_to_resume : List Item
+items_to_resume =
+    items_to_call ++ item.Step 13
+    ∷ item.Step 14 ∷ item.Cipher 8 closing_cipher
+    ∷ item.Step 15
+    ∷ item.Step 16
+    ∷ item.Step 17
+    ∷ item.Step 18 ∷ item.Resume 0 0 7
+    ∷ []
+
+-- The kernel flips one bit of the frame and resumes the program: its fetch meets the violation.
+abbrev pub FlippedBit : Type 0
+FlippedBit = seen (image (boot ++ flip_and_resume)) (counted 256) 100 ≡ Ok (record {
+  stop = stop.Violation (violation.Page (record { domain = 0; resource = 0; page = 0 }) (record { 0 = 8 }));
+  steps = 19;
+  draws = 2;
+  items = items_to_resume ++ item.Step 19 ∷ item.Stopped 0 ∷ item.Close 19 ∷ item.End ∷ [];
+  harts = inside_hart 0 (csrs_of 0x80000014 0x00001000 8 0) ∷ [];
+  console = [];
+  domains = program_with answered ((0x80008100, 7) ∷ []) ∷ [];
+})
+
+-- With another instruction in the place of the store the program fetches as if nothing had happened, and draws nothing: what
+-- it finds behind its call is no instruction.
+abbrev pub NothingFlipped : Type 0
+NothingFlipped = seen (image (boot ++ look_and_resume)) (counted 256) 19 ≡ Ok (record {
+  stop = stop.Budget;
+  steps = 19;
+  draws = 2;
+  items = items_to_resume ++ item.Step 19 ∷ item.Ok 0 ∷ item.Leave (record { cause = 2; stval = 0; ctx = 0; number = 0; args = replicate 6 0 }) ∷ item.Close 19 ∷ item.End ∷ [];
+  harts = outside_hart 0x80000014 (replicate 32 0) (csrs_of 0x80000014 0x00001000 2 0) ∷ [];
+  console = [];
+  domains = program_with (record answered { on = None }) ((0x80008100, 7) ∷ []) ∷ [];
 })
 
 -- Kernels alone.

@@ -53,13 +53,12 @@ seen_of r =
       domains = j.domains;
     }
 
--- of the run of an image under a random stream, with at most so many steps
-abbrev pub seen : Bundle → Random → ℕ → Result Seen Lack
-seen image stream budget = result_map_both seen_of (λ lack. lack) (joint_run image stream budget)
-
--- what is read off the run otherwise
+-- what is read off the run of an image under a random stream, with at most so many steps
 abbrev pub read_off : {A : Type 0} → (Run → A) → Bundle → Random → ℕ → Result A Lack
 read_off what image stream budget = result_map_both what (λ lack. lack) (joint_run image stream budget)
+
+abbrev pub seen : Bundle → Random → ℕ → Result Seen Lack
+seen image stream budget = read_off seen_of image stream budget
 
 -- Harts.
 

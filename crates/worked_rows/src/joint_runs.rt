@@ -14,6 +14,11 @@ pub fn rows_of_joint_runs()
     ensures no_context { row.NoContext }
     ensures no_program { row.NoProgram }
     ensures other_root { row.OtherRoot }
+    ensures after_exit { row.AfterExit }
+
+    // What the kernel does to a program's frame.
+    ensures flipped_bit { row.FlippedBit }
+    ensures nothing_flipped { row.NothingFlipped }
 
     // Kernels alone.
     ensures smallest { row.SmallestRun }

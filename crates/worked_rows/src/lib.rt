@@ -7,8 +7,14 @@
 //! bytes of the ciphertext.
 #![tactic(auto)]
 
+mod images;
 mod joint_runs;
+mod machines_alone;
+mod memory;
 mod programs;
 
+pub use images::rows_of_images;
 pub use joint_runs::rows_of_joint_runs;
+pub use machines_alone::rows_of_machines_alone;
+pub use memory::rows_of_cloaked_memory;
 pub use programs::rows_of_a_program;

@@ -4,7 +4,7 @@ use Rattle.cloak_model.specs.Bundle.{bundle_bytes}
 use Rattle.cloak_model.specs.Exchange.{item_bytes}
 use Rattle.cloak_model.specs.Memory.{zero_page}
 use Rattle.worked_rows.proofs.Computing.{joint_runs, texts}
-use Rattle.worked_rows.proofs.JointRows.{whole_program, three_draws, two_draws, other_root}
+use Rattle.worked_rows.proofs.JointRows.{whole_program, three_draws, two_draws, other_root, after_exit, flipped_bit, nothing_flipped}
 use Rattle.worked_rows.proofs.joint_runs.rows_of_joint_runs.Goals as goal
 
 pub returns-clause-whole : goal.returns-clause-whole
@@ -34,6 +34,15 @@ returns-clause-no_program c = refl
 
 pub returns-clause-other_root : goal.returns-clause-other_root
 returns-clause-other_root c = other_root
+
+pub returns-clause-after_exit : goal.returns-clause-after_exit
+returns-clause-after_exit c = after_exit
+
+pub returns-clause-flipped_bit : goal.returns-clause-flipped_bit
+returns-clause-flipped_bit c = flipped_bit
+
+pub returns-clause-nothing_flipped : goal.returns-clause-nothing_flipped
+returns-clause-nothing_flipped c = nothing_flipped
 
 pub returns-clause-smallest : goal.returns-clause-smallest
 unfolding joint_runs zero_page bundle_bytes item_bytes texts
