@@ -6,4 +6,6 @@ pub mod State
 pub mod RoundKey
 pub mod Word
 pub mod Cipher
+pub mod Tower
+pub mod Sliced
 pub mod Schedule

@@ -1,16 +1,13 @@
-//! The steps of a round and of an inverse round on the four columns of a state, each a word of 32 bits whose lowest
-//! byte is the column's first, by tables of words; and the next round key.
+//! The steps of a round on the four columns of a state, each a word of 32 bits whose lowest byte is the column's first,
+//! by tables of words; and the next round key.
 
 ghost use Rattle.std.specs.Prelude.{◌≡◌, ◌+◌, ◌/◌, ◌%◌, ◌<◌};
-ghost use Rattle.aes_block.specs.Column.{column_sum, mixed, unmixed};
-ghost use Rattle.aes_block.specs.State.{sub_bytes, shift_rows, mix_columns, block_sum, inverse_sub_bytes, inverse_shift_rows, inverse_mix_columns};
+ghost use Rattle.aes_block.specs.Column.{column_sum, mixed};
+ghost use Rattle.aes_block.specs.State.{sub_bytes, shift_rows, mix_columns, block_sum};
 ghost use Rattle.aes_block.specs.RoundKey.{rotated_word, substituted_word, next_key};
-ghost use Rattle.aes_block.specs.Word.{column_of_word, block_of_words, substituted, inverse_substituted};
+ghost use Rattle.aes_block.specs.Word.{column_of_word, block_of_words, substituted};
 
-use crate::tables::{
-    INVERSE_ROUND_0, INVERSE_ROUND_1, INVERSE_ROUND_2, INVERSE_ROUND_3, INVERSE_S_BOX, ROUND_0,
-    ROUND_1, ROUND_2, ROUND_3, ROUND_CONSTANTS, S_BOX,
-};
+use crate::tables::{ROUND, ROUND_CONSTANTS, SUBSTITUTED};
 
 fn byte_0(w: u32) -> usize
     ensures { result ≡ w % 256 }
@@ -39,45 +36,25 @@ fn byte_3(w: u32) -> usize
 /// All four steps of a round for one column, which starts in `w`.
 // The key is added in the middle of the sum: added last, LLVM would keep the state in one vector and take it apart for
 // each look-up.
+#[inline(always)]
 fn mixed_word(w: u32, x: u32, y: u32, z: u32, k: u32) -> u32
     ensures { column_of_word result ≡ column_sum (mixed (substituted w x y z)) (column_of_word k) }
 {
-    ((ROUND_0[byte_0(w)] ^ k) ^ ROUND_1[byte_1(x)]) ^ (ROUND_2[byte_2(y)] ^ ROUND_3[byte_3(z)])
+    ((ROUND[0][byte_0(w)] ^ k) ^ ROUND[1][byte_1(x)])
+        ^ (ROUND[2][byte_2(y)] ^ ROUND[3][byte_3(z)])
 }
 
-/// SubBytes and ShiftRows of one column, which starts in `w`.
-fn substituted_word(w: u32, x: u32, y: u32, z: u32) -> u32
-    ensures { column_of_word result ≡ substituted w x y z }
+/// The same of the last round, which mixes no columns.
+#[inline(always)]
+fn substituted_word(w: u32, x: u32, y: u32, z: u32, k: u32) -> u32
+    ensures { column_of_word result ≡ column_sum (substituted w x y z) (column_of_word k) }
 {
-    u32::from_le_bytes([
-        S_BOX[byte_0(w)],
-        S_BOX[byte_1(x)],
-        S_BOX[byte_2(y)],
-        S_BOX[byte_3(z)],
-    ])
-}
-
-/// All four steps of an inverse round for one column, which starts in `w`.
-fn unmixed_word(w: u32, x: u32, y: u32, z: u32, k: u32) -> u32
-    ensures { column_of_word result ≡ column_sum (unmixed (inverse_substituted w x y z)) (column_of_word k) }
-{
-    ((INVERSE_ROUND_0[byte_0(w)] ^ k) ^ INVERSE_ROUND_1[byte_1(x)])
-        ^ (INVERSE_ROUND_2[byte_2(y)] ^ INVERSE_ROUND_3[byte_3(z)])
-}
-
-/// InvSubBytes and InvShiftRows of one column, which starts in `w`.
-fn inverse_substituted_word(w: u32, x: u32, y: u32, z: u32) -> u32
-    ensures { column_of_word result ≡ inverse_substituted w x y z }
-{
-    u32::from_le_bytes([
-        INVERSE_S_BOX[byte_0(w)],
-        INVERSE_S_BOX[byte_1(x)],
-        INVERSE_S_BOX[byte_2(y)],
-        INVERSE_S_BOX[byte_3(z)],
-    ])
+    ((SUBSTITUTED[0][byte_0(w)] ^ k) ^ SUBSTITUTED[1][byte_1(x)])
+        ^ (SUBSTITUTED[2][byte_2(y)] ^ SUBSTITUTED[3][byte_3(z)])
 }
 
 /// A round with all four steps.
+#[inline(always)]
 pub fn round(s: &mut [u32; 4], k: &[u32; 4])
     ensures { block_of_words s.new ≡ block_sum (mix_columns (shift_rows (sub_bytes (block_of_words s.old)))) (block_of_words k.now) }
 {
@@ -91,85 +68,66 @@ pub fn round(s: &mut [u32; 4], k: &[u32; 4])
 }
 
 /// A round that mixes no columns.
+#[inline(always)]
 pub fn last_round(s: &mut [u32; 4], k: &[u32; 4])
     ensures { block_of_words s.new ≡ block_sum (shift_rows (sub_bytes (block_of_words s.old))) (block_of_words k.now) }
 {
     let [w, x, y, z] = *s;
     *s = [
-        substituted_word(w, x, y, z) ^ k[0],
-        substituted_word(x, y, z, w) ^ k[1],
-        substituted_word(y, z, w, x) ^ k[2],
-        substituted_word(z, w, x, y) ^ k[3],
+        substituted_word(w, x, y, z, k[0]),
+        substituted_word(x, y, z, w, k[1]),
+        substituted_word(y, z, w, x, k[2]),
+        substituted_word(z, w, x, y, k[3]),
     ];
 }
 
-/// An inverse round, under an unmixed round key (FIPS 197, 5.3.5).
-pub fn inverse_round(s: &mut [u32; 4], k: &[u32; 4])
-    ensures { block_of_words s.new ≡ block_sum (inverse_mix_columns (inverse_sub_bytes (inverse_shift_rows (block_of_words s.old)))) (block_of_words k.now) }
+/// The sum with another block.
+#[inline(always)]
+pub fn add_words(s: &mut [u32; 4], other: &[u32; 4])
+    ensures { block_of_words s.new ≡ block_sum (block_of_words s.old) (block_of_words other.now) }
 {
-    let [w, x, y, z] = *s;
     *s = [
-        unmixed_word(w, z, y, x, k[0]),
-        unmixed_word(x, w, z, y, k[1]),
-        unmixed_word(y, x, w, z, k[2]),
-        unmixed_word(z, y, x, w, k[3]),
+        s[0] ^ other[0],
+        s[1] ^ other[1],
+        s[2] ^ other[2],
+        s[3] ^ other[3],
     ];
 }
 
-/// An inverse round that unmixes no columns.
-pub fn last_inverse_round(s: &mut [u32; 4], k: &[u32; 4])
-    ensures { block_of_words s.new ≡ block_sum (inverse_sub_bytes (inverse_shift_rows (block_of_words s.old))) (block_of_words k.now) }
+fn low_word(n: u128) -> u32
+    ensures { result ≡ n % 4294967296 }
 {
-    let [w, x, y, z] = *s;
-    *s = [
-        inverse_substituted_word(w, z, y, x) ^ k[0],
-        inverse_substituted_word(x, w, z, y) ^ k[1],
-        inverse_substituted_word(y, x, w, z) ^ k[2],
-        inverse_substituted_word(z, y, x, w) ^ k[3],
-    ];
-}
-
-/// AddRoundKey.
-pub fn add_round_key(s: &mut [u32; 4], k: &[u32; 4])
-    ensures { block_of_words s.new ≡ block_sum (block_of_words s.old) (block_of_words k.now) }
-{
-    *s = [s[0] ^ k[0], s[1] ^ k[1], s[2] ^ k[2], s[3] ^ k[3]];
+    (n & 0xffff_ffff) as u32
 }
 
 /// The words of a block.
+// Through a number of 128 bits, so that LLVM keeps the words in registers of their own.
+#[inline(always)]
 pub fn words_of(b: &[u8; 16]) -> [u32; 4]
     ensures { block_of_words result ≡ b.now }
 {
-    [
-        u32::from_le_bytes([b[0], b[1], b[2], b[3]]),
-        u32::from_le_bytes([b[4], b[5], b[6], b[7]]),
-        u32::from_le_bytes([b[8], b[9], b[10], b[11]]),
-        u32::from_le_bytes([b[12], b[13], b[14], b[15]]),
-    ]
+    let n = u128::from_le_bytes(*b);
+    [low_word(n), low_word(n >> 32), low_word(n >> 64), low_word(n >> 96)]
 }
 
 /// Writes a block from its words.
+#[inline(always)]
 pub fn write_words(s: &[u32; 4], b: &mut [u8; 16])
     ensures { b.new ≡ block_of_words s.now }
 {
-    let [w, x, y, z] = [
-        s[0].to_le_bytes(),
-        s[1].to_le_bytes(),
-        s[2].to_le_bytes(),
-        s[3].to_le_bytes(),
-    ];
-    *b = [
-        w[0], w[1], w[2], w[3], x[0], x[1], x[2], x[3], y[0], y[1], y[2], y[3], z[0], z[1], z[2],
-        z[3],
-    ];
+    let n = u128::from(s[3]);
+    let n = n * 0x1_0000_0000 + u128::from(s[2]);
+    let n = n * 0x1_0000_0000 + u128::from(s[1]);
+    let n = n * 0x1_0000_0000 + u128::from(s[0]);
+    *b = n.to_le_bytes();
 }
 
 /// SubWord of RotWord.
 fn key_word(w: u32) -> u32
     ensures { column_of_word result ≡ substituted_word (rotated_word (column_of_word w)) }
 {
-    let (a, b, c, d) = (byte_1(w), byte_2(w), byte_3(w), byte_0(w));
-    u32::from_le_bytes([S_BOX[a], S_BOX[b], S_BOX[c], S_BOX[d]])
+    (SUBSTITUTED[0][byte_1(w)] ^ SUBSTITUTED[1][byte_2(w)])
+        ^ (SUBSTITUTED[2][byte_3(w)] ^ SUBSTITUTED[3][byte_0(w)])
 }
 
 /// The round key after round key `j`.
@@ -182,24 +140,4 @@ pub fn next_key(j: usize, k: &[u32; 4]) -> [u32; 4]
     let y = k[2] ^ x;
     let z = k[3] ^ y;
     [w, x, y, z]
-}
-
-/// InvMixColumns of one column.
-fn unmixed_key_word(w: u32) -> u32
-    ensures { column_of_word result ≡ unmixed (column_of_word w) }
-{
-    let s = substituted_word(w, w, w, w);
-    unmixed_word(s, s, s, s, 0)
-}
-
-/// InvMixColumns of a round key.
-pub fn unmixed_key(k: &[u32; 4]) -> [u32; 4]
-    ensures { block_of_words result ≡ inverse_mix_columns (block_of_words k.now) }
-{
-    [
-        unmixed_key_word(k[0]),
-        unmixed_key_word(k[1]),
-        unmixed_key_word(k[2]),
-        unmixed_key_word(k[3]),
-    ]
 }
