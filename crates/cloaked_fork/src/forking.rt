@@ -44,7 +44,8 @@ fn fits(r: &Resources, c: &Contexts, space: u32) -> Result<(), MapFault>
     }
 }
 
-/// There is room for a fork by the context of a slot.
+/// There is room for a fork by the context of a slot. `Full` where no slot or space is free, where free numbers are too
+/// few for a copy of each private resource of the context's space, or where all pages would be more than 1024.
 pub fn fork_fits(r: &Resources, c: &Contexts, slot: u32) -> Result<(), MapFault>
     requires used { IsSome (context_at c.now slot) }
     requires in_use { ForSome (context_at c.now slot) (λ x. IsInUse r.now x.space) }
@@ -158,8 +159,9 @@ fn fork_caller<M: PageSide>(
     }
 }
 
-/// Copies the space of a slot's context, with that context: the new one answers 0 and is at the next instruction.
-/// Answers the number of the new context, and nothing where the question for settled frames is answered `Stopped`.
+/// Copies the space of a slot's context, with that context: the new one is at the next instruction, with 0 as its
+/// answer. Answers the number of the new context; `Full` as `fork_fits` does; and none where the question for settled
+/// frames is answered `Stopped`.
 pub fn fork_space<M: PageSide>(
     r: &mut Resources,
     c: &mut Contexts,
