@@ -3,7 +3,8 @@ ghost use Rattle.cloak_model.specs.Bundle.{IsSegmentIn};
 ghost use Rattle.cloak_model.specs.Joint.{with_segments};
 ghost use Rattle.cloak_model.specs.Effect.{IsWidth};
 ghost use Rattle.cloak_model.specs.Memory as memory;
-ghost use Rattle.cloak_model.specs.Memory.{is_in_frames, with_bytes, zero_page, zero_ram};
+ghost use Rattle.cloak_base.specs.Pages.{zero_page};
+ghost use Rattle.cloak_model.specs.Memory.{is_in_frames, with_bytes, zero_ram};
 
 use cloak_base::{Frame, Kind, Mode, NoMemory};
 use cloak_model::{Segment, access_fault, set_value_in, value_in, word_in};
@@ -117,7 +118,7 @@ impl Ram for Memory {
     }
 }
 
-#[tactic(auto, unfolding(cloak_model::specs::Memory::zero_page))]
+#[tactic(auto, unfolding(cloak_base::specs::Pages::zero_page))]
 fn zeros() -> [u8; 4096]
     ensures { result ≡ zero_page }
 {

@@ -4,5 +4,5 @@ use Rattle.std.specs.Borrow.{Lends, MutBor, Fml, u8, Array}
 use Rattle.frame_store.specs.contracts.rights.store.FrameStore.{the_row}
 
 -- store s ends with frame f set to the last bytes behind r
-abbrev pub LendsFrame : MutBor (List (List ℕ)) → ℕ → MutBor (List ℕ) → Fml
-LendsFrame s f r = Lends the_row (Array u8 4096) s r (λ w. slice_set s.now f w)
+abbrev pub LendsFrameBytes : MutBor (List (List ℕ)) → ℕ → MutBor (List ℕ) → Fml
+LendsFrameBytes s f r = Lends the_row (Array u8 4096) s r (λ w. slice_set s.now f w)

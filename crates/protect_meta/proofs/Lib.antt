@@ -1,3 +1,2 @@
-pub mod Maps
 pub mod Pages
-pub mod Tables
+pub mod Rows

@@ -14,5 +14,6 @@ is_page-decides domains p =
     (λ e. (e.domain, (e.resource, e.page)))
     (Decides-and _ _ (Decides-ltb p.domain domains) (Decides-and _ _ (Decides-ltb p.resource 16) (Decides-ltb p.page 1024)))
 
-pub is_page_tells : (domains : ℕ) (p : PageId) → ((is_page domains p ≡ true) × IsIn domains p) ⊎ ((is_page domains p ≡ false) × ¬ IsIn domains p)
+pub is_page_tells : (domains : ℕ) (p : PageId) →
+    ((is_page domains p ≡ true) × IsIn domains p) ⊎ ((is_page domains p ≡ false) × ¬ IsIn domains p)
 is_page_tells domains p = told (is_page domains p) (is_page-decides domains p)

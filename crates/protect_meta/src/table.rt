@@ -1,8 +1,8 @@
-ghost use Rattle.std.specs.Prelude.{◌≡◌, ◌*◌, ◌+◌, ◌<◌, ◌≤◌, IfOk, if◌then◌else◌};
+ghost use Rattle.std.specs.Prelude.{◌≡◌, ◌*◌, ◌+◌, ◌<◌, ◌≤◌, IfOk};
 ghost use Rattle.cloak_base.specs.declared.names.PageId.{PageId};
-ghost use Rattle.cloak_base.specs.Pages.{same_page, is_of, page_in};
-ghost use Rattle.protect_meta.specs.Pages.{place};
-ghost use Rattle.protect_meta.specs.Table.{meta_at, domains_of};
+ghost use Rattle.cloak_base.specs.Pages.{with_page, with_resource, with_copies};
+ghost use Rattle.protect_meta.specs.Pages.{page_index};
+ghost use Rattle.protect_meta.specs.Table.{HasMetas, meta_at, domains_of};
 
 use crate::Meta;
 use cloak_base::{NoMemory, PageId};
@@ -28,8 +28,8 @@ impl Model for MetaTable {
 }
 
 /// Where a page's metadata stands.
-fn place(domain: u32, resource: u32, page: u32) -> usize
-    ensures { result ≡ place domain resource page }
+fn page_index(domain: u32, resource: u32, page: u32) -> usize
+    ensures { result ≡ page_index domain resource page }
 {
     (domain as usize * 16 + resource as usize) * 1024 + page as usize
 }
@@ -51,17 +51,16 @@ impl MetaTable {
         requires page { q.page < 1024 }
         ensures { result ≡ meta_at self.now q }
     {
-        self.metas[place(q.domain, q.resource, q.page)]
+        self.metas[page_index(q.domain, q.resource, q.page)]
     }
 
     pub fn set(&mut self, q: PageId, m: Meta)
         requires domain { q.domain < domains_of self.old }
         requires resource { q.resource < 16 }
         requires page { q.page < 1024 }
-        ensures each { (p : PageId) → meta_at self.new p ≡ (if same_page p q then Some m else meta_at self.old p) }
-        ensures domains { domains_of self.new ≡ domains_of self.old }
+        ensures { HasMetas self.old self.new (with_page (meta_at self.old) q (Some m)) }
     {
-        let at = place(q.domain, q.resource, q.page);
+        let at = page_index(q.domain, q.resource, q.page);
         self.metas[at] = Some(m);
     }
 
@@ -70,21 +69,20 @@ impl MetaTable {
         requires domain { domain < domains_of self.old }
         requires from { from < 16 }
         requires to { to < 16 }
-        ensures each { (p : PageId) → meta_at self.new p ≡ (if is_of domain to p then meta_at self.old (page_in from p) else meta_at self.old p) }
-        ensures domains { domains_of self.new ≡ domains_of self.old }
+        ensures { HasMetas self.old self.new (with_copies (meta_at self.old) domain from to) }
     {
-        let first = place(domain, from, 0);
+        let first = page_index(domain, from, 0);
         self.metas
-            .copy_within(first..first + 1024, place(domain, to, 0));
+            .copy_within(first..first + 1024, page_index(domain, to, 0));
     }
 
+    /// No page of the resource has metadata any more.
     pub fn clear_range(&mut self, domain: u32, resource: u32)
         requires domain { domain < domains_of self.old }
         requires resource { resource < 16 }
-        ensures each { (p : PageId) → meta_at self.new p ≡ (if is_of domain resource p then None else meta_at self.old p) }
-        ensures domains { domains_of self.new ≡ domains_of self.old }
+        ensures { HasMetas self.old self.new (with_resource (meta_at self.old) domain resource None) }
     {
-        let first = place(domain, resource, 0);
+        let first = page_index(domain, resource, 0);
         for i in 0..1024 {
             self.metas[first + i] = None;
         }

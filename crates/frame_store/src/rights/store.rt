@@ -1,6 +1,6 @@
 ghost use Rattle.std.specs.Prelude.{◌≡◌, ℕ, ◌<◌, ◌≤◌, List, length, slice_get, slice_set, Some, IfOk, replicate};
 ghost use Rattle.std.specs.Borrow.{sem};
-ghost use Rattle.frame_store.specs.Pages.{zeros};
+ghost use Rattle.cloak_base.specs.Pages.{zero_page};
 
 use super::{ChangedRight, CleanRight, OutsideRight};
 use cloak_base::{Frame, NoMemory, PageId};
@@ -22,14 +22,14 @@ impl Model for FrameStore {
 }
 
 impl FrameStore {
-    ghost use Rattle.frame_store.specs.Lending.{LendsFrame};
+    ghost use Rattle.frame_store.specs.Lending.{LendsFrameBytes};
 
     /// The one call that takes memory.
-    #[tactic(auto, unfolding(crate::specs::Pages::zeros))]
+    #[tactic(auto, unfolding(cloak_base::specs::Pages::zero_page))]
     pub fn open(alloc: Global, n: u32) -> Result<(FrameStore, Vec<OutsideRight>), NoMemory>
         requires least { 64 ≤ n }
         requires most { n ≤ 4096 }
-        ensures store { IfOk result (λ p. p.0 ≡ replicate n zeros) }
+        ensures store { IfOk result (λ p. p.0 ≡ replicate n zero_page) }
         ensures count { IfOk result (λ p. length p.1.items ≡ n) }
         ensures rights { IfOk result (λ p. (k : ℕ) → k < n → slice_get p.1.items k ≡ Some (record { 0 = k })) }
     {
@@ -58,7 +58,7 @@ impl FrameStore {
 
     pub fn outside_mut(&mut self, r: &OutsideRight) -> &mut [u8; 4096]
         requires { r.now.0 < length self.old }
-        ensures* writes_back { sem 𝓛 (LendsFrame self.entry r.now.0 result) }
+        ensures* writes_back { sem 𝓛 (LendsFrameBytes self.entry r.now.0 result) }
         ensures value { slice_get self.old r.now.0 ≡ Some result.now }
     {
         &mut self.frames[r.frame.0 as usize]
@@ -80,7 +80,7 @@ impl FrameStore {
 
     pub fn changed_mut(&mut self, r: &ChangedRight) -> &mut [u8; 4096]
         requires { r.now.frame.0 < length self.old }
-        ensures* writes_back { sem 𝓛 (LendsFrame self.entry r.now.frame.0 result) }
+        ensures* writes_back { sem 𝓛 (LendsFrameBytes self.entry r.now.frame.0 result) }
         ensures value { slice_get self.old r.now.frame.0 ≡ Some result.now }
     {
         &mut self.frames[r.frame.0 as usize]
@@ -100,10 +100,10 @@ impl FrameStore {
     }
 
     /// The frame holds page `q`, of which nothing was shown yet.
-    #[tactic(auto, unfolding(crate::specs::Pages::zeros))]
+    #[tactic(auto, unfolding(cloak_base::specs::Pages::zero_page))]
     pub fn to_fresh(&mut self, r: OutsideRight, q: PageId) -> ChangedRight
         requires { r.0 < length self.old }
-        ensures bytes { self.new ≡ slice_set self.old r.0 zeros }
+        ensures bytes { self.new ≡ slice_set self.old r.0 zero_page }
         ensures right { result ≡ record { frame = r; page = q } }
     {
         self.frames[r.frame.0 as usize] = [0; 4096];

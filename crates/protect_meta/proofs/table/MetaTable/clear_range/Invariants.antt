@@ -1,5 +1,5 @@
 use Rattle.std.proofs.Common.{◌≡◌}
-use Rattle.protect_meta.proofs.Tables.{IsClearedTo}
+use Rattle.protect_meta.proofs.Rows.{IsClearedTo}
 use Rattle.protect_meta.proofs.table.MetaTable.clear_range.Given as goal
 
 abbrev pub invariant-loop-i : goal.invariant-loop-i

@@ -1,10 +1,28 @@
-use Rattle.std.proofs.Common.{ap, arith}
-use Rattle.protect_meta.specs.Table.{Table}
-use Rattle.protect_meta.proofs.Tables.{at_copy}
+use Rattle.std.proofs.Common.{◌+◌, ◌-◌, ap, arith, refl}
+use Rattle.protect_meta.specs.Table.{Table, meta_at}
+use Rattle.protect_meta.proofs.Rows.{Span, value_after_copy}
 use Rattle.protect_meta.proofs.table.MetaTable.copy_range.Goals as goal
 
-pub returns-clause-each : goal.returns-clause-each
-returns-clause-each c =
+pub returns : goal.returns
+unfolding meta_at
+returns c =
     let e = ap (λ (t : Table). t.domains) c.self.view_is in
+    let source : Span c.args.domain c.args.from = record {
+      first = c.page_index-first.result;
+      count = 1024;
+      starts = c.page_index-first.ensures;
+      all = refl;
+      resource_is = c.requires.from;
+    } in
+    let target : Span c.args.domain c.args.to = record {
+      first = c.page_index.result;
+      count = (c.page_index-first.result + 1024) - c.page_index-first.result;
+      starts = c.page_index.ensures;
+      all = omega arith;
+      resource_is = c.requires.to;
+    } in
     rw (← c.self.view_is)
-    (at_copy _ _ _ _ _ _ _ _ _ (omega arith) c.requires.from c.requires.to c.place-first.ensures c.place.ensures (omega arith) c.copy_within.ensures.by_index)
+    (record {
+      metas_are = value_after_copy _ source target _ _ (omega arith) c.copy_within.ensures.by_index;
+      domains_stay = refl;
+    })

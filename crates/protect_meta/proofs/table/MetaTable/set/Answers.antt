@@ -1,9 +1,14 @@
-use Rattle.std.proofs.Common.{ap, arith}
-use Rattle.protect_meta.specs.Table.{Table}
-use Rattle.protect_meta.proofs.Tables.{at_set}
+use Rattle.std.proofs.Common.{ap, arith, refl}
+use Rattle.protect_meta.specs.Table.{Table, meta_at}
+use Rattle.protect_meta.proofs.Rows.{value_after_set}
 use Rattle.protect_meta.proofs.table.MetaTable.set.Goals as goal
 
-pub returns-clause-each : goal.returns-clause-each
-returns-clause-each c =
+pub returns : goal.returns
+unfolding meta_at
+returns c =
     let e = ap (λ (t : Table). t.domains) c.self.view_is in
-    rw (← c.self.view_is, c.place-at.ensures) (at_set _ _ _ _ c.self.invariant (record { domain = omega arith; resource = c.requires.resource; page = c.requires.page }))
+    rw (← c.self.view_is, c.page_index-at.ensures)
+    (record {
+      metas_are = value_after_set _ _ _ _ c.self.invariant (record { domain = omega arith; resource = c.requires.resource; page = c.requires.page });
+      domains_stay = refl;
+    })

@@ -1,11 +1,11 @@
 use Rattle.std.proofs.Common.{ℕ, arith, sym}
 use Rattle.cloak_base.specs.declared.names.Frame.{Frame}
-use Rattle.frame_store.specs.Pages.{zeros}
+use Rattle.cloak_base.specs.Pages.{zero_page}
 use Rattle.frame_store.proofs.Lists.{named_pushed, replicate_pushed}
 use Rattle.frame_store.proofs.rights.store.FrameStore.open.Goals as goal
 
 pub loop-i-preserved : goal.loop-i-preserved
-unfolding zeros
+unfolding zero_page
 loop-i-preserved c =
     let name : ℕ → Frame = λ k. record { 0 = k } in
     record {
