@@ -1,9 +1,9 @@
-ghost use Rattle.std.specs.Prelude.{◌≡◌, ◌≢◌, ◌<◌, List, ℕ, length, slice_get, slice_set, Some, IfOk, IfErr};
+ghost use Rattle.std.specs.Prelude.{◌≡◌, ◌≢◌, ◌<◌, List, [], ℕ, length, slice_index_or, slice_set, IfOk, IfErr};
 ghost use Rattle.sha2.specs.Sha256.{sha256};
+ghost use Rattle.cloak_base.specs.Pages.{zero_page};
 ghost use Rattle.cloak_model.specs.Chain.{cbc};
-ghost use Rattle.cloak_model.specs.Memory.{zero_page};
 ghost use Rattle.aes_block.specs.Bytes.{IsBytes};
-ghost use Rattle.page_states.specs.Opening.{IsPlain};
+ghost use Rattle.page_states.specs.Opening.{IsPlain, OpensTo};
 
 use aes_block::Schedule;
 use cloak_base::PageId;
@@ -28,6 +28,7 @@ fn seal_bytes(page: &mut [u8; 4096], iv: &[u8; 16], k: &Schedule)
 }
 
 /// Opens the frame as page `q`, where it holds what `m` records.
+#[tactic(auto, using(std::proofs::lemmas::Option::get_or_from_slice_get))]
 pub fn open_page(
     s: &mut FrameStore,
     r: OutsideRight,
@@ -36,10 +37,9 @@ pub fn open_page(
     k: &Schedule,
 ) -> Result<CleanRight, OutsideRight>
     requires { r.0 < length s.old }
-    ensures opened_where_recorded { IfOk result (λ _. (old : List ℕ) → slice_get s.old r.0 ≡ Some old → sha256 old ≡ m.now.digest) }
-    ensures refused_where_not { IfErr result (λ _. (old : List ℕ) → slice_get s.old r.0 ≡ Some old → sha256 old ≢ m.now.digest) }
-    ensures bytes { IfOk result (λ _. (old : List ℕ) → slice_get s.old r.0 ≡ Some old → (plain : List ℕ) × IsPlain k.now m.now.iv old plain × (s.new ≡ slice_set s.old r.0 plain)) }
-    ensures count { length s.new ≡ length s.old }
+    ensures opened_where_recorded { IfOk result (λ _. sha256 (slice_index_or s.old r.0 []) ≡ m.now.digest) }
+    ensures refused_where_not { IfErr result (λ _. sha256 (slice_index_or s.old r.0 []) ≢ m.now.digest) }
+    ensures bytes { IfOk result (λ _. OpensTo k.now m.now.iv (slice_index_or s.old r.0 []) (λ plain. s.new ≡ slice_set s.old r.0 plain)) }
     ensures right { IfOk result (λ n. n ≡ record { frame = r; page = q }) }
     ensures unchanged { IfErr result (λ same. (same ≡ r) × (s.new ≡ s.old)) }
 {
@@ -52,7 +52,6 @@ pub fn open_page(
 }
 
 /// Gives the frame to page `q`, of which nothing was shown yet.
-#[tactic(auto, unfolding(cloak_model::specs::Memory::zero_page, frame_store::specs::Pages::zeros))]
 pub fn first_page(s: &mut FrameStore, r: OutsideRight, q: PageId) -> ChangedRight
     requires { r.0 < length s.old }
     ensures bytes { s.new ≡ slice_set s.old r.0 zero_page }
@@ -71,8 +70,7 @@ pub fn change(r: CleanRight) -> ChangedRight
 /// Shows again what was shown before, where `m` is what the frame was opened with.
 pub fn reseal(s: &mut FrameStore, r: CleanRight, m: &Meta, k: &Schedule) -> OutsideRight
     requires { r.frame.0 < length s.old }
-    ensures bytes { (old : List ℕ) → slice_get s.old r.frame.0 ≡ Some old → s.new ≡ slice_set s.old r.frame.0 (cbc k.now m.now.iv old) }
-    ensures count { length s.new ≡ length s.old }
+    ensures bytes { s.new ≡ slice_set s.old r.frame.0 (cbc k.now m.now.iv (slice_index_or s.old r.frame.0 [])) }
     ensures right { result ≡ r.frame }
 {
     let mut page = *s.plain(&r);
@@ -83,11 +81,10 @@ pub fn reseal(s: &mut FrameStore, r: CleanRight, m: &Meta, k: &Schedule) -> Outs
 /// Shows the changed page under an IV that was used for no other, and gives what is to be recorded of it.
 pub fn seal(s: &mut FrameStore, r: ChangedRight, iv: [u8; 16], k: &Schedule) -> (OutsideRight, Meta)
     requires { r.frame.0 < length s.old }
-    ensures bytes { (old : List ℕ) → slice_get s.old r.frame.0 ≡ Some old → s.new ≡ slice_set s.old r.frame.0 (cbc k.now iv old) }
-    ensures plain { (old : List ℕ) → slice_get s.old r.frame.0 ≡ Some old → IsBytes 4096 old }
+    ensures bytes { s.new ≡ slice_set s.old r.frame.0 (cbc k.now iv (slice_index_or s.old r.frame.0 [])) }
+    ensures plain { IsBytes 4096 (slice_index_or s.old r.frame.0 []) }
     ensures iv { result.1.iv ≡ iv }
-    ensures digest { (old : List ℕ) → slice_get s.old r.frame.0 ≡ Some old → result.1.digest ≡ sha256 (cbc k.now iv old) }
-    ensures count { length s.new ≡ length s.old }
+    ensures digest { result.1.digest ≡ sha256 (cbc k.now iv (slice_index_or s.old r.frame.0 [])) }
     ensures right { result.0 ≡ r.frame }
 {
     let mut page = *s.changed(&r);
@@ -97,7 +94,7 @@ pub fn seal(s: &mut FrameStore, r: ChangedRight, iv: [u8; 16], k: &Schedule) -> 
 }
 
 /// Shows nothing of the page.
-#[tactic(auto, unfolding(cloak_model::specs::Memory::zero_page))]
+#[tactic(auto, unfolding(cloak_base::specs::Pages::zero_page))]
 pub fn wipe(s: &mut FrameStore, r: ChangedRight) -> OutsideRight
     requires { r.frame.0 < length s.old }
     ensures bytes { s.new ≡ slice_set s.old r.frame.0 zero_page }
