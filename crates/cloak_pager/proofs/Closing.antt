@@ -1,26 +1,28 @@
 -- Closing frame after frame.
-use Rattle.std.proofs.Common.{◌≡◌, ◌≢◌, ◌<◌, ◌≤◌, ◌+◌, ℕ, List, [], length, refl, ap, sym, ◌∙◌, subst, arith, inl, inr}
-use Rattle.std.proofs.lemmas.List.{get_or-set_same, get_or-set_other, length-set, get_or_past}
+use Rattle.std.proofs.Common.{◌≡◌, ◌≢◌, ◌<◌, ◌≤◌, ◌+◌, ℕ, Bool, List, [], length, refl, ap, sym, ◌∙◌, subst, arith, inl}
+use Rattle.std.proofs.Common.{inr}
+use Rattle.std.proofs.lemmas.List.{get_or-set_same, length-set, get_or_past}
 use Rattle.std.proofs.lemmas.Bool.{cases_lt}
 use Rattle.cloak_base.specs.declared.names.PageId.{PageId}
-use Rattle.std.proofs.Common.{Bool}
 use Rattle.cloak_model.specs.Chain.{cbc}
 use Rattle.cloak_model.specs.Cloaking.{CloakedMemory}
 use Rattle.protect_meta.specs.Table.{meta_at, domains_of}
-use Rattle.cloak_pager.specs.State.{PagerState, IsWhole, Names, right_at, bytes_in, page_of}
-use Rattle.cloak_pager.specs.Turns.{frame, CloseTurns, IsClosed, closed_bytes}
-use Rattle.cloak_pager.specs.Relation.{StandsFor}
+use Rattle.cloak_pager.specs.State.{PagerState, IsWholePager, Names, right_at, bytes_in, page_of}
+use Rattle.cloak_pager.specs.Turns.{frame_numbered, StaysBut, CloseTurns, IsClosed, ShowsClosed}
+use Rattle.cloak_pager.specs.Relation.{StandsForMemory}
 use Rattle.cloak_pager.specs.declared.held.Held.{Held}
 use Rattle.cloak_pager.specs.declared.held.Held.TheVariants.{Outside, Clean, Changed, Spent}
 use Rattle.cloak_pager.proofs.Pages.{same_or_not}
+use Rattle.cloak_pager.proofs.Turned.{outside_is}
 use Rattle.cloak_pager.proofs.Touches.{stands_resealed, whole_resealed}
+use Rattle.cloak_pager.proofs.Behind.{stays_same, turned_stays}
 
 -- the frames below this one are closed, the others are as they were
 pub record ClosedBelow (old now : PagerState) (i : ℕ) : Type 0 where
   pub count : length now.frames ≡ length old.frames
   pub places : length now.rights ≡ length old.rights
-  pub outside : (k : ℕ) → k < i → right_at now k ≡ Outside (frame k)
-  pub bytes : (k : ℕ) → k < i → closed_bytes old k (right_at old k) (bytes_in now k)
+  pub outside : (k : ℕ) → k < i → right_at now k ≡ Outside (frame_numbered k)
+  pub bytes : (k : ℕ) → k < i → ShowsClosed old k (right_at old k) (bytes_in now k)
   pub right_later : (k : ℕ) → i ≤ k → right_at now k ≡ right_at old k
   pub bytes_later : (k : ℕ) → i ≤ k → bytes_in now k ≡ bytes_in old k
   pub metas_stay : (o : PageId) → meta_at now.table o ≡ meta_at old.table o
@@ -42,7 +44,8 @@ closed_start p = record {
   reads_stay = refl;
 }
 
-pub closed_end : (old new : PagerState) (i : ℕ) → IsWhole old → ClosedBelow old new i → length old.frames ≤ i → IsClosed old new
+pub closed_end : (old new : PagerState) (i : ℕ) → IsWholePager old → ClosedBelow old new i → length old.frames ≤ i →
+    IsClosed old new
 closed_end old new i w c all = record {
   count = c.count;
   outside = λ k h. c.outside k (omega arith);
@@ -58,67 +61,87 @@ closed_end old new i w c all = record {
   reads_stay = c.reads_stay;
 }
 
--- one frame more, by what becomes of it and that all else stays
-closed_with : (old now next : PagerState) (i : ℕ) → ClosedBelow old now i → length next.frames ≡ length now.frames → length next.rights ≡ length now.rights → right_at next i ≡ Outside (frame i) → closed_bytes old i (right_at old i) (bytes_in next i) → ((k : ℕ) → k ≢ i → (right_at next k ≡ right_at now k) × (bytes_in next k ≡ bytes_in now k)) → ((o : PageId) → meta_at next.table o ≡ meta_at now.table o) → domains_of next.table ≡ domains_of now.table → next.key ≡ now.key → next.reads ≡ now.reads → ClosedBelow old next (i + 1)
-closed_with old now next i c frames rights out bytes others metas domains key reads = record {
-  count = frames ∙ c.count;
-  places = rights ∙ c.places;
+-- one frame more went outside, and all else stayed
+record ClosesFrame (old now next : PagerState) (i : ℕ) : Type 0 where
+  stays : StaysBut i now next
+  places : length next.rights ≡ length now.rights
+  outside : right_at next i ≡ Outside (frame_numbered i)
+  bytes : ShowsClosed old i (right_at old i) (bytes_in next i)
+  metas : (o : PageId) → meta_at next.table o ≡ meta_at now.table o
+  reads : next.reads ≡ now.reads
+
+closed_with : (old now next : PagerState) (i : ℕ) → ClosedBelow old now i → ClosesFrame old now next i →
+    ClosedBelow old next (i + 1)
+closed_with old now next i c x = record {
+  count = x.stays.count ∙ c.count;
+  places = x.places ∙ c.places;
   outside = λ k h.
       elim (same_or_not k i) [
-        | inl e ↦ subst (λ (x : ℕ). right_at next x ≡ Outside (frame x)) (sym e) out
-        | inr n ↦ (others k n).0 ∙ c.outside k (omega arith)
+        | inl e ↦ subst (λ (x : ℕ). right_at next x ≡ Outside (frame_numbered x)) (sym e) x.outside
+        | inr n ↦ x.stays.rights k n ∙ c.outside k (omega arith)
       ];
   bytes = λ k h.
       elim (same_or_not k i) [
-        | inl e ↦ subst (λ (x : ℕ). closed_bytes old x (right_at old x) (bytes_in next x)) (sym e) bytes
-        | inr n ↦ let B : List ℕ → Type 0 = λ x. closed_bytes old k (right_at old k) x in subst B (sym (others k n).1) (c.bytes k (omega arith))
+        | inl e ↦ subst (λ (x : ℕ). ShowsClosed old x (right_at old x) (bytes_in next x)) (sym e) x.bytes
+        | inr n ↦
+            let B : List ℕ → Type 0 = λ x. ShowsClosed old k (right_at old k) x in
+            subst B (sym (x.stays.bytes k n)) (c.bytes k (omega arith))
       ];
-  right_later = λ k h. let n : k ≢ i = omega arith in (others k n).0 ∙ c.right_later k (omega arith);
-  bytes_later = λ k h. let n : k ≢ i = omega arith in (others k n).1 ∙ c.bytes_later k (omega arith);
-  metas_stay = λ o. metas o ∙ c.metas_stay o;
-  domains_stay = domains ∙ c.domains_stay;
-  key_stays = key ∙ c.key_stays;
-  reads_stay = reads ∙ c.reads_stay;
+  right_later = λ k h. let n : k ≢ i = omega arith in x.stays.rights k n ∙ c.right_later k (omega arith);
+  bytes_later = λ k h. let n : k ≢ i = omega arith in x.stays.bytes k n ∙ c.bytes_later k (omega arith);
+  metas_stay = λ o. x.metas o ∙ c.metas_stay o;
+  domains_stay = x.stays.domains ∙ c.domains_stay;
+  key_stays = x.stays.key ∙ c.key_stays;
+  reads_stay = x.reads ∙ c.reads_stay;
 }
 
-pub closed_more : (old now next : PagerState) (i : ℕ) → IsWhole old → ClosedBelow old now i → i < length old.frames → CloseTurns (right_at now i) now next i → ClosedBelow old next (i + 1)
+pub closed_more : (old now next : PagerState) (i : ℕ) → IsWholePager old → ClosedBelow old now i →
+    i < length old.frames → CloseTurns (right_at now i) now next i → ClosedBelow old next (i + 1)
 closed_more old now next i w c inside turns =
     let T : Held → Type 0 = λ h. CloseTurns h now next i in
     by_right (right_at old i) refl (w.named i inside) (subst T (c.right_later i (omega arith)) turns)
   where
-    by_right : (h : Held) → right_at old i ≡ h → Names old.table i h → CloseTurns h now next i → ClosedBelow old next (i + 1)
+    by_right : (h : Held) → right_at old i ≡ h → Names old.table i h → CloseTurns h now next i →
+        ClosedBelow old next (i + 1)
     by_right (Outside r) at named turns =
         let N : PagerState → Type 0 = λ x. ClosedBelow old x (i + 1) in
-        let B : Held → Type 0 = λ h. closed_bytes old i h (bytes_in now i) in
-        subst N (sym turns)
-        (closed_with old now now i c refl refl
-        (c.right_later i (omega arith) ∙ (at ∙ ap (λ (k : ℕ). Outside (frame k)) named))
-        (subst B (sym at) (c.bytes_later i (omega arith)))
-        (λ k n. (refl, refl)) (λ o. refl) refl refl refl)
+        let B : Held → Type 0 = λ h. ShowsClosed old i h (bytes_in now i) in
+        subst N (sym turns) (closed_with old now now i c (record {
+          stays = stays_same i now now refl;
+          places = refl;
+          outside = c.right_later i (omega arith) ∙ (at ∙ outside_is r i named);
+          bytes = subst B (sym at) (c.bytes_later i (omega arith));
+          metas = λ o. refl;
+          reads = refl;
+        }))
     by_right (Clean r) at named turns =
         let t = turns.2 in
         let sealed : List ℕ = cbc now.key turns.0.iv (bytes_in now i) in
         let within : i < length now.frames = rw c.count inside in
         let within' : i < length now.rights = rw (c.places, w.count) inside in
-        let B : Held → Type 0 = λ h. closed_bytes old i h (bytes_in next i) in
+        let B : Held → Type 0 = λ h. ShowsClosed old i h (bytes_in next i) in
         let shows : bytes_in next i ≡ sealed = rw t.frames_are (get_or-set_same now.frames i sealed [] within) in
-        closed_with old now next i c
-        (rw (t.frames_are, length-set) refl)
-        (rw (t.rights_are, length-set) refl)
-        (rw t.rights_are (get_or-set_same now.rights i (Outside (frame i)) Spent within'))
-        (subst B (sym at)
-        (turns.0, sym (c.metas_stay r.page) ∙ turns.1, shows ∙ rw (c.key_stays, c.bytes_later i (omega arith)) refl))
-        (λ k n. (rw t.rights_are (get_or-set_other now.rights i k (Outside (frame i)) Spent n), rw t.frames_are (get_or-set_other now.frames i k sealed [] n)))
-        t.metas_are t.domains_stay t.key_stays t.reads_stay
+        let shown : ShowsClosed old i (Clean r) (bytes_in next i) =
+        (turns.0, sym (c.metas_stay r.page) ∙ turns.1, shows ∙ rw (c.key_stays, c.bytes_later i (omega arith)) refl) in
+        closed_with old now next i c (record {
+          stays = turned_stays i now next sealed _ _ t;
+          places = rw (t.rights_are, length-set) refl;
+          outside = rw t.rights_are (get_or-set_same now.rights i (Outside (frame_numbered i)) Spent within');
+          bytes = subst B (sym at) shown;
+          metas = t.metas_are;
+          reads = t.reads_stay;
+        })
     by_right (Changed r) at named turns = absurd turns
     by_right Spent at named turns = absurd turns
 
 -- Closing a frame changes no memory that the pager stands for.
-pub closing_stands : (p p' : PagerState) (f : ℕ) → f < length p.frames → CloseTurns (right_at p f) p p' f → (w : PageId → Bool) (m : CloakedMemory) → StandsFor p w m → StandsFor p' w m
+pub closing_stands : (p p' : PagerState) (f : ℕ) → f < length p.frames → CloseTurns (right_at p f) p p' f →
+    (w : PageId → Bool) (m : CloakedMemory) → StandsForMemory p w m → StandsForMemory p' w m
 closing_stands p p' f inside turns w m s = by_right (right_at p f) refl turns
   where
-    by_right : (h : Held) → right_at p f ≡ h → CloseTurns h p p' f → StandsFor p' w m
-    by_right (Outside r) at turns = (let S : PagerState → Type 0 = λ x. StandsFor x w m in subst S (sym turns) s)
-    by_right (Clean r) at turns = stands_resealed p p' w m f r s (whole_resealed p p' f r s.whole inside at turns) inside at turns
+    by_right : (h : Held) → right_at p f ≡ h → CloseTurns h p p' f → StandsForMemory p' w m
+    by_right (Outside r) at turns = (let S : PagerState → Type 0 = λ x. StandsForMemory x w m in subst S (sym turns) s)
+    by_right (Clean r) at turns =
+        stands_resealed p p' w m f r s (whole_resealed p p' f r s.whole inside at turns) inside at turns
     by_right (Changed r) at turns = absurd turns
     by_right Spent at turns = absurd turns

@@ -1,5 +1,4 @@
 pub mod Pages
-pub mod Homing
 pub mod Keeping
 pub mod Turned
 pub mod Stands

@@ -1,6 +1,8 @@
 -- What placing and restoring do, over plain variables.
-use Rattle.std.proofs.Common.{◌≡◌, ◌≢◌, ◌<◌, ◌≤◌, ℕ, Bool, true, false, List, [], Option, None, Some, length, get_or, slice_set, refl, ap, sym, ◌∙◌, subst, arith, unwrap_or, if◌then◌else◌}
-use Rattle.std.proofs.lemmas.List.{get_or-set_same, get_or-set_other, length-set, set-get_or, set_past, get_or_past, length-map}
+use Rattle.std.proofs.Common.{◌≡◌, ◌≢◌, ◌<◌, ◌≤◌, ℕ, Bool, true, false, List, [], Option, None, Some, length, get_or}
+use Rattle.std.proofs.Common.{slice_set, refl, ap, sym, ◌∙◌, subst, arith, is_some, unwrap_or}
+use Rattle.std.proofs.lemmas.List.{get_or-set_same, get_or-set_other, length-set, set-get_or, set_past, get_or_past}
+use Rattle.std.proofs.lemmas.List.{length-map}
 use Rattle.sha2.specs.Sha256.{sha256}
 use Rattle.aes_block.specs.Bytes.{IsBytes}
 use Rattle.cloak_base.specs.declared.names.Frame.{Frame}
@@ -8,66 +10,35 @@ use Rattle.cloak_base.specs.declared.names.PageId.{PageId}
 use Rattle.cloak_base.specs.Pages.{with_page}
 use Rattle.cloak_base.specs.Random.{Random, next_draw}
 use Rattle.cloak_model.specs.Chain.{cbc}
-use Rattle.cloak_model.specs.Cloaking.{CloakedMemory, with_frame, with_record}
-use Rattle.cloak_model.specs.PageMoves.{place, place_with, with_plain}
+use Rattle.cloak_model.specs.Cloaking.{CloakedMemory, with_shown_frame, with_record}
+use Rattle.cloak_model.specs.PageMoves.{place, place_with, with_newest}
 use Rattle.protect_meta.specs.declared.meta.Meta.{Meta}
-use Rattle.protect_meta.specs.Table.{Table, meta_at, domains_of}
-use Rattle.cloak_base.specs.Pages.{same_page}
-use Rattle.cloak_pager.specs.Homes.{HomeTable}
-use Rattle.cloak_pager.specs.State.{PagerState, IsWhole, IsKept, IsFresh, Names, page_of, right_at, held_in}
-use Rattle.cloak_pager.specs.Turns.{Turns, IsPlaced, IsRestored}
-use Rattle.cloak_pager.specs.Relation.{StandsFor, FrameStands}
-use Rattle.cloak_pager.specs.Told.{Told, Moves, Meets, told_place, is_there, with_restored, StandsRestored}
+use Rattle.protect_meta.specs.Table.{meta_at}
+use Rattle.cloak_pager.specs.State.{PagerState, IsWholePager, IsFresh, page_of, right_at, held_in}
+use Rattle.cloak_pager.specs.Turns.{metas_with, IsPlaced, IsRestored}
+use Rattle.cloak_pager.specs.Relation.{StandsForMemory, FrameStands}
+use Rattle.cloak_pager.specs.AfterCall.{AfterCall, Moves, Meets, after_place, with_restored, StandsRestored}
 use Rattle.cloak_pager.specs.declared.held.Held.{Held}
 use Rattle.cloak_pager.specs.declared.held.Held.TheVariants.{Outside, Spent}
 use Rattle.cloak_pager.proofs.Pages.{with_page-same, with_page-other}
-use Rattle.cloak_pager.proofs.Keeping.{set_map, names_stay, outside_right}
+use Rattle.cloak_pager.proofs.Keeping.{HasRight, whole_still, outside_right}
 use Rattle.cloak_pager.proofs.Turned.{set_keeps}
 use Rattle.cloak_pager.proofs.Stands.{stands_turned, owed_by_right}
 use Rattle.cloak_pager.proofs.Touches.{page_is, other_page, kept_by_draw}
 
--- a pager is whole while its rights stay, whatever bytes are in its frames
-pub whole_still : (p p' : PagerState) (frames : List (List ℕ)) (metas : PageId → Option Meta) → IsWhole p → Turns p p' frames p.rights metas → length frames ≡ length p.frames → ((o : PageId) → meta_at p.table o ≢ None → metas o ≢ None) → IsWhole p'
-whole_still p p' frames metas w t long keeps =
-    let count : length p'.frames ≡ length p.frames = rw t.frames_are long in
-    let right : (k : ℕ) → right_at p' k ≡ right_at p k = λ k. ap (λ (x : List Held). get_or x k Spent) t.rights_are in
-    record {
-      count = ap (λ (x : List Held). length x) t.rights_are ∙ (w.count ∙ sym count);
-      named = λ k within.
-          subst (λ (x : Held). Names p'.table k x) (sym (right k))
-          (names_stay p.table p'.table k (right_at p k) t.domains_stay (λ o shown. rw t.metas_are (keeps o shown)) (w.named k (rw (← count) within)));
-      one_home = λ f g q at at'. w.one_home f g q (ap page_of (sym (right f)) ∙ at) (ap page_of (sym (right g)) ∙ at');
-      few = rw count w.few;
-    }
-
--- and kept, where the homes stay too
-pub kept_still : (p p' : PagerState) (homes : HomeTable) (frames : List (List ℕ)) (metas : PageId → Option Meta) → IsKept p homes → Turns p p' frames p.rights metas → length frames ≡ length p.frames → ((o : PageId) → meta_at p.table o ≢ None → metas o ≢ None) → IsKept p' homes
-kept_still p p' homes frames metas k t long keeps = record {
-  whole = whole_still p p' frames metas k.whole t long keeps;
-  noted = rw t.rights_are k.noted;
-  domains = k.domains ∙ sym t.domains_stay;
-}
-
 -- Restoring.
 
-pub restore_turns : (p : PagerState) (table' : Table) (q : PageId) (t : Meta) → ((o : PageId) → meta_at table' o ≡ (if same_page o q then Some t else meta_at p.table o)) → domains_of table' ≡ domains_of p.table → IsRestored p (record p { table = table' }) q t
-restore_turns p table' q t each domains = record {
-  frames_are = refl;
-  rights_are = refl;
-  metas_are = set_map (meta_at p.table) (meta_at table') q (Some t) each;
-  domains_stay = domains;
-  key_stays = refl;
-  reads_stay = refl;
-}
-
-pub restore_stands : (p p' : PagerState) (q : PageId) (t : Meta) → IsFresh p q → IsRestored p p' q t → StandsRestored p p' q t
+pub restore_stands : (p p' : PagerState) (q : PageId) (t : Meta) → IsFresh p q → IsRestored p p' q t →
+    StandsRestored p p' q t
 restore_stands p p' q t fresh turns w m c plain s bytes sealed digest =
     let m' : CloakedMemory = with_restored q c plain m in
     let past : ℕ = length p.frames in
     let end : length p.rights ≤ past = omega (arith, s.whole.count) in
     let spent : right_at p past ≡ Spent = get_or_past p.rights past Spent end in
     let beyond : length m.ledger.owed ≤ past = rw (s.owed, length-map) end in
-    let whole : IsWhole p' = whole_still p p' p.frames (with_page (meta_at p.table) q (Some t)) s.whole turns refl (set_keeps (meta_at p.table) q t) in
+    let whole : IsWholePager p' =
+    whole_still p p' p.frames (with_page (meta_at p.table) q (Some t)) s.whole turns refl
+    (λ k o here. set_keeps (meta_at p.table) q t o) in
     stands_turned p p' w w m m' past Spent [] (Some q) s (record {
       whole = whole;
       frames = turns.frames_are ∙ sym (set_past p.frames past [] (omega arith));
@@ -88,7 +59,8 @@ restore_stands p p' q t fresh turns w m c plain s bytes sealed digest =
         bytes = c;
         is = with_page-same m.ledger.recorded q (Some c);
         digest = digest;
-        sealed = λ kept free. sealed ∙ ap (λ (x : List ℕ). cbc m.ledger.key t.iv x) (sym (with_page-same m.plain q plain));
+        sealed = λ kept free.
+            sealed ∙ ap (λ (x : List ℕ). cbc m.ledger.key t.iv x) (sym (with_page-same m.plain q plain));
       });
       newest = λ o e kept.
           let same : q ≡ o = cc in
@@ -99,14 +71,25 @@ restore_stands p p' q t fresh turns w m c plain s bytes sealed digest =
 
 -- Placing.
 
-pub stands_placed : (p p' : PagerState) (w : PageId → Bool) (m : CloakedMemory) (q : PageId) (f : ℕ) (r : Frame) (bytes : List ℕ) (d : List ℕ × Random) → StandsFor p w m → f < length p.frames → right_at p f ≡ Outside r → IsFresh p q → IsBytes 4096 bytes → next_draw m.ledger.stream ≡ Some d → IsPlaced p p' q f bytes d.0 → StandsFor p' w (let c = cbc m.ledger.key d.0 bytes in with_record q c d.1 (with_frame f c (with_plain q bytes m)))
-stands_placed p p' w m q f r bytes d s inside at fresh is_page drawn turns =
+-- the memory after page q of these bytes was placed in frame f with this draw
+abbrev pub placed_memory : CloakedMemory → PageId → ℕ → List ℕ → List ℕ × Random → CloakedMemory
+placed_memory m q f bytes d =
+    let c = cbc m.ledger.key d.0 bytes in with_record q c d.1 (with_shown_frame f c (with_newest q bytes m))
+
+pub stands_placed : (p p' : PagerState) (w : PageId → Bool) (m : CloakedMemory) (q : PageId) (f : ℕ) (r : Frame)
+    (bytes : List ℕ) (d : List ℕ × Random) →
+    StandsForMemory p w m → HasRight p f (Outside r) → IsFresh p q → IsBytes 4096 bytes →
+    next_draw m.ledger.stream ≡ Some d → IsPlaced p p' q f bytes d.0 →
+    StandsForMemory p' w (placed_memory m q f bytes d)
+stands_placed p p' w m q f r bytes d s right fresh is_page drawn turns =
     let c : List ℕ = cbc p.key d.0 bytes in
     let c' : List ℕ = cbc m.ledger.key d.0 bytes in
-    let m' : CloakedMemory = with_record q c' d.1 (with_frame f c' (with_plain q bytes m)) in
+    let m' : CloakedMemory = placed_memory m q f bytes d in
     let sealed : c ≡ c' = rw s.key refl in
     let meta : Meta = record { iv = d.0; digest = sha256 c } in
-    let whole : IsWhole p' = whole_still p p' (slice_set p.frames f c) (with_page (meta_at p.table) q (Some meta)) s.whole turns (length-set p.frames f c) (set_keeps (meta_at p.table) q meta) in
+    let whole : IsWholePager p' =
+    whole_still p p' (slice_set p.frames f c) (metas_with p q d.0 c) s.whole turns (length-set p.frames f c)
+    (λ k o here. set_keeps (meta_at p.table) q meta o) in
     let O : Option PageId → Type 0 = λ x. slice_set m.ledger.owed f x ≡ m.ledger.owed in
     let F : Held → Type 0 = λ h. FrameStands p' w m' f h in
     stands_turned p p' w w m m' f (right_at p f) c (Some q) s (record {
@@ -122,15 +105,20 @@ stands_placed p p' w m q f r bytes d s inside at fresh is_page drawn turns =
       recorded = λ o n. with_page-other m.ledger.recorded q (Some c') o (other_page q o n);
       metas = λ o n. turns.metas_are o ∙ with_page-other (meta_at p.table) q (Some meta) o (other_page q o n);
       lost = λ o n. refl;
-      held = λ o e. absurd (let no : None ≡ Some o = sym (ap page_of at) ∙ e in cc);
+      held = λ o e. absurd (let no : None ≡ Some o = sym (ap page_of right.at) ∙ e in cc);
       alone = λ g o n e there. fresh.1 g (there ∙ sym e);
-      here = λ within. subst F (sym at) (rw turns.frames_are (get_or-set_same p.frames f c [] inside ∙ (sealed ∙ sym (get_or-set_same m.ram f c' [] (rw s.count inside)))));
-      page = page_is p' w m' q (Some meta) (turns.metas_are q ∙ with_page-same (meta_at p.table) q (Some meta)) (record {
-        bytes = c';
-        is = with_page-same m.ledger.recorded q (Some c');
-        digest = ap sha256 (sym sealed);
-        sealed = λ kept free. ap (λ (x : List ℕ). cbc m.ledger.key d.0 x) (sym (with_page-same m.plain q bytes));
-      });
+      here = λ within.
+          subst F (sym right.at)
+          (rw turns.frames_are
+          (get_or-set_same p.frames f c [] right.inside
+          ∙ (sealed ∙ sym (get_or-set_same m.ram f c' [] (rw s.count right.inside)))));
+      page =
+          page_is p' w m' q (Some meta) (turns.metas_are q ∙ with_page-same (meta_at p.table) q (Some meta)) (record {
+            bytes = c';
+            is = with_page-same m.ledger.recorded q (Some c');
+            digest = ap sha256 (sym sealed);
+            sealed = λ kept free. ap (λ (x : List ℕ). cbc m.ledger.key d.0 x) (sym (with_page-same m.plain q bytes));
+          });
       newest = λ o e kept.
           let same : q ≡ o = cc in
           let B : PageId → Type 0 = λ x. IsBytes 4096 (with_page m.plain q bytes x) in
@@ -138,31 +126,36 @@ stands_placed p p' w m q f r bytes d s inside at fresh is_page drawn turns =
       drained = λ o lost. absurd (let no : false ≡ true = sym (kept_by_draw p w m s o d drawn) ∙ lost in cc);
     })
 
-pub place_draw : (q : PageId) (f : ℕ) (bytes : List ℕ) (m : CloakedMemory) (d : List ℕ × Random) → next_draw m.ledger.stream ≡ Some d → place q f bytes m ≡ Some (let c = cbc m.ledger.key d.0 bytes in with_record q c d.1 (with_frame f c (with_plain q bytes m)))
+pub place_draw : (q : PageId) (f : ℕ) (bytes : List ℕ) (m : CloakedMemory) (d : List ℕ × Random) →
+    next_draw m.ledger.stream ≡ Some d → place q f bytes m ≡ Some (placed_memory m q f bytes d)
 unfolding place place_with
 place_draw q f bytes m d drawn = ap (λ (x : Option (List ℕ × Random)). place_with q f bytes x m) drawn
 
-pub place_none : (q : PageId) (f : ℕ) (bytes : List ℕ) (m : CloakedMemory) → next_draw m.ledger.stream ≡ None → place q f bytes m ≡ None
+pub place_none : (q : PageId) (f : ℕ) (bytes : List ℕ) (m : CloakedMemory) → next_draw m.ledger.stream ≡ None →
+    place q f bytes m ≡ None
 unfolding place place_with
 place_none q f bytes m none = ap (λ (x : Option (List ℕ × Random)). place_with q f bytes x m) none
 
 -- what is told of placing, by what it came to
-abbrev pub told_placed : Option CloakedMemory → (PageId → Bool) → CloakedMemory → Told Bool
-told_placed o w m = record { answer = is_there o; wiped = w; memory = unwrap_or o m }
+abbrev pub after_placing : Option CloakedMemory → (PageId → Bool) → CloakedMemory → AfterCall Bool
+after_placing o w m = record { answer = is_some o; wiped = w; memory = unwrap_or o m }
 
-pub placed_meets : (p p' : PagerState) (q : PageId) (f : ℕ) (bytes iv : List ℕ) (stream left : Random) → f < length p.frames → held_in p f ≡ None → IsFresh p q → IsBytes 4096 bytes → next_draw stream ≡ Some (iv, left) → IsPlaced p p' q f bytes iv → Meets p stream p' left true (told_place q f bytes)
+pub placed_meets : (p p' : PagerState) (q : PageId) (f : ℕ) (bytes iv : List ℕ) (stream left : Random) →
+    f < length p.frames → held_in p f ≡ None → IsFresh p q → IsBytes 4096 bytes → next_draw stream ≡ Some (iv, left) →
+    IsPlaced p p' q f bytes iv → Meets p stream p' left true (after_place q f bytes)
 placed_meets p p' q f bytes iv stream left inside outside fresh is_page drawn turns w m s e =
     let right = outside_right p s.whole f inside outside in
     let there : next_draw m.ledger.stream ≡ Some (iv, left) = rw e drawn in
-    let M : Option CloakedMemory → Type 0 = λ o. Moves Bool p' left true (told_placed o w m) in
+    let M : Option CloakedMemory → Type 0 = λ o. Moves p' left (after_placing o w m) true in
     subst M (sym (place_draw q f bytes m (iv, left) there)) (record {
       answered = refl;
-      stands = stands_placed p p' w m q f right.0 bytes (iv, left) s inside right.1 fresh is_page there turns;
+      stands = stands_placed p p' w m q f right.0 bytes (iv, left) s right.1 fresh is_page there turns;
       drawn = refl;
     })
 
-pub unplaced_meets : (p : PagerState) (q : PageId) (f : ℕ) (bytes : List ℕ) (stream left : Random) → next_draw stream ≡ None → left ≡ stream → Meets p stream p left false (told_place q f bytes)
+pub unplaced_meets : (p : PagerState) (q : PageId) (f : ℕ) (bytes : List ℕ) (stream left : Random) →
+    next_draw stream ≡ None → left ≡ stream → Meets p stream p left false (after_place q f bytes)
 unplaced_meets p q f bytes stream left none same w m s e =
     let there : next_draw m.ledger.stream ≡ None = rw e none in
-    let M : Option CloakedMemory → Type 0 = λ o. Moves Bool p left false (told_placed o w m) in
+    let M : Option CloakedMemory → Type 0 = λ o. Moves p left (after_placing o w m) false in
     subst M (sym (place_none q f bytes m there)) (record { answered = refl; stands = s; drawn = e ∙ sym same })

@@ -1,5 +1,6 @@
 -- A pager goes on to stand for a memory.
-use Rattle.std.proofs.Common.{◌≡◌, ◌≢◌, ◌<◌, ℕ, Bool, true, false, List, [], Option, None, Some, length, get_or, slice_set, refl, ap, sym, ◌∙◌, subst, inl, inr}
+use Rattle.std.proofs.Common.{◌≡◌, ◌≢◌, ◌<◌, ℕ, Bool, true, false, List, [], Option, None, Some, length, get_or}
+use Rattle.std.proofs.Common.{slice_set, refl, ap, sym, ◌∙◌, subst, inl, inr}
 use Rattle.std.proofs.lemmas.List.{get_or-set_same, get_or-set_other, length-set, map-set}
 use Rattle.std.proofs.Math.ListN.{get_or-map}
 use Rattle.aes_block.specs.Bytes.{IsBytes}
@@ -8,34 +9,37 @@ use Rattle.cloak_base.specs.Random.{next_draw}
 use Rattle.cloak_model.specs.Cloaking.{CloakedMemory, owed_in}
 use Rattle.protect_meta.specs.declared.meta.Meta.{Meta}
 use Rattle.protect_meta.specs.Table.{meta_at}
-use Rattle.cloak_pager.specs.State.{PagerState, IsWhole, page_of, owed_of, right_at, bytes_in, held_in, owed_at}
-use Rattle.cloak_pager.specs.Relation.{StandsFor, FrameStands, PageStands, IsUnowed}
+use Rattle.cloak_pager.specs.State.{PagerState, IsWholePager, page_of, owed_under, right_at, bytes_in, held_in, owed_at}
+use Rattle.cloak_pager.specs.Relation.{StandsForMemory, FrameStands, PageStands, IsUnowed}
 use Rattle.cloak_pager.specs.declared.held.Held.{Held}
 use Rattle.cloak_pager.specs.declared.held.Held.TheVariants.{Outside, Clean, Changed, Spent}
 use Rattle.cloak_pager.proofs.Pages.{same_or_not, is_or_not}
 
 -- a frame that is owed a page holds it
-pub owed_held : (h : Held) (q : PageId) → owed_of h ≡ Some q → page_of h ≡ Some q
+pub owed_held : (h : Held) (q : PageId) → owed_under h ≡ Some q → page_of h ≡ Some q
 owed_held (Outside r) q e = cc
 owed_held (Clean r) q e = cc
 owed_held (Changed r) q e = e
 owed_held Spent q e = cc
 
 -- what a frame is owed, by its right
-pub owed_by_right : (p : PagerState) (w : PageId → Bool) (m : CloakedMemory) → StandsFor p w m → (f : ℕ) → owed_in m f ≡ owed_at p f
-owed_by_right p w m s f = ap (λ (x : List (Option PageId)). get_or x f None) s.owed ∙ get_or-map owed_of p.rights f Spent
+pub owed_by_right : (p : PagerState) (w : PageId → Bool) (m : CloakedMemory) → StandsForMemory p w m → (f : ℕ) →
+    owed_in m f ≡ owed_at p f
+owed_by_right p w m s f =
+    ap (λ (x : List (Option PageId)). get_or x f None) s.owed ∙ get_or-map owed_under p.rights f Spent
 
--- The pager and the memory, turned at frame f, which has this right and these bytes now, and at page q, if one is named:
--- all other frames and pages are as they were.
-pub record Turned (p p' : PagerState) (w w' : PageId → Bool) (m m' : CloakedMemory) (f : ℕ) (h : Held) (bytes : List ℕ) (q : Option PageId) : Type 0 where
-  pub whole : IsWhole p'
+-- The pager and the memory, turned at frame f, which has this right and these bytes now, and at page q, if one is
+-- named: all other frames and pages are as they were.
+pub record Turned (p p' : PagerState) (w w' : PageId → Bool) (m m' : CloakedMemory) (f : ℕ) (h : Held) (bytes : List ℕ)
+    (q : Option PageId) : Type 0 where
+  pub whole : IsWholePager p'
   pub frames : p'.frames ≡ slice_set p.frames f bytes
   pub rights : p'.rights ≡ slice_set p.rights f h
   pub key : p'.key ≡ p.key
   pub key_same : m'.ledger.key ≡ m.ledger.key
   pub ram : length m'.ram ≡ length m.ram
   pub ram_elsewhere : (g : ℕ) → g ≢ f → get_or m'.ram g [] ≡ get_or m.ram g []
-  pub owed : m'.ledger.owed ≡ slice_set m.ledger.owed f (owed_of h)
+  pub owed : m'.ledger.owed ≡ slice_set m.ledger.owed f (owed_under h)
   pub plain : (o : PageId) → q ≢ Some o → m'.plain o ≡ m.plain o
   pub recorded : (o : PageId) → q ≢ Some o → m'.ledger.recorded o ≡ m.ledger.recorded o
   pub metas : (o : PageId) → q ≢ Some o → meta_at p'.table o ≡ meta_at p.table o
@@ -49,21 +53,35 @@ pub record Turned (p p' : PagerState) (w w' : PageId → Bool) (m m' : CloakedMe
   pub newest : (o : PageId) → q ≡ Some o → w' o ≡ false → IsBytes 4096 (m'.plain o)
   pub drained : (o : PageId) → w' o ≡ true → next_draw m'.ledger.stream ≡ None
 
+-- What is so of page b is so of a page that has the same record. As far as it has to do with newest bytes, that has a
+-- reason of its own.
+pub page_as : (lost lost' : Bool) (m m' : CloakedMemory) (b o : PageId) (t : Option Meta) →
+    m'.ledger.key ≡ m.ledger.key → m'.ledger.recorded o ≡ m.ledger.recorded b →
+    (lost' ≡ false → IsUnowed m' o → (lost ≡ false) × IsUnowed m b × (m'.plain o ≡ m.plain b)) → PageStands lost m b t →
+    PageStands lost' m' o t
+page_as lost lost' m m' b o None k r newest s =
+    (r ∙ s.0, λ kept unowed. let n = newest kept unowed in n.2 ∙ s.1 n.0 n.1)
+page_as lost lost' m m' b o (Some t) k r newest s = record {
+  bytes = s.bytes;
+  is = r ∙ s.is;
+  digest = s.digest;
+  sealed = λ kept unowed. let n = newest kept unowed in rw (k, n.2) (s.sealed n.0 n.1);
+}
+
 -- a page of which nothing changed
-pub page_stays : (lost lost' : Bool) (m m' : CloakedMemory) (o : PageId) (t t' : Option Meta) → lost' ≡ lost → t' ≡ t → m'.ledger.key ≡ m.ledger.key → m'.plain o ≡ m.plain o → m'.ledger.recorded o ≡ m.ledger.recorded o → (IsUnowed m' o → IsUnowed m o) → PageStands lost m o t → PageStands lost' m' o t'
-page_stays lost lost' m m' o t t' l e k n r free s = subst (λ (x : Option Meta). PageStands lost' m' o x) (sym e) (still t s)
-  where
-    still : (t : Option Meta) → PageStands lost m o t → PageStands lost' m' o t
-    still None s = (r ∙ s.0, λ kept unowed. n ∙ s.1 (sym l ∙ kept) (free unowed))
-    still (Some t) s = record {
-      bytes = s.bytes;
-      is = r ∙ s.is;
-      digest = s.digest;
-      sealed = λ kept unowed. rw (k, n) (s.sealed (sym l ∙ kept) (free unowed));
-    }
+pub page_stays : (lost lost' : Bool) (m m' : CloakedMemory) (o : PageId) (t t' : Option Meta) → lost' ≡ lost → t' ≡ t →
+    m'.ledger.key ≡ m.ledger.key → m'.plain o ≡ m.plain o → m'.ledger.recorded o ≡ m.ledger.recorded o →
+    (IsUnowed m' o → IsUnowed m o) → PageStands lost m o t → PageStands lost' m' o t'
+page_stays lost lost' m m' o t t' l e k n r free s =
+    subst (λ (x : Option Meta). PageStands lost' m' o x) (sym e)
+    (page_as lost lost' m m' o o t k r (λ kept unowed. (sym l ∙ kept, free unowed, n)) s)
 
 -- a frame of which nothing changed
-pub frame_stays : (p p' : PagerState) (w w' : PageId → Bool) (m m' : CloakedMemory) (g : ℕ) (h : Held) → bytes_in p' g ≡ bytes_in p g → get_or m'.ram g [] ≡ get_or m.ram g [] → m'.ledger.key ≡ m.ledger.key → ((o : PageId) → page_of h ≡ Some o → (m'.plain o ≡ m.plain o) × (m'.ledger.recorded o ≡ m.ledger.recorded o) × (meta_at p'.table o ≡ meta_at p.table o) × (w' o ≡ w o)) → FrameStands p w m g h → FrameStands p' w' m' g h
+pub frame_stays : (p p' : PagerState) (w w' : PageId → Bool) (m m' : CloakedMemory) (g : ℕ) (h : Held) →
+    bytes_in p' g ≡ bytes_in p g → get_or m'.ram g [] ≡ get_or m.ram g [] → m'.ledger.key ≡ m.ledger.key →
+    ((o : PageId) → page_of h ≡ Some o → (m'.plain o ≡ m.plain o) × (m'.ledger.recorded o ≡ m.ledger.recorded o)
+    × (meta_at p'.table o ≡ meta_at p.table o) × (w' o ≡ w o)) →
+    FrameStands p w m g h → FrameStands p' w' m' g h
 frame_stays p p' w w' m m' g (Outside r) b e k same s = b ∙ (s ∙ sym e)
 frame_stays p p' w w' m m' g (Clean r) b e k same s =
     let is = same r.page refl in
@@ -78,7 +96,9 @@ frame_stays p p' w w' m m' g (Changed r) b e k same s =
     λ kept. b ∙ (s (sym is.3 ∙ kept) ∙ sym is.0)
 frame_stays p p' w w' m m' g Spent b e k same s = s
 
-pub stands_turned : (p p' : PagerState) (w w' : PageId → Bool) (m m' : CloakedMemory) (f : ℕ) (h : Held) (bytes : List ℕ) (q : Option PageId) → StandsFor p w m → Turned p p' w w' m m' f h bytes q → StandsFor p' w' m'
+pub stands_turned : (p p' : PagerState) (w w' : PageId → Bool) (m m' : CloakedMemory) (f : ℕ) (h : Held)
+    (bytes : List ℕ) (q : Option PageId) →
+    StandsForMemory p w m → Turned p p' w w' m m' f h bytes q → StandsForMemory p' w' m'
 stands_turned p p' w w' m m' f h bytes q s t = record {
   whole = t.whole;
   key = t.key_same ∙ (s.key ∙ sym t.key);
@@ -97,14 +117,19 @@ stands_turned p p' w w' m m' f h bytes q s t = record {
             (frame_stays p p' w w' m m' g (right_at p g)
             (rw t.frames (get_or-set_other p.frames f g bytes [] n))
             (t.ram_elsewhere g n) t.key_same
-            (λ o held. let other : q ≢ Some o = λ e. t.alone g o n e held in (t.plain o other, t.recorded o other, t.metas o other, t.lost o other))
+            (λ o held. let other : q ≢ Some o = λ e. t.alone g o n e held in
+            (t.plain o other, t.recorded o other, t.metas o other, t.lost o other))
             (s.frames g there))
       ];
-  owed = t.owed ∙ (ap (λ (x : List (Option PageId)). slice_set x f (owed_of h)) s.owed ∙ sym (rw t.rights (map-set owed_of p.rights f h)));
+  owed =
+      t.owed ∙ (ap (λ (x : List (Option PageId)). slice_set x f (owed_under h)) s.owed
+      ∙ sym (rw t.rights (map-set owed_under p.rights f h)));
   pages = λ o.
       elim (is_or_not q o) [
         | inl e ↦ t.page o e
-        | inr n ↦ page_stays (w o) (w' o) m m' o (meta_at p.table o) (meta_at p'.table o) (t.lost o n) (t.metas o n) t.key_same (t.plain o n) (t.recorded o n) (unowed_before o n) (s.pages o)
+        | inr n ↦
+            page_stays (w o) (w' o) m m' o (meta_at p.table o) (meta_at p'.table o) (t.lost o n)
+            (t.metas o n) t.key_same (t.plain o n) (t.recorded o n) (unowed_before o n) (s.pages o)
       ];
   plain = λ o kept.
       elim (is_or_not q o) [
@@ -118,9 +143,11 @@ stands_turned p p' w w' m m' f h bytes q s t = record {
     unowed_before o n free g owes =
         elim (same_or_not g f) [
           | inl e ↦
-              let owes' : owed_at p f ≡ Some o = sym (owed_by_right p w m s f) ∙ subst (λ (x : ℕ). owed_in m x ≡ Some o) e owes in
+              let owes' : owed_at p f ≡ Some o = sym (owed_by_right p w m s f)
+              ∙ subst (λ (x : ℕ). owed_in m x ≡ Some o) e owes in
               n (t.held o (owed_held (right_at p f) o owes'))
           | inr d ↦
-              let same : owed_in m' g ≡ owed_in m g = rw t.owed (get_or-set_other m.ledger.owed f g (owed_of h) None d) in
+              let same : owed_in m' g ≡ owed_in m g =
+              rw t.owed (get_or-set_other m.ledger.owed f g (owed_under h) None d) in
               free g (same ∙ owes)
         ]

@@ -6,68 +6,81 @@ use Rattle.cloak_base.specs.declared.names.PageId.{PageId}
 use Rattle.cloak_base.specs.Random.{Random}
 use Rattle.cloak_model.specs.Chain.{cbc}
 use Rattle.cloak_model.specs.Cloaking.{CloakedMemory}
-use Rattle.protect_meta.specs.declared.meta.Meta.{Meta}
 use Rattle.cloak_model.specs.Memory.{value_in}
+use Rattle.protect_meta.specs.declared.meta.Meta.{Meta}
 use Rattle.cloak_pager.specs.State.{PagerState}
 use Rattle.cloak_pager.specs.Turns.{IsReadOnce}
-use Rattle.cloak_pager.specs.Relation.{StandsFor}
-use Rattle.cloak_pager.specs.Told.{Told, Meets, MeetsStill, MeetsUnclashed, told_touch, shown_by, told_offer, answer_of, told_place, with_restored, StandsRestored, ReadsNewest, told_write_plain, SeesFrame, told_write_outside, told_fill_outside, told_copy_pages, told_drop_pages, told_close}
+use Rattle.cloak_pager.specs.Relation.{StandsForMemory}
+use Rattle.cloak_pager.specs.AfterCall.{AfterCall, CallRule, Meets, MeetsStill, MeetsUnclashed, after_touch, shown_by}
+use Rattle.cloak_pager.specs.AfterCall.{after_offer, answer_of, after_place, with_restored, StandsRestored}
+use Rattle.cloak_pager.specs.AfterCall.{ReadsNewest, SeesFrame, PageWrite, after_write_plain, after_write_outside}
+use Rattle.cloak_pager.specs.AfterCall.{after_fill_outside, after_copy_pages, after_drop_pages, after_close}
 use Rattle.cloak_pager.specs.declared.touching.Touched.{Touched}
 use Rattle.cloak_pager.specs.declared.offering.Offered.{Offered}
 
--- A call that changes the pager or shows bytes, with what it is handed: a frame or a page, a place and a width in it, and
--- so on, in the order of the call. For a restoring also what was sealed elsewhere, sealed and plain.
+-- A call that changes the pager or shows bytes, with what it is handed: a frame or a page, a place and a width in it,
+-- and so on, in the order of the call. For a restoring also what was sealed elsewhere, sealed and plain.
 pub data Call : Type 0 where
   Touch : ℕ → Call
   Offer : PageId → ℕ → Bool → Call
   Place : PageId → ℕ → List ℕ → Call
   Restore : PageId → Meta → List ℕ → List ℕ → Call
   ReadPlain : PageId → ℕ → ℕ → Call
-  WritePlain : PageId → ℕ → ℕ → ℕ → Call
+  WritePlain : PageId → PageWrite → Call
   ReadOutside : ℕ → Call
-  WriteOutside : ℕ → ℕ → ℕ → ℕ → Call
+  WriteOutside : ℕ → PageWrite → Call
   FillOutside : ℕ → List ℕ → Call
   CopyPages : ℕ → ℕ → ℕ → Call
   DropPages : ℕ → ℕ → Call
   Close : Call
 
--- what the call answers; `tt` where it answers nothing
-abbrev pub Answer : Call → Type 0
-Answer (Touch f) = Touched
-Answer (Offer q g write) = Offered
-Answer (Place q f bytes) = Bool
-Answer (Restore q t sealed plain) = Unit {0}
-Answer (ReadPlain q at width) = ℕ
-Answer (WritePlain q at width v) = Unit {0}
-Answer (ReadOutside f) = List ℕ
-Answer (WriteOutside f at width v) = Unit {0}
-Answer (FillOutside f bytes) = Unit {0}
-Answer (CopyPages domain from to) = Unit {0}
-Answer (DropPages domain resource) = Unit {0}
-Answer Close = Unit {0}
+-- what a call answers; `tt` where it answers nothing
+abbrev pub AnswerTo : Call → Type 0
+AnswerTo (Touch f) = Touched
+AnswerTo (Offer q g write) = Offered
+AnswerTo (Place q f bytes) = Bool
+AnswerTo (Restore q t sealed plain) = Unit {0}
+AnswerTo (ReadPlain q at width) = ℕ
+AnswerTo (WritePlain q x) = Unit {0}
+AnswerTo (ReadOutside f) = List ℕ
+AnswerTo (WriteOutside f x) = Unit {0}
+AnswerTo (FillOutside f bytes) = Unit {0}
+AnswerTo (CopyPages domain from to) = Unit {0}
+AnswerTo (DropPages domain resource) = Unit {0}
+AnswerTo Close = Unit {0}
 
 -- a call, its answer, and the pager and the stream behind it
 pub record Step : Type 0 where
   pub call : Call
-  pub answer : Answer call
+  pub answer : AnswerTo call
   pub pager : PagerState
   pub stream : Random
 
+-- a call that takes no stream and answers nothing meets its rule, and the stream is as it was
+abbrev pub KeepsRule : PagerState → Random → PagerState → Random → CallRule (Unit {0}) → Type 0
+KeepsRule old stream new left rule = MeetsStill old new tt rule × (left ≡ stream)
+
 -- The call did what its contract ensures of the rules of cloaking. The stream behind a call that takes none is the one
 -- before it. Who restores a page owes what was sealed elsewhere: its bytes, sealed under the pager's key.
-abbrev pub KeptBy : PagerState → Random → PagerState → Random → (call : Call) → Answer call → Type 0
-KeptBy old stream new left (Touch f) answer = Meets old stream new left (shown_by answer f new) (told_touch f)
-KeptBy old stream new left (Offer q g write) answer = MeetsUnclashed old new (answer_of answer) (told_offer q g write) × (left ≡ stream)
-KeptBy old stream new left (Place q f bytes) answer = Meets old stream new left answer (told_place q f bytes)
-KeptBy old stream new left (Restore q t sealed plain) answer = StandsRestored old new q t × IsBytes 4096 plain × (sealed ≡ cbc old.key t.iv plain) × (sha256 sealed ≡ t.digest) × (left ≡ stream)
-KeptBy old stream new left (ReadPlain q at width) answer = ReadsNewest old q at width answer × (new ≡ old) × (left ≡ stream)
-KeptBy old stream new left (WritePlain q at width v) answer = MeetsStill old new answer (told_write_plain q at width v) × (left ≡ stream)
+abbrev pub KeptBy : PagerState → Random → PagerState → Random → (call : Call) → AnswerTo call → Type 0
+KeptBy old stream new left (Touch f) answer = Meets old stream new left (shown_by answer f new) (after_touch f)
+KeptBy old stream new left (Offer q g write) answer =
+    MeetsUnclashed old new (answer_of answer) (after_offer q g write) × (left ≡ stream)
+KeptBy old stream new left (Place q f bytes) answer = Meets old stream new left answer (after_place q f bytes)
+KeptBy old stream new left (Restore q t sealed plain) answer =
+    StandsRestored old new q t × IsBytes 4096 plain × (sealed ≡ cbc old.key t.iv plain) × (sha256 sealed ≡ t.digest)
+    × (left ≡ stream)
+KeptBy old stream new left (ReadPlain q at width) answer =
+    ReadsNewest old q at width answer × (new ≡ old) × (left ≡ stream)
+KeptBy old stream new left (WritePlain q x) answer = KeepsRule old stream new left (after_write_plain q x)
 KeptBy old stream new left (ReadOutside f) answer = SeesFrame old f answer × IsReadOnce old new × (left ≡ stream)
-KeptBy old stream new left (WriteOutside f at width v) answer = MeetsStill old new answer (told_write_outside f at width v) × (left ≡ stream)
-KeptBy old stream new left (FillOutside f bytes) answer = MeetsStill old new answer (told_fill_outside f bytes) × (left ≡ stream)
-KeptBy old stream new left (CopyPages domain from to) answer = MeetsStill old new answer (told_copy_pages domain from to) × (left ≡ stream)
-KeptBy old stream new left (DropPages domain resource) answer = MeetsStill old new answer (told_drop_pages domain resource) × (left ≡ stream)
-KeptBy old stream new left Close answer = MeetsStill old new answer told_close × (left ≡ stream)
+KeptBy old stream new left (WriteOutside f x) answer = KeepsRule old stream new left (after_write_outside f x)
+KeptBy old stream new left (FillOutside f bytes) answer = KeepsRule old stream new left (after_fill_outside f bytes)
+KeptBy old stream new left (CopyPages domain from to) answer =
+    KeepsRule old stream new left (after_copy_pages domain from to)
+KeptBy old stream new left (DropPages domain resource) answer =
+    KeepsRule old stream new left (after_drop_pages domain resource)
+KeptBy old stream new left Close answer = KeepsRule old stream new left after_close
 
 -- each call from this pager and this stream on did, in turn
 abbrev pub AllKept : PagerState → Random → List Step → Type 0
@@ -75,54 +88,54 @@ AllKept p stream [] = Unit {0}
 AllKept p stream (s ∷ steps) = KeptBy p stream s.pager s.stream s.call s.answer × AllKept s.pager s.stream steps
 
 -- the pager and the stream behind the last call
-abbrev pub last_pager : PagerState → List Step → PagerState
-last_pager p [] = p
-last_pager p (s ∷ steps) = last_pager s.pager steps
+abbrev pub pager_after : PagerState → List Step → PagerState
+pager_after p [] = p
+pager_after p (s ∷ steps) = pager_after s.pager steps
 
-abbrev pub last_stream : Random → List Step → Random
-last_stream stream [] = stream
-last_stream stream (s ∷ steps) = last_stream s.stream steps
+abbrev pub stream_after : Random → List Step → Random
+stream_after stream [] = stream
+stream_after stream (s ∷ steps) = stream_after s.stream steps
 
 -- What the rules tell.
 
--- the pages whose newest bytes are lost, and the memory
-pub record Outcome : Type 0 where
+-- what there is after calls in turn: the pages whose newest bytes are lost, and the memory
+pub record AfterCalls : Type 0 where
   pub wiped : PageId → Bool
   pub memory : CloakedMemory
 
-abbrev pub outcome : {A : Type 0} → Told A → Outcome
-outcome t = record { wiped = t.wiped; memory = t.memory }
+abbrev pub without_answer : {A : Type 0} → AfterCall A → AfterCalls
+without_answer t = record { wiped = t.wiped; memory = t.memory }
 
 -- what the rules make of these by a call
-abbrev pub after : Call → (PageId → Bool) → CloakedMemory → Outcome
-after (Touch f) wiped m = outcome (told_touch f wiped m)
-after (Offer q g write) wiped m = outcome (told_offer q g write wiped m)
-after (Place q f bytes) wiped m = outcome (told_place q f bytes wiped m)
-after (Restore q t sealed plain) wiped m = record { wiped = wiped; memory = with_restored q sealed plain m }
-after (ReadPlain q at width) wiped m = record { wiped = wiped; memory = m }
-after (WritePlain q at width v) wiped m = outcome (told_write_plain q at width v wiped m)
-after (ReadOutside f) wiped m = record { wiped = wiped; memory = m }
-after (WriteOutside f at width v) wiped m = outcome (told_write_outside f at width v wiped m)
-after (FillOutside f bytes) wiped m = outcome (told_fill_outside f bytes wiped m)
-after (CopyPages domain from to) wiped m = outcome (told_copy_pages domain from to wiped m)
-after (DropPages domain resource) wiped m = outcome (told_drop_pages domain resource wiped m)
-after Close wiped m = outcome (told_close wiped m)
+abbrev pub after_call : Call → (PageId → Bool) → CloakedMemory → AfterCalls
+after_call (Touch f) wiped m = without_answer (after_touch f wiped m)
+after_call (Offer q g write) wiped m = without_answer (after_offer q g write wiped m)
+after_call (Place q f bytes) wiped m = without_answer (after_place q f bytes wiped m)
+after_call (Restore q t sealed plain) wiped m = record { wiped = wiped; memory = with_restored q sealed plain m }
+after_call (ReadPlain q at width) wiped m = record { wiped = wiped; memory = m }
+after_call (WritePlain q x) wiped m = without_answer (after_write_plain q x wiped m)
+after_call (ReadOutside f) wiped m = record { wiped = wiped; memory = m }
+after_call (WriteOutside f x) wiped m = without_answer (after_write_outside f x wiped m)
+after_call (FillOutside f bytes) wiped m = without_answer (after_fill_outside f bytes wiped m)
+after_call (CopyPages domain from to) wiped m = without_answer (after_copy_pages domain from to wiped m)
+after_call (DropPages domain resource) wiped m = without_answer (after_drop_pages domain resource wiped m)
+after_call Close wiped m = without_answer (after_close wiped m)
 
 -- and by calls in turn: what the pager answered has no part in it
-abbrev pub after_all : List Call → (PageId → Bool) → CloakedMemory → Outcome
-after_all [] wiped m = record { wiped = wiped; memory = m }
-after_all (c ∷ calls) wiped m = let r = after c wiped m in after_all calls r.wiped r.memory
+abbrev pub after_calls : List Call → (PageId → Bool) → CloakedMemory → AfterCalls
+after_calls [] wiped m = record { wiped = wiped; memory = m }
+after_calls (c ∷ calls) wiped m = let r = after_call c wiped m in after_calls calls r.wiped r.memory
 
 -- This answer is the one that the rules tell, before a call. Of a page whose newest bytes are lost no reading is told.
-abbrev pub IsTold : (call : Call) → Answer call → PagerState → (PageId → Bool) → CloakedMemory → Type 0
-IsTold (Touch f) answer new wiped m = shown_by answer f new ≡ (told_touch f wiped m).answer
-IsTold (Offer q g write) answer new wiped m = answer_of answer ≡ (told_offer q g write wiped m).answer
-IsTold (Place q f bytes) answer new wiped m = answer ≡ (told_place q f bytes wiped m).answer
+abbrev pub IsTold : (call : Call) → AnswerTo call → PagerState → (PageId → Bool) → CloakedMemory → Type 0
+IsTold (Touch f) answer new wiped m = shown_by answer f new ≡ (after_touch f wiped m).answer
+IsTold (Offer q g write) answer new wiped m = answer_of answer ≡ (after_offer q g write wiped m).answer
+IsTold (Place q f bytes) answer new wiped m = answer ≡ (after_place q f bytes wiped m).answer
 IsTold (Restore q t sealed plain) answer new wiped m = Unit {0}
 IsTold (ReadPlain q at width) answer new wiped m = wiped q ≡ false → answer ≡ value_in (m.plain q) at width
-IsTold (WritePlain q at width v) answer new wiped m = Unit {0}
+IsTold (WritePlain q x) answer new wiped m = Unit {0}
 IsTold (ReadOutside f) answer new wiped m = answer ≡ slice_index_or m.ram f []
-IsTold (WriteOutside f at width v) answer new wiped m = Unit {0}
+IsTold (WriteOutside f x) answer new wiped m = Unit {0}
 IsTold (FillOutside f bytes) answer new wiped m = Unit {0}
 IsTold (CopyPages domain from to) answer new wiped m = Unit {0}
 IsTold (DropPages domain resource) answer new wiped m = Unit {0}
@@ -131,14 +144,16 @@ IsTold Close answer new wiped m = Unit {0}
 -- each answer is
 abbrev pub AllTold : List Step → (PageId → Bool) → CloakedMemory → Type 0
 AllTold [] wiped m = Unit {0}
-AllTold (s ∷ steps) wiped m = IsTold s.call s.answer s.pager wiped m × AllTold steps (after s.call wiped m).wiped (after s.call wiped m).memory
+AllTold (s ∷ steps) wiped m =
+    let r = after_call s.call wiped m in IsTold s.call s.answer s.pager wiped m × AllTold steps r.wiped r.memory
 
 -- The calls answered as the rules tell, and the pager stands for what the rules make of the memory by these calls, with
 -- the stream that is left.
-pub record Follows (p : PagerState) (stream : Random) (steps : List Step) (wiped : PageId → Bool) (m : CloakedMemory) (end : Outcome) : Type 0 where
+pub record FollowsCalls (p : PagerState) (stream : Random) (steps : List Step) (wiped : PageId → Bool)
+    (m : CloakedMemory) (end : AfterCalls) : Type 0 where
   pub answers : AllTold steps wiped m
-  pub stands : StandsFor (last_pager p steps) end.wiped end.memory
-  pub drawn : end.memory.ledger.stream ≡ last_stream stream steps
+  pub stands : StandsForMemory (pager_after p steps) end.wiped end.memory
+  pub drawn : end.memory.ledger.stream ≡ stream_after stream steps
 
 abbrev pub calls_of : List Step → List Call
 calls_of steps = map (λ (s : Step). s.call) steps
@@ -146,4 +161,8 @@ calls_of steps = map (λ (s : Step). s.call) steps
 -- Over every list of calls that each did as its contract ensures, the pager follows the rules of cloaking, for every
 -- memory that it stood for, unless two different pages with one digest were compared on the way.
 abbrev pub LawOfCalls : Type 0
-LawOfCalls = (p : PagerState) (stream : Random) (steps : List Step) (wiped : PageId → Bool) (m : CloakedMemory) → AllKept p stream steps → StandsFor p wiped m → m.ledger.stream ≡ stream → (after_all (calls_of steps) wiped m).memory.ledger.clashed ≡ false → Follows p stream steps wiped m (after_all (calls_of steps) wiped m)
+LawOfCalls =
+    (p : PagerState) (stream : Random) (steps : List Step) (wiped : PageId → Bool) (m : CloakedMemory) →
+    AllKept p stream steps → StandsForMemory p wiped m → m.ledger.stream ≡ stream →
+    (after_calls (calls_of steps) wiped m).memory.ledger.clashed ≡ false →
+    FollowsCalls p stream steps wiped m (after_calls (calls_of steps) wiped m)

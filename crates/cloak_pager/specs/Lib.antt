@@ -2,6 +2,6 @@ pub mod Homes
 pub mod State
 pub mod Turns
 pub mod Relation
-pub mod Told
+pub mod AfterCall
 pub mod Lending
 pub mod Calls

@@ -1,15 +1,16 @@
 -- When a pager stands for what the rules of cloaking speak of.
-use Rattle.std.specs.Prelude.{ℕ, ◌≡◌, ◌≢◌, ◌<◌, Bool, true, false, List, [], Option, Some, None, length, map, slice_index_or}
+use Rattle.std.specs.Prelude.{ℕ, ◌≡◌, ◌≢◌, ◌<◌, Bool, true, false, List, [], Option, Some, None, length, map}
+use Rattle.std.specs.Prelude.{slice_index_or}
 use Rattle.sha2.specs.Sha256.{sha256}
 use Rattle.aes_block.specs.Bytes.{IsBytes}
 use Rattle.cloak_base.specs.declared.names.PageId.{PageId}
 use Rattle.cloak_base.specs.Random.{next_draw}
 use Rattle.cloak_model.specs.Chain.{cbc}
-use Rattle.cloak_model.specs.Memory.{zero_page}
+use Rattle.cloak_base.specs.Pages.{zero_page}
 use Rattle.cloak_model.specs.Cloaking.{CloakedMemory, owed_in}
 use Rattle.protect_meta.specs.declared.meta.Meta.{Meta}
 use Rattle.protect_meta.specs.Table.{meta_at}
-use Rattle.cloak_pager.specs.State.{PagerState, IsWhole, owed_of, right_at, bytes_in}
+use Rattle.cloak_pager.specs.State.{PagerState, IsWholePager, owed_under, right_at, bytes_in}
 use Rattle.cloak_pager.specs.declared.held.Held.{Held}
 use Rattle.cloak_pager.specs.declared.held.Held.TheVariants.{Outside, Clean, Changed, Spent}
 
@@ -23,7 +24,8 @@ pub record HoldsClean (p : PagerState) (lost : Bool) (m : CloakedMemory) (f : �
   pub newest : lost ≡ false → bytes_in p f ≡ m.plain q
   pub shown : m.ledger.recorded q ≡ Some (slice_index_or m.ram f [])
   pub long : length (bytes_in p f) ≡ 4096
-  pub sealed : (t : Meta) → meta_at p.table q ≡ Some t → cbc m.ledger.key t.iv (bytes_in p f) ≡ slice_index_or m.ram f []
+  pub sealed : (t : Meta) → meta_at p.table q ≡ Some t →
+      cbc m.ledger.key t.iv (bytes_in p f) ≡ slice_index_or m.ram f []
 
 -- what frame f holds under this right
 abbrev pub FrameStands : PagerState → (PageId → Bool) → CloakedMemory → ℕ → Held → Type 0
@@ -46,13 +48,13 @@ PageStands lost m q (Some t) = IsRecorded lost m q t
 
 -- The pager stands for the memory. Of the wiped pages the newest bytes are lost: changed bytes of them were to be shown
 -- and no draw was left. Of these alone nothing is said that has to do with their newest bytes.
-pub record StandsFor (p : PagerState) (wiped : PageId → Bool) (m : CloakedMemory) : Type 0 where
-  pub whole : IsWhole p
+pub record StandsForMemory (p : PagerState) (wiped : PageId → Bool) (m : CloakedMemory) : Type 0 where
+  pub whole : IsWholePager p
   pub key : m.ledger.key ≡ p.key
   -- each frame holds what it is to hold, and is owed a page exactly where it holds one changed
   pub count : length m.ram ≡ length p.frames
   pub frames : (f : ℕ) → f < length p.frames → FrameStands p wiped m f (right_at p f)
-  pub owed : m.ledger.owed ≡ map owed_of p.rights
+  pub owed : m.ledger.owed ≡ map owed_under p.rights
   -- metadata is there exactly where a record is
   pub pages : (q : PageId) → PageStands (wiped q) m q (meta_at p.table q)
   -- the newest bytes of a page are a page

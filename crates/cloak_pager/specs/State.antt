@@ -26,11 +26,11 @@ page_of (Changed r) = Some r.page
 page_of Spent = None
 
 -- the page that a frame under this right has yet to show
-abbrev pub owed_of : Held → Option PageId
-owed_of (Outside r) = None
-owed_of (Clean r) = None
-owed_of (Changed r) = Some r.page
-owed_of Spent = None
+abbrev pub owed_under : Held → Option PageId
+owed_under (Outside r) = None
+owed_under (Clean r) = None
+owed_under (Changed r) = Some r.page
+owed_under Spent = None
 
 -- the right of a frame
 abbrev pub right_at : PagerState → ℕ → Held
@@ -46,7 +46,7 @@ held_in p f = page_of (right_at p f)
 
 -- the page that a frame has yet to show
 abbrev pub owed_at : PagerState → ℕ → Option PageId
-owed_at p f = owed_of (right_at p f)
+owed_at p f = owed_under (right_at p f)
 
 -- page q has no metadata, and no frame holds it
 abbrev pub IsFresh : PagerState → PageId → Type 0
@@ -68,7 +68,7 @@ Names t k (Changed r) = (r.frame.0 ≡ k) × IsIn (domains_of t) r.page
 Names t k Spent = ⊥
 
 -- what is so of every pager
-pub record IsWhole (p : PagerState) : Type 0 where
+pub record IsWholePager (p : PagerState) : Type 0 where
   -- each frame has one right, which stands at its number
   pub count : length p.rights ≡ length p.frames
   pub named : (k : ℕ) → k < length p.frames → Names p.table k (right_at p k)
@@ -78,10 +78,11 @@ pub record IsWhole (p : PagerState) : Type 0 where
 
 -- the frame that holds a page is the one noted for it
 abbrev pub AreNoted : HomeTable → List Held → Type 0
-AreNoted homes rights = (k : ℕ) (q : PageId) → page_of (slice_index_or rights k Spent) ≡ Some q → home_at homes q ≡ Some (record { 0 = k })
+AreNoted homes rights =
+    (k : ℕ) (q : PageId) → page_of (slice_index_or rights k Spent) ≡ Some q → home_at homes q ≡ Some (record { 0 = k })
 
 -- what is so of a pager, with its index of homes
-pub record IsKept (p : PagerState) (homes : HomeTable) : Type 0 where
-  pub whole : IsWhole p
+pub record IsWholeWithHomes (p : PagerState) (homes : HomeTable) : Type 0 where
+  pub whole : IsWholePager p
   pub noted : AreNoted homes p.rights
   pub domains : homes.domains ≡ domains_of p.table

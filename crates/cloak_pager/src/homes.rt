@@ -1,8 +1,7 @@
-ghost use Rattle.std.specs.Prelude.{◌≡◌, ◌*◌, ◌+◌, ◌<◌, ◌≤◌, IfOk, Some, if◌then◌else◌};
-ghost use Rattle.cloak_base.specs.declared.names.PageId.{PageId as AnyPage};
-ghost use Rattle.cloak_base.specs.Pages.{same_page};
-ghost use Rattle.protect_meta.specs.Pages.{place};
-ghost use Rattle.cloak_pager.specs.Homes.{home_at};
+ghost use Rattle.std.specs.Prelude.{◌≡◌, ◌*◌, ◌+◌, ◌<◌, ◌≤◌, IfOk, Some};
+ghost use Rattle.cloak_base.specs.Pages.{with_page};
+ghost use Rattle.protect_meta.specs.Pages.{page_index};
+ghost use Rattle.cloak_pager.specs.Homes.{HasHomes, home_at};
 
 use cloak_base::{Frame, NoMemory, PageId};
 use std::alloc::Global;
@@ -27,8 +26,8 @@ impl Model for Homes {
 }
 
 /// Where a page's frame stands.
-fn place_of(domain: u32, resource: u32, page: u32) -> usize
-    ensures { result ≡ place domain resource page }
+fn page_index(domain: u32, resource: u32, page: u32) -> usize
+    ensures { result ≡ page_index domain resource page }
 {
     (domain as usize * 16 + resource as usize) * 1024 + page as usize
 }
@@ -49,17 +48,16 @@ impl Homes {
         requires page { q.page < 1024 }
         ensures { result ≡ home_at self.now q }
     {
-        self.frames[place_of(q.domain, q.resource, q.page)]
+        self.frames[page_index(q.domain, q.resource, q.page)]
     }
 
     pub fn note(&mut self, q: PageId, f: Frame)
         requires domain { q.domain < self.old.domains }
         requires resource { q.resource < 16 }
         requires page { q.page < 1024 }
-        ensures each { (p : AnyPage) → home_at self.new p ≡ (if same_page p q then Some f else home_at self.old p) }
-        ensures domains { self.new.domains ≡ self.old.domains }
+        ensures { HasHomes self.old self.new (with_page (home_at self.old) q (Some f)) }
     {
-        let at = place_of(q.domain, q.resource, q.page);
+        let at = page_index(q.domain, q.resource, q.page);
         self.frames[at] = Some(f);
     }
 }

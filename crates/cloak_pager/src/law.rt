@@ -8,11 +8,11 @@ pub fn law_of_calls()
 {}
 
 impl Pager {
-    ghost use Rattle.cloak_pager.specs.State.{IsWhole};
+    ghost use Rattle.cloak_pager.specs.State.{IsWholePager};
 
     /// What is so of every pager, for proofs of the layer above. It does nothing.
     pub fn whole(&self)
-        ensures { IsWhole self.now }
+        ensures { IsWholePager self.now }
     {
         let _ = &self.rights;
     }

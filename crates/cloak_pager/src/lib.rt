@@ -2,12 +2,12 @@
 //!
 //! A frame is outside, or holds a cloaked page in plain text, unchanged or changed since it was last shown. The pager
 //! keeps the frames, the right of each, the metadata of the pages that were shown, its key and a count of the reads of
-//! outside frames; beside them only an index of where each page is. There is no second copy of a page, and no plain byte
-//! outside the frames. No call takes memory after the opening.
+//! outside frames; beside them only an index of where each page is. There is no second copy of a page, and no plain
+//! byte outside the frames. No call takes memory after the opening.
 //!
-//! The layer above may rely on this: for every memory that the pager stands for (`StandsFor`), each call answers and does
-//! what the rules of cloaking tell of it, and the pager then stands for the result; `law_of_calls` says so of every list
-//! of calls. In which order frames are touched before an offer is for the layer above.
+//! The layer above may rely on this: for every memory that the pager stands for (`StandsForMemory`), each call answers
+//! and does what the rules of cloaking tell of it, and the pager then stands for the result; `law_of_calls` says so of
+//! every list of calls. In which order frames are touched before an offer is for the layer above.
 #![tactic(auto)]
 
 mod held;

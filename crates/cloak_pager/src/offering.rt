@@ -1,4 +1,4 @@
-ghost use Rattle.std.specs.Prelude.{◌≡◌, ◌≢◌, ℕ, ◌<◌, ◌⊎◌, length, IsTrue};
+ghost use Rattle.std.specs.Prelude.{◌≡◌, ◌≢◌, ℕ, ◌<◌, ◌⊎◌, length, IsTrue, is_some};
 ghost use Rattle.cloak_base.specs.Random.{next_draw};
 
 use crate::held::Held;
@@ -21,8 +21,10 @@ pub enum Offered {
 impl Pager {
     ghost use Rattle.protect_meta.specs.Table.{meta_at, domains_of};
     ghost use Rattle.cloak_pager.specs.State.{right_at, held_in, owed_at, bytes_in, IsFresh};
-    ghost use Rattle.cloak_pager.specs.Turns.{offered_by, shown_by_digest, OfferedTurns, ShownTurns, places, PlaceTurns, StaysBut, IsPlaced, IsRestored};
-    ghost use Rattle.cloak_pager.specs.Told.{Meets, MeetsUnclashed, told_offer, answer_of, told_place, StandsRestored};
+    ghost use Rattle.cloak_pager.specs.Turns.{end_of_offer, shown_by_digest, OfferedTurns, ShownTurns, PlaceTurns};
+    ghost use Rattle.cloak_pager.specs.Turns.{StaysBut, IsPlaced, IsRestored};
+    ghost use Rattle.cloak_pager.specs.AfterCall.{Meets, MeetsUnclashed, StandsRestored};
+    ghost use Rattle.cloak_pager.specs.AfterCall.{after_offer, answer_of, after_place};
 
     /// Gives the page to the frame, for reading or for writing.
     pub fn offer(&mut self, q: PageId, g: Frame, write: bool) -> Offered
@@ -32,12 +34,14 @@ impl Pager {
         requires page { q.page < 1024 }
         requires room { (held_in self.old g.0 ≡ None) ⊎ (held_in self.old g.0 ≡ Some q) }
         requires alone { (k : ℕ) → held_in self.old k ≡ Some q → k ≡ g.0 }
-        ensures exact_cause { result ≡ offered_by (right_at self.old g.0) (meta_at self.old.table q) (bytes_in self.old g.0) }
-        ensures state { OfferedTurns result (right_at self.old g.0) (meta_at self.old.table q) write self.old self.new q g.0 }
+        ensures exact_cause { result ≡
+            end_of_offer (right_at self.old g.0) (meta_at self.old.table q) (bytes_in self.old g.0) }
+        ensures state { OfferedTurns result (right_at self.old g.0) (meta_at self.old.table q) write
+            self.old self.new q g.0 }
         ensures stays { StaysBut g.0 self.old self.new }
         ensures held { result ≡ Offered.Ready → held_in self.new g.0 ≡ Some q }
         ensures owed { result ≡ Offered.Ready → IsTrue write → owed_at self.new g.0 ≡ Some q }
-        ensures model { MeetsUnclashed self.old self.new (answer_of result) (told_offer q g.0 write) }
+        ensures model { MeetsUnclashed self.old self.new (answer_of result) (after_offer q g.0 write) }
     {
         match &self.rights[g.0 as usize] {
             Held::Outside(_) => {
@@ -90,11 +94,11 @@ impl Pager {
         requires page { q.page < 1024 }
         requires outside { held_in self.old f.0 ≡ None }
         requires fresh { IsFresh self.old q }
-        ensures exact_cause { result ≡ places (next_draw s.old) }
+        ensures exact_cause { result ≡ is_some (next_draw s.old) }
         ensures state { PlaceTurns (next_draw s.old) s.old self.old self.new s.new q f.0 bytes.now }
         ensures rights { self.new.rights ≡ self.old.rights }
         ensures stays { StaysBut f.0 self.old self.new }
-        ensures model { Meets self.old s.old self.new s.new result (told_place q f.0 bytes.now) }
+        ensures model { Meets self.old s.old self.new s.new result (after_place q f.0 bytes.now) }
     {
         match s.draw() {
             Some(iv) => {

@@ -40,8 +40,8 @@ const Q1: PageId = PageId {
     page: 0,
 };
 
-// SHA-256 of 4096 zeros, and of a 7 and 4095 zeros. Of ciphertexts of zeros, and of a page whose first byte is 7 or 8 and
-// the others zero, each under the draw of the name's number.
+// SHA-256 of 4096 zeros, and of a 7 and 4095 zeros. Of ciphertexts of zeros, and of a page whose first byte is 7 or 8
+// and the others zero, each under the draw of the name's number.
 const PLAIN_ZEROS: [u8; 32] = [
     0xad, 0x7f, 0xac, 0xb2, 0x58, 0x6f, 0xc6, 0xe9, 0x66, 0xc0, 0x04, 0xd7, 0xd1, 0xd1, 0x6b, 0x02,
     0x4f, 0x58, 0x05, 0xff, 0x7c, 0xb4, 0x7c, 0x7a, 0x85, 0xda, 0xbd, 0x8b, 0x48, 0x89, 0x2c, 0xa7,
@@ -413,8 +413,8 @@ static REPLAYED: [(Step, Seen); 4] = [
     (Step::Look(F5), Seen::Bytes(ZEROS_1)),
 ];
 
-/// A page may be opened in any frame that shows its bytes, until it is shown under another draw; and a frame may be used
-/// for another page.
+/// A page may be opened in any frame that shows its bytes, until it is shown under another draw; and a frame may be
+/// used for another page.
 static TWO_FRAMES_AND_TWO_NAMES: [(Step, Seen); 20] = [
     (Step::Keep(F5), Seen::Done),
     (Step::Put(F6), Seen::Done),
@@ -456,8 +456,8 @@ static CLOSED_COPIED_AND_DROPPED: [(Step, Seen); 14] = [
     (Step::Reads, Seen::Reads(4)),
 ];
 
-/// Where no draw is left, a changed page is not shown, and what was shown of it before is its record still. The kernel's
-/// stores are seen as they are, and refused.
+/// Where no draw is left, a changed page is not shown, and what was shown of it before is its record still. The
+/// kernel's stores are seen as they are, and refused.
 static WIPED: [(Step, Seen); 14] = [
     (Step::Offer(Q, F5, true), Seen::Offer(Offered::Ready)),
     (Step::Touch(F5), Seen::Touch(Touched::Sealed)),
@@ -531,8 +531,8 @@ fn a_restored_page_is_opened(rt: HostRuntime) -> Result<(), Fail> {
     Ok(())
 }
 
-/// With a byte too few for a draw, and with one draw: whether a page is placed in frame 5, what that frame shows then, and
-/// what is read of the page.
+/// With a byte too few for a draw, and with one draw: whether a page is placed in frame 5, what that frame shows then,
+/// and what is read of the page.
 #[test]
 fn a_page_is_placed_where_a_draw_is_left(rt: HostRuntime) -> Result<(), Fail> {
     for (bytes, want, left, shown, word) in [

@@ -22,7 +22,7 @@ pub enum Touched {
 impl Pager {
     ghost use Rattle.cloak_pager.specs.State.{right_at, owed_at};
     ghost use Rattle.cloak_pager.specs.Turns.{touched_by, left_by, TouchTurns, StaysBut, CloseTurns, IsClosed};
-    ghost use Rattle.cloak_pager.specs.Told.{Meets, MeetsStill, told_touch, shown_by, told_close};
+    ghost use Rattle.cloak_pager.specs.AfterCall.{Meets, MeetsStill, after_touch, shown_by, after_close};
 
     /// Makes the frame outside.
     pub fn touch(&mut self, f: Frame, s: &mut Stream) -> Touched
@@ -32,7 +32,7 @@ impl Pager {
         ensures drawn { s.new ≡ left_by (right_at self.old f.0) (next_draw s.old) s.old }
         ensures outside { right_at self.new f.0 ≡ Held.Outside f }
         ensures stays { StaysBut f.0 self.old self.new }
-        ensures model { Meets self.old s.old self.new s.new (shown_by result f.0 self.new) (told_touch f.0) }
+        ensures model { Meets self.old s.old self.new s.new (shown_by result f.0 self.new) (after_touch f.0) }
     {
         match &self.rights[f.0 as usize] {
             Held::Outside(_) => Touched::Quiet,
@@ -73,7 +73,7 @@ impl Pager {
     pub fn close(&mut self)
         requires { (k : ℕ) → owed_at self.old k ≡ None }
         ensures state { IsClosed self.old self.new }
-        ensures model { MeetsStill self.old self.new tt told_close }
+        ensures model { MeetsStill self.old self.new tt after_close }
     {
         for i in 0..self.rights.len() {
             self.close_frame(Frame(i as u32));

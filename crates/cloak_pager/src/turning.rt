@@ -1,7 +1,7 @@
 ghost use Rattle.std.specs.Prelude.{◌≡◌, ◌≢◌, ℕ, ◌<◌, length, true, false};
 ghost use Rattle.cloak_base.specs.declared.names.PageId.{PageId as AnyPage};
 ghost use Rattle.sha2.specs.Sha256.{sha256};
-ghost use Rattle.cloak_model.specs.Memory.{zero_page};
+ghost use Rattle.cloak_base.specs.Pages.{zero_page};
 
 use crate::held::Held;
 use crate::pager::Pager;
@@ -14,7 +14,8 @@ use std::mem;
 impl Pager {
     ghost use Rattle.protect_meta.specs.Table.{meta_at, domains_of};
     ghost use Rattle.cloak_pager.specs.State.{right_at, held_in, owed_at, bytes_in};
-    ghost use Rattle.cloak_pager.specs.Turns.{IsClean, IsChanged, IsResealed, IsSealed, IsWiped, Opens, HoldsNow};
+    ghost use Rattle.page_states.specs.Opening.{OpensTo};
+    ghost use Rattle.cloak_pager.specs.Turns.{IsClean, IsChanged, IsResealed, IsSealed, IsWiped, HoldsNow};
 
     pub(crate) fn reseal_frame(&mut self, f: Frame)
         requires inside { f.0 < length self.old.frames }
@@ -77,7 +78,9 @@ impl Pager {
         requires outside { held_in self.old g.0 ≡ None }
         requires nowhere { (k : ℕ) → held_in self.old k ≢ Some q }
         requires shown { meta_at self.old.table q ≡ Some m.now }
-        ensures opened { result ≡ true → (sha256 (bytes_in self.old g.0) ≡ m.now.digest) × Opens self.old.key m.now.iv (bytes_in self.old g.0) (λ plain. HoldsNow self.old self.new q g.0 false plain) }
+        ensures recorded { result ≡ true → sha256 (bytes_in self.old g.0) ≡ m.now.digest }
+        ensures opened { result ≡ true →
+            OpensTo self.old.key m.now.iv (bytes_in self.old g.0) (HoldsNow self.old self.new q g.0 false) }
         ensures clean { result ≡ true → IsClean (right_at self.new g.0) × (held_in self.new g.0 ≡ Some q) }
         ensures refused { result ≡ false → (sha256 (bytes_in self.old g.0) ≢ m.now.digest) × (self.new ≡ self.old) }
     {
@@ -122,7 +125,8 @@ impl Pager {
     pub(crate) fn change_frame(&mut self, g: Frame)
         requires inside { g.0 < length self.old.frames }
         requires clean { IsClean (right_at self.old g.0) }
-        ensures { (q : AnyPage) → held_in self.old g.0 ≡ Some q → HoldsNow self.old self.new q g.0 true (bytes_in self.old g.0) }
+        ensures { (q : AnyPage) → held_in self.old g.0 ≡ Some q →
+            HoldsNow self.old self.new q g.0 true (bytes_in self.old g.0) }
     {
         match mem::replace(&mut self.rights[g.0 as usize], Held::Spent) {
             Held::Clean(right) => {

@@ -39,7 +39,8 @@ pub fn open_page(
     requires { r.0 < length s.old }
     ensures opened_where_recorded { IfOk result (λ _. sha256 (slice_index_or s.old r.0 []) ≡ m.now.digest) }
     ensures refused_where_not { IfErr result (λ _. sha256 (slice_index_or s.old r.0 []) ≢ m.now.digest) }
-    ensures bytes { IfOk result (λ _. OpensTo k.now m.now.iv (slice_index_or s.old r.0 []) (λ plain. s.new ≡ slice_set s.old r.0 plain)) }
+    ensures bytes { IfOk result (λ _.
+        OpensTo k.now m.now.iv (slice_index_or s.old r.0 []) (λ plain. s.new ≡ slice_set s.old r.0 plain)) }
     ensures right { IfOk result (λ n. n ≡ record { frame = r; page = q }) }
     ensures unchanged { IfErr result (λ same. (same ≡ r) × (s.new ≡ s.old)) }
 {

@@ -1,9 +1,14 @@
-use Rattle.std.proofs.Common.{ap, arith}
-use Rattle.cloak_pager.specs.Homes.{HomeTable}
-use Rattle.cloak_pager.proofs.Homing.{noted_at}
+use Rattle.std.proofs.Common.{ap, arith, refl}
+use Rattle.protect_meta.specs.Pages.{IsIn}
+use Rattle.protect_meta.proofs.Rows.{value_after_set}
+use Rattle.cloak_pager.specs.Homes.{HomeTable, home_at}
 use Rattle.cloak_pager.proofs.homes.Homes.note.Goals as goal
 
-pub returns-clause-each : goal.returns-clause-each
-returns-clause-each c =
+pub returns : goal.returns
+unfolding home_at
+returns c =
     let e = ap (λ (t : HomeTable). t.domains) c.self.view_is in
-    rw (← c.self.view_is, c.place_of-at.ensures) (noted_at _ _ _ _ c.self.invariant (record { domain = omega arith; resource = c.requires.resource; page = c.requires.page }))
+    let there : IsIn c.self.inside.domains c.args.q =
+    record { domain = omega arith; resource = c.requires.resource; page = c.requires.page } in
+    rw (← c.self.view_is, c.page_index-at.ensures)
+    (record { homes_are = value_after_set _ _ _ _ c.self.invariant there; domains_stay = refl })

@@ -1,4 +1,5 @@
 use Rattle.std.proofs.Common.{ap, arith, refl}
+use Rattle.protect_meta.specs.Pages.{IsIn}
 use Rattle.protect_meta.specs.Table.{Table, meta_at}
 use Rattle.protect_meta.proofs.Rows.{value_after_set}
 use Rattle.protect_meta.proofs.table.MetaTable.set.Goals as goal
@@ -7,8 +8,7 @@ pub returns : goal.returns
 unfolding meta_at
 returns c =
     let e = ap (λ (t : Table). t.domains) c.self.view_is in
+    let there : IsIn c.self.inside.domains c.args.q =
+    record { domain = omega arith; resource = c.requires.resource; page = c.requires.page } in
     rw (← c.self.view_is, c.page_index-at.ensures)
-    (record {
-      metas_are = value_after_set _ _ _ _ c.self.invariant (record { domain = omega arith; resource = c.requires.resource; page = c.requires.page });
-      domains_stay = refl;
-    })
+    (record { metas_are = value_after_set _ _ _ _ c.self.invariant there; domains_stay = refl })

@@ -1,0 +1,177 @@
+-- What the rules of cloaking tell of each call, and when a call of the pager meets it.
+use Rattle.std.specs.Prelude.{ℕ, ◌≡◌, Bool, true, false, ◌&&◌, ◌||◌, List, [], ◌∷◌, Option, Some, None, is_some}
+use Rattle.std.specs.Prelude.{replicate, slice_index_or, unwrap_or}
+use Rattle.sha2.specs.Sha256.{sha256}
+use Rattle.aes_block.specs.Bytes.{IsBytes}
+use Rattle.cloak_base.specs.declared.names.PageId.{PageId}
+use Rattle.cloak_base.specs.Pages.{zero_page, with_page, is_of, page_in}
+use Rattle.cloak_base.specs.Random.{Random}
+use Rattle.cloak_model.specs.Chain.{cbc}
+use Rattle.cloak_model.specs.Memory.{value_in, with_value_in}
+use Rattle.cloak_model.specs.Cloaking.{CloakedMemory, Offer, Ready as Accepted, Mismatch as Refused}
+use Rattle.cloak_model.specs.Cloaking.{settle, offer, owed_in, with_shown_frame}
+use Rattle.cloak_model.specs.PageMoves.{place, with_newest, copy_pages, drop_pages}
+use Rattle.protect_meta.specs.declared.meta.Meta.{Meta}
+use Rattle.cloak_pager.specs.State.{PagerState, bytes_in}
+use Rattle.cloak_pager.specs.Relation.{StandsForMemory}
+use Rattle.cloak_pager.specs.declared.touching.Touched.{Touched}
+use Rattle.cloak_pager.specs.declared.touching.Touched.TheVariants.{Quiet, Resealed, Sealed, Wiped}
+use Rattle.cloak_pager.specs.declared.offering.Offered.{Offered}
+use Rattle.cloak_pager.specs.declared.offering.Offered.TheVariants.{Ready, Mismatch}
+
+-- what there is after a call: its answer, the pages whose newest bytes are lost, and the memory
+pub record AfterCall (A : Type 0) : Type 0 where
+  pub answer : A
+  pub wiped : PageId → Bool
+  pub memory : CloakedMemory
+
+-- what the rules tell of a call, by the pages whose newest bytes are lost and the memory before it
+abbrev pub CallRule : Type 0 → Type 0
+CallRule A = (PageId → Bool) → CloakedMemory → AfterCall A
+
+-- A call that left the pager so, and this of the stream, and gave this answer did what the rules tell.
+pub record Moves {A : Type 0} (new : PagerState) (left : Random) (after : AfterCall A) (given : A) : Type 0 where
+  pub answered : given ≡ after.answer
+  pub stands : StandsForMemory new after.wiped after.memory
+  pub drawn : after.memory.ledger.stream ≡ left
+
+-- the call does what its rule tells, for every memory that the pager stood for and whose stream it was handed
+abbrev pub Meets : {A : Type 0} → PagerState → Random → PagerState → Random → A → CallRule A → Type 0
+Meets {A} old stream new left given rule =
+    (wiped : PageId → Bool) (m : CloakedMemory) → StandsForMemory old wiped m →
+    m.ledger.stream ≡ stream → Moves new left (rule wiped m) given
+
+-- the same of a call that takes no stream
+abbrev pub MeetsStill : {A : Type 0} → PagerState → PagerState → A → CallRule A → Type 0
+MeetsStill {A} old new given rule =
+    (wiped : PageId → Bool) (m : CloakedMemory) → StandsForMemory old wiped m →
+    Moves new m.ledger.stream (rule wiped m) given
+
+-- the same where no two different pages with one digest were compared
+abbrev pub MeetsUnclashed : {A : Type 0} → PagerState → PagerState → A → CallRule A → Type 0
+MeetsUnclashed {A} old new given rule =
+    (wiped : PageId → Bool) (m : CloakedMemory) → StandsForMemory old wiped m →
+    (rule wiped m).memory.ledger.clashed ≡ false → Moves new m.ledger.stream (rule wiped m) given
+
+-- Touching.
+
+-- the page that was due is wiped where its draw was missing
+abbrev pub wiped_with : Bool → Option PageId → (PageId → Bool) → PageId → Bool
+wiped_with false owed wiped = wiped
+wiped_with true None wiped = wiped
+wiped_with true (Some q) wiped = with_page wiped q true
+
+-- what the kernel is shown new, and whether a draw was missing
+abbrev pub after_touch : ℕ → CallRule (List (ℕ × List ℕ) × Bool)
+after_touch f wiped m =
+    let s = settle f m in
+    record { answer = (s.ciphers, s.missed); wiped = wiped_with s.missed (owed_in m f) wiped; memory = s.memory }
+
+-- what a touch of frame f that ended so tells of these
+abbrev pub shown_by : Touched → ℕ → PagerState → List (ℕ × List ℕ) × Bool
+shown_by Quiet f p = ([], false)
+shown_by Resealed f p = ([], false)
+shown_by Sealed f p = ((f, bytes_in p f) ∷ [], false)
+shown_by Wiped f p = ((f, bytes_in p f) ∷ [], true)
+
+-- Offering.
+
+-- what the kernel is shown on the way, and the answer
+abbrev pub after_offer : PageId → ℕ → Bool → CallRule (List (ℕ × List ℕ) × Offer)
+after_offer q g write wiped m =
+    let o = offer q g write m in record { answer = (o.ciphers, o.answer); wiped = wiped; memory = o.memory }
+
+-- what an offer tells of these: the frames were settled before
+abbrev pub answer_of : Offered → List (ℕ × List ℕ) × Offer
+answer_of Ready = ([], Accepted)
+answer_of Mismatch = ([], Refused)
+
+-- Placing and restoring.
+
+-- whether the page was placed; where no draw was left nothing changes
+abbrev pub after_place : PageId → ℕ → List ℕ → CallRule Bool
+after_place q f bytes wiped m =
+    let o = place q f bytes m in record { answer = is_some o; wiped = wiped; memory = unwrap_or o m }
+
+-- page q was sealed elsewhere: these are its newest bytes, and what was last shown of it
+abbrev pub with_restored : PageId → List ℕ → List ℕ → CloakedMemory → CloakedMemory
+with_restored q sealed plain m = record m {
+  plain = with_page m.plain q plain;
+  ledger = record m.ledger { recorded = with_page m.ledger.recorded q (Some sealed) };
+}
+
+-- the pager stands for every such memory, where the metadata tells of what was last shown
+abbrev pub StandsRestored : PagerState → PagerState → PageId → Meta → Type 0
+StandsRestored old new q t =
+    (wiped : PageId → Bool) (m : CloakedMemory) (sealed plain : List ℕ) → StandsForMemory old wiped m →
+    IsBytes 4096 plain → sealed ≡ cbc m.ledger.key t.iv plain → sha256 sealed ≡ t.digest →
+    StandsForMemory new wiped (with_restored q sealed plain m)
+
+-- Reading and writing. A call that answers nothing answers `tt`.
+
+-- a page whose newest bytes are not lost is read as these
+abbrev pub ReadsNewest : PagerState → PageId → ℕ → ℕ → ℕ → Type 0
+ReadsNewest p q at width value =
+    (wiped : PageId → Bool) (m : CloakedMemory) → StandsForMemory p wiped m →
+    wiped q ≡ false → value ≡ value_in (m.plain q) at width
+
+-- these are the bytes that the kernel sees in a frame
+abbrev pub SeesFrame : PagerState → ℕ → List ℕ → Type 0
+SeesFrame p f bytes =
+    (wiped : PageId → Bool) (m : CloakedMemory) → StandsForMemory p wiped m → bytes ≡ slice_index_or m.ram f []
+
+-- the lowest `width` bytes of a value, to be written at a place of a page
+pub record PageWrite : Type 0 where
+  pub at : ℕ
+  pub width : ℕ
+  pub value : ℕ
+
+-- a page with these bytes written
+abbrev pub with_write : PageWrite → List ℕ → List ℕ
+with_write x page = with_value_in page x.at x.width x.value
+
+abbrev pub after_write_plain : PageId → PageWrite → CallRule (Unit {0})
+after_write_plain q x wiped m =
+    record { answer = tt; wiped = wiped; memory = with_newest q (with_write x (m.plain q)) m }
+
+abbrev pub after_write_outside : ℕ → PageWrite → CallRule (Unit {0})
+after_write_outside f x wiped m =
+    record { answer = tt; wiped = wiped; memory = with_shown_frame f (with_write x (slice_index_or m.ram f [])) m }
+
+abbrev pub after_fill_outside : ℕ → List ℕ → CallRule (Unit {0})
+after_fill_outside f bytes wiped m = record { answer = tt; wiped = wiped; memory = with_shown_frame f bytes m }
+
+-- Moving pages.
+
+-- a page whose newest bytes are lost has none to copy
+abbrev pub wiped_copies : ℕ → ℕ → ℕ → (PageId → Bool) → PageId → Bool
+wiped_copies domain from to wiped o = wiped o || (is_of domain to o && wiped (page_in from o))
+
+abbrev pub after_copy_pages : ℕ → ℕ → ℕ → CallRule (Unit {0})
+after_copy_pages domain from to wiped m =
+    record { answer = tt; wiped = wiped_copies domain from to wiped; memory = copy_pages domain from to m }
+
+abbrev pub after_drop_pages : ℕ → ℕ → CallRule (Unit {0})
+after_drop_pages domain resource wiped m =
+    record { answer = tt; wiped = wiped; memory = drop_pages domain resource m }
+
+-- Closing changes no memory.
+abbrev pub after_close : CallRule (Unit {0})
+after_close wiped m = record { answer = tt; wiped = wiped; memory = m }
+
+-- Opening.
+
+-- the memory of so many frames at first, under this key: nothing recorded, nothing owed, all zeros
+pub record IsBlank (frames : ℕ) (key : List ℕ) (m : CloakedMemory) : Type 0 where
+  pub key_is : m.ledger.key ≡ key
+  pub ram : m.ram ≡ replicate frames zero_page
+  pub owed : m.ledger.owed ≡ replicate frames None
+  pub recorded : (q : PageId) → m.ledger.recorded q ≡ None
+  pub plain : (q : PageId) → m.plain q ≡ zero_page
+
+-- no page is wiped
+abbrev pub none_wiped : PageId → Bool
+none_wiped q = false
+
+abbrev pub StandsBlank : ℕ → List ℕ → PagerState → Type 0
+StandsBlank frames key p = (m : CloakedMemory) → IsBlank frames key m → StandsForMemory p none_wiped m
