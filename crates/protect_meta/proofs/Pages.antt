@@ -12,7 +12,8 @@ is_page-decides domains p =
     Decides-like _
     (λ e. record { domain = e.0; resource = e.1.0; page = e.1.1 })
     (λ e. (e.domain, (e.resource, e.page)))
-    (Decides-and _ _ (Decides-ltb p.domain domains) (Decides-and _ _ (Decides-ltb p.resource 16) (Decides-ltb p.page 1024)))
+    (Decides-and _ _ (Decides-ltb p.domain domains)
+    (Decides-and _ _ (Decides-ltb p.resource 16) (Decides-ltb p.page 1024)))
 
 pub is_page_tells : (domains : ℕ) (p : PageId) →
     ((is_page domains p ≡ true) × IsIn domains p) ⊎ ((is_page domains p ≡ false) × ¬ IsIn domains p)

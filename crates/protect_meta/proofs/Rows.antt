@@ -108,7 +108,8 @@ value_elsewhere {A} n s old new below above p other =
 -- a resource's places were copied to another's
 pub value_after_copy : {A : Type 0} (n : ℕ) {domain from to : ℕ} (source : Span domain from) (target : Span domain to) →
     (old new : List (Option A)) → domain < n →
-    CopiedTo old new source.first target.first target.count × SameBelow old new target.first × SameFrom old new (target.first + target.count) →
+    CopiedTo old new source.first target.first target.count × SameBelow old new target.first
+    × SameFrom old new (target.first + target.count) →
     (p : PageId) → value_in_row n new p ≡ with_copies (value_in_row n old) domain from to p
 value_after_copy {A} n {domain} {from} {to} source target old new inside written p =
     elim (is_of_tells domain to p) [
@@ -168,7 +169,8 @@ cleared_more {A} old first i now inside c =
     }
 
 -- a resource's places were cleared
-pub value_after_clear : {A : Type 0} (n : ℕ) {domain resource : ℕ} (s : Span domain resource) (old new : List (Option A)) →
+pub value_after_clear : {A : Type 0} (n : ℕ) {domain resource : ℕ} (s : Span domain resource)
+    (old new : List (Option A)) →
     IsClearedTo old s.first s.count new → (p : PageId) →
     value_in_row n new p ≡ with_resource (value_in_row n old) domain resource None p
 value_after_clear {A} n {domain} {resource} s old new c p =
