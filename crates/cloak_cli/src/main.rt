@@ -24,8 +24,20 @@ use crate::command::cloak;
 use crate::status::Status;
 use cloak_base::{Failed, NoMemory};
 use outside_io::{FileShelf, StdSink, put_all};
+use std::fs::{File, OpenOptions};
 use std::process::ExitCode;
 use std::{env, io};
+
+/// Files that hold the three standard streams.
+type Held = [File; 3];
+
+/// Opens the null device three times. The system gives each file the lowest descriptor that is free, so a standard
+/// stream that was closed when the program started is this device now, and no file that is opened later takes its
+/// place: a record there would be overwritten by what is shown.
+fn hold_streams(rt: &HostRuntime) -> io::Result<Held> {
+    let open = || OpenOptions::new().read(true).write(true).open(rt, "/dev/null");
+    Ok([open()?, open()?, open()?])
+}
 
 /// The words after the program's name. One that is no text is a fault of the words.
 fn command_words(rt: &HostRuntime) -> Result<Vec<String>, Status> {
@@ -55,6 +67,9 @@ fn run_program(rt: HostRuntime) -> Result<Status, NoMemory> {
 }
 
 fn main(rt: HostRuntime) -> ExitCode {
-    let status = run_program(rt).unwrap_or(Status::NoMemory);
+    let status = match hold_streams(&rt) {
+        Ok(_held) => run_program(rt).unwrap_or(Status::NoMemory),
+        Err(_) => Status::WriteFault,
+    };
     ExitCode::from(status.number())
 }

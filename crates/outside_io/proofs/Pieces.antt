@@ -1,5 +1,5 @@
 -- A piece that is put in parts.
-use Rattle.std.proofs.Common.{◌≡◌, ◌≤◌, ◌+◌, ◌-◌, ℕ, List, length, take, drop, refl, sym, ◌∙◌, ap, subst, arith, Option, length-drop}
+use Rattle.std.proofs.Common.{◌≡◌, ◌≤◌, ◌+◌, ◌-◌, ℕ, List, [], length, take, drop, refl, sym, ◌∙◌, ap, subst, arith, Option, length-drop}
 use Rattle.std.proofs.Math.Seq.{take-add}
 use Rattle.std.proofs.lemmas.List.{drop-drop, take_all}
 use Rattle.outside_io.specs.Told.{Grows, GrowsByFront}
@@ -31,6 +31,14 @@ PutsFront-more old mid new before count now piece rest rest' n p within left put
           (Grows-append old mid new (take k piece) (take n (drop k piece)) p.told (subst (λ (l : List ℕ). Grows mid new (take n l)) p.left puts));
       counted = same ∙ p.counted;
     }
+
+-- of no bytes none are left
+pub PutsFront-nothing : (old new : Option (List ℕ)) (before now : ℕ) (piece rest : List ℕ) →
+    PutsFront old new before now piece rest → piece ≡ [] → length rest ≡ 0
+PutsFront-nothing old new before now piece rest p none =
+    let left = ap (λ (l : List ℕ). length l) p.left in
+    let empty = ap (λ (l : List ℕ). length l) none in
+    omega (arith, length-drop p.length_put piece, left, empty)
 
 -- nothing is left
 pub PutsFront-whole : (old new : Option (List ℕ)) (before now : ℕ) (piece rest : List ℕ) → PutsFront old new before now piece rest → length rest ≡ 0 → Grows old new piece

@@ -1,5 +1,5 @@
 -- What a table of files has at a name, before and after it is written.
-use Rattle.std.proofs.Common.{◌≡◌, ◌≢◌, rules, ℕ, Bool, true, false, cond, List, [], ◌∷◌, map, refl, sym, ◌∙◌, ap, Option, None, Some, option_map, unwrap_or, String, string_bytes, Vec}
+use Rattle.std.proofs.Common.{◌≡◌, ◌≢◌, rules, ℕ, Bool, true, false, cond, List, [], ◌∷◌, map, refl, sym, ◌∙◌, ap, Option, None, Some, option_map, unwrap_or, is_some, String, string_bytes, Vec}
 use Rattle.std.specs.Ordering.{nat_cmp, is_eq, eq_by_cmp}
 use Rattle.std.specs.Cmp.{eq_by_cmp_equiv}
 use Rattle.std.specs.Cmp.Lexicographic.{slice_cmp, nat_list_cmp_total}
@@ -9,7 +9,7 @@ use Rattle.std.specs.Map.{lookup, update}
 use Rattle.std.specs.Str.{bytes_eq}
 use Rattle.std.proofs.lemmas.Map.Text.{is_eq-slice_cmp}
 use Rattle.std.proofs.lemmas.Slice.Eq.{bytes_eq-Decides}
-use Rattle.outside_io.specs.Memory.{Files, bytes_of}
+use Rattle.outside_io.specs.Memory.{Files, bytes_of, IsThere}
 use Rattle.outside_io.specs.Table.{files_of}
 
 find-map : {A : Type 0} (q : List ℕ) (es : List (String A × Vec ℕ A)) →
@@ -71,8 +71,14 @@ bytes_of-insert_other files name bytes other apart =
     ap (λ (o : Option (List ℕ)). unwrap_or o []) (get-insert nat_list_cmp_total files name bytes other
     ∙ cond_same (eq_by_cmp (slice_cmp nat_cmp) other name) (Some bytes) (get files other) (λ tied. absurd (apart (same_name other name tied))))
 
--- the bytes of an entry, and none where there is no entry
+-- without an entry there is no file
+pub IsThere-none : {A : Type 0} (m : BTreeMap (String A) (Vec ℕ A)) (name : List ℕ) → None ≡ get_by_text m name → IsThere (files_of m) name → ⊥
+IsThere-none m name none there =
+    let e : get (files_of m) name ≡ None = get-files_of m name ∙ ap (λ (o : Option (Vec ℕ _)). option_map (λ v. v.items) o) (sym none) in
+    let no : is_some (get (files_of m) name) ≡ false = ap (λ (o : Option (List ℕ)). is_some o) e in
+    cc
 
+-- the bytes of an entry, and none where there is no entry
 pub bytes_of-some : {A : Type 0} (m : BTreeMap (String A) (Vec ℕ A)) (name : List ℕ) (v : Vec ℕ A) → Some v ≡ get_by_text m name → bytes_of (files_of m) name ≡ v.items
 bytes_of-some m name v there =
     ap (λ (o : Option (List ℕ)). unwrap_or o []) (get-files_of m name ∙ ap (λ (o : Option (Vec ℕ _)). option_map (λ v. v.items) o) (sym there))

@@ -1,5 +1,5 @@
 -- The values of the shelf and the sink over memory.
-use Rattle.std.specs.Prelude.{ℕ, ◌+◌, ◌-◌, ◌^◌, min, List, [], unwrap_or, refl}
+use Rattle.std.specs.Prelude.{ℕ, ◌+◌, ◌-◌, ◌^◌, min, List, [], unwrap_or, IsSome, refl}
 use Rattle.std.specs.Ordering.{nat_cmp}
 use Rattle.std.specs.Cmp.Lexicographic.{slice_cmp}
 use Rattle.std.specs.Coded.{Coded, code_by, coded×, coded_ℕ, coded_list}
@@ -23,6 +23,10 @@ Files = map.FinMap (slice_cmp nat_cmp) (List ℕ)
 -- the bytes of a name, none where it is not there
 abbrev pub bytes_of : Files → List ℕ → List ℕ
 bytes_of files name = unwrap_or (map.get files name) []
+
+-- a file of this name is there
+abbrev pub IsThere : Files → List ℕ → Type 0
+IsThere files name = IsSome (map.get files name)
 
 -- the files of a shelf, the numbers of the calls that are to fail, and its counts of calls and faults
 pub record MemoryFiles : Type 0 where

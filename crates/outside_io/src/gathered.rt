@@ -1,5 +1,5 @@
 //! Small pieces are gathered before they are written out.
-ghost use Rattle.std.specs.Prelude.{◌≡◌, ◌≤◌, ◌<◌, ◌+◌, ◌++◌, ◌↔◌, [], ℕ, length, take, IsTrue, IfOk, false};
+ghost use Rattle.std.specs.Prelude.{◌≡◌, ◌≤◌, ◌-◌, ◌++◌, ◌↔◌, [], length, take, IsTrue, IfOk, false};
 ghost use Rattle.std.specs.Io.KnownBytes.{Appends};
 ghost use Rattle.outside_io.specs.Pieces.{MovesFront};
 
@@ -44,6 +44,17 @@ impl Gathered {
     {
         piece.len() <= CAPACITY - self.bytes.len().min(CAPACITY)
             && self.bytes.extend_from_slice(piece).is_ok()
+    }
+
+    /// Takes back up to `count` of the bytes that were gathered last, and answers how many of them were written out
+    /// before.
+    pub fn take_back(&mut self, count: usize) -> usize
+        ensures left { self.new ≡ take (length self.old - count) self.old }
+        ensures written { result ≡ count - length self.old }
+    {
+        let back = count.min(self.bytes.len() - self.written);
+        self.bytes.truncate(self.bytes.len() - back);
+        count - back
     }
 
     /// Forgets what is gathered.

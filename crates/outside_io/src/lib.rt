@@ -6,11 +6,14 @@
 //! no count falls: so a caller that hands a fault on can say where it came from.
 #![tactic(auto)]
 
+mod copied;
 mod file_shelf;
 mod gathered;
 mod memory_shelf;
 mod memory_sink;
+mod named_file;
 mod planned;
+mod reader;
 mod shelf;
 mod sink;
 mod std_sink;

@@ -1,7 +1,8 @@
 ghost use Rattle.std.specs.Prelude.{◌≡◌, ◌++◌, ◌↔◌, [], Some, length, take, drop, min, Contains, IfOk, OnOk, OnErr, IsErr};
 ghost use Rattle.std.specs.FinMap.{insert, empty};
-ghost use Rattle.outside_io.specs.Memory.{one_more, bytes_of};
+ghost use Rattle.outside_io.specs.Memory.{one_more, bytes_of, IsThere};
 
+use crate::copied::copy_from;
 use crate::planned::Planned;
 use crate::table::Table;
 use crate::{Shelf, table};
@@ -98,14 +99,15 @@ impl Shelf for MemoryShelf {
         Ok(copy_from(table::bytes(&self.files, name), at, into))
     }
 
-    /// Empties the file of this name, or makes it.
+    /// Empties the file of this name, or makes it. Only to make it takes memory.
     fn begin(&mut self, name: &str) -> Result<(), Failed>
         ensures listed { Contains self.old.fails (one_more self.old.calls) → IsErr result }
+        ensures there { IsThere self.old.files name.now → IsErr result → Contains self.old.fails (one_more self.old.calls) }
         ensures after_ok { OnOk result (self.new ≡ record self.old { files = insert self.old.files name.now []; calls = one_more self.old.calls }) }
         ensures after_err { OnErr result (self.new ≡ record self.old { calls = one_more self.old.calls; writing_faults = one_more self.old.writing_faults }) }
     {
         if self.planned.is_next_to_fail()
-            || table::replace(self.alloc, &mut self.files, name, &[]).is_err()
+            || table::empty(self.alloc, &mut self.files, name).is_err()
         {
             self.writing_faults = self.writing_faults.saturating_add(1);
             return Err(Failed);
@@ -113,9 +115,11 @@ impl Shelf for MemoryShelf {
         Ok(())
     }
 
-    /// Adds the whole piece at the end of the file of this name. One that failed has added nothing.
+    /// Adds the whole piece at the end of the file of this name. One that failed has added nothing. Only to make the
+    /// file, and to add bytes, takes memory.
     fn append(&mut self, name: &str, bytes: &[u8]) -> Result<(), Failed>
         ensures listed { Contains self.old.fails (one_more self.old.calls) → IsErr result }
+        ensures there { IsThere self.old.files name.now → bytes.now ≡ [] → IsErr result → Contains self.old.fails (one_more self.old.calls) }
         ensures after_ok { OnOk result (self.new ≡ record self.old { files = insert self.old.files name.now (bytes_of self.old.files name.now ++ bytes.now); calls = one_more self.old.calls }) }
         ensures after_err { OnErr result (self.new ≡ record self.old { calls = one_more self.old.calls; writing_faults = one_more self.old.writing_faults }) }
     {
@@ -129,18 +133,6 @@ impl Shelf for MemoryShelf {
     }
 }
 
-/// Copies all bytes from `at` on that `into` has room for, and says how many.
-fn copy_from(bytes: &[u8], at: u64, into: &mut [u8]) -> usize
-    ensures count { result ≡ min (length into.old) (length (drop at bytes.now)) }
-    ensures copied { into.new ≡ take result (drop at bytes.now) ++ drop result into.old }
-{
-    let from = (at as usize).min(bytes.len());
-    let rest = &bytes[from..];
-    let n = rest.len().min(into.len());
-    into[..n].copy_from_slice(&rest[..n]);
-    n
-}
-
 #[cfg(test)]
 mod tests {
     use super::*;
@@ -150,12 +142,18 @@ mod tests {
     /// With ample memory only the call fails whose number is in the list.
     #[test]
     fn files_take_their_pieces(rt: HostRuntime) -> Result<(), Fail> {
-        let mut shelf = MemoryShelf::open(rt.alloc(), vec![in rt.alloc(); 3]?);
+        let mut shelf = MemoryShelf::open(rt.alloc(), vec![in rt.alloc(); 5]?);
         shelf.add("a", b"old")?;
-        for (call, piece) in ["one", "two", "six"].iter().enumerate() {
-            assert_eq!(rt; shelf.append("a", piece.as_bytes()).is_ok(), call < 2);
+        shelf.begin("b")?;
+        for (call, (name, piece)) in [("a", "one"), ("b", "two"), ("c", "three"), ("b", "six")]
+            .iter()
+            .enumerate()
+        {
+            assert_eq!(rt; shelf.append(name, piece.as_bytes()).is_ok(), call < 3);
         }
-        assert_eq!(rt; shelf.bytes("a"), b"oldonetwo".as_slice());
+        for (name, bytes) in [("a", "oldone"), ("b", "two"), ("c", "three")] {
+            assert_eq!(rt; shelf.bytes(name), bytes.as_bytes());
+        }
         Ok(())
     }
 

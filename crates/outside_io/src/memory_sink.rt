@@ -50,10 +50,11 @@ impl Sink for MemorySink {
 
     ghost faults = { λ s. s.faults };
 
-    /// Takes the whole piece.
+    /// Takes the whole piece. No bytes need no memory.
     fn put(&mut self, bytes: &[u8]) -> Result<usize, Failed>
         ensures whole { IfOk result (λ n. n ≡ length bytes.now) }
         ensures listed { Contains self.old.fails (one_more self.old.calls) → IsErr result }
+        ensures empty { bytes.now ≡ [] → IsErr result → Contains self.old.fails (one_more self.old.calls) }
         ensures after_ok { OnOk result (self.new ≡ record self.old { taken = self.old.taken ++ bytes.now; calls = one_more self.old.calls }) }
         ensures after_err { OnErr result (self.new ≡ record self.old { calls = one_more self.old.calls; faults = one_more self.old.faults }) }
     {

@@ -1,4 +1,4 @@
-ghost use Rattle.std.specs.Prelude.{◌≡◌, ◌<◌, ◌≤◌, ℕ, List, Option, length, take, IfOk, OnOk, OnErr};
+ghost use Rattle.std.specs.Prelude.{◌≡◌, ◌<◌, ◌≤◌, ℕ, List, [], Option, length, take, IfOk, IsOk, OnOk, OnErr};
 ghost use Rattle.outside_io.specs.Told.{Grows, GrowsByFront, Counts};
 
 use cloak_base::Failed;
@@ -21,11 +21,12 @@ pub trait Sink {
         ensures faults { Counts (faults self.old) (faults self.new) result };
 }
 
-/// Puts until the whole piece is taken. One that failed has put a front of it.
+/// Puts until the whole piece is taken. One that failed has put a front of it. For no bytes there is no call.
 pub fn put_all<O: Sink>(out: &mut O, bytes: &[u8]) -> Result<(), Failed>
     ensures ok { OnOk result (Grows (O.taken out.old) (O.taken out.new) bytes.now) }
     ensures err { OnErr result (GrowsByFront (O.taken out.old) (O.taken out.new) bytes.now) }
     ensures faults { Counts (O.faults out.old) (O.faults out.new) result }
+    ensures empty { bytes.now ≡ [] → IsOk result × (out.new ≡ out.old) }
 {
     let mut rest = bytes;
     while !rest.is_empty() {

@@ -1,4 +1,4 @@
-ghost use Rattle.std.specs.Prelude.{◌≡◌, None, IfOk, IsErr};
+ghost use Rattle.std.specs.Prelude.{◌≡◌, ◌<◌, ◌≤◌, None, IfOk, IsErr, length};
 ghost use Rattle.outside_io.specs.Told.{Counts};
 
 use crate::Sink;
@@ -8,12 +8,16 @@ use std::io;
 use std::io::Write;
 use std::marker::Model;
 
-/// Standard output. Small pieces are gathered, and written out at each line feed at the latest, and at
+/// Standard output. Small pieces are gathered, and written out in one go at each line feed at the latest, and at
 /// `flush`. It tells no content.
+///
+/// A piece of which only a front could be written counts as taken up to there, and the next call answers for the
+/// fault. So nothing is lost or shown twice, and no fault is passed over.
 #[derive(Drop)]
 pub struct StdSink<P: Print + Drop> {
     print: P,
     gathered: Gathered,
+    is_fault_owed: bool,
     faults: u64,
 }
 
@@ -36,6 +40,7 @@ impl<P: Print + Drop> StdSink<P> {
         Ok(StdSink {
             print,
             gathered,
+            is_fault_owed: false,
             faults: 0,
         })
     }
@@ -44,17 +49,38 @@ impl<P: Print + Drop> StdSink<P> {
     pub fn flush(&mut self) -> Result<(), Failed>
         ensures { Counts self.old self.new result }
     {
-        if self.gathered.write_out(&mut io::writer(&self.print)) {
-            Ok(())
-        } else {
-            self.fail()
+        if self.write_out() && !self.is_fault_owed {
+            return Ok(());
         }
+        self.fail()
+    }
+
+    /// Says whether all that is gathered was written out.
+    fn write_out(&mut self) -> bool
+        ensures { self.new ≡ self.old }
+    {
+        self.gathered.write_out(&mut io::writer(&self.print))
+    }
+
+    /// Writes out what is gathered, of which a piece of this length is the end, and answers how much of the piece is
+    /// taken. What is not is gathered no more.
+    fn show(&mut self, piece: usize) -> usize
+        ensures same { self.new ≡ self.old }
+        ensures taken { result ≤ piece }
+    {
+        if self.write_out() {
+            return piece;
+        }
+        let written = self.gathered.take_back(piece);
+        self.is_fault_owed = written > 0;
+        written
     }
 
     fn fail<T>(&mut self) -> Result<T, Failed>
         ensures counted { Counts self.old self.new result }
         ensures err { IsErr result }
     {
+        self.is_fault_owed = false;
         self.faults = self.faults.saturating_add(1);
         Err(Failed)
     }
@@ -65,16 +91,22 @@ impl<P: Print + Drop> Sink for StdSink<P> {
 
     ghost faults = { λ s. s };
 
-    /// A piece with a line feed, or with no room for it, is written behind what is gathered.
+    /// A piece with a line feed is written out with what is gathered, and one with no room for it behind that.
     fn put(&mut self, bytes: &[u8]) -> Result<usize, Failed> {
-        if !bytes.contains(&b'\n') && self.gathered.gather(bytes) {
-            return Ok(bytes.len());
-        }
-        let mut out = io::writer(&self.print);
-        if !self.gathered.write_out(&mut out) {
+        if self.is_fault_owed {
             return self.fail();
         }
-        match out.write(bytes) {
+        if self.gathered.gather(bytes) {
+            if !bytes.contains(&b'\n') {
+                return Ok(bytes.len());
+            }
+            let taken = self.show(bytes.len());
+            return if taken > 0 { Ok(taken) } else { self.fail() };
+        }
+        if !self.write_out() {
+            return self.fail();
+        }
+        match io::writer(&self.print).write(bytes) {
             Ok(n) if n > 0 || bytes.is_empty() => Ok(n),
             _ => self.fail(),
         }
@@ -145,6 +177,34 @@ mod tests {
         put_all(&mut sink, b"!")?;
         sink.flush()?;
         assert_eq!(rt; shown.get(), 0x6865_6c6c_6f0a_21);
+        Ok(())
+    }
+
+    /// A fault behind the front of a piece is answered by the next call, and one at `flush` by it.
+    #[test]
+    fn a_piece_is_taken_up_to_a_fault(rt: HostRuntime) -> Result<(), Fail> {
+        for is_flushed in [false, true] {
+            let calls = Cell::new(0);
+            let shown = Cell::new(0);
+            let screen = Screen {
+                calls: &calls,
+                shown: &shown,
+            };
+            let mut sink = StdSink::open((screen, rt.alloc()))?;
+            assert_eq!(rt; sink.put(b"abc\n"), Ok(2));
+            if is_flushed {
+                assert_eq!(rt; sink.flush(), Err(Failed));
+            } else {
+                assert_eq!(rt; sink.put(b"c\n"), Err(Failed));
+            }
+            assert_eq!(rt; sink.put(b"c\n"), Ok(2));
+            assert_eq!(rt; shown.get(), 0x6162_630a);
+            calls.set(1);
+            assert_eq!(rt; sink.put(b"d"), Ok(1));
+            assert_eq!(rt; sink.flush(), Err(Failed));
+            sink.flush()?;
+            assert_eq!(rt; shown.get(), 0x6162_630a_64);
+        }
         Ok(())
     }
 }

@@ -1,6 +1,6 @@
 //! Files by name, in memory.
-ghost use Rattle.std.specs.Prelude.{◌≡◌, ◌++◌, IsTrue, OnOk, OnErr, IfOk, false};
-ghost use Rattle.outside_io.specs.Memory.{bytes_of};
+ghost use Rattle.std.specs.Prelude.{◌≡◌, ◌++◌, [], IsOk, OnOk, OnErr};
+ghost use Rattle.outside_io.specs.Memory.{bytes_of, IsThere};
 ghost use Rattle.outside_io.specs.Table.{files_of};
 ghost use Rattle.std.specs.FinMap.{insert};
 
@@ -31,10 +31,27 @@ pub fn replace(alloc: Global, files: &mut Table, name: &str, bytes: &[u8]) -> Re
     Ok(())
 }
 
-/// Adds a piece at the end of a file, which it makes where it is missing.
+/// Empties a file in its place, and makes it where it is missing.
+pub fn empty(alloc: Global, files: &mut Table, name: &str) -> Result<(), NoMemory>
+    ensures ok { OnOk result (files_of files.new ≡ insert (files_of files.old) name.now []) }
+    ensures err { OnErr result (files_of files.new ≡ files_of files.old) }
+    ensures there { IsThere (files_of files.old) name.now → IsOk result }
+{
+    match files.get_mut(name) {
+        Some(file) => {
+            file.clear();
+            Ok(())
+        }
+        None => replace(alloc, files, name, &[]),
+    }
+}
+
+/// Adds a piece at the end of a file, which it makes where it is missing. No bytes for a file that is there need no
+/// memory.
 pub fn extend(alloc: Global, files: &mut Table, name: &str, bytes: &[u8]) -> Result<(), NoMemory>
     ensures ok { OnOk result (files_of files.new ≡ insert (files_of files.old) name.now (bytes_of (files_of files.old) name.now ++ bytes.now)) }
     ensures err { OnErr result (files_of files.new ≡ files_of files.old) }
+    ensures there { IsThere (files_of files.old) name.now → bytes.now ≡ [] → IsOk result }
 {
     match files.get_mut(name) {
         Some(file) => {

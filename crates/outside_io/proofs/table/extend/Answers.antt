@@ -2,7 +2,7 @@ use Rattle.std.proofs.Common.{◌∙◌, sym, ap, List, ℕ, ◌++◌, rules}
 use Rattle.std.specs.FinMap.{insert}
 use Rattle.std.proofs.lemmas.Map.Text.{btree_map_updates_text}
 use Rattle.outside_io.specs.Table.{files_of}
-use Rattle.outside_io.proofs.Tables.{files_of-set, files_of-same, bytes_of-some, bytes_of-none}
+use Rattle.outside_io.proofs.Tables.{files_of-set, files_of-same, bytes_of-some, bytes_of-none, IsThere-none}
 use Rattle.outside_io.proofs.table.extend.Goals as goal
 
 pub returns-in_err-extend_from_slice-in-Some-clause-err :
@@ -26,3 +26,7 @@ pub returns-in-None-clause-ok : goal.returns-in-None-clause-ok
 returns-in-None-clause-ok c =
     let none = bytes_of-none c.args.files.now c.args.name.now c.in-None.ensures.value in
     let same = c.get_mut.follows.holds-at-none in rw none (rw same at c.replace.ensures.ok)
+
+pub returns-in-None-clause-there : goal.returns-in-None-clause-there
+returns-in-None-clause-there c =
+    λ there _. absurd (IsThere-none c.args.files.now c.args.name.now c.in-None.ensures.value there)
