@@ -1,5 +1,31 @@
 -- Facts on what shelves and sinks tell, and on their counts.
-use Rattle.std.proofs.Common.{◌≡◌, ◌≤◌, ◌<◌, ◌+◌, ◌-◌, ◌^◌, ℕ, List, [], ◌++◌, length, take, sym, ◌∙◌, ap, subst, arith, append_assoc, Option, Result, Ok, Err, OnOk, OnErr, length-append}
+use Rattle.std.proofs.Common.{
+  ◌≡◌,
+  ◌≤◌,
+  ◌<◌,
+  ◌+◌,
+  ◌-◌,
+  ◌^◌,
+  ℕ,
+  List,
+  [],
+  ◌++◌,
+  length,
+  take,
+  sym,
+  ◌∙◌,
+  ap,
+  subst,
+  arith,
+  append_assoc,
+  Option,
+  Result,
+  Ok,
+  Err,
+  OnOk,
+  OnErr,
+  length-append,
+}
 use Rattle.std.proofs.Math.Seq.{take-append-add}
 use Rattle.std.proofs.lemmas.List.{take_all, append-nil, take-append-le}
 use Rattle.cloak_base.specs.declared.causes.Failed.{Failed}
@@ -16,16 +42,19 @@ Grows-none a = λ before told. subst (λ (l : List ℕ). Tells a l) (sym (append
 -- two pieces, one after the other, are one
 pub Grows-append : (a b c : Option (List ℕ)) (x y : List ℕ) → Grows a b x → Grows b c y → Grows a c (x ++ y)
 Grows-append a b c x y first second =
-    λ before told. subst (λ (l : List ℕ). Tells c l) (append_assoc before x y) (second (before ++ x) (first before told))
+    λ before told.
+    subst (λ (l : List ℕ). Tells c l) (append_assoc before x y) (second (before ++ x) (first before told))
 
 -- a front of a piece
-pub GrowsByFront-take : (a b : Option (List ℕ)) (piece : List ℕ) (n : ℕ) → n ≤ length piece → Grows a b (take n piece) → GrowsByFront a b piece
+pub GrowsByFront-take : (a b : Option (List ℕ)) (piece : List ℕ) (n : ℕ) → n ≤ length piece →
+    Grows a b (take n piece) → GrowsByFront a b piece
 GrowsByFront-take a b piece n within grows = λ before told. (n, within, grows before told)
 
 -- what stays grew by a front of any piece
 pub GrowsByFront-none : (a b : Option (List ℕ)) (piece : List ℕ) → b ≡ a → GrowsByFront a b piece
 GrowsByFront-none a b piece same =
-    GrowsByFront-take a b piece 0 (omega arith) (subst (λ (t : Option (List ℕ)). Grows a t []) (sym same) (Grows-none a))
+    GrowsByFront-take a b piece 0 (omega arith)
+    (subst (λ (t : Option (List ℕ)). Grows a t []) (sym same) (Grows-none a))
 
 -- a whole piece is a front of itself
 pub GrowsByFront-whole : (a b : Option (List ℕ)) (piece : List ℕ) → Grows a b piece → GrowsByFront a b piece
@@ -34,12 +63,16 @@ GrowsByFront-whole a b piece grows =
     (subst (λ (l : List ℕ). Grows a b l) (sym (take_all (length piece) piece (omega arith))) grows)
 
 -- a piece, and then a front of another
-pub GrowsByFront-append : (a b c : Option (List ℕ)) (x y : List ℕ) → Grows a b x → GrowsByFront b c y → GrowsByFront a c (x ++ y)
+pub GrowsByFront-append : (a b c : Option (List ℕ)) (x y : List ℕ) → Grows a b x → GrowsByFront b c y →
+    GrowsByFront a c (x ++ y)
 GrowsByFront-append a b c x y first second = λ before told.
     let front = second (before ++ x) (first before told) in (
       length x + front.0,
       (let both = length-append x y in let within = front.1 in omega (arith, both, within)),
-      subst (λ (l : List ℕ). Tells c l) (append_assoc before x (take front.0 y) ∙ ap (λ (l : List ℕ). before ++ l) (sym (take-append-add x y front.0))) front.2,
+      subst (λ (l : List ℕ). Tells c l)
+          (append_assoc before x (take front.0 y)
+          ∙ ap (λ (l : List ℕ). before ++ l) (sym (take-append-add x y front.0)))
+          front.2,
     )
 
 -- a front of the first of two pieces is one of both
@@ -65,11 +98,13 @@ pub Rose-after : (before mid now : ℕ) → mid ≡ before → Rose mid now → 
 Rose-after before mid now same rose = subst (λ (n : ℕ). Rose n now) same rose
 
 -- what a count does, by the answer
-pub Counts-cases : {A : Type 0} (before now : ℕ) (r : Result A Failed) → Counts before now r → OnOk r (now ≡ before) × OnErr r (Rose before now)
+pub Counts-cases : {A : Type 0} (before now : ℕ) (r : Result A Failed) → Counts before now r →
+    OnOk r (now ≡ before) × OnErr r (Rose before now)
 Counts-cases before now (Ok a) same = (same, tt)
 Counts-cases before now (Err e) rose = (tt, rose)
 
 -- a count that stands is that of a call that succeeded, and one that fits its type does not fall
-pub Counts-stays : {A : Type 0} (before now : ℕ) (r : Result A Failed) → Counts before now r → before < 2 ^ 64 → before ≤ now
+pub Counts-stays : {A : Type 0} (before now : ℕ) (r : Result A Failed) → Counts before now r → before < 2 ^ 64 →
+    before ≤ now
 Counts-stays before now (Ok a) same small = omega arith
 Counts-stays before now (Err e) rose small = Rose-stays before now rose small

@@ -39,7 +39,15 @@ pub record MemoryFiles : Type 0 where
 -- a shelf is stored as the tuple of its fields
 abbrev pub memory_files_code : Coded MemoryFiles
 memory_files_code =
-    code_by (Files × (List ℕ × (ℕ × (ℕ × ℕ)))) (coded× (map.code (coded_list coded_ℕ) (coded_list coded_ℕ)) (coded× (coded_list coded_ℕ) (coded× coded_ℕ (coded× coded_ℕ coded_ℕ))))
+    code_by (Files × (List ℕ × (ℕ × (ℕ × ℕ))))
+    (coded× (map.code (coded_list coded_ℕ) (coded_list coded_ℕ))
+    (coded× (coded_list coded_ℕ) (coded× coded_ℕ (coded× coded_ℕ coded_ℕ))))
     (λ s. (s.files, (s.fails, (s.calls, (s.reading_faults, s.writing_faults)))))
-    (λ p. record { files = p.0; fails = p.1.0; calls = p.1.1.0; reading_faults = p.1.1.1.0; writing_faults = p.1.1.1.1 })
+    (λ p. record {
+      files = p.0;
+      fails = p.1.0;
+      calls = p.1.1.0;
+      reading_faults = p.1.1.1.0;
+      writing_faults = p.1.1.1.1;
+    })
     (λ _. refl)

@@ -1,5 +1,25 @@
 -- What shelves and sinks tell of their bytes, and what their counts of faults say.
-use Rattle.std.specs.Prelude.{ℕ, ◌≡◌, ◌≢◌, ◌+◌, ◌-◌, ◌^◌, ◌<◌, ◌≤◌, min, List, ◌++◌, length, take, drop, Option, IfSome, Result, Ok, Err}
+use Rattle.std.specs.Prelude.{
+  ℕ,
+  ◌≡◌,
+  ◌≢◌,
+  ◌+◌,
+  ◌-◌,
+  ◌^◌,
+  ◌<◌,
+  ◌≤◌,
+  min,
+  List,
+  ◌++◌,
+  length,
+  take,
+  drop,
+  Option,
+  IfSome,
+  Result,
+  Ok,
+  Err,
+}
 use Rattle.cloak_base.specs.declared.causes.Failed.{Failed}
 
 -- where bytes are told, they are these
@@ -12,7 +32,8 @@ Grows old new piece = (before : List ℕ) → Tells old before → Tells new (be
 
 -- behind what stood there, as far as it is told, stands a front of this piece
 abbrev pub GrowsByFront : Option (List ℕ) → Option (List ℕ) → List ℕ → Type 0
-GrowsByFront old new piece = (before : List ℕ) → Tells old before → (n : ℕ) × (n ≤ length piece) × Tells new (before ++ take n piece)
+GrowsByFront old new piece = (before : List ℕ) → Tells old before →
+    (n : ℕ) × (n ≤ length piece) × Tells new (before ++ take n piece)
 
 -- A count of faults rose. One that stands at its last value, 2^64 - 1, stays there and counts as risen.
 abbrev pub Rose : ℕ → ℕ → Type 0

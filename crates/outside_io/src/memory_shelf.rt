@@ -1,4 +1,5 @@
-ghost use Rattle.std.specs.Prelude.{◌≡◌, ◌++◌, ◌↔◌, [], Some, length, take, drop, min, Contains, IfOk, OnOk, OnErr, IsErr};
+ghost use Rattle.std.specs.Prelude.{◌≡◌, ◌++◌, ◌↔◌, [], Some, length, take, drop, min, Contains};
+ghost use Rattle.std.specs.Prelude.{IfOk, OnOk, OnErr, IsErr};
 ghost use Rattle.std.specs.FinMap.{insert, empty};
 ghost use Rattle.outside_io.specs.Memory.{one_more, bytes_of, IsThere};
 
@@ -30,13 +31,25 @@ impl Model for MemoryShelf {
 
     ghost coded = { memory_files_code };
 
-    ghost view = { λ s. record { files = files_of s.files; fails = s.planned.fails.items; calls = s.planned.calls; reading_faults = s.reading_faults; writing_faults = s.writing_faults } };
+    ghost view = { λ s. record {
+      files = files_of s.files;
+      fails = s.planned.fails.items;
+      calls = s.planned.calls;
+      reading_faults = s.reading_faults;
+      writing_faults = s.writing_faults;
+    } };
 }
 
 impl MemoryShelf {
     /// A shelf without files that fails at the calls of these numbers.
     pub fn open(alloc: Global, fails: Vec<u64>) -> MemoryShelf
-        ensures { result ≡ record { files = empty; fails = fails.items; calls = 0; reading_faults = 0; writing_faults = 0 } }
+        ensures { result ≡ record {
+          files = empty;
+          fails = fails.items;
+          calls = 0;
+          reading_faults = 0;
+          writing_faults = 0;
+        } }
     {
         MemoryShelf {
             alloc,
@@ -74,7 +87,10 @@ impl Shelf for MemoryShelf {
         ensures size { IfOk result (λ n. n ≡ length (bytes_of self.old.files name.now)) }
         ensures listed { IsErr result ↔ Contains self.old.fails (one_more self.old.calls) }
         ensures after_ok { OnOk result (self.new ≡ record self.old { calls = one_more self.old.calls }) }
-        ensures after_err { OnErr result (self.new ≡ record self.old { calls = one_more self.old.calls; reading_faults = one_more self.old.reading_faults }) }
+        ensures after_err { OnErr result (self.new ≡ record self.old {
+          calls = one_more self.old.calls;
+          reading_faults = one_more self.old.reading_faults;
+        }) }
     {
         if self.planned.is_next_to_fail() {
             self.reading_faults = self.reading_faults.saturating_add(1);
@@ -85,12 +101,17 @@ impl Shelf for MemoryShelf {
 
     /// Copies all bytes from `at` on that `into` has room for.
     fn read_at(&mut self, name: &str, at: u64, into: &mut [u8]) -> Result<usize, Failed>
-        ensures count { IfOk result (λ n. n ≡ min (length into.old) (length (drop at (bytes_of self.old.files name.now)))) }
-        ensures copied { IfOk result (λ n. into.new ≡ take n (drop at (bytes_of self.old.files name.now)) ++ drop n into.old) }
+        ensures count { let rest = drop at (bytes_of self.old.files name.now) in
+            IfOk result (λ n. n ≡ min (length into.old) (length rest)) }
+        ensures copied { let rest = drop at (bytes_of self.old.files name.now) in
+            IfOk result (λ n. into.new ≡ take n rest ++ drop n into.old) }
         ensures unchanged { OnErr result (into.new ≡ into.old) }
         ensures listed { IsErr result ↔ Contains self.old.fails (one_more self.old.calls) }
         ensures after_ok { OnOk result (self.new ≡ record self.old { calls = one_more self.old.calls }) }
-        ensures after_err { OnErr result (self.new ≡ record self.old { calls = one_more self.old.calls; reading_faults = one_more self.old.reading_faults }) }
+        ensures after_err { OnErr result (self.new ≡ record self.old {
+          calls = one_more self.old.calls;
+          reading_faults = one_more self.old.reading_faults;
+        }) }
     {
         if self.planned.is_next_to_fail() {
             self.reading_faults = self.reading_faults.saturating_add(1);
@@ -102,9 +123,16 @@ impl Shelf for MemoryShelf {
     /// Empties the file of this name, or makes it. Only to make it takes memory.
     fn begin(&mut self, name: &str) -> Result<(), Failed>
         ensures listed { Contains self.old.fails (one_more self.old.calls) → IsErr result }
-        ensures there { IsThere self.old.files name.now → IsErr result → Contains self.old.fails (one_more self.old.calls) }
-        ensures after_ok { OnOk result (self.new ≡ record self.old { files = insert self.old.files name.now []; calls = one_more self.old.calls }) }
-        ensures after_err { OnErr result (self.new ≡ record self.old { calls = one_more self.old.calls; writing_faults = one_more self.old.writing_faults }) }
+        ensures there { IsThere self.old.files name.now → IsErr result →
+            Contains self.old.fails (one_more self.old.calls) }
+        ensures after_ok { OnOk result (self.new ≡ record self.old {
+          files = insert self.old.files name.now [];
+          calls = one_more self.old.calls;
+        }) }
+        ensures after_err { OnErr result (self.new ≡ record self.old {
+          calls = one_more self.old.calls;
+          writing_faults = one_more self.old.writing_faults;
+        }) }
     {
         if self.planned.is_next_to_fail()
             || table::empty(self.alloc, &mut self.files, name).is_err()
@@ -119,9 +147,16 @@ impl Shelf for MemoryShelf {
     /// file, and to add bytes, takes memory.
     fn append(&mut self, name: &str, bytes: &[u8]) -> Result<(), Failed>
         ensures listed { Contains self.old.fails (one_more self.old.calls) → IsErr result }
-        ensures there { IsThere self.old.files name.now → bytes.now ≡ [] → IsErr result → Contains self.old.fails (one_more self.old.calls) }
-        ensures after_ok { OnOk result (self.new ≡ record self.old { files = insert self.old.files name.now (bytes_of self.old.files name.now ++ bytes.now); calls = one_more self.old.calls }) }
-        ensures after_err { OnErr result (self.new ≡ record self.old { calls = one_more self.old.calls; writing_faults = one_more self.old.writing_faults }) }
+        ensures there { IsThere self.old.files name.now → bytes.now ≡ [] → IsErr result →
+            Contains self.old.fails (one_more self.old.calls) }
+        ensures after_ok { OnOk result (self.new ≡ record self.old {
+          files = insert self.old.files name.now (bytes_of self.old.files name.now ++ bytes.now);
+          calls = one_more self.old.calls;
+        }) }
+        ensures after_err { OnErr result (self.new ≡ record self.old {
+          calls = one_more self.old.calls;
+          writing_faults = one_more self.old.writing_faults;
+        }) }
     {
         if self.planned.is_next_to_fail()
             || table::extend(self.alloc, &mut self.files, name, bytes).is_err()

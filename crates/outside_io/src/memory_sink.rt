@@ -1,5 +1,4 @@
-ghost use Rattle.std.specs.Prelude.{◌≡◌, ◌<◌, ◌≤◌, ◌++◌, [], Option, Some, length, take, Contains, IfOk, OnOk, OnErr, IsErr};
-ghost use Rattle.outside_io.specs.Told.{Grows, Counts};
+ghost use Rattle.std.specs.Prelude.{◌≡◌, ◌++◌, [], Some, length, Contains, IfOk, OnOk, OnErr, IsErr};
 ghost use Rattle.outside_io.specs.Memory.{one_more};
 
 use crate::Sink;
@@ -22,7 +21,12 @@ impl Model for MemorySink {
 
     ghost Value = { MemoryOutput };
 
-    ghost view = { λ s. record { taken = s.bytes.items; fails = s.planned.fails.items; calls = s.planned.calls; faults = s.faults } };
+    ghost view = { λ s. record {
+      taken = s.bytes.items;
+      fails = s.planned.fails.items;
+      calls = s.planned.calls;
+      faults = s.faults;
+    } };
 }
 
 impl MemorySink {
@@ -55,8 +59,14 @@ impl Sink for MemorySink {
         ensures whole { IfOk result (λ n. n ≡ length bytes.now) }
         ensures listed { Contains self.old.fails (one_more self.old.calls) → IsErr result }
         ensures empty { bytes.now ≡ [] → IsErr result → Contains self.old.fails (one_more self.old.calls) }
-        ensures after_ok { OnOk result (self.new ≡ record self.old { taken = self.old.taken ++ bytes.now; calls = one_more self.old.calls }) }
-        ensures after_err { OnErr result (self.new ≡ record self.old { calls = one_more self.old.calls; faults = one_more self.old.faults }) }
+        ensures after_ok { OnOk result (self.new ≡ record self.old {
+          taken = self.old.taken ++ bytes.now;
+          calls = one_more self.old.calls;
+        }) }
+        ensures after_err { OnErr result (self.new ≡ record self.old {
+          calls = one_more self.old.calls;
+          faults = one_more self.old.faults;
+        }) }
     {
         if self.planned.is_next_to_fail() || self.bytes.extend_from_slice(bytes).is_err() {
             self.faults = self.faults.saturating_add(1);

@@ -26,7 +26,8 @@ pub trait Shelf {
     /// After a failure the bytes of `into` may be any.
     fn read_at(&mut self, name: &str, at: u64, into: &mut [u8]) -> Result<usize, Failed>
         ensures count { IfOk result (λ n. n ≤ length into.old) }
-        ensures copied { IfOk result (λ n. IfSome (held self.old name.now) (λ bytes. IsCopied bytes at n into.old into.new)) }
+        ensures copied { IfOk result (λ n.
+            IfSome (held self.old name.now) (λ bytes. IsCopied bytes at n into.old into.new)) }
         ensures files { SameFiles (held self.old) (held self.new) }
         ensures reading { Counts (reading_faults self.old) (reading_faults self.new) result }
         ensures writing { writing_faults self.new ≡ writing_faults self.old };
@@ -34,7 +35,8 @@ pub trait Shelf {
     /// Empties the file of this name, or makes it.
     fn begin(&mut self, name: &str) -> Result<(), Failed>
         ensures emptied { OnOk result (Tells (held self.new name.now) []) }
-        ensures err { OnErr result ((held self.new name.now ≡ held self.old name.now) ⊎ Tells (held self.new name.now) []) }
+        ensures err { OnErr result
+            ((held self.new name.now ≡ held self.old name.now) ⊎ Tells (held self.new name.now) []) }
         ensures others { OtherFiles name.now (held self.old) (held self.new) }
         ensures writing { Counts (writing_faults self.old) (writing_faults self.new) result }
         ensures reading { reading_faults self.new ≡ reading_faults self.old };

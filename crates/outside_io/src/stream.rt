@@ -36,7 +36,10 @@ impl Model for Stream {
 fn draw_handed(bytes: &[u8], at: &mut usize) -> Option<[u8; 16]>
     requires { at.old ≤ length bytes.now }
     ensures inside { at.new ≤ length bytes.now }
-    ensures value { MatchOption result ((length (drop at.old bytes.now) < 16) × (at.new ≡ at.old)) (λ iv. (16 ≤ length (drop at.old bytes.now)) × (iv ≡ take 16 (drop at.old bytes.now)) × (at.new ≡ at.old + 16)) }
+    ensures value { MatchOption result
+        ((length (drop at.old bytes.now) < 16) × (at.new ≡ at.old))
+        (λ iv. (16 ≤ length (drop at.old bytes.now)) × (iv ≡ take 16 (drop at.old bytes.now))
+        × (at.new ≡ at.old + 16)) }
 {
     let left = &bytes[*at..];
     if left.len() < 16 {
@@ -86,7 +89,9 @@ impl Stream {
 
     /// The next 16 bytes. None, and nothing drawn, where fewer are left.
     pub fn draw(&mut self) -> Option<[u8; 16]>
-        ensures { MatchOption result ((next_draw self.old ≡ None) × (self.new ≡ self.old)) (λ iv. next_draw self.old ≡ Some (iv, self.new)) }
+        ensures { MatchOption result
+            ((next_draw self.old ≡ None) × (self.new ≡ self.old))
+            (λ iv. next_draw self.old ≡ Some (iv, self.new)) }
     {
         match &mut self.source {
             Source::Handed { bytes, at } => draw_handed(bytes, at),

@@ -49,7 +49,8 @@ pub fn empty(alloc: Global, files: &mut Table, name: &str) -> Result<(), NoMemor
 /// Adds a piece at the end of a file, which it makes where it is missing. No bytes for a file that is there need no
 /// memory.
 pub fn extend(alloc: Global, files: &mut Table, name: &str, bytes: &[u8]) -> Result<(), NoMemory>
-    ensures ok { OnOk result (files_of files.new ≡ insert (files_of files.old) name.now (bytes_of (files_of files.old) name.now ++ bytes.now)) }
+    ensures ok { let old = files_of files.old in
+        OnOk result (files_of files.new ≡ insert old name.now (bytes_of old name.now ++ bytes.now)) }
     ensures err { OnErr result (files_of files.new ≡ files_of files.old) }
     ensures there { IsThere (files_of files.old) name.now → bytes.now ≡ [] → IsOk result }
 {

@@ -15,6 +15,6 @@ loop-rest-preserved g c =
           (rest_after c.loop-rest.rest.now c.in_ok-n.n) put.ok put.faults;
       untouched = λ none.
           let empty : length c.loop-rest.rest.now ≡ 0 =
-              PutsFront-nothing _ _ _ _ _ _ c.loop-rest.invariant.puts none in
+          PutsFront-nothing _ _ _ _ _ _ c.loop-rest.invariant.puts none in
           absurd (grind (arith, nat_tests));
     }

@@ -10,7 +10,7 @@ returns-in-Some-clause-ok c =
     let after = c.clear.new.self in
     let lender = c.get_mut.follows.lender after in
     let sets = btree_map_updates_text c.args.name.now c.args.files.now lender _
-        ((c.get_mut.follows.holds after).3 (search rules)) in
+    ((c.get_mut.follows.holds after).3 (search rules)) in
     files_of-set c.args.name.now c.args.files.now lender after sets
     ∙ ap (insert (files_of c.args.files.now) c.args.name.now) c.clear.ensures.items
 

@@ -12,5 +12,6 @@ returns-then-self-len-clause-all g c = (
 
 pub returns-then-self-len-clause-moved : goal.returns-then-self-len-clause-moved
 returns-then-self-len-clause-moved g c =
-    MovesFront-at c.args.self.now c.self.inside.bytes.items c.self.inside.written c.write_front-n.result _ _ c.self.view_is
+    MovesFront-at c.args.self.now c.self.inside.bytes.items c.self.inside.written c.write_front-n.result _ _
+    c.self.view_is
     (rw (← c.deref.ensures.value, ← rest_after c.deref.result.now c.self.inside.written) c.write_front-n.ensures.told)

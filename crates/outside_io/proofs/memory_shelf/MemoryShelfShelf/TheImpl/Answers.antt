@@ -20,11 +20,13 @@ pub append-tells : goal.append-tells
 append-tells c =
     let old : MemoryFiles = c.args.self.now in
     let new : MemoryFiles = c.new.self.now in
-    let sets = SetsFile-at c.result old new _ _ c.args.name.now (bytes_of old.files c.args.name.now ++ c.args.bytes.now) c.ensures.after_ok c.ensures.after_err refl refl in
+    let sets = SetsFile-at c.result old new _ _ c.args.name.now
+    (bytes_of old.files c.args.name.now ++ c.args.bytes.now) c.ensures.after_ok c.ensures.after_err refl refl in
     record {
       ok = SetsFile-grows c.result old.files new.files c.args.name.now c.args.bytes.now sets;
       err = search rules;
-      others = SetsFile-others c.result old.files new.files c.args.name.now (bytes_of old.files c.args.name.now ++ c.args.bytes.now) sets;
+      others = SetsFile-others c.result old.files new.files c.args.name.now
+          (bytes_of old.files c.args.name.now ++ c.args.bytes.now) sets;
       writing = search rules;
       reading = search rules;
     }
