@@ -221,100 +221,133 @@ mod tests {
     use super::*;
     use std::test::Fail;
 
-    /// Two files by turns, the first of which had bytes before it was begun.
+    /// Two files by turns, the first of which had more bytes before it was begun.
     #[test]
     fn appended_pieces_stand_in_their_files(rt: HostRuntime) -> Result<(), Fail> {
         let (a, b) = ("file_shelf_test_a.bytes", "file_shelf_test_b.bytes");
-        fs::write(&rt, a, "old bytes")?;
+        fs::write(&rt, a, "what stood there before")?;
         let mut shelf = FileShelf::open(rt.clone()?)?;
         shelf.begin(a)?;
         for (name, piece) in [(a, "hello"), (b, "two"), (a, ", "), (a, "world")] {
             shelf.append(name, piece.as_bytes())?;
         }
-        let mut into = [0u8; 8];
-        assert_eq!(rt; shelf.size(a), Ok(12));
-        assert_eq!(rt; shelf.read_at(a, 7, &mut into), Ok(5));
-        assert_eq!(rt; into, *b"world\0\0\0");
-        shelf.append(b, b"!")?;
-        shelf.flush()?;
-        assert_eq!(rt; fs::read_to_string(&rt, a)?.as_str(), "hello, world");
-        assert_eq!(rt; fs::read_to_string(&rt, b)?.as_str(), "two!");
-        shelf.begin(a)?;
-        assert_eq!(rt; shelf.read_at(a, 0, &mut into), Ok(0));
-        fs::remove_file(&rt, a)?;
-        fs::remove_file(&rt, b)?;
+        assert_eq!(rt; shelf.size(b), Ok(3));
+        for (name, text) in [(a, "hello, world"), (b, "two")] {
+            assert_eq!(rt; fs::read_to_string(&rt, name)?.as_str(), text);
+            fs::remove_file(&rt, name)?;
+        }
         Ok(())
     }
 
-    /// A file of more bytes than are read ahead, in pieces of several lengths, and then from its middle.
+    /// Adds all bytes of a file, read in pieces, and says whether no call failed.
+    fn read_in_pieces<R: Files + Drop>(
+        shelf: &mut FileShelf<R>,
+        name: &str,
+        piece: &mut [u8],
+        seen: &mut Vec<u8>,
+    ) -> bool {
+        for _ in 0..200 {
+            let Ok(n) = shelf.read_at(name, seen.len() as u64, piece) else {
+                return false;
+            };
+            if seen.extend_from_slice(&piece[..n]).is_err() {
+                return false;
+            }
+        }
+        true
+    }
+
+    /// A file of more bytes than are read ahead, in short, long and longer pieces.
     #[test]
     fn pieces_that_are_read_follow_one_another(rt: HostRuntime) -> Result<(), Fail> {
         let name = "file_shelf_test_read.bytes";
-        let mut bytes = Vec::new(rt.alloc());
-        for i in 0..150_000u32 {
-            bytes.push((i % 251) as u8)?;
-        }
+        let bytes: Vec<u8> = (0..150_000u32)
+            .map(|i| (i % 251) as u8)
+            .collect(rt.alloc())?;
         fs::write(&rt, name, bytes.as_slice())?;
         let mut shelf = FileShelf::open(rt.clone()?)?;
-        let mut into = vec![in rt.alloc(); 0u8; 70_000]?;
         for length in [999, 65_536, 70_000] {
+            let mut piece = vec![in rt.alloc(); 0u8; length]?;
             let mut seen = Vec::new(rt.alloc());
-            for _ in 0..160 {
-                let n = shelf.read_at(name, seen.len() as u64, &mut into[..length])?;
-                seen.extend_from_slice(&into[..n])?;
-            }
+            assert!(rt; read_in_pieces(&mut shelf, name, &mut piece, &mut seen));
             assert!(rt; seen.as_slice() == bytes.as_slice());
         }
-        assert_eq!(rt; shelf.read_at(name, 251 * 40, &mut into[..3]), Ok(3));
-        assert_eq!(rt; &into[..3], [0, 1, 2].as_slice());
-        // What was read ahead is not what stands there any more.
-        shelf.begin(name)?;
-        shelf.append(name, &[7])?;
-        assert_eq!(rt; shelf.read_at(name, 0, &mut into[..3]), Ok(1));
-        assert_eq!(rt; into[0], 7);
         fs::remove_file(&rt, name)?;
         Ok(())
     }
 
+    /// A file that is begun, by whatever name, is not what was read ahead.
     #[test]
-    fn a_missing_name_is_empty_and_a_folder_is_a_fault(rt: HostRuntime) -> Result<(), Fail> {
+    fn what_was_read_ahead_is_forgotten(rt: HostRuntime) -> Result<(), Fail> {
+        let name = "file_shelf_test_ahead.bytes";
         let mut shelf = FileShelf::open(rt.clone()?)?;
         let mut into = [0u8; 8];
-        assert_eq!(rt; shelf.size("no such file"), Ok(0));
-        assert_eq!(rt; shelf.read_at("no such file", 0, &mut into), Ok(0));
-        assert_eq!(rt; shelf.size("."), Err(Failed));
-        assert_eq!(rt; shelf.read_at(".", 0, &mut into), Err(Failed));
-        assert_eq!(rt; shelf.begin("."), Err(Failed));
-        assert_eq!(rt; shelf.append(".", b"a"), Err(Failed));
-        shelf.flush()?;
+        for (other, text) in [(name, "old"), ("./file_shelf_test_ahead.bytes", "new!")] {
+            shelf.begin(other)?;
+            shelf.append(other, text.as_bytes())?;
+            let n = shelf.read_at(name, 0, &mut into)?;
+            assert_eq!(rt; &into[..n], text.as_bytes());
+        }
+        fs::remove_file(&rt, name)?;
         Ok(())
     }
 
-    /// A fault of writing is answered by the call that meets it, and one that a reading call met by the next that
-    /// writes. What is gathered is not lost by it.
-    #[test]
-    fn a_full_disk_is_a_fault(rt: HostRuntime) -> Result<(), Fail> {
-        let full = "/dev/full";
-        let mut shelf = FileShelf::open(rt.clone()?)?;
-        let long = vec![in rt.alloc(); 0u8; 70_000]?;
-        shelf.begin(full)?;
-        assert_eq!(rt; shelf.append(full, &long), Err(Failed));
-        shelf.append(full, b"kept")?;
-        assert_eq!(rt; shelf.flush(), Err(Failed));
-        assert_eq!(rt; shelf.append(full, &long), Err(Failed));
-        assert_eq!(rt; shelf.append("file_shelf_test.bytes", b"a"), Err(Failed));
-        for _ in 0..2 {
-            assert_eq!(rt; shelf.size(full), Err(Failed));
-            assert_eq!(rt; shelf.append(full, b""), Err(Failed));
-            shelf.append(full, b"")?;
+    #[derive(Clone, Copy)]
+    enum Call {
+        Begin,
+        Append,
+        AppendLong,
+        Size,
+        Read,
+        Flush,
+    }
+
+    /// What a call answers, if it does not fail.
+    fn answer<R: Files + Drop>(shelf: &mut FileShelf<R>, call: Call, name: &str) -> Option<u64> {
+        match call {
+            Call::Begin => shelf.begin(name).ok().map(|()| 0),
+            Call::Append => shelf.append(name, b"a").ok().map(|()| 0),
+            Call::AppendLong => shelf.append(name, &[0; 70_000]).ok().map(|()| 0),
+            Call::Size => shelf.size(name).ok(),
+            Call::Read => shelf.read_at(name, 0, &mut [0; 8]).ok().map(|n| n as u64),
+            Call::Flush => shelf.flush().ok().map(|()| 0),
         }
-        // The disk has room again.
-        assert_eq!(rt; shelf.read_at(full, 0, &mut [0]), Err(Failed));
+    }
+
+    /// A name that is missing is empty, and a folder a fault. A fault of writing is answered by the call that meets it,
+    /// and where that reads by the next that writes as well; what is gathered is not lost by it.
+    #[test]
+    fn faults_are_answered(rt: HostRuntime) -> Result<(), Fail> {
+        let mut shelf = FileShelf::open(rt.clone()?)?;
+        let (missing, folder, full) = ("no such file", ".", "/dev/full");
+        for (call, name, answered) in [
+            (Call::Size, missing, Some(0)),
+            (Call::Read, missing, Some(0)),
+            (Call::Size, folder, None),
+            (Call::Read, folder, None),
+            (Call::Begin, folder, None),
+            (Call::Append, folder, None),
+            (Call::Begin, full, Some(0)),
+            (Call::AppendLong, full, None),
+            (Call::Append, full, Some(0)),
+            (Call::Flush, full, None),
+            (Call::AppendLong, full, None),
+            (Call::Append, missing, None),
+            (Call::Size, missing, None),
+            (Call::Append, full, None),
+            (Call::Size, missing, None),
+            (Call::Begin, full, None),
+            (Call::Read, missing, None),
+        ] {
+            assert_eq!(rt; answer(&mut shelf, call, name), answered);
+        }
+        // From here on the disk has room.
         let name = "file_shelf_test_full.bytes";
         assert!(rt; shelf.writing.keep(name, File::create(&rt, name)?));
-        assert_eq!(rt; shelf.flush(), Err(Failed));
-        shelf.flush()?;
-        assert_eq!(rt; fs::read_to_string(&rt, name)?.as_str(), "kept");
+        for answered in [None, Some(0)] {
+            assert_eq!(rt; answer(&mut shelf, Call::Flush, name), answered);
+        }
+        assert_eq!(rt; fs::read_to_string(&rt, name)?.as_str(), "a");
         fs::remove_file(&rt, name)?;
         Ok(())
     }

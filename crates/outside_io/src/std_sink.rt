@@ -180,10 +180,19 @@ mod tests {
         Ok(())
     }
 
+    /// Puts a piece, or writes out what is gathered where it is empty, and says whether that was done.
+    fn is_done<P: Print + Drop>(sink: &mut StdSink<P>, piece: &str) -> bool {
+        if piece.is_empty() {
+            sink.flush().is_ok()
+        } else {
+            sink.put(piece.as_bytes()).is_ok()
+        }
+    }
+
     /// A fault behind the front of a piece is answered by the next call, and one at `flush` by it.
     #[test]
     fn a_piece_is_taken_up_to_a_fault(rt: HostRuntime) -> Result<(), Fail> {
-        for is_flushed in [false, true] {
+        for next in ["c\n", ""] {
             let calls = Cell::new(0);
             let shown = Cell::new(0);
             let screen = Screen {
@@ -192,17 +201,14 @@ mod tests {
             };
             let mut sink = StdSink::open((screen, rt.alloc()))?;
             assert_eq!(rt; sink.put(b"abc\n"), Ok(2));
-            if is_flushed {
-                assert_eq!(rt; sink.flush(), Err(Failed));
-            } else {
-                assert_eq!(rt; sink.put(b"c\n"), Err(Failed));
+            for (piece, done) in [(next, false), ("c\n", true), ("d", true)] {
+                assert_eq!(rt; is_done(&mut sink, piece), done);
             }
-            assert_eq!(rt; sink.put(b"c\n"), Ok(2));
-            assert_eq!(rt; shown.get(), 0x6162_630a);
+            // The next call fails.
             calls.set(1);
-            assert_eq!(rt; sink.put(b"d"), Ok(1));
-            assert_eq!(rt; sink.flush(), Err(Failed));
-            sink.flush()?;
+            for done in [false, true] {
+                assert_eq!(rt; is_done(&mut sink, ""), done);
+            }
             assert_eq!(rt; shown.get(), 0x6162_630a_64);
         }
         Ok(())
