@@ -1,5 +1,5 @@
 //! Files are read ahead of what is asked for.
-ghost use Rattle.std.specs.Prelude.{◌≤◌, IfOk, length, vec_len};
+ghost use Rattle.std.specs.Prelude.{◌≡◌, ◌≤◌, ◌↔◌, Some, IsTrue, IsSome, IsNone, IfOk, false, length, vec_len, string_bytes};
 
 use crate::copied::copy_from;
 use crate::named_file::NamedFile;
@@ -39,19 +39,28 @@ impl<F: Read + Seek + Drop> Reader<F> {
     }
 
     /// Says whether the file of this name is open.
-    pub fn is_open(&self, name: &str) -> bool {
+    pub fn is_open(&self, name: &str) -> bool
+        ensures { IsTrue result ↔ (IsSome self.now.source.file × (string_bytes self.now.source.name ≡ name.now)) }
+    {
         self.source.is_open(name)
     }
 
     /// Reads this file from now on, which was just opened. Says whether there was room for its name.
-    pub fn keep(&mut self, name: &str, file: F) -> bool {
+    pub fn keep(&mut self, name: &str, file: F) -> bool
+        ensures file { IsTrue result → self.new.source.file ≡ Some file }
+        ensures name { IsTrue result → string_bytes self.new.source.name ≡ name.now }
+        ensures no_room { result ≡ false → IsNone self.new.source.file }
+        ensures fresh { (self.new.position ≡ 0) × (self.new.filled ≡ 0) }
+    {
         self.position = 0;
         self.filled = 0;
         self.source.keep(name, file)
     }
 
     /// Closes the file and forgets what was read ahead.
-    pub fn close(&mut self) {
+    pub fn close(&mut self)
+        ensures { IsNone self.new.source.file }
+    {
         if self.source.file.is_some() {
             self.filled = 0;
             self.source.close();

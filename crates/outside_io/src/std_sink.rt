@@ -213,4 +213,25 @@ mod tests {
         }
         Ok(())
     }
+
+    /// A piece that is too long to be gathered stands behind what is gathered, and both meet their faults.
+    #[test]
+    fn a_long_piece_stands_behind_what_is_gathered(rt: HostRuntime) -> Result<(), Fail> {
+        let calls = Cell::new(0);
+        let shown = Cell::new(0);
+        let screen = Screen {
+            calls: &calls,
+            shown: &shown,
+        };
+        let mut sink = StdSink::open((screen, rt.alloc()))?;
+        let long = vec![in rt.alloc(); b'x'; 70_000]?;
+        sink.put(b"ab")?;
+        // So many calls were before, and the second one fails.
+        for (before, taken) in [(1, None), (2, Some(2)), (1, None)] {
+            calls.set(before);
+            assert_eq!(rt; sink.put(&long).ok(), taken);
+        }
+        assert_eq!(rt; shown.get(), 0x6162_7878);
+        Ok(())
+    }
 }
