@@ -1,28 +1,8 @@
 -- Bytes that are written in parts, and those that stay gathered.
-use Rattle.std.proofs.Common.{
-  ◌≡◌,
-  ◌<◌,
-  ◌+◌,
-  ℕ,
-  List,
-  [],
-  ◌++◌,
-  length,
-  take,
-  drop,
-  sym,
-  ◌∙◌,
-  ap,
-  subst,
-  arith,
-  Option,
-  None,
-  Some,
-  append_assoc,
-  length-drop,
-}
-use Rattle.std.proofs.Math.Seq.{take-add}
-use Rattle.std.proofs.lemmas.List.{drop-drop, take-append-drop}
+use Rattle.std.proofs.Common.{◌≡◌, ◌<◌, ◌+◌, ℕ, List, [], ◌++◌, length, take, drop, sym, ◌∙◌, ap, subst, arith}
+use Rattle.std.proofs.Common.{◌-◌, Option, None, Some, refl, append_assoc, length-append, length-drop}
+use Rattle.std.proofs.Math.Seq.{take-add, take-append-add}
+use Rattle.std.proofs.lemmas.List.{append-nil, drop-drop, take-append-drop}
 use Rattle.std.specs.Io.KnownBytes.{Appends}
 use Rattle.outside_io.specs.Pieces.{MovesFront}
 
@@ -57,3 +37,47 @@ left_behind all at before none =
     let len = length-drop at all in
     let e = ap (λ (l : List ℕ). length l) none in
     omega (arith, len, e)
+
+Appends-none : (a : Option (List ℕ)) → Appends a a []
+Appends-none None = tt
+Appends-none (Some l) = sym (append-nil l)
+
+-- nothing is written
+pub MovesFront-none : (old : List ℕ) (a : Option (List ℕ)) → MovesFront old old a a
+MovesFront-none old a = record { front = []; parts = refl; written = Appends-none a }
+
+-- a piece is gathered behind the rest
+pub MovesFront-behind : (old new piece : List ℕ) (before after : Option (List ℕ)) → MovesFront old new before after →
+    MovesFront (old ++ piece) (new ++ piece) before after
+MovesFront-behind old new piece before after m = record {
+  front = m.front;
+  parts = ap (λ (l : List ℕ). l ++ piece) m.parts ∙ append_assoc m.front new piece;
+  written = m.written;
+}
+
+-- all is written, and then a front of a piece
+pub MovesFront-through : (old piece : List ℕ) (n : ℕ) (before mid after : Option (List ℕ)) →
+    MovesFront old [] before mid → Appends mid after (take n piece) → MovesFront (old ++ take n piece) [] before after
+MovesFront-through old piece n before mid after m more =
+    let all : old ≡ m.front = m.parts ∙ append-nil m.front in
+    record {
+      front = old ++ take n piece;
+      parts = sym (append-nil (old ++ take n piece));
+      written = Appends-append before mid after old (take n piece)
+          (subst (λ (l : List ℕ). Appends before mid l) (sym all) m.written) more;
+    }
+
+-- of a piece that was gathered last, what is not written is taken back
+pub MovesFront-back : (old piece rest : List ℕ) (n k : ℕ) (before after : Option (List ℕ)) →
+    MovesFront (old ++ piece) rest before after → n ≡ length piece - length rest → k ≡ length rest - length piece →
+    MovesFront (old ++ take n piece) (take k rest) before after
+MovesFront-back old piece rest n k before after m taken left =
+    let lengths : length old + length piece ≡ length m.front + length rest =
+    sym (length-append old piece) ∙ ap (λ (l : List ℕ). length l) m.parts ∙ length-append m.front rest in
+    let place : length old + n ≡ length m.front + k = omega (arith, lengths, taken, left) in
+    record {
+      front = m.front;
+      parts = sym (take-append-add old piece n) ∙ ap (λ (i : ℕ). take i (old ++ piece)) place
+          ∙ ap (λ (l : List ℕ). take (length m.front + k) l) m.parts ∙ take-append-add m.front rest k;
+      written = m.written;
+    }

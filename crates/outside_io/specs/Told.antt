@@ -1,25 +1,6 @@
 -- What shelves and sinks tell of their bytes, and what their counts of faults say.
-use Rattle.std.specs.Prelude.{
-  ℕ,
-  ◌≡◌,
-  ◌≢◌,
-  ◌+◌,
-  ◌-◌,
-  ◌^◌,
-  ◌<◌,
-  ◌≤◌,
-  min,
-  List,
-  ◌++◌,
-  length,
-  take,
-  drop,
-  Option,
-  IfSome,
-  Result,
-  Ok,
-  Err,
-}
+use Rattle.std.specs.Prelude.{ℕ, ◌≡◌, ◌≢◌, ◌+◌, ◌-◌, ◌^◌, ◌<◌, ◌≤◌, min, List, ◌++◌, length, take, drop, Option}
+use Rattle.std.specs.Prelude.{IfSome, Result, Ok, Err}
 use Rattle.cloak_base.specs.declared.causes.Failed.{Failed}
 
 -- where bytes are told, they are these

@@ -2,7 +2,7 @@ ghost use Rattle.std.specs.Prelude.{◌≡◌, None, IfOk, IsErr};
 ghost use Rattle.outside_io.specs.Told.{Counts};
 
 use crate::Shelf;
-use crate::gathered::{Gathered, write_front};
+use crate::gathered::Gathered;
 use crate::named_file::NamedFile;
 use crate::reader::Reader;
 use cloak_base::{Failed, NoMemory};
@@ -83,12 +83,12 @@ impl<R: Files + Drop> FileShelf<R> {
         }
     }
 
-    /// Writes a long piece behind what was written out, and says whether all of it was written.
-    fn write_through(&mut self, bytes: &[u8]) -> bool
+    /// Takes a piece for the file that is being written, and says whether it was taken whole.
+    fn write(&mut self, bytes: &[u8]) -> bool
         ensures { self.new ≡ self.old }
     {
         match &mut self.writing.file {
-            Some(file) => write_front(file, bytes) == bytes.len(),
+            Some(file) => self.gathered.append(file, bytes),
             None => false,
         }
     }
@@ -202,13 +202,7 @@ impl<R: Files + Drop> Shelf for FileShelf<R> {
         {
             return self.fail_writing();
         }
-        if self.gathered.gather(bytes) {
-            return Ok(());
-        }
-        if !self.write_out() {
-            return self.fail_writing();
-        }
-        if self.gathered.gather(bytes) || self.write_through(bytes) {
+        if self.write(bytes) {
             Ok(())
         } else {
             self.fail_writing()

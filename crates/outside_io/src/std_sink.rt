@@ -1,11 +1,10 @@
-ghost use Rattle.std.specs.Prelude.{◌≡◌, ◌<◌, ◌≤◌, None, IfOk, IsErr, length};
+ghost use Rattle.std.specs.Prelude.{◌≡◌, None, IfOk, IsErr};
 ghost use Rattle.outside_io.specs.Told.{Counts};
 
 use crate::Sink;
 use crate::gathered::Gathered;
 use cloak_base::{Failed, NoMemory};
 use std::io;
-use std::io::Write;
 use std::marker::Model;
 
 /// Standard output. Small pieces are gathered, and written out in one go at each line feed at the latest, and at
@@ -62,20 +61,6 @@ impl<P: Print + Drop> StdSink<P> {
         self.gathered.write_out(&mut io::writer(&self.print))
     }
 
-    /// Writes out what is gathered, of which a piece of this length is the end, and answers how much of the piece is
-    /// taken. What is not is gathered no more.
-    fn show(&mut self, piece: usize) -> usize
-        ensures same { self.new ≡ self.old }
-        ensures taken { result ≤ piece }
-    {
-        if self.write_out() {
-            return piece;
-        }
-        let written = self.gathered.take_back(piece);
-        self.is_fault_owed = written > 0;
-        written
-    }
-
     fn fail<T>(&mut self) -> Result<T, Failed>
         ensures counted { Counts self.old self.new result }
         ensures err { IsErr result }
@@ -91,25 +76,23 @@ impl<P: Print + Drop> Sink for StdSink<P> {
 
     ghost faults = { λ s. s };
 
-    /// A piece with a line feed is written out with what is gathered, and one with no room for it behind that.
+    /// A piece with a line feed is written out with what is gathered, and so is one that there is no room for.
     fn put(&mut self, bytes: &[u8]) -> Result<usize, Failed> {
         if self.is_fault_owed {
             return self.fail();
         }
-        if self.gathered.gather(bytes) {
-            if !bytes.contains(&b'\n') {
-                return Ok(bytes.len());
-            }
-            let taken = self.show(bytes.len());
-            return if taken > 0 { Ok(taken) } else { self.fail() };
+        if !bytes.contains(&b'\n') && self.gathered.gather(bytes) {
+            return Ok(bytes.len());
         }
-        if !self.write_out() {
+        let taken = self.gathered.show(&mut io::writer(&self.print), bytes);
+        if taken == bytes.len() {
+            return Ok(taken);
+        }
+        if taken == 0 {
             return self.fail();
         }
-        match io::writer(&self.print).write(bytes) {
-            Ok(n) if n > 0 || bytes.is_empty() => Ok(n),
-            _ => self.fail(),
-        }
+        self.is_fault_owed = true;
+        Ok(taken)
     }
 }
 
