@@ -4,6 +4,8 @@ pub mod Outlet
 pub mod Outside
 pub mod Preparing
 pub mod Recording
+pub mod Refusal
 pub mod Request
 pub mod Running
 pub mod Status
+pub mod Program

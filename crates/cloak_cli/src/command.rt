@@ -1,59 +1,37 @@
 //! The top call.
 ghost use Rattle.std.specs.Prelude.{◌≡◌, ◌<◌, ◌-◌, ◌^◌, [], map, string_bytes};
+ghost use Rattle.cloak_base.specs.Random.{Random};
 ghost use Rattle.cloak_model.specs.declared.image.Bundle.{Bundle};
 ghost use Rattle.cloak_model.specs.Command as spec;
-ghost use Rattle.cloak_model.specs.Opening.{Opened};
+ghost use Rattle.cloak_model.specs.Opening.{Opened, opening};
 ghost use Rattle.cloak_model.specs.Run.{first_moment, run_of};
 ghost use Rattle.cloak_machine.specs.Standing.{StandsForMoment, steps_made};
 ghost use Rattle.cloak_cli.specs.Answering.{Answers, KeepsFiles};
-ghost use Rattle.cloak_cli.specs.Outside.{output, outside};
-ghost use Rattle.cloak_cli.specs.Recording.{Records, Refuses};
+ghost use Rattle.cloak_cli.specs.Outside.{outside};
+ghost use Rattle.cloak_cli.specs.Recording.{Records};
+ghost use Rattle.cloak_cli.specs.Request.{asked_of_run};
 
-use crate::item_bytes::LONGEST;
 use crate::outlet::Outlet;
-use crate::prepare::{Refusal, prepare};
+use crate::prepare::{Prepared, prepare};
+use crate::refusal::{Refusal, refuse};
 use crate::request::{Request, read_words};
 use crate::run::write_run;
 use crate::run_request::RunRequest;
 use crate::status::Status;
-use cloak_machine::Machine;
-use cloak_model::UsageFault;
-use outside_io::{Shelf, Sink, put_all};
+use exchange_log::LONGEST;
+use outside_io::{Shelf, Sink};
 use std::alloc::Global;
-
-/// Shows a line that refuses, and answers the status, or the write fault.
-fn refuse<O: Sink>(out: &mut O, status: Status, line: &[u8]) -> Status
-    ensures { Refuses (output O.taken O.faults out.old) (output O.taken O.faults out.new) status line.now result }
-{
-    match put_all(out, line) {
-        Ok(()) => status,
-        Err(_) => Status::WriteFault,
-    }
-}
-
-/// Shows what is wrong with the words.
-fn refuse_words<O: Sink>(out: &mut O, fault: UsageFault) -> Status
-    ensures { Refuses (output O.taken O.faults out.old) (output O.taken O.faults out.new)
-        Status.Usage (spec.usage_line fault) result }
-{
-    match fault {
-        UsageFault::NoCommand => refuse(out, Status::Usage, b"usage: no command\n"),
-        UsageFault::UnknownCommand => refuse(out, Status::Usage, b"usage: unknown command\n"),
-        UsageFault::WrongWords => refuse(out, Status::Usage, b"usage: words\n"),
-        UsageFault::NoRandomness => refuse(out, Status::Usage, b"usage: randomness\n"),
-        UsageFault::WrongNumber => refuse(out, Status::Usage, b"usage: number\n"),
-    }
-}
 
 /// Begins the record of a run and makes it.
 fn record_run<S: Shelf, O: Sink>(
-    machine: Machine,
+    prepared: Prepared,
     run: &RunRequest<'_>,
     shelf: &mut S,
     out: &mut O,
 ) -> Status
-    requires { steps_made machine ≡ 0 }
-    ensures { (b : Bundle) (o : Opened) → o.items ≡ [] → StandsForMoment machine (first_moment b o.joint) →
+    requires { steps_made prepared.machine ≡ 0 }
+    ensures { (b : Bundle) (stream : Random) (o : Opened) → opening b stream ≡ Ok o → b.programs ≡ prepared.programs →
+        StandsForMoment prepared.machine (first_moment b o.joint) →
         Records run.now.record_name.now
         (outside S.held S.reading_faults S.writing_faults O.taken O.faults shelf.old out.old)
         (outside S.held S.reading_faults S.writing_faults O.taken O.faults shelf.new out.new)
@@ -69,7 +47,8 @@ fn record_run<S: Shelf, O: Sink>(
         failed: false,
         piece: [0; LONGEST],
     };
-    let status = write_run(machine, run.steps, &mut outlet);
+    let Prepared { machine, programs } = prepared;
+    let status = write_run(machine, programs.as_slice(), run.steps, &mut outlet);
     if outlet.failed {
         return Status::WriteFault;
     }
@@ -83,28 +62,28 @@ fn run_command<S: Shelf, O: Sink>(
     shelf: &mut S,
     out: &mut O,
 ) -> Status
+    requires settled { S.is_settled shelf.old }
     requires reading { S.reading_faults shelf.old < 2 ^ 64 - 1 }
     requires writing { S.writing_faults shelf.old < 2 ^ 64 - 1 }
     requires output { O.faults out.old < 2 ^ 64 - 1 }
-    ensures { Answers (spec.Run run.now.bundle.now run.now.record_name.now run.now.steps run.now.number)
+    ensures { Answers (asked_of_run run.now)
         (outside S.held S.reading_faults S.writing_faults O.taken O.faults shelf.old out.old)
         (outside S.held S.reading_faults S.writing_faults O.taken O.faults shelf.new out.new) result }
 {
-    match prepare(alloc, run.bundle, run.number, shelf) {
-        Ok(machine) => record_run(machine, run, shelf, out),
-        Err(Refusal::ReadFault) => refuse(out, Status::ReadFault, b"read fault\n"),
-        Err(Refusal::NoMemory) => refuse(out, Status::NoMemory, b"no memory\n"),
-        Err(Refusal::Unbuilt) => refuse(out, Status::Unbuilt, b"unbuilt 0\n"),
+    match prepare(alloc, run, shelf) {
+        Ok(prepared) => record_run(prepared, run, shelf, out),
+        Err(refusal) => refuse(out, &refusal),
     }
 }
 
-/// Does what the words ask for, with the files of a shelf, and shows it.
+/// Does what the words ask for, with the files of a shelf on which nothing is gathered, and shows it.
 pub fn cloak<S: Shelf, O: Sink>(
     alloc: Global,
     words: &Vec<String>,
     shelf: &mut S,
     out: &mut O,
 ) -> Status
+    requires settled { S.is_settled shelf.old }
     requires reading { S.reading_faults shelf.old < 2 ^ 64 - 1 }
     requires writing { S.writing_faults shelf.old < 2 ^ 64 - 1 }
     requires output { O.faults out.old < 2 ^ 64 - 1 }
@@ -115,8 +94,8 @@ pub fn cloak<S: Shelf, O: Sink>(
         (S.held shelf.old) (S.held shelf.new) }
 {
     match read_words(words.as_slice()) {
-        Request::NotBuilt => refuse(out, Status::Unbuilt, b"unbuilt 0\n"),
-        Request::Faulty(fault) => refuse_words(out, fault),
+        Request::NotBuilt => refuse(out, &Refusal::NotBuilt),
+        Request::Faulty(fault) => refuse(out, &Refusal::Usage(fault)),
         Request::Run(run) => run_command(alloc, &run, shelf, out),
     }
 }

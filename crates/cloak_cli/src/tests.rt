@@ -1,5 +1,6 @@
-use crate::command::cloak;
+use crate::program::run_program;
 use crate::status::Status;
+use crate::words::Words;
 use outside_io::{MemoryShelf, MemorySink};
 use std::alloc::{AllocError, Global};
 use std::test::*;
@@ -90,7 +91,7 @@ pub fn called(
     for word in line.split_whitespace() {
         words.push(String::from_str(alloc, word)?)?;
     }
-    let status = cloak(alloc, &words, &mut shelf, &mut sink);
+    let status = run_program(alloc, &Words::Taken(words), &mut shelf, &mut sink);
     Ok(Left {
         status,
         shelf,
@@ -193,9 +194,25 @@ fn refused_words(rt: HostRuntime) -> Result<(), Fail> {
         ),
         ("view a.b a.r", Status::Unbuilt, "unbuilt 0\n"),
         (
+            "run a.b a.r --steps 10 --number 0 --stream a.b",
+            Status::Usage,
+            "usage: randomness\n",
+        ),
+        (
+            "run a.b a.r --steps 10 --number 0 --number 0",
+            Status::Usage,
+            "usage: words\n",
+        ),
+        ("run a.b a.r --number 0", Status::Usage, "usage: words\n"),
+        (
             "run none a.r --steps 10 --number 0",
-            Status::Unbuilt,
-            "unbuilt 0\n",
+            Status::BadBundle,
+            "bundle: short at 0\n",
+        ),
+        (
+            "run a.b a.r --steps 10 --stream none",
+            Status::NoRandom,
+            "random: no key\n",
         ),
     ] {
         let left = called(
@@ -212,18 +229,59 @@ fn refused_words(rt: HostRuntime) -> Result<(), Fail> {
     Ok(())
 }
 
+/// A file with one of its bytes in the place of another, or with fewer or more of them.
+fn damaged(alloc: Global, length: u64, at: usize, byte: u8) -> Result<Vec<u8>, Fail> {
+    let mut file = Vec::new(alloc);
+    for i in 0..length.min(100) as usize {
+        let kept = SMALLEST.get(i).copied().unwrap_or(0);
+        file.push(if i == at { byte } else { kept })?;
+    }
+    Ok(file)
+}
+
+/// What is shown of the smallest image with one byte in the place of another, cut short, or with a byte more.
+#[test]
+fn damaged_files(rt: HostRuntime) -> Result<(), Fail> {
+    let rows = [
+        (64, 0, b'C', "bundle: short at 49\n"),
+        (66, 0, b'C', "bundle: extra at 65\n"),
+        (65, 0, b'c', "bundle: magic\n"),
+        (65, 8, 2, "bundle: version 2\n"),
+        (65, 12, 63, "bundle: count at 12\n"),
+        (65, 13, 17, "bundle: too large at 12\n"),
+        (65, 40, 1, "bundle: range at 40\n"),
+        (0, 0, 0, "bundle: short at 0\n"),
+    ];
+    for (length, at, byte, line) in rows {
+        let file = damaged(rt.alloc(), length, at, byte)?;
+        let left = called(
+            rt.alloc(),
+            "run a.b a.r --steps 10 --number 0",
+            file.as_slice(),
+            Vec::new(rt.alloc()),
+            Vec::new(rt.alloc()),
+        )?;
+        assert_eq!(rt; left.status, Status::BadBundle, "{line}");
+        assert_eq!(rt; left.sink.taken(), line.as_bytes(), "{line}");
+        assert_eq!(rt; left.shelf.bytes("a.r"), b"".as_slice(), "{line}");
+    }
+    Ok(())
+}
+
 /// Runs of the smallest image whose Nth call on the files or the output fails: the status, the output and
 /// how much of the record stands. Call 1 asks for the size, 2 reads, 3 begins the record, 4 appends its
-/// first bytes, 5 to 8 the steps, 9 and 10 its end.
+/// first bytes, 5 to 8 the steps, 9 and 10 its end, 11 writes it out, and 12 writes out what is left.
 #[test]
 fn failing_calls(rt: HostRuntime) -> Result<(), Fail> {
-    let rows: [(u64, u64, Status, &str, &[u8]); 9] = [
+    let rows: [(u64, u64, Status, &str, &[u8]); 11] = [
         (1, 0, Status::ReadFault, "read fault\n", &RECORD[..0]),
         (2, 0, Status::ReadFault, "read fault\n", &RECORD[..0]),
         (3, 0, Status::WriteFault, "", &RECORD[..0]),
         (4, 0, Status::WriteFault, "", &RECORD[..0]),
         (6, 0, Status::WriteFault, "", &RECORD[..13]),
         (10, 0, Status::WriteFault, "A", &RECORD[..33]),
+        (11, 0, Status::WriteFault, "A", &RECORD[..34]),
+        (12, 0, Status::WriteFault, WHOLE_RUN, &RECORD[..34]),
         (0, 1, Status::WriteFault, "", &RECORD[..18]),
         (0, 2, Status::WriteFault, "A", &RECORD[..34]),
         (0, 3, Status::WriteFault, "A\n", &RECORD[..34]),

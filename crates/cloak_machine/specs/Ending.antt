@@ -2,6 +2,7 @@
 use Rattle.std.specs.Prelude.{ℕ, List, ◌++◌, codes, decimal}
 use Rattle.hex.specs.Hex.{encode_lower}
 use Rattle.cloak_model.specs.Report.{stop_line, number_line, harts_lines}
+use Rattle.cloak_machine.specs.Lines.{lines_text}
 use Rattle.cloak_machine.specs.declared.end.KernelLines.{KernelLines}
 use Rattle.cloak_machine.specs.declared.end.End.{End}
 
@@ -16,9 +17,11 @@ console_text lines = codes "console " ++ (decimal lines.console_length ++ digest
 -- the lines of console, memory, disk and harts
 abbrev pub kernel_text : KernelLines → List ℕ
 kernel_text lines =
-    console_text lines ++ (digest_text (codes "ram ") lines.ram ++ (digest_text (codes "disk ") lines.disk ++ harts_lines 0 lines.harts.items))
+    console_text lines ++ (digest_text (codes "ram ") lines.ram ++ (digest_text (codes "disk ") lines.disk
+    ++ harts_lines 0 lines.harts.items))
 
 -- the report that an end writes
-abbrev pub report_of : End → List ℕ
-report_of e =
-    stop_line e.stop ++ (number_line (codes "steps ") e.steps ++ (number_line (codes "draws ") e.draws ++ kernel_text e.lines))
+abbrev pub end_report : End → List ℕ
+end_report e =
+    stop_line e.stop ++ (number_line (codes "steps ") e.steps ++ (number_line (codes "draws ") e.draws
+    ++ (kernel_text e.lines ++ lines_text e.domains)))

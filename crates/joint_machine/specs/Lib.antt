@@ -1,0 +1,5 @@
+pub mod Programs
+pub mod Standing
+pub mod Starting
+pub mod Turning
+pub mod Closing
