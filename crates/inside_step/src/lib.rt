@@ -9,3 +9,6 @@ mod instruction;
 
 pub use cloak_model::Ran;
 pub use instruction::instruction_step;
+
+#[cfg(test)]
+mod tests;

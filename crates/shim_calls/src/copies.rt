@@ -19,6 +19,7 @@ use thread_context::Context;
 fn refuse(c: &mut Context) -> Copied
     ensures refused { spec.copy c.new result ≡ spec.copy (context.in_phase Phase.Plain (context.with_word c.old 10 0xFFFFFFFE)) Copied.Refused }
     ensures same_space { c.new.space ≡ c.old.space }
+    ensures same_hart { c.new.on ≡ c.old.on }
 {
     c.regs.set(10, 0xffff_fffe);
     c.phase = Phase::Plain;
@@ -40,6 +41,7 @@ fn copy_in_step<M: PageSide>(
     ensures refused_asks_nothing { result ≡ Copied.Refused → m.new ≡ m.old }
     ensures stopped_unchanged { result ≡ Copied.Stopped → c.new ≡ c.old }
     ensures same_space { c.new.space ≡ c.old.space }
+    ensures same_hart { c.new.on ≡ c.old.on }
     ensures unused { (n : ℕ) → resources.resource_at r.now n ≡ None → M.is_unused m.old n → M.is_unused m.new n }
     ensures keeps { Keeps M.kept m.old m.new }
     ensures same_domain { M.serves m.new ≡ M.serves m.old }
@@ -97,6 +99,7 @@ fn store_byte<M: PageSide>(
     ensures not_refused { result ≢ Copied.Refused }
     ensures stopped_unchanged { result ≡ Copied.Stopped → c.new ≡ c.old }
     ensures same_space { c.new.space ≡ c.old.space }
+    ensures same_hart { c.new.on ≡ c.old.on }
     ensures unused { (n : ℕ) → n ≢ q.resource → M.is_unused m.old n → M.is_unused m.new n }
     ensures keeps { Keeps M.kept m.old m.new }
     ensures same_domain { M.serves m.new ≡ M.serves m.old }
@@ -135,6 +138,7 @@ fn copy_out_byte<M: PageSide>(
     ensures not_refused { result ≢ Copied.Refused }
     ensures stopped_unchanged { result ≡ Copied.Stopped → c.new ≡ c.old }
     ensures same_space { c.new.space ≡ c.old.space }
+    ensures same_hart { c.new.on ≡ c.old.on }
     ensures unused { (n : ℕ) → n ≢ q.resource → M.is_unused m.old n → M.is_unused m.new n }
     ensures keeps { Keeps M.kept m.old m.new }
     ensures same_domain { M.serves m.new ≡ M.serves m.old }
@@ -165,6 +169,7 @@ fn copy_out_step<M: PageSide>(
     ensures refused_asks_nothing { result ≡ Copied.Refused → m.new ≡ m.old }
     ensures stopped_unchanged { result ≡ Copied.Stopped → c.new ≡ c.old }
     ensures same_space { c.new.space ≡ c.old.space }
+    ensures same_hart { c.new.on ≡ c.old.on }
     ensures unused { (n : ℕ) → resources.resource_at r.now n ≡ None → M.is_unused m.old n → M.is_unused m.new n }
     ensures keeps { Keeps M.kept m.old m.new }
     ensures same_domain { M.serves m.new ≡ M.serves m.old }
@@ -198,6 +203,7 @@ pub fn copy_step<M: PageSide>(c: &mut Context, domain: u32, r: &Resources, m: &m
     ensures stopped_unchanged { result ≡ Copied.Stopped → c.new ≡ c.old }
 
     ensures same_space { c.new.space ≡ c.old.space }
+    ensures same_hart { c.new.on ≡ c.old.on }
 
     ensures unused { (n : ℕ) → resources.resource_at r.now n ≡ None → M.is_unused m.old n → M.is_unused m.new n }
     ensures keeps { Keeps M.kept m.old m.new }

@@ -1,0 +1,22 @@
+-- Bytes that are given to a hasher.
+use Rattle.std.specs.Prelude.{ℕ, ◌<◌, List, [], ◌∷◌, ◌++◌, Option, Some, None}
+use Rattle.std.specs.Option.{ForSome}
+use Rattle.sha2.specs.Hashers.{Holds256}
+use Rattle.sha2.specs.declared.Sha256.{Sha256}
+use Rattle.cloak_base.specs.declared.names.HartId.{HartId}
+use Rattle.cloak_model.specs.Bits.{word}
+use Rattle.cloak_model.specs.DomainState.{owner_bytes}
+use Rattle.cloak_model.specs.declared.resource.Owner.{Owner}
+
+-- behind whatever the hasher held it took these bytes
+pub record Takes (old new : Sha256) (bytes : List ℕ) : Type 0 where
+  pub holds : (message : List ℕ) → Holds256 old message → Holds256 new (message ++ bytes)
+
+-- a hart, if there is one, has a number of one byte, which is not that of none
+abbrev pub HasHart : Option HartId → Type 0
+HasHart on = ForSome on (λ hart. hart.0 < 4)
+
+-- a resource by its owner and pages, 0 where its number is free
+abbrev pub told_bytes : Option (Owner × ℕ) → List ℕ
+told_bytes None = 0 ∷ []
+told_bytes (Some told) = owner_bytes told.0 ++ word told.1
