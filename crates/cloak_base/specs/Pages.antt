@@ -27,5 +27,5 @@ abbrev pub with_resource : {A : Type 0} → (PageId → A) → ℕ → ℕ → A
 with_resource m domain resource v p = if is_of domain resource p then v else m p
 
 -- a map in which each page of resource `to` of this domain has the value of the page of `from`
-abbrev pub with_copies : {A : Type 0} → (PageId → A) → ℕ → ℕ → ℕ → PageId → A
-with_copies m domain from to p = if is_of domain to p then m (page_in from p) else m p
+abbrev pub with_copied : {A : Type 0} → (PageId → A) → ℕ → ℕ → ℕ → PageId → A
+with_copied m domain from to p = if is_of domain to p then m (page_in from p) else m p

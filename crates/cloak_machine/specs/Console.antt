@@ -4,6 +4,6 @@ use Rattle.sha2.specs.Hashers.{Holds256}
 use Rattle.cloak_machine.specs.declared.console.Console.{Console}
 
 -- the console was shown these bytes
-pub record Shows (c : Console) (bytes : List ℕ) : Type 0 where
+pub record ConsoleShows (c : Console) (bytes : List ℕ) : Type 0 where
   pub digest : Holds256 c.hasher bytes
   pub count : c.count ≡ length bytes

@@ -10,11 +10,11 @@ pub struct Console {
 }
 
 impl Console {
-    ghost use Rattle.cloak_machine.specs.Console.{Shows};
+    ghost use Rattle.cloak_machine.specs.Console.{ConsoleShows};
 
     pub fn new() -> Console
         ensures count { result.count ≡ 0 }
-        ensures shows { Shows result [] }
+        ensures shows { ConsoleShows result [] }
     {
         Console {
             hasher: Sha256::new(),
@@ -26,7 +26,7 @@ impl Console {
     pub fn put(&mut self, b: u8)
         requires { self.old.count + 1 < 2 ^ 64 }
         ensures count { self.new.count ≡ self.old.count + 1 }
-        ensures shows { (bytes : List ℕ) → Shows self.old bytes → Shows self.new (bytes ++ b ∷ []) }
+        ensures shows { (bytes : List ℕ) → ConsoleShows self.old bytes → ConsoleShows self.new (bytes ++ b ∷ []) }
     {
         self.hasher.update([b].as_slice());
         self.count += 1;

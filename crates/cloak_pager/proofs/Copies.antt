@@ -5,7 +5,7 @@ use Rattle.std.proofs.lemmas.Bool.{or_cases}
 use Rattle.aes_block.specs.Bytes.{IsBytes}
 use Rattle.cloak_base.specs.Random.{next_draw}
 use Rattle.cloak_base.specs.declared.names.PageId.{PageId}
-use Rattle.cloak_base.specs.Pages.{zero_page, is_of, page_in, with_resource, with_copies}
+use Rattle.cloak_base.specs.Pages.{zero_page, is_of, page_in, with_resource, with_copied}
 use Rattle.cloak_model.specs.Cloaking.{CloakedMemory}
 use Rattle.cloak_model.specs.PageMoves.{copy_pages, drop_pages}
 use Rattle.protect_meta.specs.declared.meta.Meta.{Meta}
@@ -83,7 +83,7 @@ pub meets_copy : (p p' : PagerState) (domain from to : ℕ) → CopiesPages p p'
     IsNoneHeld p domain to → MeetsStill {A = Unit {0}} p p' tt (after_copy_pages domain from to)
 unfolding copy_pages
 meets_copy p p' domain from to t shown away w m s =
-    let metas : PageId → Option Meta = with_copies (meta_at p.table) domain from to in
+    let metas : PageId → Option Meta = with_copied (meta_at p.table) domain from to in
     record {
       answered = refl;
       stands = stands_moved p p' w w' m m' metas s (record {

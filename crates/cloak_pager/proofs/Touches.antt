@@ -198,8 +198,7 @@ pub settle_draw : (f : ℕ) (m : CloakedMemory) (q : PageId) (d : List ℕ × Ra
     settle f m ≡ record {
       memory = sealed_memory m f q d;
       ciphers = (f, cbc m.ledger.key d.0 (m.plain q)) ∷ [];
-      missed =
-          false;
+      missed = false;
     }
 unfolding settle settle_if settle_owed
 settle_draw f m q d e drawn =

@@ -5,7 +5,7 @@ use Rattle.std.specs.Str.{bytes_eq}
 use Rattle.sha2.specs.Sha256.{sha256}
 use Rattle.cloak_base.specs.declared.names.Frame.{Frame}
 use Rattle.cloak_base.specs.declared.names.PageId.{PageId}
-use Rattle.cloak_base.specs.Pages.{zero_page, with_page, with_resource, with_copies}
+use Rattle.cloak_base.specs.Pages.{zero_page, with_page, with_resource, with_copied}
 use Rattle.cloak_base.specs.Random.{Random}
 use Rattle.cloak_model.specs.Chain.{cbc}
 use Rattle.protect_meta.specs.declared.meta.Meta.{Meta}
@@ -175,7 +175,7 @@ IsRestored old new q t = MetasTurn old new (with_page (meta_at old.table) q (Som
 
 -- each page of one resource of a domain has the metadata of the page of another
 abbrev pub CopiesPages : PagerState → PagerState → ℕ → ℕ → ℕ → Type 0
-CopiesPages old new domain from to = MetasTurn old new (with_copies (meta_at old.table) domain from to)
+CopiesPages old new domain from to = MetasTurn old new (with_copied (meta_at old.table) domain from to)
 
 -- the pages of a resource have no metadata
 abbrev pub DropsPages : PagerState → PagerState → ℕ → ℕ → Type 0

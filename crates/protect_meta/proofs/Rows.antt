@@ -5,7 +5,7 @@ use Rattle.std.proofs.lemmas.List.{get_or-set_same, get_or-set_other, get_or-rep
 use Rattle.std.proofs.lemmas.Bool.{cases_lt}
 use Rattle.std.specs.List.{CopiedTo, SameBelow, SameFrom}
 use Rattle.cloak_base.specs.declared.names.PageId.{PageId}
-use Rattle.cloak_base.specs.Pages.{same_page, is_of, page_in, with_page, with_resource, with_copies}
+use Rattle.cloak_base.specs.Pages.{page_in, with_page, with_resource, with_copied}
 use Rattle.cloak_base.proofs.Pages.{same_page_tells, is_of_tells, same_numbers}
 use Rattle.protect_meta.specs.Pages.{IsIn, page_index, value_in_row}
 use Rattle.protect_meta.proofs.Pages.{is_page_tells}
@@ -108,8 +108,9 @@ value_elsewhere {A} n s old new below above p other =
 -- a resource's places were copied to another's
 pub value_after_copy : {A : Type 0} (n : ℕ) {domain from to : ℕ} (source : Span domain from) (target : Span domain to) →
     (old new : List (Option A)) → domain < n →
-    CopiedTo old new source.first target.first target.count × SameBelow old new target.first × SameFrom old new (target.first + target.count) →
-    (p : PageId) → value_in_row n new p ≡ with_copies (value_in_row n old) domain from to p
+    CopiedTo old new source.first target.first target.count × SameBelow old new target.first
+    × SameFrom old new (target.first + target.count) →
+    (p : PageId) → value_in_row n new p ≡ with_copied (value_in_row n old) domain from to p
 value_after_copy {A} n {domain} {from} {to} source target old new inside written p =
     elim (is_of_tells domain to p) [
       | inl t ↦

@@ -1,6 +1,6 @@
 ghost use Rattle.std.specs.Prelude.{◌≡◌, ◌*◌, ◌+◌, ◌<◌, ◌≤◌, IfOk};
 ghost use Rattle.cloak_base.specs.declared.names.PageId.{PageId};
-ghost use Rattle.cloak_base.specs.Pages.{with_page, with_resource, with_copies};
+ghost use Rattle.cloak_base.specs.Pages.{with_page, with_resource, with_copied};
 ghost use Rattle.protect_meta.specs.Pages.{page_index};
 ghost use Rattle.protect_meta.specs.Table.{HasMetas, meta_at, domains_of};
 
@@ -69,7 +69,7 @@ impl MetaTable {
         requires domain { domain < domains_of self.old }
         requires from { from < 16 }
         requires to { to < 16 }
-        ensures { HasMetas self.old self.new (with_copies (meta_at self.old) domain from to) }
+        ensures { HasMetas self.old self.new (with_copied (meta_at self.old) domain from to) }
     {
         let first = page_index(domain, from, 0);
         self.metas

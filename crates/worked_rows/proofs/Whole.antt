@@ -20,7 +20,7 @@ use Rattle.cloak_model.specs.Hart.{Hart}
 use Rattle.cloak_model.specs.Contexts.{Context, with_space}
 use Rattle.cloak_model.specs.DomainState.{Domain}
 use Rattle.cloak_model.specs.DomainStep.{DomainStepped, instruction_ended}
-use Rattle.cloak_model.specs.InsideStep.{fetched, store_reached}
+use Rattle.cloak_model.specs.InsideStep.{fetched_inside, store_reached}
 use Rattle.cloak_model.specs.World.{World, Cloak, Cloaked}
 use Rattle.cloak_model.specs.Asking.{Told, then_ask}
 use Rattle.cloak_model.specs.AskPages.{ask_reach}
@@ -137,7 +137,7 @@ calls rest stream = refl
 -- a step of the one context whose fetch was told so
 fetched_step : Domain → Context → CloakedMemory → Told Answer → Turn
 unfolding told_steps
-fetched_step d c m told = after_domain_step (machine program_hart d m) 0 program_hart 0 (then_ask (fetched 0 program_resources c page told.answer) (λ made. instruction_ended 0 d made.context made.ending) told.world)
+fetched_step d c m told = after_domain_step (machine program_hart d m) 0 program_hart 0 (then_ask (fetched_inside 0 program_resources c page told.answer) (λ made. instruction_ended 0 d made.context made.ending) told.world)
 
 -- the memory as the context asks
 cloak_for : Domain → Context → CloakedMemory → Cloak

@@ -21,7 +21,7 @@ use Rattle.cloak_model.specs.AskPages.{ask_write}
 use Rattle.cloak_model.specs.Resources.{Resources, lookup}
 use Rattle.cloak_model.specs.Contexts.{Context, admit}
 use Rattle.cloak_model.specs.DomainState.{Domain, started_domain, state_bytes}
-use Rattle.cloak_model.specs.DomainStep.{DomainStepped, domain_step, resume, interrupt}
+use Rattle.cloak_model.specs.DomainStep.{DomainStepped, domain_step, resume_slot, interrupt}
 use Rattle.worked_rows.specs.Images.{program_start, program_page}
 use Rattle.worked_rows.specs.Runs.{Run, run, alone, one_page, AllUsed, running, registers, registers_from, call_registers, with_first, resumed, answer_and_pc, phase_of, small, ecalls, at_ecall, hypercall}
 

@@ -11,7 +11,7 @@ use Rattle.cloak_model.specs.Asking.{Told}
 use Rattle.cloak_base.specs.Registers.{register}
 use Rattle.cloak_model.specs.Contexts.{Context, context_at, with_context}
 use Rattle.cloak_model.specs.DomainState.{Domain}
-use Rattle.cloak_model.specs.DomainStep.{DomainStepped, domain_step, resume}
+use Rattle.cloak_model.specs.DomainStep.{DomainStepped, domain_step, resume_slot}
 
 -- Worlds.
 
@@ -74,7 +74,7 @@ with_first c d = record d { control = record d.control { contexts = with_context
 
 -- the context of slot 0 runs on a hart, with this answer
 abbrev pub resumed : ℕ → ℕ → Domain → Domain
-resumed hart answer d = record d { control = (resume 0 hart answer d.control).control }
+resumed hart answer d = record d { control = (resume_slot 0 hart answer d.control).control }
 
 abbrev pub context_of : ℕ → Domain → Context
 context_of slot d = unwrap_or (context_at d.control.contexts slot) (running 0 [])

@@ -12,9 +12,8 @@ use Rattle.cloak_pager.proofs.pager.Pager.offer.Goals as goal
 
 pub returns-in-Some-clause-model : goal.returns-in-Some-clause-model
 returns-in-Some-clause-model c =
-    let right = right_now c.args.g.0
-    (Outside c.in-Outside.field-0) c.self.view_is c.self.invariant.whole c.requires.inside c.index.ensures
-    c.in-Outside.is in
+    let right = right_now c.args.g.0 (Outside c.in-Outside.field-0) c.self.view_is c.self.invariant.whole
+    c.requires.inside c.index.ensures c.in-Outside.is in
     let may : MayOffer c.args.self.now c.args.q c.args.g.0 = record {
       inside = c.requires.inside;
       page = record { domain = c.requires.domain; resource = c.requires.resource; page = c.requires.page };
@@ -30,9 +29,8 @@ returns-in-Some-clause-model c =
 
 pub returns-in-None-clause-model : goal.returns-in-None-clause-model
 returns-in-None-clause-model c =
-    let right = right_now c.args.g.0
-    (Outside c.in-Outside.field-0) c.self.view_is c.self.invariant.whole c.requires.inside c.index.ensures
-    c.in-Outside.is in
+    let right = right_now c.args.g.0 (Outside c.in-Outside.field-0) c.self.view_is c.self.invariant.whole
+    c.requires.inside c.index.ensures c.in-Outside.is in
     let may : MayOffer c.args.self.now c.args.q c.args.g.0 = record {
       inside = c.requires.inside;
       page = record { domain = c.requires.domain; resource = c.requires.resource; page = c.requires.page };
@@ -46,8 +44,8 @@ returns-in-None-clause-model c =
 
 pub returns-then-write-clause-model : goal.returns-then-write-clause-model
 returns-then-write-clause-model c =
-    let right = right_now c.args.g.0
-    (Clean c.in-Clean.field-0) c.self.view_is c.self.invariant.whole c.requires.inside c.index.ensures c.in-Clean.is in
+    let right = right_now c.args.g.0 (Clean c.in-Clean.field-0) c.self.view_is c.self.invariant.whole c.requires.inside
+    c.index.ensures c.in-Clean.is in
     let may : MayOffer c.args.self.now c.args.q c.args.g.0 = record {
       inside = c.requires.inside;
       page = record { domain = c.requires.domain; resource = c.requires.resource; page = c.requires.page };
@@ -63,8 +61,8 @@ returns-then-write-clause-model c =
 
 pub returns-else-write-clause-model : goal.returns-else-write-clause-model
 returns-else-write-clause-model c =
-    let right = right_now c.args.g.0
-    (Clean c.in-Clean.field-0) c.self.view_is c.self.invariant.whole c.requires.inside c.index.ensures c.in-Clean.is in
+    let right = right_now c.args.g.0 (Clean c.in-Clean.field-0) c.self.view_is c.self.invariant.whole c.requires.inside
+    c.index.ensures c.in-Clean.is in
     let may : MayOffer c.args.self.now c.args.q c.args.g.0 = record {
       inside = c.requires.inside;
       page = record { domain = c.requires.domain; resource = c.requires.resource; page = c.requires.page };
@@ -79,9 +77,8 @@ returns-else-write-clause-model c =
 
 pub returns-in-Changed-clause-model : goal.returns-in-Changed-clause-model
 returns-in-Changed-clause-model c =
-    let right = right_now c.args.g.0
-    (Changed c.in-Changed.field-0) c.self.view_is c.self.invariant.whole c.requires.inside c.index.ensures
-    c.in-Changed.is in
+    let right = right_now c.args.g.0 (Changed c.in-Changed.field-0) c.self.view_is c.self.invariant.whole
+    c.requires.inside c.index.ensures c.in-Changed.is in
     let may : MayOffer c.args.self.now c.args.q c.args.g.0 = record {
       inside = c.requires.inside;
       page = record { domain = c.requires.domain; resource = c.requires.resource; page = c.requires.page };
@@ -93,8 +90,8 @@ returns-in-Changed-clause-model c =
 
 pub returns-then-write-clause-held : goal.returns-then-write-clause-held
 returns-then-write-clause-held c =
-    let right = right_now c.args.g.0
-    (Clean c.in-Clean.field-0) c.self.view_is c.self.invariant.whole c.requires.inside c.index.ensures c.in-Clean.is in
+    let right = right_now c.args.g.0 (Clean c.in-Clean.field-0) c.self.view_is c.self.invariant.whole c.requires.inside
+    c.index.ensures c.in-Clean.is in
     let turns = clean_turns _ _ c.args.q c.args.g.0 _
     (meta_at c.args.self.now.table c.args.q) right c.requires.room c.change_frame.ensures in
     λ ready. ap page_of
@@ -102,8 +99,8 @@ returns-then-write-clause-held c =
 
 pub returns-then-write-clause-owed : goal.returns-then-write-clause-owed
 returns-then-write-clause-owed c =
-    let right = right_now c.args.g.0
-    (Clean c.in-Clean.field-0) c.self.view_is c.self.invariant.whole c.requires.inside c.index.ensures c.in-Clean.is in
+    let right = right_now c.args.g.0 (Clean c.in-Clean.field-0) c.self.view_is c.self.invariant.whole c.requires.inside
+    c.index.ensures c.in-Clean.is in
     let turns = clean_turns _ _ c.args.q c.args.g.0 _
     (meta_at c.args.self.now.table c.args.q) right c.requires.room c.change_frame.ensures in
     λ ready write.
@@ -121,8 +118,8 @@ returns-in-None-clause-stays c = turned_stays c.args.g.0 _ c.first_frame.new.sel
 
 pub returns-then-write-clause-stays : goal.returns-then-write-clause-stays
 returns-then-write-clause-stays c =
-    let right = right_now c.args.g.0
-    (Clean c.in-Clean.field-0) c.self.view_is c.self.invariant.whole c.requires.inside c.index.ensures c.in-Clean.is in
+    let right = right_now c.args.g.0 (Clean c.in-Clean.field-0) c.self.view_is c.self.invariant.whole c.requires.inside
+    c.index.ensures c.in-Clean.is in
     let turns = clean_turns _ _ c.args.q c.args.g.0 _
     (meta_at c.args.self.now.table c.args.q) right c.requires.room c.change_frame.ensures in
     turned_stays c.args.g.0 _ c.change_frame.new.self _ _ _ turns

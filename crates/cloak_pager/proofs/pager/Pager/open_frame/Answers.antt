@@ -11,15 +11,13 @@ use Rattle.cloak_pager.proofs.pager.Pager.open_frame.Goals as goal
 
 pub invariant_of-self : goal.invariant_of-self
 invariant_of-self c =
-    let right = right_seen c.args.g.0
-    (Outside c.in-Outside.right) c.self.view_is c.self.invariant.whole c.requires.inside c.index_mut.ensures.value
-    c.in-Outside.ensures.value in
+    let right = right_seen c.args.g.0 (Outside c.in-Outside.right) c.self.view_is c.self.invariant.whole
+    c.requires.inside c.index_mut.ensures.value c.in-Outside.ensures.value in
     let page : IsIn c.self.inside.table.domains c.args.q =
     record {
       domain = rw (← c.self.view_is) at c.requires.domain;
       resource = c.requires.resource;
-      page =
-          c.requires.page;
+      page = c.requires.page;
     } in
     let shown : meta_at c.self.inside.table c.args.q ≡ Some c.args.m.now = rw (← c.self.view_is) at c.requires.shown in
     open_kept c.replace.new.dest c.self.invariant right shown c.in-Ok.ensures.bytes c.in-Ok.ensures.right
@@ -27,34 +25,30 @@ invariant_of-self c =
 
 pub invariant_of-self-in-Err : goal.invariant_of-self-in-Err
 invariant_of-self-in-Err c =
-    let right = right_seen c.args.g.0
-    (Outside c.in-Outside.right) c.self.view_is c.self.invariant.whole c.requires.inside c.index_mut.ensures.value
-    c.in-Outside.ensures.value in
+    let right = right_seen c.args.g.0 (Outside c.in-Outside.right) c.self.view_is c.self.invariant.whole
+    c.requires.inside c.index_mut.ensures.value c.in-Outside.ensures.value in
     let K : PagerState → Type 0 = λ x. IsWholeWithHomes x c.self.inside.homes in
     subst K (sym (put_back c.replace.new.dest right c.in-Err.ensures.unchanged)) c.self.invariant
 
 pub returns-in-Ok-clause-recorded : goal.returns-in-Ok-clause-recorded
 returns-in-Ok-clause-recorded c =
-    let right = right_seen c.args.g.0
-    (Outside c.in-Outside.right) c.self.view_is c.self.invariant.whole c.requires.inside c.index_mut.ensures.value
-    c.in-Outside.ensures.value in
+    let right = right_seen c.args.g.0 (Outside c.in-Outside.right) c.self.view_is c.self.invariant.whole
+    c.requires.inside c.index_mut.ensures.value c.in-Outside.ensures.value in
     rw (← c.self.view_is)
     (λ yes. seen_outside (λ (x : List ℕ). sha256 x ≡ c.args.m.now.digest) right c.in-Ok.ensures.opened_where_recorded)
 
 pub returns-in-Ok-clause-opened : goal.returns-in-Ok-clause-opened
 returns-in-Ok-clause-opened c =
-    let right = right_seen c.args.g.0
-    (Outside c.in-Outside.right) c.self.view_is c.self.invariant.whole c.requires.inside c.index_mut.ensures.value
-    c.in-Outside.ensures.value in
+    let right = right_seen c.args.g.0 (Outside c.in-Outside.right) c.self.view_is c.self.invariant.whole
+    c.requires.inside c.index_mut.ensures.value c.in-Outside.ensures.value in
     rw (← c.self.view_is)
     (λ yes. open_turns c.open_page.new.s c.args.m.now c.replace.new.dest right c.in-Ok.ensures.bytes
     c.in-Ok.ensures.right)
 
 pub returns-in-Err-clause-refused : goal.returns-in-Err-clause-refused
 returns-in-Err-clause-refused c =
-    let right = right_seen c.args.g.0
-    (Outside c.in-Outside.right) c.self.view_is c.self.invariant.whole c.requires.inside c.index_mut.ensures.value
-    c.in-Outside.ensures.value in
+    let right = right_seen c.args.g.0 (Outside c.in-Outside.right) c.self.view_is c.self.invariant.whole
+    c.requires.inside c.index_mut.ensures.value c.in-Outside.ensures.value in
     rw (← c.self.view_is)
     (λ no. (
       seen_outside (λ (x : List ℕ). sha256 x ≢ c.args.m.now.digest) right c.in-Err.ensures.refused_where_not,
@@ -63,9 +57,8 @@ returns-in-Err-clause-refused c =
 
 pub returns-in-Ok-clause-clean : goal.returns-in-Ok-clause-clean
 returns-in-Ok-clause-clean c =
-    let right = right_seen c.args.g.0
-    (Outside c.in-Outside.right) c.self.view_is c.self.invariant.whole c.requires.inside c.index_mut.ensures.value
-    c.in-Outside.ensures.value in
+    let right = right_seen c.args.g.0 (Outside c.in-Outside.right) c.self.view_is c.self.invariant.whole
+    c.requires.inside c.index_mut.ensures.value c.in-Outside.ensures.value in
     let turns = open_turns c.open_page.new.s c.args.m.now c.replace.new.dest right c.in-Ok.ensures.bytes
     c.in-Ok.ensures.right in
     let is = taken_right _ _ c.args.g.0 c.args.q false turns.0 c.self.invariant.whole right.inside turns.2 in

@@ -7,9 +7,8 @@ use Rattle.cloak_pager.proofs.pager.Pager.place_under.Goals as goal
 
 pub returns : goal.returns
 returns c =
-    let right = right_seen c.args.f.0
-    (Outside c.in-Outside.right) c.self.view_is c.self.invariant.whole c.requires.inside c.index.ensures
-    (sym c.in-Outside.is) in
+    let right = right_seen c.args.f.0 (Outside c.in-Outside.right) c.self.view_is c.self.invariant.whole
+    c.requires.inside c.index.ensures (sym c.in-Outside.is) in
     let sum = c.digest-digest.ensures ∙ ap sha256 c.as_slice.ensures in
     rw (← c.self.view_is)
     (place_turns c.args.q c.args.bytes.now c.args.iv.now right refl c.seal_page.ensures sum c.set.ensures)

@@ -8,16 +8,14 @@ use Rattle.cloak_pager.proofs.pager.Pager.reseal_frame.Goals as goal
 
 pub invariant_of-self : goal.invariant_of-self
 invariant_of-self c =
-    let right = right_seen c.args.f.0
-    (Clean c.in-Clean.right) c.self.view_is c.self.invariant.whole c.requires.inside c.index_mut.ensures.value
-    c.in-Clean.ensures.value in
+    let right = right_seen c.args.f.0 (Clean c.in-Clean.right) c.self.view_is c.self.invariant.whole c.requires.inside
+    c.index_mut.ensures.value c.in-Clean.ensures.value in
     reseal_kept c.in-Some.meta c.replace.new.dest c.self.invariant right c.reseal.ensures.bytes c.reseal.ensures.right
 
 pub returns : goal.returns
 returns c =
-    let right = right_seen c.args.f.0
-    (Clean c.in-Clean.right) c.self.view_is c.self.invariant.whole c.requires.inside c.index_mut.ensures.value
-    c.in-Clean.ensures.value in
+    let right = right_seen c.args.f.0 (Clean c.in-Clean.right) c.self.view_is c.self.invariant.whole c.requires.inside
+    c.index_mut.ensures.value c.in-Clean.ensures.value in
     let shown = ap (λ (x : PageId). meta_at c.self.inside.table x) (sym c.page.ensures)
     ∙ (sym c.get.ensures ∙ c.in-Some.is) in
     rw (← c.self.view_is)
