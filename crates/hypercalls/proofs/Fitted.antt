@@ -1,5 +1,5 @@
 -- Contexts and resources fit together after each change.
-use Rattle.std.proofs.Common.{◌≡◌, ◌<◌, ◌∙◌, ℕ, zero, suc, Bool, true, false, cond, List, [], ◌∷◌, Option, Some, None, Ok, Err, refl, sym, subst, slice_index_or, slice_set}
+use Rattle.std.proofs.Common.{◌≡◌, ◌<◌, ◌∙◌, ℕ, zero, suc, Bool, true, false, cond, List, [], ◌∷◌, Option, Some, None, Ok, Err, refl, ap, sym, subst, slice_index_or, slice_set}
 use Rattle.std.specs.Prelude.{IfSome, is_some}
 use Rattle.cloak_base.specs.declared.names.HartId.{HartId}
 use Rattle.cloak_model.specs.declared.context.ResumeFault.TheVariants.{Busy}
@@ -12,6 +12,9 @@ use Rattle.resource_map.specs.Told.{SameSpaces}
 use Rattle.resource_map.proofs.Lists.{get_or-replicate_none}
 use Rattle.hypercalls.specs.Hashing.{HasHart}
 use Rattle.cloaked_fork.specs.Homes.{AllInUse}
+use Rattle.cloak_model.specs.Fork.{Spaces}
+use Rattle.cloak_model.specs.Fork as forking
+use Rattle.cloaked_fork.specs.Left.{spaces, forked_spaces, lowest}
 use Rattle.hypercalls.specs.Fitting.{AllOnHarts, IsFitting}
 
 -- what holds of each that is there holds still with one more of which it holds
@@ -21,6 +24,12 @@ each_with P (y ∷ xs) zero x holds each zero = holds
 each_with P (y ∷ xs) zero x holds each (suc k) = each (suc k)
 each_with P (y ∷ xs) (suc i) x holds each zero = each zero
 each_with P (y ∷ xs) (suc i) x holds each (suc k) = each_with P xs i x holds (λ n. each (suc n)) k
+
+no_hart : HasHart None
+no_hart x is = cc
+
+some_hart : (hart : ℕ) → hart < 4 → HasHart (Some (record { 0 = hart }))
+some_hart hart few x is = subst (λ o. IfSome o (λ h. h.0 < 4)) is few
 
 some_holds : {A : Type 0} (P : A → Type 0) (o : Option A) (x : A) → o ≡ Some x → IfSome o P → P x
 some_holds P o x is holds = subst (λ o. IfSome o P) is holds
@@ -44,7 +53,7 @@ fits_changed d slot c changed fits there same_space same_hart =
 pub fits_left : (d : Control) (slot : ℕ) (c changed : Context) → IsFitting d → context_at d.contexts slot ≡ Some c → changed.space ≡ c.space → changed.on ≡ None → IsFitting (with_slot slot changed d)
 fits_left d slot c changed fits there same_space left =
     fits_slot d slot changed fits
-    (subst (IsInUse d.resources) (sym same_space) (some_holds (λ x. IsInUse d.resources x.space) _ c there (fits.spaces slot))) (subst HasHart (sym left) tt)
+    (subst (IsInUse d.resources) (sym same_space) (some_holds (λ x. IsInUse d.resources x.space) _ c there (fits.spaces slot))) (subst HasHart (sym left) no_hart)
 
 -- a context runs on a hart, where it is there and runs on none
 either_way : (P : Context → Type 0) (b : Bool) (m n : Resumed) (k : ℕ) → IfSome (context_at m.contexts k) P → IfSome (context_at n.contexts k) P → IfSome (context_at (cond b m n).contexts k) P
@@ -64,7 +73,7 @@ unfolding resume_at
 fits_resumed d slot hart contexts few fits is = record {
   number = fits.number;
   spaces = subst (λ xs. AllInUse xs d.resources) (sym is) (resumed_each (λ c. IsInUse d.resources c.space) slot hart d.contexts _ (λ c holds. holds) (fits.spaces slot) fits.spaces);
-  harts = subst AllOnHarts (sym is) (resumed_each (λ c. HasHart c.on) slot hart d.contexts _ (λ c holds. few) (fits.harts slot) fits.harts);
+  harts = subst AllOnHarts (sym is) (resumed_each (λ c. HasHart c.on) slot hart d.contexts _ (λ c holds. some_hart hart few) (fits.harts slot) fits.harts);
 }
 
 -- a program as it begins
@@ -75,7 +84,7 @@ spaces_at_start pc sp pages base (suc slot) = subst (λ o. IfSome o (λ (c : Con
 
 harts_at_start : (pc sp : ℕ) → AllOnHarts (started_contexts pc sp)
 unfolding started_contexts
-harts_at_start pc sp zero = tt
+harts_at_start pc sp zero = no_hart
 harts_at_start pc sp (suc slot) = subst (λ o. IfSome o (λ (c : Context). HasHart c.on)) (sym (get_or-replicate_none 7 slot)) tt
 
 pub fits_started : (number pc sp pages base : ℕ) → number < 4 → IsFitting (record { number = number; contexts = started_contexts pc sp; resources = started_resources pages base })
@@ -101,7 +110,7 @@ fits_spaces d contexts r fits spaces harts = record { number = fits.number; spac
 
 -- a new context that runs on no hart
 pub harts_with : (contexts : List (Option Context)) (slot : ℕ) (c : Context) → c.on ≡ None → AllOnHarts contexts → AllOnHarts (with_context slot c contexts)
-harts_with contexts slot c none each = each_with (λ x. HasHart x.on) contexts slot c (subst HasHart (sym none) tt) each
+harts_with contexts slot c none each = each_with (λ x. HasHart x.on) contexts slot c (subst HasHart (sym none) no_hart) each
 
 -- a slot is free now
 each_without : {A : Type 0} (P : A → Type 0) (xs : List (Option A)) (i : ℕ) → ((k : ℕ) → IfSome (slice_index_or xs k None) P) → (k : ℕ) → IfSome (slice_index_or (slice_set xs i None) k None) P
@@ -113,3 +122,22 @@ each_without P (y ∷ xs) (suc i) each (suc k) = each_without P xs i (λ n. each
 
 pub harts_without : (contexts : List (Option Context)) (slot : ℕ) → AllOnHarts contexts → AllOnHarts (end_at slot contexts)
 harts_without contexts slot each = each_without (λ x. HasHart x.on) contexts slot each
+
+-- a fork put a context into a slot that runs on no hart
+pub fits_forked : (d : Control) (contexts : List (Option Context)) (r : Resources) (c : Context) → IsFitting d → AllInUse contexts r → spaces contexts r ≡ forked_spaces c d.resources d.contexts → IsFitting (record { number = d.number; contexts = contexts; resources = r })
+unfolding forking.forked
+fits_forked d contexts r c fits in_use is =
+    fits_spaces d contexts r fits in_use
+    (subst AllOnHarts (sym (ap (λ (s : Spaces). s.contexts) is)) (harts_with d.contexts (lowest d.contexts) _ refl fits.harts))
+
+-- an end freed a slot
+pub fits_ended : (d : Control) (contexts : List (Option Context)) (r r' : Resources) (slot : ℕ) → IsFitting d → AllInUse contexts r → spaces contexts r ≡ spaces (end_at slot d.contexts) r' → IsFitting (record { number = d.number; contexts = contexts; resources = r })
+fits_ended d contexts r r' slot fits in_use is =
+    fits_spaces d contexts r fits in_use
+    (subst AllOnHarts (sym (ap (λ (s : Spaces). s.contexts) is)) (harts_without d.contexts slot fits.harts))
+
+-- all stayed
+pub fits_same : (d : Control) (contexts : List (Option Context)) (r : Resources) → IsFitting d → spaces contexts r ≡ spaces d.contexts d.resources → IsFitting (record { number = d.number; contexts = contexts; resources = r })
+fits_same d contexts r fits is = subst (λ (s : Spaces). IsFitting (record { number = d.number; contexts = s.contexts; resources = s.resources })) (sym is) fits
+
+pub ruleset spaces_fit = (fits_forked, fits_ended, fits_same)

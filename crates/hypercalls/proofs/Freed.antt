@@ -1,12 +1,13 @@
 -- Numbers that are free after a hypercall were free before.
-use Rattle.std.proofs.Common.{◌≡◌, ℕ, zero, suc, Bool, true, false, cond, List, [], ◌∷◌, Option, Some, None, Ok, refl, slice_index_or, slice_set, ap, subst, sym}
+use Rattle.std.proofs.Common.{◌≡◌, ◌∙◌, ℕ, zero, suc, Bool, true, false, cond, List, [], ◌∷◌, Option, Some, None, Ok, Result, refl, slice_index_or, slice_set, ap, subst, sym}
 use Rattle.std.specs.Prelude.{◌==◌, ◌||◌, ◌+◌, not, nat_lt, nat_le, filter, length, position}
 use Rattle.std.specs.List.{list_any}
 use Rattle.cloak_model.specs.declared.resource.Owner.{Owner}
 use Rattle.cloak_model.specs.declared.resource.Owner.TheVariants.{File}
 use Rattle.cloak_model.specs.declared.resource.Region.{Region}
+use Rattle.cloak_model.specs.declared.resource.MapFault.{MapFault}
 use Rattle.cloak_model.specs.declared.resource.MapFault.TheVariants.{Full, BadArg, Overlap, NotFound}
-use Rattle.cloak_model.specs.Resources.{Resources, resource_at, regions_in, pages_of, all_pages, first_free, refused, made_at, new_resource, size_for, is_region, overlaps, with_region, with_regions, mapped, map_region, starts_at, unmap_region}
+use Rattle.cloak_model.specs.Resources.{Resources, Mapped, resource_at, regions_in, pages_of, all_pages, first_free, refused, made_at, new_resource, size_for, is_region, overlaps, with_region, with_regions, mapped, map_region, starts_at, unmap_region}
 use Rattle.cloak_model.specs.Files.{holds_file, file_found, file_resource}
 
 -- a list with one more in a place has no more free places
@@ -70,5 +71,11 @@ pub free_unmap : (space start : ℕ) (r : Resources) (n : ℕ) → resource_at (
 unfolding unmap_region
 free_unmap space start r n free =
     free_if_unmapped (not (list_any (starts_at start) (regions_in r space))) space (filter (λ g. not (starts_at start g)) (regions_in r space)) r n free
+
+-- what holds of the resources that were made holds of those that a hypercall left
+pub freed_through : {A : Type 0} (old mid new : Resources) (answer : Result A MapFault) (made : Mapped A) → ((n : ℕ) → resource_at made.resources n ≡ None → resource_at old n ≡ None)
+    → record { answer = answer; resources = mid } ≡ made → new ≡ mid → (n : ℕ) → resource_at new n ≡ None → resource_at old n ≡ None
+freed_through {A} old mid new answer made keeps is same n free =
+    keeps n (subst (λ (r : Resources). resource_at r n ≡ None) (same ∙ ap (λ (m : Mapped A). m.resources) is) free)
 
 pub ruleset frees = (free_new, free_file, free_map, free_unmap)

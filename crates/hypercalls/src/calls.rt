@@ -1,5 +1,5 @@
 //! The hypercalls, by the number in x17: each changes contexts and resources, and asks at most for a clearing.
-ghost use Rattle.std.specs.Prelude.{◌≡◌, ℕ, None, IsSome};
+ghost use Rattle.std.specs.Prelude.{◌≡◌, ◌≢◌, ℕ, None, IsSome};
 ghost use Rattle.cloak_model.specs.Asking.{Follows, Keeps};
 ghost use Rattle.cloak_model.specs.Contexts.{context_at};
 ghost use Rattle.cloak_model.specs.Resources.{resource_at};
@@ -15,12 +15,19 @@ use shim_calls::begin;
 use thread_context::{Context, shown};
 
 const NEW: u32 = 0x4f56_0001;
+
 const MAP: u32 = 0x4f56_0002;
+
 const UNMAP: u32 = 0x4f56_0003;
+
 const FILE: u32 = 0x4f56_0004;
+
 const THREAD: u32 = 0x4f56_0005;
+
 const FORK: u32 = 0x4f56_0006;
+
 const EXIT: u32 = 0x4f56_0007;
+
 const CALL: u32 = 0x4f56_0008;
 
 /// The answer to a hypercall that there is not.
@@ -54,6 +61,7 @@ impl Control {
     fn new_call(&mut self, slot: u32) -> Went
         requires { IsSome (context_at self.old.contexts slot) }
         ensures steps { record { control = self.new; went = result } ≡ spec.new_call slot (context_of self.old slot) self.old }
+        ensures goes_on { result ≢ Went.Stopped }
         ensures number { self.new.number ≡ self.old.number }
         ensures freed { (n : ℕ) → resource_at self.new.resources n ≡ None → resource_at self.old.resources n ≡ None }
     {
@@ -69,6 +77,7 @@ impl Control {
     fn remapped(&mut self, slot: u32, done: Result<(), MapFault>) -> Went
         requires { IsSome (context_at self.old.contexts slot) }
         ensures steps { record { control = self.new; went = result } ≡ spec.remapped slot (context_of self.old slot) done self.old }
+        ensures goes_on { result ≢ Went.Stopped }
         ensures number { self.new.number ≡ self.old.number }
         ensures resources { self.new.resources ≡ self.old.resources }
     {
@@ -87,6 +96,7 @@ impl Control {
     fn map_call(&mut self, slot: u32) -> Went
         requires { IsSome (context_at self.old.contexts slot) }
         ensures steps { record { control = self.new; went = result } ≡ spec.map_call slot (context_of self.old slot) self.old }
+        ensures goes_on { result ≢ Went.Stopped }
         ensures number { self.new.number ≡ self.old.number }
         ensures freed { (n : ℕ) → resource_at self.new.resources n ≡ None → resource_at self.old.resources n ≡ None }
     {
@@ -107,6 +117,7 @@ impl Control {
     fn unmap_call(&mut self, slot: u32) -> Went
         requires { IsSome (context_at self.old.contexts slot) }
         ensures steps { record { control = self.new; went = result } ≡ spec.unmap_call slot (context_of self.old slot) self.old }
+        ensures goes_on { result ≢ Went.Stopped }
         ensures number { self.new.number ≡ self.old.number }
         ensures freed { (n : ℕ) → resource_at self.new.resources n ≡ None → resource_at self.old.resources n ≡ None }
     {
@@ -122,6 +133,7 @@ impl Control {
     fn file_call(&mut self, slot: u32) -> Went
         requires { IsSome (context_at self.old.contexts slot) }
         ensures steps { record { control = self.new; went = result } ≡ spec.file_call slot (context_of self.old slot) self.old }
+        ensures goes_on { result ≢ Went.Stopped }
         ensures number { self.new.number ≡ self.old.number }
         ensures freed { (n : ℕ) → resource_at self.new.resources n ≡ None → resource_at self.old.resources n ≡ None }
     {
@@ -137,6 +149,7 @@ impl Control {
     fn thread_call(&mut self, slot: u32) -> Went
         requires { IsSome (context_at self.old.contexts slot) }
         ensures steps { record { control = self.new; went = result } ≡ spec.thread_call slot (context_of self.old slot) self.old }
+        ensures goes_on { result ≢ Went.Stopped }
         ensures number { self.new.number ≡ self.old.number }
         ensures resources { self.new.resources ≡ self.old.resources }
     {
@@ -160,6 +173,7 @@ impl Control {
     fn kernel_call(&mut self, slot: u32) -> Went
         requires { IsSome (context_at self.old.contexts slot) }
         ensures steps { record { control = self.new; went = result } ≡ spec.kernel_call slot (context_of self.old slot) self.old }
+        ensures goes_on { result ≢ Went.Stopped }
         ensures number { self.new.number ≡ self.old.number }
         ensures resources { self.new.resources ≡ self.old.resources }
     {
@@ -177,7 +191,7 @@ impl Control {
     }
 
     /// 6 FORK: the caller's space is copied, with its context.
-    #[tactic(auto, using(crate::proofs::Forking::forks), unfolding(cloak_model::specs::Hypercalls::fork_call, cloak_model::specs::Hypercalls::fork_told))]
+    #[tactic(auto, using(crate::proofs::Forking::forks, crate::proofs::Fitted::spaces_fit), unfolding(cloak_model::specs::Hypercalls::fork_call, cloak_model::specs::Hypercalls::fork_told))]
     fn fork_call<M: PageSide>(&mut self, slot: u32, m: &mut M) -> Went
         requires used { IsSome (context_at self.old.contexts slot) }
         requires domain { self.old.number ≡ M.serves m.old }
@@ -189,7 +203,13 @@ impl Control {
         ensures number { self.new.number ≡ self.old.number }
         ensures same_domain { M.serves m.new ≡ M.serves m.old }
     {
-        match fork_space(&mut self.resources, &mut self.contexts, self.number, slot, m) {
+        match fork_space(
+            &mut self.resources,
+            &mut self.contexts,
+            self.number,
+            slot,
+            m,
+        ) {
             Err(fault) => self.answer(slot, fault_word(fault)),
             Ok(None) => Went::Stopped,
             Ok(Some(ctx)) => self.answer(slot, ctx.0),
@@ -197,7 +217,7 @@ impl Control {
     }
 
     /// 7 EXIT: the context ends, and with the last one its space.
-    #[tactic(auto, using(crate::proofs::Forking::forks), unfolding(cloak_model::specs::Hypercalls::exit_call, cloak_model::specs::Hypercalls::end_told))]
+    #[tactic(auto, using(crate::proofs::Forking::forks, crate::proofs::Fitted::spaces_fit), unfolding(cloak_model::specs::Hypercalls::exit_call, cloak_model::specs::Hypercalls::end_told))]
     fn exit_call<M: PageSide>(&mut self, slot: u32, m: &mut M) -> Went
         requires used { IsSome (context_at self.old.contexts slot) }
         requires domain { self.old.number ≡ M.serves m.old }
@@ -210,7 +230,13 @@ impl Control {
         ensures same_domain { M.serves m.new ≡ M.serves m.old }
     {
         let seen = shown(self.running(slot), self.context_number(slot), &Why::Exit);
-        match end_context(&mut self.resources, &mut self.contexts, self.number, slot, m) {
+        match end_context(
+            &mut self.resources,
+            &mut self.contexts,
+            self.number,
+            slot,
+            m,
+        ) {
             Ended::Kept => Went::Leave(seen),
             Ended::SpaceGone(space) => Went::SpaceGone(space, seen),
             Ended::Stopped => Went::Stopped,

@@ -38,7 +38,13 @@ pub fn append_digest(into: &mut [u8; 256], at: usize, digest: &[u8; 32]) -> usiz
 
 /// Writes the line of a domain of this number, with the digest of its state, and the count and the digest of its loads.
 /// Answers its length.
-pub fn write_line(into: &mut [u8; 256], number: u32, state: &[u8; 32], count: u64, loads: &[u8; 32]) -> usize
+pub fn write_line(
+    into: &mut [u8; 256],
+    number: u32,
+    state: &[u8; 32],
+    count: u64,
+    loads: &[u8; 32],
+) -> usize
     ensures inside { result ≤ 256 }
     ensures line { take result into.new ≡ line_of number state.now count loads.now }
 {

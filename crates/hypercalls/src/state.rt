@@ -75,8 +75,7 @@ fn put_context(h: &mut Sha256, c: &Context)
     put_byte(h, 1);
     put_byte(h, hart_byte(c.on));
     put_phase(h, &c.phase);
-    put_word(h, c.space);
-    put_word(h, c.pc);
+    put_words(h, &[c.space, c.pc]);
     put_words(h, &c.regs.words()[1..]);
 }
 
@@ -102,10 +101,7 @@ fn put_slots(h: &mut Sha256, slots: &[Option<Context>])
 fn put_region(h: &mut Sha256, g: &Region)
     ensures { Takes h.old h.new (spec.region_bytes g.now) }
 {
-    put_word(h, g.start);
-    put_word(h, g.pages);
-    put_word(h, g.resource);
-    put_word(h, g.first);
+    put_words(h, &[g.start, g.pages, g.resource, g.first]);
 }
 
 fn put_regions(h: &mut Sha256, regions: &[Region])
@@ -119,7 +115,7 @@ fn put_regions(h: &mut Sha256, regions: &[Region])
 /// A space: 0 where it is free, and else its regions.
 fn put_space(h: &mut Sha256, regions: Option<&[Region]>)
     requires { ForSome regions (λ list. length list.now < 2 ^ 32) }
-    ensures { Takes h.old h.new (spec.space_bytes (option_map (λ list. list.now) regions)) }
+    ensures { Takes h.old h.new (spec.space_bytes (option_map (λ list. list.now) regions.entry)) }
 {
     match regions {
         None => put_byte(h, 0),
