@@ -18,6 +18,7 @@ use Rattle.cloak_model.specs.declared.context.ResumeFault.TheVariants as resume_
 use Rattle.cloak_model.specs.declared.resource.Owner.TheVariants as owner
 use Rattle.cloak_model.specs.Bits.{word}
 use Rattle.cloak_base.specs.Pages.{zero_page}
+use Rattle.cloak_base.specs.Registers.{register}
 use Rattle.cloak_model.specs.Memory.{value_in}
 use Rattle.cloak_model.specs.World.{World, plain_of}
 use Rattle.cloak_model.specs.Asking.{Told}
@@ -26,8 +27,8 @@ use Rattle.cloak_model.specs.Resources.{Resources, lookup}
 use Rattle.cloak_model.specs.Contexts.{Context, admit}
 use Rattle.cloak_model.specs.DomainState.{Domain, started_domain, state_bytes}
 use Rattle.cloak_model.specs.DomainStep.{DomainStepped, domain_step, resume_slot, interrupt}
-use Rattle.worked_rows.specs.Images.{program_start, words_page}
-use Rattle.worked_rows.specs.Runs.{ProgramRun, run, alone, one_page, AllUsed, running, registers, registers_from, call_registers, with_first, with_child, resumed_first, answer_and_pc, phase_of, small, ecalls, at_ecall, made_hypercall}
+use Rattle.worked_rows.specs.Images.{program_start, words_page, share_words, page_with}
+use Rattle.worked_rows.specs.Runs.{ProgramRun, run, alone, one_page, AllUsed, running, registers, registers_from, call_registers, with_first, with_child, resumed_first, context_of, answer_and_pc, phase_of, small, ecalls, at_ecall, made_hypercall}
 
 -- What a context shows as it leaves.
 
@@ -384,6 +385,32 @@ pub record ForkedSpace : Type 0 where
   pub stored : value_in (plain_of child_stored (page 2 0)) 0 4 ≡ 0x99
   pub kept : value_in (plain_of child_stored (page 0 0)) 0 4 ≡ 0x73
 
+-- the pages of domain 0 in a world
+abbrev pub pages_in : World → ℕ → ℕ → List ℕ
+pages_in w resource n = plain_of w (page resource n)
+
+-- a program of three pages forks, with the file's address in x2
+abbrev pub sharing : Told DomainStepped
+sharing =
+    domain_step 0 (with_first (running 0x00400000 (slice_set (registers 0x4F560006 []) 2 0x00500000)) parent)
+    (alone (one_page 0 0 (page_with share_words)) (told.Ok ∷ told.Ok ∷ []))
+
+-- the parent stores its answer into the file's page, and then the child loads from there
+abbrev pub parent_stored : ProgramRun
+parent_stored =
+    run 2 0 sharing.answer.domain (alone (pages_in sharing.world) (told.Ok ∷ told.Ok ∷ told.Ok ∷ []))
+
+abbrev pub child_loaded : ProgramRun
+child_loaded =
+    run 2 1 parent_stored.domain (alone (pages_in parent_stored.world) (told.Ok ∷ told.Ok ∷ told.Ok ∷ []))
+
+-- What the parent stores in the file the child loads, at once.
+pub record SharedFile : Type 0 where
+  pub stored : AllUsed parent_stored.world
+  pub loaded : AllUsed child_loaded.world
+  pub word : register (context_of 1 child_loaded.domain).regs 11 ≡ 1
+  pub loads : child_loaded.domain.loads ≡ (0x00500000, 1) ∷ []
+
 -- a program of one page with n more resources of one page
 abbrev pub with_news : ℕ → Domain
 with_news zero = one_page_domain
@@ -418,7 +445,7 @@ child_at number arguments = with_child (child_running number arguments) fork_mad
 -- its pages are those that the fork left
 abbrev pub child_makes : ℕ → List ℕ → List Answer → Told DomainStepped
 child_makes number arguments answers =
-    domain_step 1 (child_at number arguments) (alone (λ resource n. plain_of fork_made.world (page resource n)) answers)
+    domain_step 1 (child_at number arguments) (alone (pages_in fork_made.world) answers)
 
 abbrev pub child_gone : Told DomainStepped
 child_gone = child_makes 0x4F560007 [] (told.Ok ∷ told.Ok ∷ [])

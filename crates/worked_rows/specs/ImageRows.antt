@@ -1,8 +1,8 @@
 -- The words of the images are the instructions that stand beside them.
 use Rattle.std.specs.Prelude.{◌≡◌, pos, List, [], ◌∷◌, map, Option, Some}
 use Rattle.rv_isa.specs.Table.{instruction}
-use Rattle.rv_isa.specs.declared.instr.Instr.TheVariants.{Lui, Auipc, Lw, Sw, Addi, Xori, Csrrw, Ecall}
-use Rattle.worked_rows.specs.Images.{boot, halt, program_words, letter_words, flip_and_resume, look_and_resume, remap_and_resume, resume_words, resume_third, exit_words}
+use Rattle.rv_isa.specs.declared.instr.Instr.TheVariants.{Lui, Auipc, Beq, Lw, Sw, Addi, Xori, Csrrw, Ecall}
+use Rattle.worked_rows.specs.Images.{boot, halt, program_words, letter_words, flip_and_resume, look_and_resume, remap_and_resume, resume_words, resume_third, exit_words, share_words}
 
 pub record Words : Type 0 where
   pub boot : map instruction boot ≡
@@ -24,3 +24,5 @@ pub record Words : Type 0 where
   pub resume : map instruction resume_words ≡ Some (Lui 17 0x4F560000) ∷ Some Ecall ∷ []
   pub resume_third : map instruction resume_third ≡ Some (Addi 5 0 (pos 3)) ∷ Some (Lui 17 0x4F560000) ∷ Some Ecall ∷ []
   pub exit : map instruction exit_words ≡ Some (Lui 17 0x4F560000) ∷ Some (Addi 17 17 (pos 7)) ∷ Some Ecall ∷ []
+  pub share : map instruction share_words ≡
+      Some Ecall ∷ Some (Beq 10 0 (pos 8)) ∷ Some (Sw 2 10 (pos 0)) ∷ Some (Lw 11 2 (pos 0)) ∷ []

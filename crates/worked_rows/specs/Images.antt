@@ -99,6 +99,15 @@ exit_words =
     0x00000073 ∷  -- ecall
     []
 
+-- A program forks. Behind it the parent, whose answer is not 0, stores its answer, and the child loads a word.
+abbrev pub share_words : List ℕ
+share_words =
+    0x00000073 ∷  -- ecall
+    0x00050463 ∷  -- beq x10, x0, 8
+    0x00A12023 ∷  -- sw x10, 0(x2)
+    0x00012583 ∷  -- lw x11, 0(x2)
+    []
+
 -- a page that begins with these words
 abbrev pub page_with : List ℕ → List ℕ
 page_with words = take 4096 (flat_map word words ++ replicate 4096 0)

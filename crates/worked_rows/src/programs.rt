@@ -23,6 +23,7 @@ pub fn rows_of_a_program()
     ensures last_exit { row.LastExit }
     ensures other_exit { row.OtherExit }
     ensures fork { row.ForkedSpace }
+    ensures shared_file { row.SharedFile }
     ensures fork_refused { row.ForkRefused }
     ensures forked_child { row.ForkedChild }
     ensures root { row.FirstRoot }

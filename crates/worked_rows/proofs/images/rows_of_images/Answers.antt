@@ -15,4 +15,5 @@ returns c = record {
   resume = refl;
   resume_third = refl;
   exit = refl;
+  share = refl;
 }

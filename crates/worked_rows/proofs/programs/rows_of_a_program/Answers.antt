@@ -114,6 +114,10 @@ returns-clause-fork c =
       kept = refl;
     }
 
+pub returns-clause-shared_file : goal.returns-clause-shared_file
+unfolding program_runs
+returns-clause-shared_file c = record { stored = refl; loaded = refl; word = refl; loads = refl }
+
 pub returns-clause-fork_refused : goal.returns-clause-fork_refused
 unfolding program_runs
 returns-clause-fork_refused c =
