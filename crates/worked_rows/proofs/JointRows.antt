@@ -1,6 +1,6 @@
 -- Rows of joint runs in which pages are compared.
 use Rattle.std.proofs.Common.{◌≡◌, ℕ, ◌-◌, ◌*◌, refl, true, false, List, [], ◌∷◌, ◌++◌, Option, Some, None, ◌∙◌, ap}
-use Rattle.std.specs.Prelude.{Result, Ok, Err, replicate, drop, length, if◌then◌else◌}
+use Rattle.std.specs.Prelude.{Result, Ok, replicate, drop, length, if◌then◌else◌}
 use Rattle.std.specs.List.{flat_map}
 use Rattle.std.specs.Str.{bytes_eq}
 use Rattle.cloak_base.specs.Pages.{zero_page, with_page, is_of}
@@ -8,7 +8,6 @@ use Rattle.cloak_base.specs.Random.{Random, handed}
 use Rattle.cloak_base.specs.declared.causes.Stop.TheVariants as stop
 use Rattle.cloak_base.specs.declared.causes.Violation.TheVariants as violation
 use Rattle.cloak_base.specs.declared.names.Kind.TheVariants.{Fetch}
-use Rattle.cloak_base.specs.declared.names.PageId.{PageId}
 use Rattle.cloak_base.specs.declared.names.SpaceId.{SpaceId}
 use Rattle.cloak_model.specs.declared.answer.Answer.{Answer}
 use Rattle.cloak_model.specs.declared.answer.Answer.TheVariants as told

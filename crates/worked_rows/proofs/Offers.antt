@@ -1,6 +1,6 @@
 -- Offers of a page in a frame, where no frame is owed it: the frame has the bytes that were last shown of the page, or
 -- others.
-use Rattle.std.proofs.Common.{◌≡◌, ℕ, refl, Bool, List, [], ◌∷◌, ◌++◌, Option, Some, None, true, false, ◌∙◌, ap}
+use Rattle.std.proofs.Common.{◌≡◌, ℕ, refl, Bool, List, [], ◌∷◌, ◌++◌, Some, None, true, false, ◌∙◌, ap}
 use Rattle.std.specs.Prelude.{Ok, slice_index_or, ◌||◌, ◌&&◌}
 use Rattle.std.specs.Str.{bytes_eq}
 use Rattle.std.proofs.lemmas.Slice.Eq.{bytes_eq-Decides}

@@ -19,7 +19,7 @@ use Rattle.cloak_model.specs.Cloaking.{CloakedMemory}
 use Rattle.cloak_model.specs.Hart.{Hart}
 use Rattle.cloak_model.specs.Contexts.{Context, with_space}
 use Rattle.cloak_model.specs.DomainState.{Domain}
-use Rattle.cloak_model.specs.DomainStep.{DomainStepped, instruction_ended}
+use Rattle.cloak_model.specs.DomainStep.{instruction_ended}
 use Rattle.cloak_model.specs.InsideStep.{fetched_inside, store_reached}
 use Rattle.cloak_model.specs.World.{Cloak, Cloaked}
 use Rattle.cloak_model.specs.Asking.{Told, then_ask}

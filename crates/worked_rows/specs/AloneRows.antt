@@ -1,17 +1,14 @@
 -- Rows of the machines that run alone: the kernel, and the program, each with its half of a record.
-use Rattle.std.specs.Prelude.{◌≡◌, ℕ, List, [], ◌∷◌, ◌++◌, map, replicate, Option, Some, None, true, false}
-use Rattle.std.specs.List.{flat_map}
-use Rattle.cloak_base.specs.declared.causes.Shown.{Shown}
+use Rattle.std.specs.Prelude.{◌≡◌, List, [], ◌∷◌, ◌++◌, map, replicate, Some, None, true}
 use Rattle.cloak_model.specs.declared.item.Item.{Item}
 use Rattle.cloak_model.specs.declared.item.Item.TheVariants as item
-use Rattle.cloak_model.specs.Bits.{word}
 use Rattle.cloak_base.specs.Pages.{zero_page}
 use Rattle.cloak_model.specs.Memory.{with_value_in}
 use Rattle.cloak_model.specs.Halves.{outward_half, inward_half}
 use Rattle.cloak_model.specs.KernelAlone.{KernelAlone, Between, kernel_alone}
 use Rattle.cloak_model.specs.DomainAlone.{DomainAlone, domain_alone}
 use Rattle.worked_rows.specs.Images.{boot, halt, letter_words, kernel_of, program_of, page_with, words_page}
-use Rattle.worked_rows.specs.JointRows.{opening_cipher, closing_cipher, shown_nine, called_hart, program_at_call, whole, letter}
+use Rattle.worked_rows.specs.JointRows.{opening_cipher, closing_cipher, shown_nine, program_at_call, whole, letter}
 
 -- The whole cloaked program.
 

@@ -3,11 +3,10 @@
 -- Of a READ of 4096 bytes the first byte, the one at the end of a page and the last are computed, and not all in a
 -- row: so many steps take too long. What is settled and drawn in a fork is a row of memory, since a program by itself
 -- sees none of it.
-use Rattle.std.specs.Prelude.{◌≡◌, ℕ, zero, suc, ◌-◌, List, [], ◌∷◌, ◌++◌, length, replicate, slice_set, Option, Some, None, Ok, Err, false}
+use Rattle.std.specs.Prelude.{◌≡◌, ℕ, zero, suc, ◌-◌, List, [], ◌∷◌, ◌++◌, length, replicate, slice_set, Some, None, Ok, Err}
 use Rattle.std.specs.List.{concat}
 use Rattle.cloak_base.specs.declared.names.PageId.{PageId}
 use Rattle.cloak_base.specs.declared.names.SpaceId.{SpaceId}
-use Rattle.cloak_base.specs.declared.names.Start.{Start}
 use Rattle.cloak_base.specs.declared.causes.Shown.{Shown}
 use Rattle.cloak_model.specs.declared.answer.Answer.{Answer}
 use Rattle.cloak_model.specs.declared.answer.Answer.TheVariants as told
@@ -26,7 +25,7 @@ use Rattle.cloak_model.specs.AskPages.{ask_write}
 use Rattle.cloak_model.specs.Resources.{Resources, lookup}
 use Rattle.cloak_model.specs.Contexts.{Context, admit}
 use Rattle.cloak_model.specs.DomainState.{Domain, started_domain, state_bytes}
-use Rattle.cloak_model.specs.DomainStep.{DomainStepped, domain_step, resume_slot, interrupt}
+use Rattle.cloak_model.specs.DomainStep.{DomainStepped, domain_step, interrupt}
 use Rattle.worked_rows.specs.Images.{program_start, words_page, share_words, page_with}
 use Rattle.worked_rows.specs.Runs.{ProgramRun, run, alone, one_page, AllUsed, running, registers, registers_from, call_registers, with_first, with_child, resumed_first, context_of, answer_and_pc, phase_of, small, ecalls, at_ecall, made_hypercall}
 

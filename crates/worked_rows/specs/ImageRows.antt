@@ -1,5 +1,5 @@
 -- The words of the images are the instructions that stand beside them.
-use Rattle.std.specs.Prelude.{◌≡◌, pos, List, [], ◌∷◌, map, Option, Some}
+use Rattle.std.specs.Prelude.{◌≡◌, pos, [], ◌∷◌, map, Some}
 use Rattle.rv_isa.specs.Table.{instruction}
 use Rattle.rv_isa.specs.declared.instr.Instr.TheVariants.{Lui, Auipc, Beq, Lw, Sw, Addi, Xori, Csrrw, Ecall}
 use Rattle.worked_rows.specs.Images.{boot, halt, program_words, letter_words, flip_and_resume, look_and_resume, remap_and_resume, resume_words, resume_third, exit_words, share_words}

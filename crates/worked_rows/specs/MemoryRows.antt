@@ -1,7 +1,6 @@
 -- Rows of cloaked memory in the middle of a step: walks through a frame that is owed a page, forks, and bytes that a
 -- program stores where the kernel sees them.
-use Rattle.std.specs.Prelude.{◌≡◌, ℕ, List, [], ◌∷◌, ◌++◌, length, replicate, drop, Option, Some, None, true, false}
-use Rattle.std.specs.List.{flat_map}
+use Rattle.std.specs.Prelude.{◌≡◌, ℕ, List, [], ◌∷◌, ◌++◌, replicate, drop, Option, Some, None, false}
 use Rattle.cloak_base.specs.Random.{handed}
 use Rattle.cloak_base.specs.Pages.{zero_page, with_page}
 use Rattle.cloak_base.specs.declared.names.Kind.TheVariants.{Load}
@@ -11,16 +10,14 @@ use Rattle.cloak_model.specs.declared.access.Access.{Access}
 use Rattle.cloak_model.specs.declared.answer.Answer.{Answer}
 use Rattle.cloak_model.specs.declared.answer.Answer.TheVariants as told
 use Rattle.cloak_model.specs.declared.inside.Went.TheVariants as went
-use Rattle.cloak_model.specs.declared.item.Item.{Item}
 use Rattle.cloak_model.specs.declared.item.Item.TheVariants as item
-use Rattle.cloak_model.specs.Bits.{word}
 use Rattle.cloak_model.specs.Chain.{cbc}
 use Rattle.cloak_model.specs.Memory.{value_in}
 use Rattle.cloak_model.specs.Cloaking.{CloakedMemory, Ready, offer, with_shown_frame}
-use Rattle.cloak_model.specs.World.{World, Cloak, Cloaked, Flat, Alone, items_of, plain_of}
+use Rattle.cloak_model.specs.World.{World, Cloaked, items_of}
 use Rattle.cloak_model.specs.Asking.{Told}
 use Rattle.cloak_model.specs.Ask.{ask_word, ask_walk}
-use Rattle.cloak_model.specs.AskPages.{ask_reach, ask_read, ask_write}
+use Rattle.cloak_model.specs.AskPages.{ask_reach, ask_read}
 use Rattle.cloak_model.specs.Walk.{second_leaf}
 use Rattle.cloak_model.specs.DomainState.{started_domain}
 use Rattle.cloak_model.specs.Hypercalls.{Stepped, fork_call}

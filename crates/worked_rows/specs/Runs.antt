@@ -1,5 +1,5 @@
 -- Steps of a cloaked program by itself, and what is told of them.
-use Rattle.std.specs.Prelude.{◌≡◌, ℕ, zero, suc, ◌+◌, ◌==◌, ◌&&◌, Bool, false, List, [], ◌∷◌, ◌++◌, slice_set, replicate, Some, None, unwrap_or, if◌then◌else◌}
+use Rattle.std.specs.Prelude.{◌≡◌, ℕ, zero, suc, ◌+◌, ◌==◌, ◌&&◌, Bool, false, List, [], ◌∷◌, ◌++◌, slice_set, replicate, Some, unwrap_or, if◌then◌else◌}
 use Rattle.cloak_base.specs.declared.names.Start.{Start}
 use Rattle.cloak_model.specs.declared.answer.Answer.{Answer}
 use Rattle.cloak_model.specs.declared.inside.Went.{Went}
