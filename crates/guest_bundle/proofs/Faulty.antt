@@ -61,8 +61,10 @@ program_tells file frames at is =
     let k3 = λ (pages place base : ℕ). entry_at file (at + 12) >>= k4 pages place base in
     let k2 = λ (pages place : ℕ). base_at pages file (at + 8) >>= k3 pages place in
     let k1 = λ (pages : ℕ). place_at frames pages file (at + 4) >>= k2 pages in
-    let f1 : ℕ → ℕ → BundleField = λ f pages. ruled_at (at + 4) 4 (leb (number file (at + 4) + pages) f) (BadRange (at + 4)) in
-    let f2 : ℕ → BundleField = λ pages. ruled_at (at + 8) 4 (is_base_of pages (number file (at + 8))) (BadRange (at + 8)) in
+    let f1 : ℕ → ℕ → BundleField =
+    λ f pages. ruled_at (at + 4) 4 (leb (number file (at + 4) + pages) f) (BadRange (at + 4)) in
+    let f2 : ℕ → BundleField =
+    λ pages. ruled_at (at + 8) 4 (is_base_of pages (number file (at + 8))) (BadRange (at + 8)) in
     let f3 : BundleField = ruled_at (at + 12) 4 (eqb (number file (at + 12) % 4) 0) (BadRange (at + 12)) in
     let f4 : BundleField = any_at (at + 16) 4 in
     let tail : ℕ → List BundleField = λ pages. format.pages pages (at + 20) in

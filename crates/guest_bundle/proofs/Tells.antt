@@ -72,7 +72,8 @@ pub bytes_are : (file : List ℕ) (at size : ℕ) (x : List ℕ) → bytes_at fi
 bytes_are file at size x e = ok_is _ _ (refused_not (ltb (length file - at) size) (Short at) (Ok (take size (drop at file))) x e).1
 
 -- a field whose value is tested once it is whole
-pub tested_tells : {A B : Type 0} (file : List ℕ) (f : BundleField) (r : Result A BundleFault) (k : A → Result B BundleFault)
+pub tested_tells : {A B : Type 0} (file : List ℕ) (f : BundleField) (r : Result A BundleFault)
+    (k : A → Result B BundleFault)
     → Tells r (cut_in file f) → ((x : A) → r ≡ Ok x → Tells (k x) f.wrong) → Tells (r >>= k) (fault_in file f)
 tested_tells file f r k h then =
     subst (Tells (r >>= k)) (sym (fault_apart (ltb (length file - f.at) f.size) f.cut f.wrong)) (bind_tells r k (cut_in file f) f.wrong h then)

@@ -79,7 +79,8 @@ pub later_executed : (h : Hart) (disk : List ℕ) (word : ℕ) (w : World) → I
 unfolding executed_part
 later_executed h disk word w = later_decoded h disk word (instruction word) w
 
-pub later_fetched : (h : Hart) (disk : List ℕ) (to : Result ℕ ℕ) (w : World) → IsLater w (fetched_part h disk to w).world
+pub later_fetched : (h : Hart) (disk : List ℕ) (to : Result ℕ ℕ) (w : World) →
+    IsLater w (fetched_part h disk to w).world
 unfolding fetched_part
 later_fetched h disk (Err cause) w = IsLater-refl w
 later_fetched h disk (Ok pa) w = IsLater-trans _ _ _ (later_value pa 4 w) (later_executed h disk _ _)

@@ -1,5 +1,5 @@
--- Names that open definitions, so that a row is computed: a row's `unfolding` line has one or two of these. Of the cipher and
--- the digest nothing is opened: `cbc` and `sha256` stand in a row as they are applied.
+-- Names that open definitions, so that a row is computed: a row's `unfolding` line has one or two of these. Of the
+-- cipher and the digest nothing is opened: `cbc` and `sha256` stand in a row as they are applied.
 use Rattle.std.specs.Fmt as fmt
 use Rattle.hex.specs.Hex as hex
 use Rattle.rv_isa.specs.Table as table
@@ -38,11 +38,17 @@ use Rattle.cloak_model.specs.KernelAlone as kernel_alone
 use Rattle.cloak_model.specs.DomainAlone as domain_alone
 use Rattle.worked_rows.specs.Runs as runs
 
+-- which instruction a word is
+unfoldable pub instructions : Unit {0}
+unfolding
+    table.jalr_line table.branch_line table.load_line table.store_line table.op_imm_line table.op_line
+    table.misc_mem_line table.privileged_line table.system_line table.instruction
+instructions = tt
+
 -- the plain step of a hart
 unfoldable pub plain_steps : Unit {0}
 unfolding
-    table.jalr_line table.branch_line table.load_line table.store_line table.op_imm_line table.op_line
-    table.misc_mem_line table.privileged_line table.system_line table.instruction registers.zero_registers
+    instructions registers.zero_registers
     effect.effect csr.with_pending csr.csr_read csr.csr_write csr.trap_entry csr.trap_return csr.interrupt_due
     hart.started walk.first_leaf walk.second_leaf walk.first_word walk.second_word walk.walk walk.walk_tables
     ask.ask_word ask.ask_second ask.ask_after ask.ask_first ask.ask_walk ask.ask_inside ask.ask_translate
@@ -56,8 +62,7 @@ plain_steps = tt
 -- the step of a cloaked program but for its reaching of pages
 unfoldable pub told_steps : Unit {0}
 unfolding
-    table.jalr_line table.branch_line table.load_line table.store_line table.op_imm_line table.op_line
-    table.misc_mem_line table.privileged_line table.system_line table.instruction registers.zero_registers
+    instructions registers.zero_registers
     pages.same_page pages.is_of effect.effect resources.lookup resources.page_at resources.started_resources
     resources.made_at resources.new_resource resources.mapped resources.map_region resources.unmap_region
     resources.drop_space contexts.started_contexts contexts.resume_if contexts.resume_at contexts.shown contexts.admit
@@ -70,14 +75,17 @@ unfolding
     ask_pages.put_at ask_pages.stored_inside ask_pages.put_by_table ask_pages.settled_if_marked ask_pages.clear_from
     ask_pages.next_answer ask_pages.ask_read ask_pages.ask_write ask_pages.ask_get
     ask_pages.ask_put ask_pages.ask_clear ask_pages.ask_copy ask_pages.ask_forget inside_step.loaded_inside
-    inside_step.load_reached inside_step.load_got inside_step.load_inside inside_step.store_reached inside_step.store_put
-    inside_step.store_inside inside_step.system_inside inside_step.done_inside inside_step.decoded_inside inside_step.executed_inside inside_step.fetched_inside
+    inside_step.load_reached inside_step.load_got inside_step.load_inside inside_step.store_reached
+    inside_step.store_put
+    inside_step.store_inside inside_step.system_inside inside_step.done_inside inside_step.decoded_inside
+    inside_step.executed_inside inside_step.fetched_inside
     inside_step.fetch inside_step.instruction_inside hypercalls.remapped hypercalls.new_call hypercalls.map_call
     hypercalls.unmap_call hypercalls.file_call hypercalls.thread_at hypercalls.thread_call hypercalls.fork_told
     hypercalls.fork_call hypercalls.end_told hypercalls.exit_call hypercalls.call_begun hypercalls.kernel_call
     hypercalls.hypercall domain_state.started_control domain_state.started_domain domain_step.instruction_ended
     domain_step.copy_ended domain_step.phase_step domain_step.step_if domain_step.domain_step domain_step.interrupt_if
-    domain_step.interrupt domain_step.answer_in domain_step.answer_taken domain_step.resume_told domain_step.resume_slot
+    domain_step.interrupt domain_step.answer_in domain_step.answer_taken domain_step.resume_told
+    domain_step.resume_slot
 told_steps = tt
 
 -- the step of a cloaked program
@@ -114,8 +122,10 @@ joint_runs = tt
 unfoldable pub lone_kernels : Unit {0}
 unfolding
     plain_steps kernel_alone.take_cipher kernel_alone.take_put kernel_alone.take_leave kernel_alone.plain_step
-    kernel_alone.kernel_step_ended kernel_alone.kernel_step_begun kernel_alone.take_kernel_step kernel_alone.kernel_takes kernel_alone.take_kernel_item
-    kernel_alone.kernel_taken opening.started_ledger opening.started_kernel opening.started_memory opening.started_joint
+    kernel_alone.kernel_step_ended kernel_alone.kernel_step_begun kernel_alone.take_kernel_step
+    kernel_alone.kernel_takes kernel_alone.take_kernel_item
+    kernel_alone.kernel_taken opening.started_ledger opening.started_kernel opening.started_memory
+    opening.started_joint
     opening.opened_with opening.opened_by leaving.shown_registers leaving.leave
 lone_kernels = tt
 
@@ -123,8 +133,10 @@ lone_kernels = tt
 unfoldable pub lone_programs : Unit {0}
 unfolding
     program_steps domain_alone.tried domain_alone.try_with domain_alone.answered_by domain_alone.take_answer
-    domain_alone.take_timer domain_alone.resumed_by domain_alone.take_resume domain_alone.made_by domain_alone.domain_step_ended
-    domain_alone.slot_on domain_alone.domain_step_begun domain_alone.take_domain_step domain_alone.domain_takes domain_alone.take_domain_item
+    domain_alone.take_timer domain_alone.resumed_by domain_alone.take_resume domain_alone.made_by
+    domain_alone.domain_step_ended
+    domain_alone.slot_on domain_alone.domain_step_begun domain_alone.take_domain_step domain_alone.domain_takes
+    domain_alone.take_domain_item
     domain_alone.domain_taken
 lone_programs = tt
 

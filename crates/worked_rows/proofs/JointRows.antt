@@ -1,46 +1,52 @@
--- Rows of joint runs.
-use Rattle.std.proofs.Common.{◌≡◌, ℕ, ◌-◌, ◌*◌, refl, List, [], ◌∷◌, ◌++◌, ◌∙◌, ap}
-use Rattle.std.specs.Prelude.{Result, Ok, Err, replicate, drop, length}
+-- Rows of joint runs in which pages are compared.
+use Rattle.std.proofs.Common.{◌≡◌, ℕ, ◌-◌, ◌*◌, refl, true, false, List, [], ◌∷◌, ◌++◌, Option, Some, None, ◌∙◌, ap}
+use Rattle.std.specs.Prelude.{Result, Ok, replicate, drop, length, if◌then◌else◌}
 use Rattle.std.specs.List.{flat_map}
+use Rattle.std.specs.Str.{bytes_eq}
+use Rattle.cloak_base.specs.Pages.{zero_page, with_page, is_of}
 use Rattle.cloak_base.specs.Random.{Random, handed}
-use Rattle.cloak_model.specs.declared.image.Bundle.{Bundle}
+use Rattle.cloak_base.specs.declared.causes.Stop.TheVariants as stop
+use Rattle.cloak_base.specs.declared.causes.Violation.TheVariants as violation
+use Rattle.cloak_base.specs.declared.names.Kind.TheVariants.{Fetch}
+use Rattle.cloak_base.specs.declared.names.SpaceId.{SpaceId}
+use Rattle.cloak_model.specs.declared.answer.Answer.{Answer}
+use Rattle.cloak_model.specs.declared.answer.Answer.TheVariants as told
 use Rattle.cloak_model.specs.declared.item.Item.TheVariants as item
 use Rattle.cloak_model.specs.Bits.{word}
-use Rattle.cloak_base.specs.Pages.{zero_page}
-use Rattle.cloak_model.specs.Memory.{with_value_in}
-use Rattle.cloak_model.specs.Joint.{Moment, Turn}
-use Rattle.cloak_model.specs.Opening.{Lack, Opened, opening, numbers_below}
-use Rattle.cloak_model.specs.Run.{Run, run_of, run_of_turns, turns_from}
-use Rattle.cloak_model.specs.Run as run
 use Rattle.cloak_model.specs.Bundle as bundle
+use Rattle.cloak_model.specs.Chain.{cbc}
+use Rattle.cloak_model.specs.Cloaking.{CloakedMemory, with_comparison}
+use Rattle.cloak_model.specs.Contexts.{Context, with_space}
 use Rattle.cloak_model.specs.Exchange as exchange
 use Rattle.cloak_model.specs.Exchange.{record_of}
-use Rattle.worked_rows.specs.Images.{halt, boot, remap_and_resume, image, program_page}
-use Rattle.worked_rows.specs.JointRuns.{Seen, seen, seen_of, counted, key, draw_1, draw_2}
-use Rattle.worked_rows.specs.JointRows.{opening_cipher, program_with, not_started, whole, WholeProgram, ThreeDraws, TwoDraws, OtherRoot}
+use Rattle.cloak_model.specs.Hart.{Hart}
+use Rattle.cloak_model.specs.Joint.{Moment, Turn, joint_step, quiet, stop_of}
+use Rattle.cloak_model.specs.Memory.{with_value_in}
+use Rattle.cloak_model.specs.Opening.{Lack, Opened, opening, numbers_below}
+use Rattle.cloak_model.specs.Asking.{Told}
+use Rattle.cloak_model.specs.Parts.{Joint}
+use Rattle.cloak_model.specs.Run as run
+use Rattle.cloak_model.specs.Run.{Run, run_of_turns, turns_from}
+use Rattle.cloak_model.specs.World.{Cloaked}
+use Rattle.worked_rows.specs.Images.{halt, boot, flip_and_resume, look_and_resume, remap_and_resume, resume_words, exit_words, image, image_of, page_with, words_page}
+use Rattle.worked_rows.specs.Runs.{running, registers_from}
+use Rattle.worked_rows.specs.JointRuns.{seen, seen_of, read_off, counted, key, draw_1, draw_2, csrs_of, inside_hart, outside_hart}
+use Rattle.worked_rows.specs.JointRows.{opening_cipher, closing_cipher, program_with, started_context, not_started, answered_context, gone_program, shown_exit, whole, WholeRun, ThreeDraws, TwoDraws, OtherRoot, AfterExit, FlippedBit, NothingFlipped}
+use Rattle.worked_rows.proofs.Ciphers.{length-cbc, length-record_of, IsBytes-cbc, IsBytes-computed, flipped_word, flipped-differs}
 use Rattle.worked_rows.proofs.Computing.{joint_steps, joint_runs}
-use Rattle.worked_rows.proofs.Ciphers.{length-cbc, length-record_of}
-use Rattle.worked_rows.proofs.Turns.{plus}
-use Rattle.worked_rows.proofs.Whole.{machine, first_hart, opened_memory, opened_moment, left_moment, turns_to_call, turns_from-call}
+use Rattle.worked_rows.proofs.Offers.{reach-shown, reach-changed}
+use Rattle.worked_rows.proofs.Turns.{first_turns, moment_after, goes_on, plus, turns_from-step, turns_from-last, turns_from-plus}
+use Rattle.worked_rows.proofs.Whole.{page, ram_of, plain_of, bare_root, opened_memory, resumed_memory, stored_page, stored_plain, first_hart, program_hart, machine, at_step, opened_moment, left_moment, fetched_step, cloak_for, fetch_granted, joint_step-of, turns_from-boot, turns_to_call, turns_from-call}
 
--- Runs of the whole program with other words behind its kernel's boot.
+-- Runs of a program of one page, by the words of its kernel behind the boot.
 
-abbrev opened : List ℕ → Random → Opened
-opened rest stream = record { joint = machine first_hart (program_with not_started []) (opened_memory rest stream); items = item.Cipher 8 opening_cipher ∷ [] }
-
--- the run from the program's call on
-abbrev run_from_call : List ℕ → Random → ℕ → Run
-run_from_call rest stream n = run_of_turns (opened rest stream) (turns_to_call rest stream (turns_from n (left_moment rest stream)))
-
--- a run that there is
-abbrev there_is : Seen → Result Seen Lack
-there_is s = Ok s
-
-seen-from_call : (words : List ℕ) (stream : Random) (rest : List ℕ) (left : Random) (n : ℕ) → opening (image words) stream ≡ Ok (opened rest left)
-    → seen (image words) stream (plus 12 n) ≡ there_is (seen_of (run_from_call rest left n))
-unfolding run.run_of
-seen-from_call words stream rest left n opens =
-    rw opens refl ∙ ap (λ (ts : List Turn). there_is (seen_of (run_of_turns (opened rest left) ts))) (turns_from-call rest left n)
+abbrev opened : List ℕ → List ℕ → Random → Opened
+opened bytes rest stream =
+    record {
+      joint = machine first_hart (program_with not_started []) (opened_memory bytes rest stream);
+      items =
+          item.Cipher 8 (cbc key draw_1 bytes) ∷ [];
+    }
 
 -- what stands in the kernel's frame behind its boot
 abbrev behind_boot : List ℕ → List ℕ
@@ -50,10 +56,31 @@ behind_boot words = flat_map word words ++ replicate (4076 - 4 * length words) 0
 abbrev behind_draw : ℕ → Random
 behind_draw n = handed (drop 32 (numbers_below n))
 
+-- what is read off a run that there is
+abbrev there_is : {A : Type 0} → A → Result A Lack
+there_is a = Ok a
+
+-- the run from the program's call on
+abbrev run_from_call : List ℕ → Random → ℕ → Run
+run_from_call rest stream n =
+    run_of_turns (opened words_page rest stream) (turns_to_call rest stream (turns_from n (left_moment rest stream)))
+
+read_off-from_call : {A : Type 0} (what : Run → A) (words : List ℕ) (stream : Random) (rest : List ℕ) (left : Random)
+    (n : ℕ) → opening (image words) stream ≡ Ok (opened words_page rest left)
+    → read_off what (image words) stream (plus 12 n) ≡ there_is (what (run_from_call rest left n))
+unfolding run.run_of
+read_off-from_call what words stream rest left n opens =
+    rw opens refl
+    ∙ ap (λ (ts : List Turn). there_is (what (run_of_turns (opened words_page rest left) ts)))
+    (turns_from-call rest left n)
+
 -- The kernel halts.
 
-halts : (n : ℕ) → opening (image (boot ++ halt)) (counted n) ≡ Ok (opened (behind_boot halt) (behind_draw n)) → seen (image (boot ++ halt)) (counted n) 100 ≡ there_is (seen_of (run_from_call (behind_boot halt) (behind_draw n) 88))
-halts n opens = seen-from_call (boot ++ halt) (counted n) (behind_boot halt) (behind_draw n) 88 opens
+halts : {A : Type 0} (what : Run → A) (n : ℕ) → opening (image (boot ++ halt)) (counted n) ≡
+    Ok (opened words_page (behind_boot halt) (behind_draw n))
+    → read_off what (image (boot ++ halt)) (counted n) 100 ≡
+    there_is (what (run_from_call (behind_boot halt) (behind_draw n) 88))
+halts what n opens = read_off-from_call what (boot ++ halt) (counted n) (behind_boot halt) (behind_draw n) 88 opens
 
 halted : seen_of (run_from_call (behind_boot halt) (behind_draw 256) 88) ≡ whole
 unfolding joint_runs turns_to_call
@@ -61,11 +88,12 @@ halted = refl
 
 whole_size : length (record_of whole.items) ≡ 8355
 unfolding exchange.item_bytes
-whole_size = length-record_of whole.items ∙ rw (length-cbc key draw_1 program_page, length-cbc key draw_2 (with_value_in program_page 0x100 4 7)) refl
+whole_size = length-record_of whole.items
+    ∙ rw (length-cbc key draw_1 words_page, length-cbc key draw_2 (with_value_in words_page 0x100 4 7)) refl
 
-pub whole_program : WholeProgram
+pub whole_program : WholeRun
 unfolding joint_runs zero_page bundle.bundle_bytes
-whole_program = record { run = halts 256 refl ∙ ap there_is halted; size = whole_size; image_size = refl }
+whole_program = record { run = halts seen_of 256 refl ∙ ap there_is halted; size = whole_size; image_size = refl }
 
 halted_48 : seen_of (run_from_call (behind_boot halt) (behind_draw 48) 88) ≡ whole
 unfolding joint_runs turns_to_call
@@ -73,14 +101,291 @@ halted_48 = refl
 
 pub three_draws : ThreeDraws
 unfolding joint_runs zero_page
-three_draws = halts 48 refl ∙ ap there_is halted_48
+three_draws = halts seen_of 48 refl ∙ ap there_is halted_48
 
 -- without a draw for the closing
 pub two_draws : TwoDraws
 unfolding joint_runs turns_to_call zero_page
-two_draws = halts 47 refl ∙ refl
+two_draws = halts seen_of 47 refl ∙ refl
 
 -- The kernel resumes the program with another page table.
 pub other_root : OtherRoot
 unfolding joint_runs turns_to_call zero_page
-other_root = seen-from_call (boot ++ remap_and_resume) (counted 256) (behind_boot remap_and_resume) (behind_draw 256) 88 refl ∙ refl
+other_root =
+    read_off-from_call seen_of (boot ++ remap_and_resume) (counted 256) (behind_boot remap_and_resume)
+    (behind_draw 256) 88 refl ∙ refl
+
+-- The kernel looks into the program's frame, and maybe flips a bit of it.
+
+abbrev loads : List (ℕ × ℕ)
+loads = (0x80008100, 7) ∷ []
+
+-- a hart that runs the program again
+abbrev second_hart : Hart
+second_hart = inside_hart 0 (csrs_of 0x80000014 0x00001000 8 0)
+
+-- the page tables of spaces behind the second resume, which records the same one again
+abbrev again_root : SpaceId → Option ℕ
+again_root = with_space bare_root (record { domain = 0; number = 0 }) (Some 0)
+
+-- the frame showed the page, and the kernel sees these bytes in it
+abbrev looked_memory : List ℕ → List ℕ → CloakedMemory
+looked_memory rest shown = record {
+  ram = ram_of rest shown;
+  plain = stored_plain;
+  ledger = record {
+    key = key;
+    stream = handed (drop 48 (numbers_below 256));
+    draws = 2;
+    recorded = with_page (with_page (λ q. None) page (Some opening_cipher)) page (Some closing_cipher);
+    owed = replicate 64 None;
+    root = again_root;
+    missed = false;
+    clashed = false;
+  };
+}
+
+-- behind step 18
+abbrev looked_moment : List ℕ → List ℕ → Moment
+looked_moment rest shown =
+    at_step 18 (machine second_hart (program_with answered_context loads) (looked_memory rest shown))
+
+look : moment_after 6 (left_moment (behind_boot look_and_resume) (behind_draw 256)) ≡
+    looked_moment (behind_boot look_and_resume) closing_cipher
+unfolding joint_runs moment_after
+look = refl
+
+look_goes_on : goes_on 6 (left_moment (behind_boot look_and_resume) (behind_draw 256)) ≡ true
+unfolding joint_runs goes_on
+look_goes_on = refl
+
+-- step 19: the fetch is granted, and what it finds is no instruction
+abbrev look_turn : Turn
+look_turn = quiet
+    (machine (outside_hart 0x80000014 (replicate 32 0) (csrs_of 0x80000014 0x00001000 2 0))
+    (program_with (record answered_context { on = None }) loads)
+    (looked_memory (behind_boot look_and_resume) closing_cipher))
+    (item.Ok 0 ∷ item.Leave (record { cause = 2; stval = 0; ctx = 0; number = 0; args = replicate 6 0 }) ∷ [])
+
+look_step : joint_step (looked_moment (behind_boot look_and_resume) closing_cipher) ≡ look_turn
+unfolding joint_steps fetched_step fetch_granted
+look_step = joint_step-of 18 second_hart (program_with answered_context loads) answered_context
+    (looked_memory (behind_boot look_and_resume) closing_cipher) look_turn (record {
+      told = fetch_granted second_hart (program_with answered_context loads) answered_context
+          (looked_memory (behind_boot look_and_resume) closing_cipher);
+      asks = refl;
+      tells = reach-shown page 0x8000801C Fetch
+          (cloak_for second_hart (program_with answered_context loads) answered_context
+          (looked_memory (behind_boot look_and_resume) closing_cipher))
+          (record { bare = refl; inside = refl; drawn = refl }) (record { owed = refl; owing = refl; shown = refl });
+      ends = refl;
+    })
+
+look_turns : turns_from 7 (left_moment (behind_boot look_and_resume) (behind_draw 256)) ≡
+    first_turns 6 (left_moment (behind_boot look_and_resume) (behind_draw 256)) ++ look_turn ∷ []
+unfolding run.turns_from
+look_turns =
+    turns_from-plus 6 1 (left_moment (behind_boot look_and_resume) (behind_draw 256)) look_goes_on
+    ∙ ap (λ (m : Moment). first_turns 6 (left_moment (behind_boot look_and_resume) (behind_draw 256))
+    ++ turns_from 1 m) look
+    ∙ ap (λ (ts : List Turn). first_turns 6 (left_moment (behind_boot look_and_resume) (behind_draw 256)) ++ ts)
+    (turns_from-step 0 (looked_moment (behind_boot look_and_resume) closing_cipher) look_turn look_step refl)
+
+-- the whole run with these steps behind the call
+abbrev run_with : List ℕ → List Turn → Run
+run_with words turns =
+    run_of_turns (opened words_page (behind_boot words) (behind_draw 256))
+    (turns_to_call (behind_boot words) (behind_draw 256) turns)
+
+pub nothing_flipped : NothingFlipped
+unfolding joint_runs first_turns turns_to_call zero_page
+nothing_flipped =
+    read_off-from_call seen_of (boot ++ look_and_resume) (counted 256) (behind_boot look_and_resume)
+    (behind_draw 256) 7 refl
+    ∙ ap (λ (ts : List Turn). there_is (seen_of (run_with look_and_resume ts))) look_turns
+    ∙ refl
+
+-- the frame with the flipped bit
+abbrev flipped : List ℕ
+flipped = with_value_in closing_cipher 20 4 (flipped_word closing_cipher)
+
+flip : moment_after 6 (left_moment (behind_boot flip_and_resume) (behind_draw 256)) ≡
+    looked_moment (behind_boot flip_and_resume) flipped
+unfolding joint_runs moment_after
+flip = refl
+
+flip_goes_on : goes_on 6 (left_moment (behind_boot flip_and_resume) (behind_draw 256)) ≡ true
+unfolding joint_runs goes_on
+flip_goes_on = refl
+
+flipped_is_other : bytes_eq flipped closing_cipher ≡ false
+flipped_is_other =
+    flipped-differs closing_cipher
+    (IsBytes-cbc key draw_2 stored_page (IsBytes-computed 16 key refl refl) (IsBytes-computed 16 draw_2 refl refl)
+    (IsBytes-computed 4096 stored_page refl refl))
+
+flip_turn : Turn
+flip_turn = record
+    (quiet (machine second_hart (program_with answered_context loads)
+    (with_comparison flipped closing_cipher (looked_memory (behind_boot flip_and_resume) flipped)))
+    (item.Stopped 0 ∷ [])) {
+      violation = Some (violation.Page page (record { 0 = 8 }));
+    }
+
+flip_told : Told Answer
+unfolding cloak_for
+flip_told = record {
+  answer = told.Stopped;
+  world = Cloaked
+      (record (cloak_for second_hart (program_with answered_context loads) answered_context
+      (looked_memory (behind_boot flip_and_resume) flipped)) {
+        memory = with_comparison flipped closing_cipher (looked_memory (behind_boot flip_and_resume) flipped);
+        items = item.Stopped 0 ∷ [];
+        violation = Some (violation.Page page (record { 0 = 8 }));
+      });
+}
+
+flip_step : joint_step (looked_moment (behind_boot flip_and_resume) flipped) ≡ flip_turn
+unfolding joint_steps fetched_step flip_told flip_turn
+flip_step = joint_step-of 18 second_hart (program_with answered_context loads) answered_context
+    (looked_memory (behind_boot flip_and_resume) flipped) flip_turn (record {
+      told = flip_told;
+      asks = refl;
+      tells = reach-changed page 0x8000801C Fetch
+          (cloak_for second_hart (program_with answered_context loads) answered_context
+          (looked_memory (behind_boot flip_and_resume) flipped)) (record { bare = refl; inside = refl; drawn = refl })
+          (record { last = closing_cipher; owed = refl; owing = refl; shown = refl; other = flipped_is_other });
+      ends = refl;
+    })
+
+flip_stops : stop_of flip_turn ≡ Some (stop.Violation (violation.Page page (record { 0 = 8 })))
+unfolding flip_turn
+flip_stops = refl
+
+flip_turns : turns_from 88 (left_moment (behind_boot flip_and_resume) (behind_draw 256)) ≡
+    first_turns 6 (left_moment (behind_boot flip_and_resume) (behind_draw 256)) ++ flip_turn ∷ []
+flip_turns =
+    turns_from-plus 6 82 (left_moment (behind_boot flip_and_resume) (behind_draw 256)) flip_goes_on
+    ∙ ap (λ (m : Moment). first_turns 6 (left_moment (behind_boot flip_and_resume) (behind_draw 256))
+    ++ turns_from 82 m) flip
+    ∙ ap (λ (ts : List Turn). first_turns 6 (left_moment (behind_boot flip_and_resume) (behind_draw 256)) ++ ts)
+    (turns_from-last 81 (looked_moment (behind_boot flip_and_resume) flipped) flip_turn _ flip_step flip_stops)
+
+pub flipped_bit : FlippedBit
+unfolding joint_runs first_turns turns_to_call zero_page flip_turn
+flipped_bit =
+    read_off-from_call seen_of (boot ++ flip_and_resume) (counted 256) (behind_boot flip_and_resume)
+    (behind_draw 256) 88 refl
+    ∙ ap (λ (ts : List Turn). there_is (seen_of (run_with flip_and_resume ts))) flip_turns
+    ∙ refl
+
+-- The program ends in its third instruction, whose fetch is compared too.
+
+abbrev exit_page : List ℕ
+exit_page = page_with exit_words
+
+abbrev exit_rest : List ℕ
+exit_rest = behind_boot resume_words
+
+abbrev exit_memory : CloakedMemory
+exit_memory = resumed_memory exit_page exit_rest (behind_draw 256)
+
+-- the program at an instruction, with this in x17
+abbrev exiting : ℕ → ℕ → Context
+exiting pc number = running pc (registers_from 2 (0x80008100 ∷ []) (registers_from 17 (number ∷ []) (replicate 32 0)))
+
+-- a step that only fetches
+abbrev exit_turn : Context → Turn
+exit_turn c = quiet (machine program_hart (program_with c []) exit_memory) (item.Ok 0 ∷ [])
+
+abbrev exit_moment : ℕ → Context → Moment
+exit_moment steps c = at_step steps (machine program_hart (program_with c []) exit_memory)
+
+abbrev granted : Context → Told Answer
+granted c = fetch_granted program_hart (program_with c []) c exit_memory
+
+-- the program's page is gone, and its space forgot its page table
+abbrev gone_memory : CloakedMemory
+gone_memory = record exit_memory {
+  plain = λ p. if is_of 0 0 p then zero_page else plain_of exit_page p;
+  ledger = record exit_memory.ledger {
+    recorded = λ p. if is_of 0 0 p then None else exit_memory.ledger.recorded p;
+    root = with_space bare_root (record { domain = 0; number = 0 }) None;
+  };
+}
+
+abbrev gone_machine : Joint
+gone_machine =
+    machine (outside_hart 0x80000014 (registers_from 17 (0x4F560007 ∷ []) (replicate 32 0))
+    (csrs_of 0x80000014 0x00001000 8 0)) gone_program gone_memory
+
+abbrev gone_turn : Turn
+gone_turn = quiet gone_machine (item.Ok 0 ∷ item.Ok 0 ∷ item.Leave shown_exit ∷ [])
+
+exit_first : joint_step (exit_moment 5 started_context) ≡ exit_turn (exiting 0x80008004 0x4F560000)
+unfolding joint_steps fetched_step fetch_granted
+exit_first =
+    joint_step-of 5 program_hart (program_with started_context []) started_context exit_memory
+    (exit_turn (exiting 0x80008004 0x4F560000)) (record {
+      told = granted started_context;
+      asks = refl;
+      tells = reach-shown page 0x80008000 Fetch
+          (cloak_for program_hart (program_with started_context []) started_context exit_memory)
+          (record { bare = refl; inside = refl; drawn = refl }) (record { owed = refl; owing = refl; shown = refl });
+      ends = refl;
+    })
+
+exit_second : joint_step (exit_moment 6 (exiting 0x80008004 0x4F560000)) ≡ exit_turn (exiting 0x80008008 0x4F560007)
+unfolding joint_steps fetched_step fetch_granted
+exit_second = let c = exiting 0x80008004 0x4F560000 in
+    joint_step-of 6 program_hart (program_with c []) c exit_memory (exit_turn (exiting 0x80008008 0x4F560007)) (record {
+      told = granted c;
+      asks = refl;
+      tells = reach-shown page 0x80008004 Fetch (cloak_for program_hart (program_with c []) c exit_memory)
+          (record { bare = refl; inside = refl; drawn = refl }) (record { owed = refl; owing = refl; shown = refl });
+      ends = refl;
+    })
+
+exit_third : joint_step (exit_moment 7 (exiting 0x80008008 0x4F560007)) ≡ gone_turn
+unfolding joint_steps fetched_step fetch_granted
+exit_third = let c = exiting 0x80008008 0x4F560007 in
+    joint_step-of 7 program_hart (program_with c []) c exit_memory gone_turn (record {
+      told = granted c;
+      asks = refl;
+      tells = reach-shown page 0x80008008 Fetch (cloak_for program_hart (program_with c []) c exit_memory)
+          (record { bare = refl; inside = refl; drawn = refl }) (record { owed = refl; owing = refl; shown = refl });
+      ends = refl;
+    })
+
+abbrev gone_moment : Moment
+gone_moment = at_step 8 gone_machine
+
+exit_turns : turns_from 95 (exit_moment 5 started_context) ≡ exit_turn (exiting 0x80008004 0x4F560000) ∷
+    exit_turn (exiting 0x80008008 0x4F560007) ∷ gone_turn ∷ turns_from 92 gone_moment
+exit_turns =
+    turns_from-step 94 (exit_moment 5 started_context) (exit_turn (exiting 0x80008004 0x4F560000)) exit_first refl
+    ∙ ap (λ (ts : List Turn). exit_turn (exiting 0x80008004 0x4F560000) ∷ ts)
+    (turns_from-step 93 (exit_moment 6 (exiting 0x80008004 0x4F560000))
+    (exit_turn (exiting 0x80008008 0x4F560007)) exit_second refl)
+    ∙ ap (λ (ts : List Turn). exit_turn (exiting 0x80008004 0x4F560000) ∷ exit_turn (exiting 0x80008008 0x4F560007) ∷
+    ts) (turns_from-step 92 (exit_moment 7 (exiting 0x80008008 0x4F560007)) gone_turn exit_third refl)
+
+abbrev exit_run : List Turn → Run
+exit_run turns = run_of_turns (opened exit_page exit_rest (behind_draw 256)) turns
+
+exit_opens : seen (image_of 1 (0 ∷ []) (boot ++ resume_words) exit_words) (counted 256) 100 ≡
+    there_is (seen_of (exit_run (turns_from 100 (opened_moment exit_page exit_rest (behind_draw 256)))))
+unfolding joint_runs zero_page
+exit_opens = refl
+
+exit_all : turns_from 100 (opened_moment exit_page exit_rest (behind_draw 256)) ≡
+    first_turns 5 (opened_moment exit_page exit_rest (behind_draw 256))
+    ++ (exit_turn (exiting 0x80008004 0x4F560000) ∷ exit_turn (exiting 0x80008008 0x4F560007) ∷ gone_turn ∷
+    turns_from 92 gone_moment)
+exit_all =
+    turns_from-boot exit_page exit_rest (behind_draw 256) 95
+    ∙ ap (λ (ts : List Turn). first_turns 5 (opened_moment exit_page exit_rest (behind_draw 256)) ++ ts) exit_turns
+
+pub after_exit : AfterExit
+unfolding joint_runs first_turns
+after_exit = exit_opens ∙ ap (λ (ts : List Turn). there_is (seen_of (exit_run ts))) exit_all ∙ refl

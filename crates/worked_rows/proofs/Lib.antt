@@ -1,6 +1,6 @@
 pub mod Computing
+pub mod Ciphers
 pub mod Offers
 pub mod Turns
-pub mod Ciphers
 pub mod Whole
 pub mod JointRows

@@ -33,15 +33,24 @@ none None h = refl
 none (Some s) h = absurd (cc)
 
 -- a step that stops nothing
-pub turns_from-step : (n : ℕ) (m : Moment) (t : Turn) → joint_step m ≡ t → stop_of t ≡ None → turns_from (suc n) m ≡ t ∷ turns_from n (after_turn m t)
+pub turns_from-step : (n : ℕ) (m : Moment) (t : Turn) → joint_step m ≡ t → stop_of t ≡ None → turns_from (suc n) m ≡
+    t ∷ turns_from n (after_turn m t)
 unfolding turns_from
 turns_from-step n m t e s = rw (e, s) refl
 
+-- a step that stops the run
+pub turns_from-last : (n : ℕ) (m : Moment) (t : Turn) (cause : Stop) → joint_step m ≡ t → stop_of t ≡ Some cause →
+    turns_from (suc n) m ≡ t ∷ []
+unfolding turns_from
+turns_from-last n m t cause e s = rw (e, s) refl
+
 -- k steps that stop nothing
-pub turns_from-plus : (k n : ℕ) (m : Moment) → goes_on k m ≡ true → turns_from (plus k n) m ≡ first_turns k m ++ turns_from n (moment_after k m)
+pub turns_from-plus : (k n : ℕ) (m : Moment) → goes_on k m ≡ true → turns_from (plus k n) m ≡ first_turns k m
+    ++ turns_from n (moment_after k m)
 unfolding first_turns moment_after goes_on
 turns_from-plus zero n m h = refl
 turns_from-plus (suc k) n m h =
     let t = joint_step m in
     let parts = both (is_none (stop_of t)) (goes_on k (after_turn m t)) h in
-    turns_from-step (plus k n) m t refl (none (stop_of t) parts.0) ∙ ap (λ (ts : List Turn). t ∷ ts) (turns_from-plus k n (after_turn m t) parts.1)
+    turns_from-step (plus k n) m t refl (none (stop_of t) parts.0)
+    ∙ ap (λ (ts : List Turn). t ∷ ts) (turns_from-plus k n (after_turn m t) parts.1)

@@ -1,6 +1,6 @@
--- The steps that the rows of the whole program share, up to its call: for all that stands behind the kernel's boot, and
--- every rest of the stream.
-use Rattle.std.proofs.Common.{◌≡◌, ℕ, refl, true, false, List, [], ◌∷◌, ◌++◌, Option, Some, None, ◌∙◌, ap, sym}
+-- The steps that several rows share: the kernel's boot, and the program up to its call. They are the same for all that
+-- stands behind the boot, and for every rest of the stream.
+use Rattle.std.proofs.Common.{◌≡◌, ℕ, refl, true, false, List, [], ◌∷◌, ◌++◌, Option, Some, None, ◌∙◌, ap}
 use Rattle.std.specs.Prelude.{replicate}
 use Rattle.std.specs.List.{flat_map}
 use Rattle.cloak_base.specs.Pages.{with_page}
@@ -10,27 +10,27 @@ use Rattle.cloak_base.specs.declared.names.PageId.{PageId}
 use Rattle.cloak_base.specs.declared.names.SpaceId.{SpaceId}
 use Rattle.cloak_model.specs.declared.answer.Answer.{Answer}
 use Rattle.cloak_model.specs.declared.answer.Answer.TheVariants as told
-use Rattle.cloak_model.specs.declared.item.Item.{Item}
 use Rattle.cloak_model.specs.declared.item.Item.TheVariants as item
 use Rattle.cloak_model.specs.Bits.{word}
 use Rattle.cloak_base.specs.Pages.{zero_page}
+use Rattle.cloak_model.specs.Chain.{cbc}
 use Rattle.cloak_model.specs.Memory.{with_value_in}
 use Rattle.cloak_model.specs.Cloaking.{CloakedMemory}
 use Rattle.cloak_model.specs.Hart.{Hart}
 use Rattle.cloak_model.specs.Contexts.{Context, with_space}
 use Rattle.cloak_model.specs.DomainState.{Domain}
-use Rattle.cloak_model.specs.DomainStep.{DomainStepped, instruction_ended}
+use Rattle.cloak_model.specs.DomainStep.{instruction_ended}
 use Rattle.cloak_model.specs.InsideStep.{fetched_inside, store_reached}
-use Rattle.cloak_model.specs.World.{World, Cloak, Cloaked}
+use Rattle.cloak_model.specs.World.{Cloak, Cloaked}
 use Rattle.cloak_model.specs.Asking.{Told, then_ask}
 use Rattle.cloak_model.specs.AskPages.{ask_reach}
 use Rattle.cloak_model.specs.Parts.{Joint}
-use Rattle.cloak_model.specs.Joint.{Moment, Turn, joint_step, quiet, after_turn, after_domain_step, cloak_of, pages_for, with_domain, stop_of}
+use Rattle.cloak_model.specs.Joint.{Moment, Turn, joint_step, quiet, after_domain_step, cloak_of, pages_for}
 use Rattle.cloak_model.specs.Run.{turns_from}
-use Rattle.worked_rows.specs.Images.{boot, program_page}
+use Rattle.worked_rows.specs.Images.{boot, words_page}
 use Rattle.worked_rows.specs.Runs.{running, registers_from}
-use Rattle.worked_rows.specs.JointRuns.{key, csrs_of, outside_hart, inside_hart}
-use Rattle.worked_rows.specs.JointRows.{opening_cipher, program_resources, program_with, program_at_call, kernel_hart, started, not_started}
+use Rattle.worked_rows.specs.JointRuns.{key, draw_1, csrs_of, outside_hart, inside_hart}
+use Rattle.worked_rows.specs.JointRows.{program_resources, program_with, program_at_call, called_hart, started_context, not_started}
 use Rattle.worked_rows.proofs.Computing.{joint_steps, told_steps, joint_runs}
 use Rattle.worked_rows.proofs.Offers.{reach-shown}
 use Rattle.worked_rows.proofs.Turns.{first_turns, moment_after, goes_on, plus, turns_from-plus, turns_from-step}
@@ -40,13 +40,9 @@ use Rattle.worked_rows.proofs.Turns.{first_turns, moment_after, goes_on, plus, t
 abbrev pub page : PageId
 page = record { domain = 0; resource = 0; page = 0 }
 
--- with the 7 that the program stores
-abbrev pub stored_page : List ℕ
-stored_page = with_value_in program_page 0x100 4 7
-
--- frame 0 has the kernel, and frame 8 what the kernel sees of the program's page
-abbrev pub opened_ram : List ℕ → List (List ℕ)
-opened_ram rest = (flat_map word boot ++ rest) ∷ (replicate 7 zero_page ++ (opening_cipher ∷ replicate 55 zero_page))
+-- frame 0 has the kernel, and the kernel sees these bytes in frame 8
+abbrev pub ram_of : List ℕ → List ℕ → List (List ℕ)
+ram_of rest shown = (flat_map word boot ++ rest) ∷ (replicate 7 zero_page ++ (shown ∷ replicate 55 zero_page))
 
 -- the page tables of spaces, before and after the first resume
 abbrev pub no_root : SpaceId → Option ℕ
@@ -55,19 +51,17 @@ no_root s = None
 abbrev pub bare_root : SpaceId → Option ℕ
 bare_root = with_space no_root (record { domain = 0; number = 0 }) (Some 0)
 
--- every page but the program's is zeros
-abbrev pub opened_plain : PageId → List ℕ
-opened_plain = with_page (λ q. zero_page) page program_page
-
-abbrev pub memory_of : List ℕ → Random → (SpaceId → Option ℕ) → (PageId → List ℕ) → List (Option PageId) → CloakedMemory
-memory_of rest stream root plain owed = record {
-  ram = opened_ram rest;
+-- a program's page of these bytes was opened
+abbrev pub memory_of : List ℕ → List ℕ → Random → (SpaceId → Option ℕ) → (PageId → List ℕ) → List (Option PageId) →
+    CloakedMemory
+memory_of bytes rest stream root plain owed = record {
+  ram = ram_of rest (cbc key draw_1 bytes);
   plain = plain;
   ledger = record {
     key = key;
     stream = stream;
     draws = 1;
-    recorded = with_page (λ q. None) page (Some opening_cipher);
+    recorded = with_page (λ q. None) page (Some (cbc key draw_1 bytes));
     owed = owed;
     root = root;
     missed = false;
@@ -75,17 +69,30 @@ memory_of rest stream root plain owed = record {
   };
 }
 
+-- every page but the program's is zeros
+abbrev pub plain_of : List ℕ → PageId → List ℕ
+plain_of bytes = with_page (λ q. zero_page) page bytes
+
 -- as the run begins, and after the first resume
-abbrev pub opened_memory : List ℕ → Random → CloakedMemory
-opened_memory rest stream = memory_of rest stream no_root opened_plain (replicate 64 None)
+abbrev pub opened_memory : List ℕ → List ℕ → Random → CloakedMemory
+opened_memory bytes rest stream = memory_of bytes rest stream no_root (plain_of bytes) (replicate 64 None)
 
-abbrev pub resumed_memory : List ℕ → Random → CloakedMemory
-resumed_memory rest stream = memory_of rest stream bare_root opened_plain (replicate 64 None)
+abbrev pub resumed_memory : List ℕ → List ℕ → Random → CloakedMemory
+resumed_memory bytes rest stream = memory_of bytes rest stream bare_root (plain_of bytes) (replicate 64 None)
 
--- frame 8 has yet to show the page with the 7
+-- the page with the 7 that the program stores
+abbrev pub stored_page : List ℕ
+stored_page = with_value_in words_page 0x100 4 7
+
+-- frame 8 has yet to show it
+abbrev pub owed_page : List (Option PageId)
+owed_page = replicate 8 None ++ (Some page ∷ replicate 55 None)
+
+abbrev pub stored_plain : PageId → List ℕ
+stored_plain = with_page (plain_of words_page) page stored_page
+
 abbrev pub stored_memory : List ℕ → Random → CloakedMemory
-stored_memory rest stream =
-    memory_of rest stream bare_root (with_page opened_plain page stored_page) (replicate 8 None ++ (Some page ∷ replicate 55 None))
+stored_memory rest stream = memory_of words_page rest stream bare_root stored_plain owed_page
 
 -- the hart as it starts, and as it runs the program
 abbrev pub first_hart : Hart
@@ -101,139 +108,199 @@ machine h d m = record { harts = h ∷ []; disk = []; console = []; memory = m; 
 abbrev pub at_step : ℕ → Joint → Moment
 at_step steps j = record { schedule = 0 ∷ []; steps = steps; joint = j }
 
--- the program with what it loaded into x10
+-- The kernel's boot: five steps.
+
+abbrev pub opened_moment : List ℕ → List ℕ → Random → Moment
+opened_moment bytes rest stream =
+    at_step 0 (machine first_hart (program_with not_started []) (opened_memory bytes rest stream))
+
+abbrev pub resumed_moment : List ℕ → List ℕ → Random → Moment
+resumed_moment bytes rest stream =
+    at_step 5 (machine program_hart (program_with started_context []) (resumed_memory bytes rest stream))
+
+boots : (bytes rest : List ℕ) (stream : Random) → moment_after 5 (opened_moment bytes rest stream) ≡
+    resumed_moment bytes rest stream
+unfolding joint_steps moment_after
+boots bytes rest stream = refl
+
+boot_goes_on : (bytes rest : List ℕ) (stream : Random) → goes_on 5 (opened_moment bytes rest stream) ≡ true
+unfolding joint_steps goes_on
+boot_goes_on bytes rest stream = refl
+
+pub turns_from-boot : (bytes rest : List ℕ) (stream : Random) (n : ℕ)
+    → turns_from (plus 5 n) (opened_moment bytes rest stream) ≡ first_turns 5 (opened_moment bytes rest stream)
+    ++ turns_from n (resumed_moment bytes rest stream)
+turns_from-boot bytes rest stream n =
+    turns_from-plus 5 n (opened_moment bytes rest stream) (boot_goes_on bytes rest stream)
+    ∙ ap (λ (m : Moment). first_turns 5 (opened_moment bytes rest stream) ++ turns_from n m) (boots bytes rest stream)
+
+-- A step of the one context, by what its fetch is told.
+
+unfoldable pub fetched_step : Hart → Domain → Context → CloakedMemory → Told Answer → Turn
+unfolding told_steps
+fetched_step h d c m told =
+    after_domain_step (machine h d m) 0 h 0
+    (then_ask (fetched_inside 0 program_resources c page told.answer)
+    (λ made. instruction_ended 0 d made.context made.ending) told.world)
+
+-- the memory as the context asks
+unfoldable pub cloak_for : Hart → Domain → Context → CloakedMemory → Cloak
+cloak_for h d c m = cloak_of m h 0 (pages_for d (Some c))
+
+-- its fetch was granted, and changed nothing
+unfoldable pub fetch_granted : Hart → Domain → Context → CloakedMemory → Told Answer
+unfolding cloak_for
+fetch_granted h d c m =
+    record { answer = told.Ok; world = Cloaked (record (cloak_for h d c m) { items = item.Ok 0 ∷ [] }) }
+
+-- the step as it asks, what it is told, and what it then comes to
+pub record IsStep (n : ℕ) (h : Hart) (d : Domain) (c : Context) (m : CloakedMemory) (t : Turn) : Type 0 where
+  pub told : Told Answer
+  pub asks : joint_step (at_step n (machine h d m)) ≡
+      fetched_step h d c m (ask_reach page c.pc Fetch (Cloaked (cloak_for h d c m)))
+  pub tells : ask_reach page c.pc Fetch (Cloaked (cloak_for h d c m)) ≡ told
+  pub ends : fetched_step h d c m told ≡ t
+
+pub joint_step-of : (n : ℕ) (h : Hart) (d : Domain) (c : Context) (m : CloakedMemory) (t : Turn) →
+    IsStep n h d c m t → joint_step (at_step n (machine h d m)) ≡ t
+joint_step-of n h d c m t s = s.asks ∙ ap (fetched_step h d c m) s.tells ∙ s.ends
+
+-- The program's first two instructions, whose fetches and store compare the frame with what was shown.
+
+-- the program with 7 in x10
 abbrev pub with_seven : ℕ → Context
 with_seven pc = running pc (registers_from 2 (0x80008100 ∷ []) (registers_from 10 (7 ∷ []) (replicate 32 0)))
 
-abbrev pub opened_moment : List ℕ → Random → Moment
-opened_moment rest stream = at_step 0 (machine first_hart (program_with not_started []) (opened_memory rest stream))
+abbrev fetched_moment : List ℕ → Random → Moment
+fetched_moment rest stream =
+    at_step 6 (machine program_hart (program_with (with_seven 0x80008004) []) (resumed_memory words_page rest stream))
 
-abbrev pub resumed_moment : List ℕ → Random → Moment
-resumed_moment rest stream = at_step 5 (machine program_hart (program_with started []) (resumed_memory rest stream))
+abbrev stored_moment : List ℕ → Random → Moment
+stored_moment rest stream =
+    at_step 7 (machine program_hart (program_with (with_seven 0x80008008) []) (stored_memory rest stream))
 
-abbrev pub fetched_moment : List ℕ → Random → Moment
-fetched_moment rest stream = at_step 6 (machine program_hart (program_with (with_seven 0x80008004) []) (resumed_memory rest stream))
+abbrev first_turn : List ℕ → Random → Turn
+first_turn rest stream =
+    quiet (machine program_hart (program_with (with_seven 0x80008004) []) (resumed_memory words_page rest stream))
+    (item.Ok 0 ∷ [])
 
-abbrev pub stored_moment : List ℕ → Random → Moment
-stored_moment rest stream = at_step 7 (machine program_hart (program_with (with_seven 0x80008008) []) (stored_memory rest stream))
+first : (rest : List ℕ) (stream : Random) → joint_step (resumed_moment words_page rest stream) ≡ first_turn rest stream
+unfolding joint_steps fetched_step fetch_granted
+first rest stream =
+    joint_step-of 5 program_hart (program_with started_context []) started_context
+    (resumed_memory words_page rest stream) (first_turn rest stream) (record {
+      told = fetch_granted program_hart (program_with started_context []) started_context
+          (resumed_memory words_page rest stream);
+      asks = refl;
+      tells = reach-shown page 0x80008000 Fetch
+          (cloak_for program_hart (program_with started_context []) started_context
+          (resumed_memory words_page rest stream)) (record { bare = refl; inside = refl; drawn = refl })
+          (record { owed = refl; owing = refl; shown = refl });
+      ends = refl;
+    })
 
-abbrev pub left_moment : List ℕ → Random → Moment
-left_moment rest stream = at_step 12 (machine (kernel_hart 0x80000014 9) program_at_call (stored_memory rest stream))
+-- the store, by what its reaching of the page is told
+store_step : List ℕ → Random → Told Answer → Turn
+unfolding told_steps
+store_step rest stream told =
+    let d = program_with (with_seven 0x80008004) [] in
+    after_domain_step (machine program_hart d (resumed_memory words_page rest stream)) 0 program_hart 0
+    (then_ask (store_reached (with_seven 0x80008004) page 0x80008100 4 7 told.answer)
+    (λ made. instruction_ended 0 d made.context made.ending) told.world)
 
--- The kernel's boot: five steps.
+-- the memory as it asks for that, and as it was granted
+storing : List ℕ → Random → Cloak
+unfolding cloak_for
+storing rest stream =
+    record (cloak_for program_hart (program_with (with_seven 0x80008004) []) (with_seven 0x80008004)
+    (resumed_memory words_page rest stream)) { items = item.Ok 0 ∷ [] }
 
-boots : (rest : List ℕ) (stream : Random) → moment_after 5 (opened_moment rest stream) ≡ resumed_moment rest stream
-unfolding joint_steps moment_after
-boots rest stream = refl
+store_granted : List ℕ → Random → Told Answer
+unfolding storing
+store_granted rest stream = record {
+  answer = told.Ok;
+  world = Cloaked (record (storing rest stream) {
+    memory = memory_of words_page rest stream bare_root (plain_of words_page) owed_page;
+    items = item.Ok 0 ∷ item.Ok 0 ∷ [];
+  });
+}
+
+abbrev second_turn : List ℕ → Random → Turn
+second_turn rest stream =
+    quiet (machine program_hart (program_with (with_seven 0x80008008) []) (stored_memory rest stream))
+    (item.Ok 0 ∷ item.Ok 0 ∷ [])
+
+store_asks : (rest : List ℕ) (stream : Random)
+    → fetched_step program_hart (program_with (with_seven 0x80008004) []) (with_seven 0x80008004)
+    (resumed_memory words_page rest stream)
+    (fetch_granted program_hart (program_with (with_seven 0x80008004) []) (with_seven 0x80008004)
+    (resumed_memory words_page rest stream))
+    ≡ store_step rest stream (ask_reach page 0x80008100 Store (Cloaked (storing rest stream)))
+unfolding joint_steps fetched_step fetch_granted store_step storing
+store_asks rest stream = refl
+
+store_tells : (rest : List ℕ) (stream : Random) → ask_reach page 0x80008100 Store (Cloaked (storing rest stream)) ≡
+    store_granted rest stream
+unfolding joint_steps store_granted
+store_tells rest stream =
+    reach-shown page 0x80008100 Store (storing rest stream) (record { bare = refl; inside = refl; drawn = refl })
+    (record { owed = refl; owing = refl; shown = refl })
+
+store_ends : (rest : List ℕ) (stream : Random) → store_step rest stream (store_granted rest stream) ≡
+    second_turn rest stream
+unfolding joint_steps store_step store_granted
+store_ends rest stream = refl
+
+second : (rest : List ℕ) (stream : Random) → joint_step (fetched_moment rest stream) ≡ second_turn rest stream
+unfolding joint_steps fetched_step fetch_granted
+second rest stream =
+    joint_step-of 6 program_hart (program_with (with_seven 0x80008004) []) (with_seven 0x80008004)
+    (resumed_memory words_page rest stream) (second_turn rest stream) (record {
+      told = fetch_granted program_hart (program_with (with_seven 0x80008004) []) (with_seven 0x80008004)
+          (resumed_memory words_page rest stream);
+      asks = refl;
+      tells = reach-shown page 0x80008004 Fetch
+          (cloak_for program_hart (program_with (with_seven 0x80008004) []) (with_seven 0x80008004)
+          (resumed_memory words_page rest stream)) (record { bare = refl; inside = refl; drawn = refl })
+          (record { owed = refl; owing = refl; shown = refl });
+      ends = store_asks rest stream ∙ ap (store_step rest stream) (store_tells rest stream) ∙ store_ends rest stream;
+    })
 
 -- Behind the store the frame is owed its page, and nothing is compared up to the call: five steps.
+
+abbrev pub left_moment : List ℕ → Random → Moment
+left_moment rest stream = at_step 12 (machine (called_hart 0x80000014 9) program_at_call (stored_memory rest stream))
 
 calls : (rest : List ℕ) (stream : Random) → moment_after 5 (stored_moment rest stream) ≡ left_moment rest stream
 unfolding joint_runs moment_after
 calls rest stream = refl
 
--- Between them the program's first two instructions, whose fetches and store compare the frame with what was shown.
-
--- a step of the one context whose fetch was told so
-fetched_step : Domain → Context → CloakedMemory → Told Answer → Turn
-unfolding told_steps
-fetched_step d c m told = after_domain_step (machine program_hart d m) 0 program_hart 0 (then_ask (fetched_inside 0 program_resources c page told.answer) (λ made. instruction_ended 0 d made.context made.ending) told.world)
-
--- the memory as the context asks
-cloak_for : Domain → Context → CloakedMemory → Cloak
-cloak_for d c m = cloak_of m program_hart 0 (pages_for d (Some c))
-
--- its fetch was granted, and changed nothing
-fetch_granted : Domain → Context → CloakedMemory → Told Answer
-unfolding cloak_for
-fetch_granted d c m = record { answer = told.Ok; world = Cloaked (record (cloak_for d c m) { items = item.Ok 0 ∷ [] }) }
-
--- A step whose fetch compares the frame with the bytes that were last shown, which it has.
-record IsFetching (n : ℕ) (d : Domain) (c : Context) (m : CloakedMemory) (t : Turn) : Type 0 where
-  asks : joint_step (at_step n (machine program_hart d m)) ≡ fetched_step d c m (ask_reach page c.pc Fetch (Cloaked (cloak_for d c m)))
-  granted : ask_reach page c.pc Fetch (Cloaked (cloak_for d c m)) ≡ fetch_granted d c m
-  ends : fetched_step d c m (fetch_granted d c m) ≡ t
-
-joint_step-fetching : (n : ℕ) (d : Domain) (c : Context) (m : CloakedMemory) (t : Turn) → IsFetching n d c m t → joint_step (at_step n (machine program_hart d m)) ≡ t
-joint_step-fetching n d c m t f = f.asks ∙ ap (fetched_step d c m) f.granted ∙ f.ends
-
-abbrev first_turn : List ℕ → Random → Turn
-first_turn rest stream = quiet (machine program_hart (program_with (with_seven 0x80008004) []) (resumed_memory rest stream)) (item.Ok 0 ∷ [])
-
-first : (rest : List ℕ) (stream : Random) → joint_step (resumed_moment rest stream) ≡ first_turn rest stream
-unfolding joint_steps fetched_step cloak_for fetch_granted
-first rest stream = joint_step-fetching 5 (program_with started []) started (resumed_memory rest stream) (first_turn rest stream) (record {
-  asks = refl;
-  granted = reach-shown page 0x80008000 Fetch (cloak_for (program_with started []) started (resumed_memory rest stream)) (record { bare = refl; inside = refl; drawn = refl }) (record { owed = refl; owing = refl; shown = refl });
-  ends = refl;
-})
-
--- the second stores: what its reaching of the page comes to
-store_step : (rest : List ℕ) (stream : Random) → Told Answer → Turn
-unfolding told_steps
-store_step rest stream told =
-    let d = program_with (with_seven 0x80008004) [] in
-    after_domain_step (machine program_hart d (resumed_memory rest stream)) 0 program_hart 0
-    (then_ask (store_reached (with_seven 0x80008004) page 0x80008100 4 7 told.answer) (λ made. instruction_ended 0 d made.context made.ending) told.world)
-
--- the memory as it asks for that
-storing : List ℕ → Random → Cloak
-unfolding cloak_for
-storing rest stream = record (cloak_for (program_with (with_seven 0x80008004) []) (with_seven 0x80008004) (resumed_memory rest stream)) { items = item.Ok 0 ∷ [] }
-
-abbrev second_turn : List ℕ → Random → Turn
-second_turn rest stream = quiet (machine program_hart (program_with (with_seven 0x80008008) []) (stored_memory rest stream)) (item.Ok 0 ∷ item.Ok 0 ∷ [])
-
-second_stores : (rest : List ℕ) (stream : Random)
-    → fetched_step (program_with (with_seven 0x80008004) []) (with_seven 0x80008004) (resumed_memory rest stream)
-    (fetch_granted (program_with (with_seven 0x80008004) []) (with_seven 0x80008004) (resumed_memory rest stream))
-    ≡ store_step rest stream (ask_reach page 0x80008100 Store (Cloaked (storing rest stream)))
-unfolding joint_steps fetched_step cloak_for fetch_granted store_step storing
-second_stores rest stream = refl
-
-second_reaches : (rest : List ℕ) (stream : Random) → ask_reach page 0x80008100 Store (Cloaked (storing rest stream))
-    ≡ record { answer = told.Ok; world = Cloaked (record (storing rest stream) { memory = record (resumed_memory rest stream) { ledger = record (resumed_memory rest stream).ledger { owed = replicate 8 None ++ (Some page ∷ replicate 55 None) } }; items = item.Ok 0 ∷ item.Ok 0 ∷ [] }) }
-unfolding joint_steps storing cloak_for
-second_reaches rest stream = reach-shown page 0x80008100 Store (storing rest stream) (record { bare = refl; inside = refl; drawn = refl }) (record { owed = refl; owing = refl; shown = refl })
-
-second_ends : (rest : List ℕ) (stream : Random)
-    → store_step rest stream (record { answer = told.Ok; world = Cloaked (record (storing rest stream) { memory = record (resumed_memory rest stream) { ledger = record (resumed_memory rest stream).ledger { owed = replicate 8 None ++ (Some page ∷ replicate 55 None) } }; items = item.Ok 0 ∷ item.Ok 0 ∷ [] }) })
-    ≡ second_turn rest stream
-unfolding joint_steps store_step storing cloak_for
-second_ends rest stream = refl
-
-second : (rest : List ℕ) (stream : Random) → joint_step (fetched_moment rest stream) ≡ second_turn rest stream
-unfolding joint_steps fetched_step cloak_for fetch_granted
-second rest stream = joint_step-fetching 6 (program_with (with_seven 0x80008004) []) (with_seven 0x80008004) (resumed_memory rest stream) (second_turn rest stream) (record {
-  asks = refl;
-  granted = reach-shown page 0x80008004 Fetch (cloak_for (program_with (with_seven 0x80008004) []) (with_seven 0x80008004) (resumed_memory rest stream)) (record { bare = refl; inside = refl; drawn = refl }) (record { owed = refl; owing = refl; shown = refl });
-  ends = second_stores rest stream ∙ ap (store_step rest stream) (second_reaches rest stream) ∙ second_ends rest stream;
-})
+call_goes_on : (rest : List ℕ) (stream : Random) → goes_on 5 (stored_moment rest stream) ≡ true
+unfolding joint_runs goes_on
+call_goes_on rest stream = refl
 
 -- All twelve, with what follows.
 
 unfoldable pub turns_to_call : List ℕ → Random → List Turn → List Turn
 unfolding first_turns
 turns_to_call rest stream later =
-    first_turns 5 (opened_moment rest stream) ++ (first_turn rest stream ∷ (second_turn rest stream ∷ (first_turns 5 (stored_moment rest stream) ++ later)))
-
-boot_goes_on : (rest : List ℕ) (stream : Random) → goes_on 5 (opened_moment rest stream) ≡ true
-unfolding joint_steps goes_on
-boot_goes_on rest stream = refl
-
-program_goes_on : (rest : List ℕ) (stream : Random) → goes_on 5 (stored_moment rest stream) ≡ true
-unfolding joint_runs goes_on
-program_goes_on rest stream = refl
+    first_turns 5 (opened_moment words_page rest stream)
+    ++ (first_turn rest stream ∷ (second_turn rest stream ∷ (first_turns 5 (stored_moment rest stream) ++ later)))
 
 pub turns_from-call : (rest : List ℕ) (stream : Random) (n : ℕ)
-    → turns_from (plus 12 n) (opened_moment rest stream) ≡ turns_to_call rest stream (turns_from n (left_moment rest stream))
+    → turns_from (plus 12 n) (opened_moment words_page rest stream) ≡
+    turns_to_call rest stream (turns_from n (left_moment rest stream))
 unfolding turns_to_call
 turns_from-call rest stream n =
-    let later : turns_from (plus 5 n) (stored_moment rest stream) ≡ first_turns 5 (stored_moment rest stream) ++ turns_from n (left_moment rest stream) =
-    turns_from-plus 5 n (stored_moment rest stream) (program_goes_on rest stream)
+    let later : turns_from (plus 5 n) (stored_moment rest stream) ≡ first_turns 5 (stored_moment rest stream)
+    ++ turns_from n (left_moment rest stream) =
+    turns_from-plus 5 n (stored_moment rest stream) (call_goes_on rest stream)
     ∙ ap (λ (m : Moment). first_turns 5 (stored_moment rest stream) ++ turns_from n m) (calls rest stream) in
-    turns_from-plus 5 (plus 7 n) (opened_moment rest stream) (boot_goes_on rest stream)
-    ∙ ap (λ (m : Moment). first_turns 5 (opened_moment rest stream) ++ turns_from (plus 7 n) m) (boots rest stream)
-    ∙ ap (λ (ts : List Turn). first_turns 5 (opened_moment rest stream) ++ ts) (turns_from-step (plus 6 n) (resumed_moment rest stream) (first_turn rest stream) (first rest stream) refl)
-    ∙ ap (λ (ts : List Turn). first_turns 5 (opened_moment rest stream) ++ (first_turn rest stream ∷ ts)) (turns_from-step (plus 5 n) (fetched_moment rest stream) (second_turn rest stream) (second rest stream) refl)
-    ∙ ap (λ (ts : List Turn). first_turns 5 (opened_moment rest stream) ++ (first_turn rest stream ∷ (second_turn rest stream ∷ ts))) later
+    turns_from-boot words_page rest stream (plus 7 n)
+    ∙ ap (λ (ts : List Turn). first_turns 5 (opened_moment words_page rest stream) ++ ts)
+    (turns_from-step (plus 6 n) (resumed_moment words_page rest stream) (first_turn rest stream)
+    (first rest stream) refl)
+    ∙ ap (λ (ts : List Turn). first_turns 5 (opened_moment words_page rest stream) ++ (first_turn rest stream ∷ ts))
+    (turns_from-step (plus 5 n) (fetched_moment rest stream) (second_turn rest stream) (second rest stream) refl)
+    ∙ ap (λ (ts : List Turn). first_turns 5 (opened_moment words_page rest stream)
+    ++ (first_turn rest stream ∷ (second_turn rest stream ∷ ts))) later

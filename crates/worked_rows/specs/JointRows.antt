@@ -23,7 +23,7 @@ use Rattle.cloak_model.specs.Exchange.{record_of, recorded, shown}
 use Rattle.cloak_model.specs.Opening.{NoKey, NoPageDraw}
 use Rattle.cloak_model.specs.Report.{stop_line}
 use Rattle.cloak_model.specs.Run.{report_of, due}
-use Rattle.worked_rows.specs.Images.{boot, halt, letter_words, remap_and_resume, resume_words, resume_third, program_words, program_page, image, image_of, lone_image}
+use Rattle.worked_rows.specs.Images.{boot, halt, flip_and_resume, look_and_resume, remap_and_resume, resume_words, resume_third, exit_words, letter_words, program_words, page_with, words_page, image, image_of, lone_image}
 use Rattle.worked_rows.specs.Runs.{registers_from, running}
 use Rattle.worked_rows.specs.JointRuns.{counted, key, draw_1, draw_2, Seen, seen, read_off, csrs_of, outside_hart, inside_hart}
 
@@ -31,18 +31,18 @@ use Rattle.worked_rows.specs.JointRuns.{counted, key, draw_1, draw_2, Seen, seen
 
 -- the program's page under the first draw
 abbrev pub opening_cipher : List ℕ
-opening_cipher = cbc key draw_1 program_page
+opening_cipher = cbc key draw_1 words_page
 
 -- the page with the 7 that the program stored, under the second draw
 abbrev pub closing_cipher : List ℕ
-closing_cipher = cbc key draw_2 (with_value_in program_page 0x100 4 7)
+closing_cipher = cbc key draw_2 (with_value_in words_page 0x100 4 7)
 
 -- what call 9 shows
-abbrev pub shown_call : Shown
-shown_call = record { cause = 8; stval = 0; ctx = 0; number = 9; args = 7 ∷ 7 ∷ 0 ∷ 0 ∷ 0 ∷ 0 ∷ [] }
+abbrev pub shown_nine : Shown
+shown_nine = record { cause = 8; stval = 0; ctx = 0; number = 9; args = 7 ∷ 7 ∷ 0 ∷ 0 ∷ 0 ∷ 0 ∷ [] }
 
--- the items up to the program's call: the kernel resumes the program in step 5, which makes its seven instructions in the
--- steps behind it; the store and the load ask for two pages each
+-- the items up to the program's call: the kernel resumes the program in step 5, which makes its seven instructions in
+-- the steps behind it; the store and the load ask for two pages each
 abbrev pub items_to_call : List Item
 items_to_call =
     item.Cipher 8 opening_cipher
@@ -57,14 +57,15 @@ items_to_call =
     ∷ item.Step 9 ∷ item.Ok 0
     ∷ item.Step 10 ∷ item.Ok 0
     ∷ item.Step 11 ∷ item.Ok 0
-    ∷ item.Step 12 ∷ item.Ok 0 ∷ item.Leave shown_call
+    ∷ item.Step 12 ∷ item.Ok 0 ∷ item.Leave shown_nine
     ∷ []
 
 -- the program at its call
-abbrev pub waiting : Context
-waiting = record {
+abbrev pub waiting_context : Context
+waiting_context = record {
   pc = 0x8000801C;
-  regs = registers_from 2 (0x80008100 ∷ []) (registers_from 10 (7 ∷ 7 ∷ 0 ∷ 0 ∷ 0 ∷ 0 ∷ 9 ∷ 0x4F560008 ∷ []) (replicate 32 0));
+  regs = registers_from 2 (0x80008100 ∷ [])
+      (registers_from 10 (7 ∷ 7 ∷ 0 ∷ 0 ∷ 0 ∷ 0 ∷ 9 ∷ 0x4F560008 ∷ []) (replicate 32 0));
   phase = phase.Waiting;
   space = 0;
   on = None;
@@ -79,15 +80,21 @@ program_resources = record {
 
 -- one context in slot 0
 abbrev pub program_with : Context → List (ℕ × ℕ) → Domain
-program_with c loads = record { control = record { number = 0; contexts = Some c ∷ replicate 7 None; resources = program_resources }; loads = loads }
+program_with c loads =
+    record {
+      control = record { number = 0; contexts = Some c ∷ replicate 7 None; resources = program_resources };
+      loads = loads;
+    }
 
 -- it loaded 7
 abbrev pub program_at_call : Domain
-program_at_call = program_with waiting ((0x80008100, 7) ∷ [])
+program_at_call = program_with waiting_context ((0x80008100, 7) ∷ [])
 
 -- a kernel's hart that has taken the program's call and has this number in x17
-abbrev pub kernel_hart : ℕ → ℕ → Hart
-kernel_hart pc number = outside_hart pc (registers_from 10 (7 ∷ 7 ∷ 0 ∷ 0 ∷ 0 ∷ 0 ∷ 0 ∷ number ∷ []) (replicate 32 0)) (csrs_of 0x80000014 0x00001000 8 0)
+abbrev pub called_hart : ℕ → ℕ → Hart
+called_hart pc number =
+    outside_hart pc (registers_from 10 (7 ∷ 7 ∷ 0 ∷ 0 ∷ 0 ∷ 0 ∷ 0 ∷ number ∷ []) (replicate 32 0))
+    (csrs_of 0x80000014 0x00001000 8 0)
 
 abbrev pub whole : Seen
 whole = record {
@@ -95,14 +102,14 @@ whole = record {
   steps = 14;
   draws = 2;
   items = items_to_call ++ item.Step 13 ∷ item.Step 14 ∷ item.Close 14 ∷ item.Cipher 8 closing_cipher ∷ item.End ∷ [];
-  harts = kernel_hart 0x8000001C 4 ∷ [];
+  harts = called_hart 0x8000001C 4 ∷ [];
   console = [];
   domains = program_at_call ∷ [];
 }
 
--- The whole program: the kernel sets its trap vector and resumes the program, which stores 7, loads it and calls; then the
--- kernel halts with the 7 that the call shows.
-pub record WholeProgram : Type 0 where
+-- The whole program: the kernel sets its trap vector and resumes the program, which stores 7, loads it and calls; then
+-- the kernel halts with the 7 that the call shows.
+pub record WholeRun : Type 0 where
   pub run : seen (image (boot ++ halt)) (counted 256) 100 ≡ Ok whole
   -- the size of its record, and of its image
   pub size : length (record_of whole.items) ≡ 8355
@@ -119,22 +126,23 @@ abbrev pub TwoDraws : Type 0
 TwoDraws = seen (image (boot ++ halt)) (counted 47) 100 ≡ Ok (record whole {
   stop = stop.NoRandom;
   draws = 1;
-  items = items_to_call ++ item.Step 13 ∷ item.Step 14 ∷ item.Close 14 ∷ item.Cipher 8 (replicate 4096 0) ∷ item.End ∷ [];
+  items = items_to_call ++ item.Step 13 ∷ item.Step 14 ∷ item.Close 14 ∷ item.Cipher 8 (replicate 4096 0) ∷ item.End ∷
+      [];
 })
 
 -- Without a draw for the program's page there is no run, and without a key neither.
-pub record NoRun : Type 0 where
+pub record NoOpening : Type 0 where
   pub no_page_draw : seen (image (boot ++ halt)) (counted 31) 100 ≡ Err NoPageDraw
   pub no_key : seen (image (boot ++ halt)) (counted 15) 100 ≡ Err NoKey
 
 -- Resumes that are refused.
 
 -- the program as it runs for the first time
-abbrev pub started : Context
-started = running 0x80008000 (registers_from 2 (0x80008100 ∷ []) (replicate 32 0))
+abbrev pub started_context : Context
+started_context = running 0x80008000 (registers_from 2 (0x80008100 ∷ []) (replicate 32 0))
 
 abbrev pub not_started : Context
-not_started = record started { on = None }
+not_started = record started_context { on = None }
 
 -- Two harts boot by turns, and the second resumes the context that the first runs.
 abbrev pub TwoHarts : Type 0
@@ -149,7 +157,7 @@ TwoHarts = seen (image_of 2 (0 ∷ 1 ∷ []) (boot ++ halt) program_words) (coun
       ∷ item.Step 10 ∷ item.Close 10 ∷ item.End ∷ [];
   harts = inside_hart 0 (csrs_of 0x80000014 0 0 0) ∷ inside_hart 0 (csrs_of 0x80000014 0 0 0) ∷ [];
   console = [];
-  domains = program_with started [] ∷ [];
+  domains = program_with started_context [] ∷ [];
 })
 
 -- A context that there is not is resumed: there is one program, with one context.
@@ -182,10 +190,92 @@ OtherRoot = seen (image (boot ++ remap_and_resume)) (counted 256) 100 ≡ Ok (re
   stop = stop.Violation (violation.Mapping 0 0x00400000);
   steps = 16;
   draws = 2;
-  items = items_to_call ++ item.Step 13 ∷ item.Step 14 ∷ item.Step 15 ∷ item.Step 16 ∷ item.Close 16 ∷ item.Cipher 8 closing_cipher ∷ item.End ∷ [];
+  items = items_to_call ++ item.Step 13 ∷ item.Step 14 ∷ item.Step 15 ∷ item.Step 16 ∷ item.Close 16 ∷
+      item.Cipher 8 closing_cipher ∷ item.End ∷ [];
   harts = inside_hart 0 (csrs_of 0x80000014 0x00001000 8 0x00400000) ∷ [];
   console = [];
   domains = program_at_call ∷ [];
+})
+
+-- what an ending shows
+abbrev pub shown_exit : Shown
+shown_exit = record { cause = 8; stval = 0; ctx = 0; number = 0x4F560007; args = replicate 6 0 }
+
+-- nothing is left of a program
+abbrev pub gone_program : Domain
+gone_program =
+    record {
+      control =
+          record {
+            number = 0;
+            contexts = replicate 8 None;
+            resources =
+                record { held = replicate 16 None; spaces = replicate 8 None };
+          };
+      loads = [];
+    }
+
+-- The program's only context ends, and is resumed again.
+abbrev pub AfterExit : Type 0
+AfterExit = seen (image_of 1 (0 ∷ []) (boot ++ resume_words) exit_words) (counted 256) 100 ≡ Ok (record {
+  stop = stop.Violation (violation.Context 0);
+  steps = 10;
+  draws = 1;
+  items =
+      item.Cipher 8 (cbc key draw_1 (page_with exit_words))
+      ∷ item.Step 1 ∷ item.Step 2 ∷ item.Step 3 ∷ item.Step 4
+      ∷ item.Step 5 ∷ item.Resume 0 0 0
+      ∷ item.Step 6 ∷ item.Ok 0
+      ∷ item.Step 7 ∷ item.Ok 0
+      ∷ item.Step 8 ∷ item.Ok 0 ∷ item.Ok 0 ∷ item.Leave shown_exit
+      ∷ item.Step 9 ∷ item.Step 10 ∷ item.Close 10 ∷ item.End ∷ [];
+  harts = inside_hart 0 (csrs_of 0x80000014 0x00001000 8 0) ∷ [];
+  console = [];
+  domains = gone_program ∷ [];
+})
+
+-- What the kernel does to a frame.
+
+-- the program behind its call, which was answered 7
+abbrev pub answered_context : Context
+answered_context = running 0x8000801C waiting_context.regs
+
+-- up to the resume: the kernel looks into the program's frame in step 14, which shows the page
+abbrev pub items_to_resume : List Item
+items_to_resume =
+    items_to_call ++ item.Step 13
+    ∷ item.Step 14 ∷ item.Cipher 8 closing_cipher
+    ∷ item.Step 15
+    ∷ item.Step 16
+    ∷ item.Step 17
+    ∷ item.Step 18 ∷ item.Resume 0 0 7
+    ∷ []
+
+-- The kernel flips one bit of the frame and resumes the program: its fetch meets the violation.
+abbrev pub FlippedBit : Type 0
+FlippedBit = seen (image (boot ++ flip_and_resume)) (counted 256) 100 ≡ Ok (record {
+  stop = stop.Violation (violation.Page (record { domain = 0; resource = 0; page = 0 }) (record { 0 = 8 }));
+  steps = 19;
+  draws = 2;
+  items = items_to_resume ++ item.Step 19 ∷ item.Stopped 0 ∷ item.Close 19 ∷ item.End ∷ [];
+  harts = inside_hart 0 (csrs_of 0x80000014 0x00001000 8 0) ∷ [];
+  console = [];
+  domains = program_with answered_context ((0x80008100, 7) ∷ []) ∷ [];
+})
+
+-- With another instruction in the place of the store the program fetches as if nothing had happened, and draws
+-- nothing: what it finds behind its call is no instruction.
+abbrev pub NothingFlipped : Type 0
+NothingFlipped = seen (image (boot ++ look_and_resume)) (counted 256) 19 ≡ Ok (record {
+  stop = stop.Budget;
+  steps = 19;
+  draws = 2;
+  items = items_to_resume ++ item.Step 19 ∷ item.Ok 0 ∷
+      item.Leave (record { cause = 2; stval = 0; ctx = 0; number = 0; args = replicate 6 0 }) ∷ item.Close 19 ∷
+      item.End ∷ [];
+  harts = outside_hart 0x80000014 (replicate 32 0) (csrs_of 0x80000014 0x00001000 2 0) ∷ [];
+  console = [];
+  domains = program_with (record answered_context { on = None }) ((0x80008100, 7) ∷ []) ∷ [];
 })
 
 -- Kernels alone.
@@ -205,7 +295,8 @@ letter = record {
 abbrev pub letter_hart : List ℕ
 letter_hart = concat (
     codes "hart 0 S pc 80000010 inside - timer 0\n"
-    ∷ codes "regs" ∷ concat (replicate 16 (codes " 00000000")) ∷ codes " 00000004" ∷ concat (replicate 14 (codes " 00000000")) ∷ codes "\n"
+    ∷ codes "regs" ∷ concat (replicate 16 (codes " 00000000")) ∷ codes " 00000004" ∷
+    concat (replicate 14 (codes " 00000000")) ∷ codes "\n"
     ∷ codes "csrs" ∷ concat (replicate 9 (codes " 00000000")) ∷ codes "\n" ∷ [])
 
 -- The smallest run: a kernel shows an A and halts. Its image, its record, and its lines.
@@ -213,15 +304,18 @@ pub record SmallestRun : Type 0 where
   pub run : seen (lone_image letter_words) (numbered 0) 10 ≡ Ok letter
   pub image : bundle_bytes (lone_image letter_words) ≡ concat (
       codes "CLOAKBND" ∷ word 1 ∷ word 64 ∷ word 1 ∷ word 1 ∷ word 0x80000000 ∷ word 1 ∷ word 0 ∷ word 0
-      ∷ (0 ∷ []) ∷ word 0x80000000 ∷ word 16 ∷ word 0x04100513 ∷ word 0x00000073 ∷ word 0x00400893 ∷ word 0x00000073 ∷ [])
+      ∷ (0 ∷ []) ∷ word 0x80000000 ∷ word 16 ∷ word 0x04100513 ∷ word 0x00000073 ∷ word 0x00400893 ∷ word 0x00000073 ∷
+      [])
   pub image_size : length (bundle_bytes (lone_image letter_words)) ≡ 65
   pub record_bytes : record_of letter.items ≡ concat (
-      codes "CLOAKREC" ∷ (0x10 ∷ word 1) ∷ (0x10 ∷ word 2) ∷ (0x10 ∷ word 3) ∷ (0x10 ∷ word 4) ∷ (0x11 ∷ word 4) ∷ (0x12 ∷ []) ∷ [])
+      codes "CLOAKREC" ∷ (0x10 ∷ word 1) ∷ (0x10 ∷ word 2) ∷ (0x10 ∷ word 3) ∷ (0x10 ∷ word 4) ∷ (0x11 ∷ word 4) ∷
+      (0x12 ∷ []) ∷ [])
   pub record_size : length (record_of letter.items) ≡ 34
   -- what is written, up to the report: the marker of a step goes before its letter
   pub pieces : read_off (λ r. take 9 (due r)) (lone_image letter_words) (numbered 0) 10 ≡ Ok (
       recorded (codes "CLOAKREC")
-      ∷ recorded (0x10 ∷ word 1) ∷ recorded (0x10 ∷ word 2) ∷ shown (codes "A") ∷ recorded (0x10 ∷ word 3) ∷ recorded (0x10 ∷ word 4)
+      ∷ recorded (0x10 ∷ word 1) ∷ recorded (0x10 ∷ word 2) ∷ shown (codes "A") ∷ recorded (0x10 ∷ word 3) ∷
+      recorded (0x10 ∷ word 4)
       ∷ recorded (0x11 ∷ word 4) ∷ recorded (0x12 ∷ []) ∷ shown (codes "\n") ∷ [])
   -- the report, with its digests
   pub report : read_off report_of (lone_image letter_words) (numbered 0) 10 ≡ Ok (
@@ -249,6 +343,9 @@ pub record StopLines : Type 0 where
   pub halt : stop_line (stop.Halt 7) ≡ codes "stop halt 7\n"
   pub budget : stop_line stop.Budget ≡ codes "stop budget\n"
   pub no_random : stop_line stop.NoRandom ≡ codes "stop norandom\n"
-  pub page : stop_line (stop.Violation (violation.Page (record { domain = 0; resource = 0; page = 0 }) (record { 0 = 8 }))) ≡ codes "stop violation page domain 0 resource 0 page 0 frame 8\n"
+  pub page : stop_line
+      (stop.Violation (violation.Page (record { domain = 0; resource = 0; page = 0 }) (record { 0 = 8 }))) ≡
+      codes "stop violation page domain 0 resource 0 page 0 frame 8\n"
   pub context : stop_line (stop.Violation (violation.Context 3)) ≡ codes "stop violation context 3\n"
-  pub mapping : stop_line (stop.Violation (violation.Mapping 0 0x00400000)) ≡ codes "stop violation mapping 0 root 00400000\n"
+  pub mapping : stop_line (stop.Violation (violation.Mapping 0 0x00400000)) ≡
+      codes "stop violation mapping 0 root 00400000\n"

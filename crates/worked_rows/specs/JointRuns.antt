@@ -29,8 +29,8 @@ draw_1 = 16 ∷ 17 ∷ 18 ∷ 19 ∷ 20 ∷ 21 ∷ 22 ∷ 23 ∷ 24 ∷ 25 ∷ 2
 abbrev pub draw_2 : List ℕ
 draw_2 = 32 ∷ 33 ∷ 34 ∷ 35 ∷ 36 ∷ 37 ∷ 38 ∷ 39 ∷ 40 ∷ 41 ∷ 42 ∷ 43 ∷ 44 ∷ 45 ∷ 46 ∷ 47 ∷ []
 
--- What is seen of a run: why it stopped, its steps and its draws, its items, and of the machine at its end the harts, the
--- console and the programs.
+-- What is seen of a run: why it stopped, its steps and its draws, its items, and of the machine at its end the harts,
+-- the console and the programs.
 pub record Seen : Type 0 where
   pub stop : Stop
   pub steps : ℕ
@@ -53,20 +53,20 @@ seen_of r =
       domains = j.domains;
     }
 
--- of the run of an image under a random stream, with at most so many steps
-abbrev pub seen : Bundle → Random → ℕ → Result Seen Lack
-seen image stream budget = result_map_both seen_of (λ lack. lack) (joint_run image stream budget)
-
--- what is read off the run otherwise
+-- what is read off the run of an image under a random stream, with at most so many steps
 abbrev pub read_off : {A : Type 0} → (Run → A) → Bundle → Random → ℕ → Result A Lack
 read_off what image stream budget = result_map_both what (λ lack. lack) (joint_run image stream budget)
+
+abbrev pub seen : Bundle → Random → ℕ → Result Seen Lack
+seen image stream budget = read_off seen_of image stream budget
 
 -- Harts.
 
 -- the words of stvec, sepc, scause and satp; all others are 0
 abbrev pub csrs_of : ℕ → ℕ → ℕ → ℕ → Csrs
 csrs_of vector address cause root =
-    (csr.sstatus, 0) ∷ (csr.sie, 0) ∷ (csr.stvec, vector) ∷ (csr.sscratch, 0) ∷ (csr.sepc, address) ∷ (csr.scause, cause)
+    (csr.sstatus, 0) ∷ (csr.sie, 0) ∷ (csr.stvec, vector) ∷ (csr.sscratch, 0) ∷ (csr.sepc, address) ∷
+    (csr.scause, cause)
     ∷ (csr.stval, 0) ∷ (csr.sip, 0) ∷ (csr.satp, root) ∷ []
 
 -- a hart of the kernel that set no timer
@@ -75,4 +75,5 @@ outside_hart pc regs csrs = record { regs = regs; csrs = csrs; mode = S; pc = pc
 
 -- a hart that runs a context: of this the kernel sees nothing
 abbrev pub inside_hart : ℕ → Csrs → Hart
-inside_hart ctx csrs = record { regs = replicate 32 0; csrs = csrs; mode = U; pc = 0x00001000; timer = 0; inside = Some ctx }
+inside_hart ctx csrs =
+    record { regs = replicate 32 0; csrs = csrs; mode = U; pc = 0x00001000; timer = 0; inside = Some ctx }

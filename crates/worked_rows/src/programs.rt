@@ -18,10 +18,13 @@ pub fn rows_of_a_program()
     ensures new_refused { row.NewRefused }
     ensures map_refused { row.MapRefused }
     ensures others_refused { row.OthersRefused }
-    ensures files { row.Files }
+    ensures files { row.FileRows }
     ensures threads { row.Threads }
     ensures last_exit { row.LastExit }
     ensures other_exit { row.OtherExit }
     ensures fork { row.ForkedSpace }
+    ensures shared_file { row.SharedFile }
+    ensures fork_refused { row.ForkRefused }
+    ensures forked_child { row.ForkedChild }
     ensures root { row.FirstRoot }
 {}

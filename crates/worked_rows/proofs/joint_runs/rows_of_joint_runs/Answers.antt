@@ -4,7 +4,7 @@ use Rattle.cloak_model.specs.Bundle.{bundle_bytes}
 use Rattle.cloak_model.specs.Exchange.{item_bytes}
 use Rattle.cloak_base.specs.Pages.{zero_page}
 use Rattle.worked_rows.proofs.Computing.{joint_runs, texts}
-use Rattle.worked_rows.proofs.JointRows.{whole_program, three_draws, two_draws, other_root}
+use Rattle.worked_rows.proofs.JointRows.{whole_program, three_draws, two_draws, other_root, after_exit, flipped_bit, nothing_flipped}
 use Rattle.worked_rows.proofs.joint_runs.rows_of_joint_runs.Goals as goal
 
 pub returns-clause-whole : goal.returns-clause-whole
@@ -35,9 +35,27 @@ returns-clause-no_program c = refl
 pub returns-clause-other_root : goal.returns-clause-other_root
 returns-clause-other_root c = other_root
 
+pub returns-clause-after_exit : goal.returns-clause-after_exit
+returns-clause-after_exit c = after_exit
+
+pub returns-clause-flipped_bit : goal.returns-clause-flipped_bit
+returns-clause-flipped_bit c = flipped_bit
+
+pub returns-clause-nothing_flipped : goal.returns-clause-nothing_flipped
+returns-clause-nothing_flipped c = nothing_flipped
+
 pub returns-clause-smallest : goal.returns-clause-smallest
 unfolding joint_runs zero_page bundle_bytes item_bytes texts
-returns-clause-smallest c = record { run = refl; image = refl; image_size = refl; record_bytes = refl; record_size = refl; pieces = refl; report = refl }
+returns-clause-smallest c =
+    record {
+      run = refl;
+      image = refl;
+      image_size = refl;
+      record_bytes = refl;
+      record_size = refl;
+      pieces = refl;
+      report = refl;
+    }
 
 pub returns-clause-no_step : goal.returns-clause-no_step
 unfolding joint_runs zero_page item_bytes
@@ -45,4 +63,5 @@ returns-clause-no_step c = record { run = refl; record_bytes = refl }
 
 pub returns-clause-stop_lines : goal.returns-clause-stop_lines
 unfolding texts
-returns-clause-stop_lines c = record { halt = refl; budget = refl; no_random = refl; page = refl; context = refl; mapping = refl }
+returns-clause-stop_lines c =
+    record { halt = refl; budget = refl; no_random = refl; page = refl; context = refl; mapping = refl }
