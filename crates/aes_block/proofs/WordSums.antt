@@ -1,11 +1,11 @@
 -- Words and their columns.
 use Rattle.std.proofs.Common.{◌≡◌, ◌+◌, ◌*◌, ◌/◌, ◌%◌, ◌^◌, ℕ, refl, ap, ◌∙◌, arith, sym}
 use Rattle.std.specs.Prelude.{bit_xor}
-use lib.Bits.{xor_assoc, xor_zero_r}
+use lib.Bits.{xor_assoc, xor_self, xor_zero_r}
 use Rattle.std.proofs.lemmas.Nat.{xor_comm, xor_shr, xor_mod}
 use Rattle.aes_block.specs.Field.{product}
 use Rattle.std.specs.Int.{from_le_bytes, w32}
-use Rattle.aes_block.specs.Column.{Column, bytes_of, column_sum, sum_of_four, row_times, circulant_times}
+use Rattle.aes_block.specs.Column.{Column, column_bytes, column_sum, sum_of_four, row_times, circulant_times}
 use Rattle.aes_block.specs.Word.{column_of_word}
 use Rattle.aes_block.proofs.MixInverse.{IsByteColumn, column_from}
 
@@ -38,18 +38,24 @@ unfoldable pub multiples : ℕ → ℕ → ℕ → ℕ → ℕ → Column
 multiples i j k l a = record { first = product i a; second = product j a; third = product k a; fourth = product l a }
 
 -- a circulant times a column is the sum of the circulant's columns times the column's elements
-pub circulant_times-multiples : (i j k l : ℕ) (x : Column) → column_sum (column_sum (multiples i l k j x.first) (multiples j i l k x.second)) (column_sum (multiples k j i l x.third) (multiples l k j i x.fourth)) ≡ circulant_times i j k l x
+pub circulant_times-multiples : (i j k l : ℕ) (x : Column) →
+    column_sum (column_sum (multiples i l k j x.first) (multiples j i l k x.second))
+    (column_sum (multiples k j i l x.third) (multiples l k j i x.fourth))
+    ≡ circulant_times i j k l x
 unfolding column_sum multiples circulant_times row_times sum_of_four
 circulant_times-multiples i j k l x = refl
 
 -- the sum of four words
-pub column_of_word-four : (a b c d : ℕ) (p q r s : Column) → column_of_word a ≡ p → column_of_word b ≡ q → column_of_word c ≡ r → column_of_word d ≡ s → column_of_word (bit_xor (bit_xor a b) (bit_xor c d)) ≡ column_sum (column_sum p q) (column_sum r s)
+pub column_of_word-four : (a b c d : ℕ) (p q r s : Column) → column_of_word a ≡ p → column_of_word b ≡ q →
+    column_of_word c ≡ r → column_of_word d ≡ s →
+    column_of_word (bit_xor (bit_xor a b) (bit_xor c d)) ≡ column_sum (column_sum p q) (column_sum r s)
 column_of_word-four a b c d p q r s ea eb ec ed =
-    column_of_word-xor (bit_xor a b) (bit_xor c d) ∙ rw (column_of_word-xor a b, column_of_word-xor c d, ea, eb, ec, ed) refl
+    column_of_word-xor (bit_xor a b) (bit_xor c d)
+    ∙ rw (column_of_word-xor a b, column_of_word-xor c d, ea, eb, ec, ed) refl
 
 -- four bytes, the lowest first
-pub column_of_word-from_le_bytes : (x : Column) → IsByteColumn x → column_of_word (from_le_bytes w32 (bytes_of x)) ≡ x
-unfolding bytes_of word_of
+pub column_of_word-from_le_bytes : (x : Column) → IsByteColumn x → column_of_word (from_le_bytes w32 (column_bytes x)) ≡ x
+unfolding column_bytes word_of
 column_of_word-from_le_bytes x b = column_of_word-word_of x b
 
 -- four words and a key word
@@ -60,7 +66,8 @@ key_last a b c k =
     ∙ ap (λ (x : ℕ). bit_xor (bit_xor a b) x) (xor_comm k c)
     ∙ sym (xor_assoc (bit_xor a b) c k)
 
-pub column_of_word-keyed : (a b c d k : ℕ) (x : Column) → column_of_word (bit_xor (bit_xor a b) (bit_xor c d)) ≡ x → column_of_word (bit_xor (bit_xor (bit_xor a k) b) (bit_xor c d)) ≡ column_sum x (column_of_word k)
+pub column_of_word-keyed : (a b c d k : ℕ) (x : Column) → column_of_word (bit_xor (bit_xor a b) (bit_xor c d)) ≡ x →
+    column_of_word (bit_xor (bit_xor (bit_xor a k) b) (bit_xor c d)) ≡ column_sum x (column_of_word k)
 column_of_word-keyed a b c d k x is =
     ap column_of_word (key_last a b (bit_xor c d) k)
     ∙ column_of_word-xor (bit_xor (bit_xor a b) (bit_xor c d)) k
@@ -68,4 +75,15 @@ column_of_word-keyed a b c d k x is =
 
 pub column_sum-zero : (x : Column) → column_sum x (column_of_word 0) ≡ x
 unfolding column_sum column_of_word
-column_sum-zero x = column_from _ x (xor_zero_r x.first) (xor_zero_r x.second) (xor_zero_r x.third) (xor_zero_r x.fourth)
+column_sum-zero x =
+    column_from _ x (xor_zero_r x.first) (xor_zero_r x.second) (xor_zero_r x.third) (xor_zero_r x.fourth)
+
+-- what was added twice is gone
+pub xor_twice : (a k : ℕ) → bit_xor (bit_xor a k) k ≡ a
+xor_twice a k = xor_assoc a k k ∙ (ap (λ (x : ℕ). bit_xor a x) (xor_self k) ∙ xor_zero_r a)
+
+pub column_sum-twice : (x k : Column) → column_sum (column_sum x k) k ≡ x
+unfolding column_sum
+column_sum-twice x k =
+    column_from _ x (xor_twice x.first k.first) (xor_twice x.second k.second) (xor_twice x.third k.third)
+    (xor_twice x.fourth k.fourth)

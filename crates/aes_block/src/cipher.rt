@@ -1,6 +1,6 @@
 ghost use Rattle.std.specs.Prelude.{◌≡◌, ℕ, List};
 ghost use Rattle.aes_block.specs.Bytes.{IsBytes};
-ghost use Rattle.aes_block.specs.Cipher.{encrypted, decrypted};
+ghost use Rattle.aes_block.specs.Cipher.{encrypted};
 
 use crate::words::{
     add_round_key, inverse_round, last_inverse_round, last_round, next_key, round, unmixed_key,
@@ -47,7 +47,7 @@ impl Schedule {
     #[inline(never)]
     pub fn encrypt_block(&self, b: &mut [u8; 16])
         ensures enciphered { b.new ≡ encrypted self.now b.old }
-        ensures deciphers_back { decrypted self.now b.new ≡ b.old }
+        ensures only_one { (p : List ℕ) → IsBytes 16 p → encrypted self.now p ≡ b.new → p ≡ b.old }
     {
         let mut s = words_of(b);
         add_round_key(&mut s, &self.keys[0]);
@@ -61,7 +61,6 @@ impl Schedule {
     /// Deciphers a block in place: gives the one block whose encryption stood there.
     #[inline(never)]
     pub fn decrypt_block(&self, b: &mut [u8; 16])
-        ensures deciphered { b.new ≡ decrypted self.now b.old }
         ensures enciphers_back { encrypted self.now b.new ≡ b.old }
         ensures only_one { (p : List ℕ) → IsBytes 16 p → encrypted self.now p ≡ b.old → b.new ≡ p }
     {

@@ -2,10 +2,10 @@
 //! byte is the column's first, by tables of words; and the next round key.
 
 ghost use Rattle.std.specs.Prelude.{◌≡◌, ◌+◌, ◌/◌, ◌%◌, ◌<◌};
-ghost use Rattle.aes_block.specs.Column.{column_sum, mixed, unmixed};
-ghost use Rattle.aes_block.specs.State.{sub_bytes, shift_rows, mix_columns, block_sum, inverse_sub_bytes, inverse_shift_rows, inverse_mix_columns};
+ghost use Rattle.aes_block.specs.Column.{column_sum, mixed};
+ghost use Rattle.aes_block.specs.State.{sub_bytes, shift_rows, mix_columns, block_sum};
 ghost use Rattle.aes_block.specs.RoundKey.{rotated_word, substituted_word, next_key};
-ghost use Rattle.aes_block.specs.Word.{column_of_word, block_of_words, substituted, inverse_substituted};
+ghost use Rattle.aes_block.specs.Word.{column_of_word, block_of_words, gathered};
 
 use crate::tables::{
     INVERSE_ROUND_0, INVERSE_ROUND_1, INVERSE_ROUND_2, INVERSE_ROUND_3, INVERSE_S_BOX, ROUND_0,
@@ -40,14 +40,14 @@ fn byte_3(w: u32) -> usize
 // The key is added in the middle of the sum: added last, LLVM would keep the state in one vector and take it apart for
 // each look-up.
 fn mixed_word(w: u32, x: u32, y: u32, z: u32, k: u32) -> u32
-    ensures { column_of_word result ≡ column_sum (mixed (substituted w x y z)) (column_of_word k) }
+    ensures { column_of_word result ≡ column_sum (mixed (substituted_word (gathered w x y z))) (column_of_word k) }
 {
     ((ROUND_0[byte_0(w)] ^ k) ^ ROUND_1[byte_1(x)]) ^ (ROUND_2[byte_2(y)] ^ ROUND_3[byte_3(z)])
 }
 
 /// SubBytes and ShiftRows of one column, which starts in `w`.
 fn substituted_word(w: u32, x: u32, y: u32, z: u32) -> u32
-    ensures { column_of_word result ≡ substituted w x y z }
+    ensures { column_of_word result ≡ substituted_word (gathered w x y z) }
 {
     u32::from_le_bytes([
         S_BOX[byte_0(w)],
@@ -57,17 +57,17 @@ fn substituted_word(w: u32, x: u32, y: u32, z: u32) -> u32
     ])
 }
 
-/// All four steps of an inverse round for one column, which starts in `w`.
+/// What becomes a column, which starts in `w`, by the key's addition and by mixing and substituting.
 fn unmixed_word(w: u32, x: u32, y: u32, z: u32, k: u32) -> u32
-    ensures { column_of_word result ≡ column_sum (unmixed (inverse_substituted w x y z)) (column_of_word k) }
+    ensures { substituted_word (mixed (column_sum (column_of_word result) (column_of_word k))) ≡ gathered w x y z }
 {
     ((INVERSE_ROUND_0[byte_0(w)] ^ k) ^ INVERSE_ROUND_1[byte_1(x)])
         ^ (INVERSE_ROUND_2[byte_2(y)] ^ INVERSE_ROUND_3[byte_3(z)])
 }
 
-/// InvSubBytes and InvShiftRows of one column, which starts in `w`.
+/// What becomes a column, which starts in `w`, by substituting.
 fn inverse_substituted_word(w: u32, x: u32, y: u32, z: u32) -> u32
-    ensures { column_of_word result ≡ inverse_substituted w x y z }
+    ensures { substituted_word (column_of_word result) ≡ gathered w x y z }
 {
     u32::from_le_bytes([
         INVERSE_S_BOX[byte_0(w)],
@@ -103,9 +103,9 @@ pub fn last_round(s: &mut [u32; 4], k: &[u32; 4])
     ];
 }
 
-/// An inverse round, under an unmixed round key (FIPS 197, 5.3.5).
+/// A round undone; the key is added after the columns are unmixed, so it is an unmixed one (FIPS 197, 5.3.5).
 pub fn inverse_round(s: &mut [u32; 4], k: &[u32; 4])
-    ensures { block_of_words s.new ≡ block_sum (inverse_mix_columns (inverse_sub_bytes (inverse_shift_rows (block_of_words s.old)))) (block_of_words k.now) }
+    ensures { shift_rows (sub_bytes (mix_columns (block_sum (block_of_words s.new) (block_of_words k.now)))) ≡ block_of_words s.old }
 {
     let [w, x, y, z] = *s;
     *s = [
@@ -116,9 +116,9 @@ pub fn inverse_round(s: &mut [u32; 4], k: &[u32; 4])
     ];
 }
 
-/// An inverse round that unmixes no columns.
+/// A round that mixes no columns, undone.
 pub fn last_inverse_round(s: &mut [u32; 4], k: &[u32; 4])
-    ensures { block_of_words s.new ≡ block_sum (inverse_sub_bytes (inverse_shift_rows (block_of_words s.old))) (block_of_words k.now) }
+    ensures { shift_rows (sub_bytes (block_sum (block_of_words s.new) (block_of_words k.now))) ≡ block_of_words s.old }
 {
     let [w, x, y, z] = *s;
     *s = [
@@ -184,17 +184,17 @@ pub fn next_key(j: usize, k: &[u32; 4]) -> [u32; 4]
     [w, x, y, z]
 }
 
-/// InvMixColumns of one column.
+/// What is mixed to this column.
 fn unmixed_key_word(w: u32) -> u32
-    ensures { column_of_word result ≡ unmixed (column_of_word w) }
+    ensures { mixed (column_of_word result) ≡ column_of_word w }
 {
     let s = substituted_word(w, w, w, w);
     unmixed_word(s, s, s, s, 0)
 }
 
-/// InvMixColumns of a round key.
+/// What is mixed to this round key.
 pub fn unmixed_key(k: &[u32; 4]) -> [u32; 4]
-    ensures { block_of_words result ≡ inverse_mix_columns (block_of_words k.now) }
+    ensures { mix_columns (block_of_words result) ≡ block_of_words k.now }
 {
     [
         unmixed_key_word(k[0]),

@@ -1,9 +1,9 @@
-use Rattle.std.proofs.Common.{◌≡◌, ◌<◌, ◌+◌, ℕ, List, arith, refl, sym, ◌∙◌, ap, subst}
+use Rattle.std.proofs.Common.{◌≡◌, ◌<◌, ◌+◌, ℕ, List, arith, refl, sym, ◌∙◌, subst}
 use Rattle.std.proofs.lemmas.List.Elements.{All-from_get_or}
 use Rattle.aes_block.specs.Bytes.{IsBytes}
-use Rattle.aes_block.specs.Cipher.{after_rounds, encrypted, decrypted}
+use Rattle.aes_block.specs.Cipher.{after_rounds, encrypted}
 use Rattle.aes_block.proofs.Keys.{key_at}
-use Rattle.aes_block.proofs.Rounds.{after_rounds-next, decrypted-encrypted}
+use Rattle.aes_block.proofs.Rounds.{after_rounds-next, encrypted-one_to_one}
 use Rattle.aes_block.proofs.WordRounds.{IsBytes-block_of_words}
 use Rattle.aes_block.proofs.cipher.Schedule.encrypt_block.Goals as goal
 
@@ -26,9 +26,9 @@ returns-clause-enciphered c =
     let nine : c.loop-j.j ≡ 9 = omega arith in
     rw (c.write_words.ensures, c.last_round.ensures, k, c.loop-j.invariant, nine) refl
 
-pub returns-clause-deciphers_back : goal.returns-clause-deciphers_back
-returns-clause-deciphers_back c =
+pub returns-clause-only_one : goal.returns-clause-only_one
+returns-clause-only_one c = λ p bytes is.
     let key : IsBytes 16 c.args.self.now = subst (λ (k : List ℕ). IsBytes 16 k) c.self.view_is (IsBytes-block_of_words _) in
-    ap (λ (x : List ℕ). decrypted c.args.self.now x) (returns-clause-enciphered c)
-    ∙ decrypted-encrypted c.args.self.now c.args.b.now key
+    encrypted-one_to_one c.args.self.now p c.args.b.now key bytes
     (record { long = c.told-b; bytes = All-from_get_or (λ b. b < 256) c.args.b.now 0 (λ i h. c.fits-b i) })
+    (is ∙ returns-clause-enciphered c)
