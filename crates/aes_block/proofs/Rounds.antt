@@ -19,6 +19,27 @@ after_rounds-next key j s =
     ≡ block_sum (mix_columns (shift_rows (sub_bytes (after_rounds key j s)))) (round_key key (j + 1)))
     (sym (add-one j)) refl
 
+-- the rounds, one after another
+pub rounds_start : (key b new k : List ℕ) → k ≡ round_key key 0 → new ≡ block_sum b k → new ≡ after_rounds key 0 b
+unfolding after_rounds
+rounds_start key b new k is e = e ∙ ap (λ (x : List ℕ). block_sum b x) is
+
+pub rounds_more : (key b : List ℕ) (j : ℕ) (s new k : List ℕ) → s ≡ after_rounds key j b → k ≡ round_key key (j + 1) →
+    new ≡ block_sum (mix_columns (shift_rows (sub_bytes s))) k → new ≡ after_rounds key (j + 1) b
+rounds_more key b j s new k so is e =
+    e
+    ∙ ap (λ (x : List ℕ). block_sum (mix_columns (shift_rows (sub_bytes x))) k) so
+    ∙ ap (λ (x : List ℕ). block_sum (mix_columns (shift_rows (sub_bytes (after_rounds key j b)))) x) is
+    ∙ sym (after_rounds-next key j b)
+
+pub rounds_end : (key b s new k : List ℕ) → s ≡ after_rounds key 9 b → k ≡ round_key key 10 →
+    new ≡ block_sum (shift_rows (sub_bytes s)) k → new ≡ encrypted key b
+unfolding encrypted
+rounds_end key b s new k so is e =
+    e
+    ∙ ap (λ (x : List ℕ). block_sum (shift_rows (sub_bytes x)) k) so
+    ∙ ap (λ (x : List ℕ). block_sum (shift_rows (sub_bytes (after_rounds key 9 b))) x) is
+
 -- every state is a block
 pub IsBytes-after_rounds : (key s : List ℕ) → IsBytes 16 key → IsBytes 16 s → (j : ℕ) →
     IsBytes 16 (after_rounds key j s)
@@ -33,11 +54,13 @@ IsBytes-after_rounds key s k b (suc j) =
 pub record IsUndone (key old : List ℕ) (j : ℕ) (s : List ℕ) : Type 0 where
   pub enciphers : (p : List ℕ) → shift_rows (sub_bytes (after_rounds key (9 - j) p)) ≡ s → encrypted key p ≡ old
 
-pub undone_start : (key old : List ℕ) → length old ≡ 16 → IsUndone key old 0 (block_sum old (round_key key 10))
+pub undone_start : (key old s k : List ℕ) → length old ≡ 16 → k ≡ round_key key 10 → s ≡ block_sum old k →
+    IsUndone key old 0 s
 unfolding encrypted
-undone_start key old long = record {
-  enciphers = λ p is.
-      ap (λ (x : List ℕ). block_sum x (round_key key 10)) is ∙ block_sum-block_sum old (round_key key 10) long;
+undone_start key old s k long same is = record {
+  enciphers = λ p e.
+      ap (λ (x : List ℕ). block_sum x (round_key key 10)) (e ∙ is ∙ ap (λ (x : List ℕ). block_sum old x) same)
+      ∙ block_sum-block_sum old (round_key key 10) long;
 }
 
 pub undone_more : (key old : List ℕ) (j : ℕ) (s new k : List ℕ) → j < 9 → IsUndone key old j s →
@@ -62,10 +85,11 @@ undone_more key old j s new k low u mixes is =
           ∙ is);
     }
 
-pub undone_end : (key old s new : List ℕ) → IsUndone key old 9 s →
-    shift_rows (sub_bytes (block_sum new (round_key key 0))) ≡ s → encrypted key new ≡ old
+pub undone_end : (key old s new k : List ℕ) → IsUndone key old 9 s → k ≡ round_key key 0 →
+    shift_rows (sub_bytes (block_sum new k)) ≡ s → encrypted key new ≡ old
 unfolding after_rounds
-undone_end key old s new u is = u.enciphers new is
+undone_end key old s new k u same is =
+    u.enciphers new (ap (λ (x : List ℕ). shift_rows (sub_bytes (block_sum new x))) (sym same) ∙ is)
 
 -- no two blocks become one
 after_rounds-one_to_one : (key s t : List ℕ) → IsBytes 16 key → IsBytes 16 s → IsBytes 16 t → (j : ℕ) →

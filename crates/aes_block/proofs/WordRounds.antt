@@ -1,10 +1,8 @@
 -- What the rounds on words do to blocks.
-use Rattle.std.proofs.Common.{◌≡◌, ◌<◌, ◌+◌, ◌-◌, ◌/◌, ◌%◌, ℕ, List, [], ◌∷◌, refl, sym, ◌∙◌, arith, ap}
+use Rattle.std.proofs.Common.{◌≡◌, ◌<◌, ◌+◌, ◌-◌, ◌/◌, ◌%◌, ℕ, List, [], ◌∷◌, ◌++◌, refl, sym, ◌∙◌, arith, ap}
 use Rattle.std.specs.Prelude.{bit_xor, slice_index}
-use Rattle.std.specs.Int.{from_le_bytes, w32}
-use Rattle.aes_block.specs.declared.tables.TheConstants.{S_BOX, ROUND_0, ROUND_1, ROUND_2, ROUND_3}
-use Rattle.aes_block.specs.declared.tables.TheConstants.{INVERSE_S_BOX, INVERSE_ROUND_0, INVERSE_ROUND_1}
-use Rattle.aes_block.specs.declared.tables.TheConstants.{INVERSE_ROUND_2, INVERSE_ROUND_3}
+use Rattle.std.specs.Int.{from_le_bytes, w64}
+use Rattle.aes_block.specs.declared.tables.TheConstants.{ROUND, SUBSTITUTED, INVERSE_ROUND, INVERSE_SUBSTITUTED}
 use Rattle.aes_block.specs.Bytes.{IsBytes}
 use Rattle.aes_block.specs.Field.{product, power_of_x}
 use Rattle.aes_block.specs.Column.{Column, column_bytes, column_sum, mixed, circulant_times, row_times, sum_of_four}
@@ -17,13 +15,15 @@ use Rattle.aes_block.proofs.Blocks.{column_of-from_columns_2, column_of-from_col
 use Rattle.aes_block.proofs.Blocks.{IsBytes-from_columns, IsByteColumn-column_of, IsByteColumn-mixed, columns_spelled}
 use Rattle.aes_block.proofs.Products.{power_of_x-lt}
 use Rattle.aes_block.proofs.Linear.{product-xor, interchange}
-use Rattle.aes_block.proofs.MixInverse.{IsByteColumn, column_from, unmixed, mixed-unmixed}
-use Rattle.aes_block.proofs.TableRules.{round_0_table, round_1_table, round_2_table, round_3_table}
-use Rattle.aes_block.proofs.TableRules.{inverse_round_0_table, inverse_round_1_table}
-use Rattle.aes_block.proofs.TableRules.{inverse_round_2_table, inverse_round_3_table}
-use Rattle.aes_block.proofs.TableRules.{s_box_table, s_box-lt, inverse_s_box, inverse_s_box-lt}
+use Rattle.aes_block.proofs.MixInverse.{IsByteColumn, column_from, unmixed, mixed-unmixed, circulant_times-one}
+use Rattle.aes_block.proofs.TableRules.{table_in, round_0, round_1, round_2, round_3}
+use Rattle.aes_block.proofs.TableRules.{substituted_0, substituted_1, substituted_2, substituted_3}
+use Rattle.aes_block.proofs.TableRules.{inverse_round_0, inverse_round_1, inverse_round_2, inverse_round_3}
+use Rattle.aes_block.proofs.TableRules.{inverse_substituted_0, inverse_substituted_1}
+use Rattle.aes_block.proofs.TableRules.{inverse_substituted_2, inverse_substituted_3}
+use Rattle.aes_block.proofs.TableRules.{s_box-lt, inverse_s_box, inverse_s_box-lt}
 use Rattle.aes_block.proofs.TableRules.{inverse_s_box-s_box, s_box-inverse_s_box}
-use Rattle.aes_block.proofs.WordSums.{column_of_word-xor, column_of_word-four, column_of_word-from_le_bytes}
+use Rattle.aes_block.proofs.WordSums.{column_of_word-xor, column_of_word-four, front_word, back_word}
 use Rattle.aes_block.proofs.WordSums.{circulant_times-multiples, IsByteColumn-column_of_word, column_of_word-keyed}
 use Rattle.aes_block.proofs.WordSums.{column_sum-zero, column_sum-twice}
 
@@ -72,108 +72,111 @@ unsubstituted_word-substituted_word x b =
     column_from _ x (inverse_s_box-s_box x.first b.first) (inverse_s_box-s_box x.second b.second)
     (inverse_s_box-s_box x.third b.third) (inverse_s_box-s_box x.fourth b.fourth)
 
--- four look-ups and their sum
-pub mixed_lookup : (w x y z k : ℕ) →
-    column_of_word (bit_xor
-    (bit_xor (bit_xor (slice_index ROUND_0 (w % 256)) k) (slice_index ROUND_1 (x / 256 % 256)))
-    (bit_xor (slice_index ROUND_2 (y / 65536 % 256)) (slice_index ROUND_3 (z / 16777216 % 256))))
+-- the sum of a word's look-ups in four tables, one for each byte of the column that is gathered
+unfoldable pub look_up : List (List ℕ) → Column → ℕ
+look_up tables x =
+    bit_xor
+    (bit_xor (slice_index (table_in tables 0) x.first) (slice_index (table_in tables 1) x.second))
+    (bit_xor (slice_index (table_in tables 2) x.third) (slice_index (table_in tables 3) x.fourth))
+
+-- with a key word, in the place where the code adds it
+unfoldable pub look_up_keyed : List (List ℕ) → Column → ℕ → ℕ
+look_up_keyed tables x k =
+    bit_xor
+    (bit_xor (bit_xor (slice_index (table_in tables 0) x.first) k) (slice_index (table_in tables 1) x.second))
+    (bit_xor (slice_index (table_in tables 2) x.third) (slice_index (table_in tables 3) x.fourth))
+
+keyed : (tables : List (List ℕ)) (x y : Column) (k : ℕ) → column_of_word (look_up tables x) ≡ y →
+    column_of_word (look_up_keyed tables x k) ≡ column_sum y (column_of_word k)
+unfolding look_up look_up_keyed
+keyed tables x y k is = column_of_word-keyed _ _ (slice_index (table_in tables 2) x.third) (slice_index (table_in tables 3) x.fourth) k y is
+
+mixed_lookup : (x : Column) → IsByteColumn x → column_of_word (look_up ROUND x) ≡ mixed (substituted_word x)
+unfolding look_up mixed substituted_word
+mixed_lookup x b =
+    column_of_word-four _ _ _ _ _ _ _ _ (round_0 x.first b.first) (round_1 x.second b.second)
+    (round_2 x.third b.third) (round_3 x.fourth b.fourth)
+    ∙ circulant_times-multiples 2 3 1 1 (substituted_word x)
+
+unmixed_lookup : (x : Column) → IsByteColumn x → column_of_word (look_up INVERSE_ROUND x) ≡ unmixed (unsubstituted_word x)
+unfolding look_up unmixed unsubstituted_word
+unmixed_lookup x b =
+    column_of_word-four _ _ _ _ _ _ _ _ (inverse_round_0 x.first b.first) (inverse_round_1 x.second b.second)
+    (inverse_round_2 x.third b.third) (inverse_round_3 x.fourth b.fourth)
+    ∙ circulant_times-multiples 14 11 13 9 (unsubstituted_word x)
+
+substituted_lookup : (x : Column) → IsByteColumn x → column_of_word (look_up SUBSTITUTED x) ≡ substituted_word x
+unfolding look_up substituted_word
+substituted_lookup x b =
+    column_of_word-four _ _ _ _ _ _ _ _ (substituted_0 x.first b.first) (substituted_1 x.second b.second)
+    (substituted_2 x.third b.third) (substituted_3 x.fourth b.fourth)
+    ∙ circulant_times-multiples 1 0 0 0 (substituted_word x)
+    ∙ circulant_times-one (substituted_word x) (IsByteColumn-substituted_word x b)
+
+unsubstituted_lookup : (x : Column) → IsByteColumn x → column_of_word (look_up INVERSE_SUBSTITUTED x) ≡ unsubstituted_word x
+unfolding look_up unsubstituted_word
+unsubstituted_lookup x b =
+    column_of_word-four _ _ _ _ _ _ _ _ (inverse_substituted_0 x.first b.first) (inverse_substituted_1 x.second b.second)
+    (inverse_substituted_2 x.third b.third) (inverse_substituted_3 x.fourth b.fourth)
+    ∙ circulant_times-multiples 1 0 0 0 (unsubstituted_word x)
+    ∙ circulant_times-one (unsubstituted_word x) (IsByteColumn-unsubstituted_word x b)
+
+pub mixed_gathered : (w x y z k : ℕ) →
+    column_of_word (look_up_keyed ROUND (gathered w x y z) k)
     ≡ column_sum (mixed (substituted_word (gathered w x y z))) (column_of_word k)
-unfolding mixed substituted_word gathered column_of_word
-mixed_lookup w x y z k =
-    column_of_word-keyed (slice_index ROUND_0 (w % 256)) (slice_index ROUND_1 (x / 256 % 256))
-    (slice_index ROUND_2 (y / 65536 % 256)) (slice_index ROUND_3 (z / 16777216 % 256)) k _
-    (column_of_word-four _ _ _ _ _ _ _ _
-    (round_0_table (w % 256) (omega arith)) (round_1_table (x / 256 % 256) (omega arith))
-    (round_2_table (y / 65536 % 256) (omega arith)) (round_3_table (z / 16777216 % 256) (omega arith))
-    ∙ circulant_times-multiples 2 3 1 1 (substituted_word (gathered w x y z)))
+mixed_gathered w x y z k = keyed ROUND _ _ k (mixed_lookup (gathered w x y z) (IsByteColumn-gathered w x y z))
 
-unmixed_lookup : (w x y z k : ℕ) →
-    column_of_word (bit_xor
-    (bit_xor (bit_xor (slice_index INVERSE_ROUND_0 (w % 256)) k) (slice_index INVERSE_ROUND_1 (x / 256 % 256)))
-    (bit_xor (slice_index INVERSE_ROUND_2 (y / 65536 % 256)) (slice_index INVERSE_ROUND_3 (z / 16777216 % 256))))
-    ≡ column_sum (unmixed (unsubstituted_word (gathered w x y z))) (column_of_word k)
-unfolding unmixed unsubstituted_word gathered column_of_word
-unmixed_lookup w x y z k =
-    column_of_word-keyed (slice_index INVERSE_ROUND_0 (w % 256)) (slice_index INVERSE_ROUND_1 (x / 256 % 256))
-    (slice_index INVERSE_ROUND_2 (y / 65536 % 256)) (slice_index INVERSE_ROUND_3 (z / 16777216 % 256)) k _
-    (column_of_word-four _ _ _ _ _ _ _ _
-    (inverse_round_0_table (w % 256) (omega arith)) (inverse_round_1_table (x / 256 % 256) (omega arith))
-    (inverse_round_2_table (y / 65536 % 256) (omega arith)) (inverse_round_3_table (z / 16777216 % 256) (omega arith))
-    ∙ circulant_times-multiples 14 11 13 9 (unsubstituted_word (gathered w x y z)))
+pub substituted_gathered : (w x y z k : ℕ) →
+    column_of_word (look_up_keyed SUBSTITUTED (gathered w x y z) k)
+    ≡ column_sum (substituted_word (gathered w x y z)) (column_of_word k)
+substituted_gathered w x y z k =
+    keyed SUBSTITUTED _ _ k (substituted_lookup (gathered w x y z) (IsByteColumn-gathered w x y z))
 
-pub unmixed_back : (w x y z k : ℕ) →
-    substituted_word (mixed (column_sum (column_of_word (bit_xor
-    (bit_xor (bit_xor (slice_index INVERSE_ROUND_0 (w % 256)) k) (slice_index INVERSE_ROUND_1 (x / 256 % 256)))
-    (bit_xor (slice_index INVERSE_ROUND_2 (y / 65536 % 256)) (slice_index INVERSE_ROUND_3 (z / 16777216 % 256)))))
-    (column_of_word k)))
+-- the other way round: the key is added again, and what was looked up comes back
+pub unmixed_gathered : (w x y z k : ℕ) →
+    substituted_word (mixed (column_sum (column_of_word (look_up_keyed INVERSE_ROUND (gathered w x y z) k)) (column_of_word k)))
     ≡ gathered w x y z
-unmixed_back w x y z k =
+unmixed_gathered w x y z k =
     let b = IsByteColumn-gathered w x y z in
-    ap (λ (u : Column). substituted_word (mixed (column_sum u (column_of_word k)))) (unmixed_lookup w x y z k)
-    ∙ ap (λ (u : Column). substituted_word (mixed u)) (column_sum-twice (unmixed (unsubstituted_word (gathered w x y z))) (column_of_word k))
-    ∙ ap substituted_word (mixed-unmixed _ (IsByteColumn-unsubstituted_word _ b))
+    let back : Column = unsubstituted_word (gathered w x y z) in
+    ap (λ (u : Column). substituted_word (mixed u))
+    (ap (λ (u : Column). column_sum u (column_of_word k)) (keyed INVERSE_ROUND _ _ k (unmixed_lookup _ b))
+    ∙ column_sum-twice (unmixed back) (column_of_word k))
+    ∙ ap substituted_word (mixed-unmixed back (IsByteColumn-unsubstituted_word _ b))
     ∙ substituted_word-unsubstituted_word _ b
 
-pub substituted_lookup : (w x y z : ℕ) →
-    column_of_word (from_le_bytes w32 (slice_index S_BOX (w % 256) ∷ slice_index S_BOX (x / 256 % 256)
-    ∷ slice_index S_BOX (y / 65536 % 256) ∷ slice_index S_BOX (z / 16777216 % 256) ∷ []))
-    ≡ substituted_word (gathered w x y z)
-unfolding substituted_word gathered column_of_word column_bytes
-substituted_lookup w x y z =
-    rw (
-      s_box_table (w % 256) (omega arith),
-      s_box_table (x / 256 % 256) (omega arith),
-      s_box_table (y / 65536 % 256) (omega arith),
-      s_box_table (z / 16777216 % 256) (omega arith),
-    )
-    (column_of_word-from_le_bytes (substituted_word (gathered w x y z)) (IsByteColumn-substituted_word _ (IsByteColumn-gathered w x y z)))
-
-inverse_substituted_lookup : (w x y z : ℕ) →
-    column_of_word (from_le_bytes w32 (slice_index INVERSE_S_BOX (w % 256) ∷ slice_index INVERSE_S_BOX (x / 256 % 256)
-    ∷ slice_index INVERSE_S_BOX (y / 65536 % 256) ∷ slice_index INVERSE_S_BOX (z / 16777216 % 256) ∷ []))
-    ≡ unsubstituted_word (gathered w x y z)
-unfolding unsubstituted_word gathered column_of_word column_bytes
-inverse_substituted_lookup w x y z =
-    column_of_word-from_le_bytes (unsubstituted_word (gathered w x y z))
-    (IsByteColumn-unsubstituted_word _ (IsByteColumn-gathered w x y z))
-
-pub inverse_substituted_back : (w x y z : ℕ) →
-    substituted_word (column_of_word (from_le_bytes w32 (slice_index INVERSE_S_BOX (w % 256)
-    ∷ slice_index INVERSE_S_BOX (x / 256 % 256)
-    ∷ slice_index INVERSE_S_BOX (y / 65536 % 256) ∷ slice_index INVERSE_S_BOX (z / 16777216 % 256) ∷ [])))
+pub unsubstituted_gathered : (w x y z k : ℕ) →
+    substituted_word (column_sum (column_of_word (look_up_keyed INVERSE_SUBSTITUTED (gathered w x y z) k)) (column_of_word k))
     ≡ gathered w x y z
-inverse_substituted_back w x y z =
-    ap substituted_word (inverse_substituted_lookup w x y z)
-    ∙ substituted_word-unsubstituted_word _ (IsByteColumn-gathered w x y z)
+unsubstituted_gathered w x y z k =
+    let b = IsByteColumn-gathered w x y z in
+    let back : Column = unsubstituted_word (gathered w x y z) in
+    ap substituted_word
+    (ap (λ (u : Column). column_sum u (column_of_word k)) (keyed INVERSE_SUBSTITUTED _ _ k (unsubstituted_lookup _ b))
+    ∙ column_sum-twice back (column_of_word k))
+    ∙ substituted_word-unsubstituted_word _ b
 
 pub key_lookup : (w : ℕ) →
-    column_of_word (from_le_bytes w32 (slice_index S_BOX (w / 256 % 256) ∷ slice_index S_BOX (w / 65536 % 256)
-    ∷ slice_index S_BOX (w / 16777216 % 256) ∷ slice_index S_BOX (w % 256) ∷ []))
+    column_of_word (look_up SUBSTITUTED (rotated_word (column_of_word w)))
     ≡ substituted_word (rotated_word (column_of_word w))
-unfolding substituted_word rotated_word column_of_word column_bytes
+unfolding rotated_word
 key_lookup w =
-    let b : IsByteColumn (rotated_word (column_of_word w)) =
-    record { first = omega arith; second = omega arith; third = omega arith; fourth = omega arith } in
-    rw (
-      s_box_table (w / 256 % 256) (omega arith),
-      s_box_table (w / 65536 % 256) (omega arith),
-      s_box_table (w / 16777216 % 256) (omega arith),
-      s_box_table (w % 256) (omega arith),
-    )
-    (column_of_word-from_le_bytes (substituted_word (rotated_word (column_of_word w))) (IsByteColumn-substituted_word _ b))
+    let b = IsByteColumn-column_of_word w in
+    substituted_lookup (rotated_word (column_of_word w))
+    (record { first = b.second; second = b.third; third = b.fourth; fourth = b.first })
 
 -- the words of a block
-pub block_of_words-from_le_bytes : (s : List ℕ) → IsBytes 16 s →
-    block_of_words (from_le_bytes w32 (column_bytes (column_of s 0)) ∷ from_le_bytes w32 (column_bytes (column_of s 1))
-    ∷ from_le_bytes w32 (column_bytes (column_of s 2)) ∷ from_le_bytes w32 (column_bytes (column_of s 3)) ∷ []) ≡ s
+pub block_of_words-two : (s : List ℕ) (front back : ℕ) → IsBytes 16 s →
+    front ≡ from_le_bytes w64 (column_bytes (column_of s 0) ++ column_bytes (column_of s 1)) →
+    back ≡ from_le_bytes w64 (column_bytes (column_of s 2) ++ column_bytes (column_of s 3)) →
+    block_of_words (front % 4294967296 ∷ front / 4294967296 ∷ back % 4294967296 ∷ back / 4294967296 ∷ []) ≡ s
 unfolding block_of_words
-block_of_words-from_le_bytes s b =
-    rw (
-      column_of_word-from_le_bytes (column_of s 0) (IsByteColumn-column_of s b 0 (omega arith)),
-      column_of_word-from_le_bytes (column_of s 1) (IsByteColumn-column_of s b 1 (omega arith)),
-      column_of_word-from_le_bytes (column_of s 2) (IsByteColumn-column_of s b 2 (omega arith)),
-      column_of_word-from_le_bytes (column_of s 3) (IsByteColumn-column_of s b 3 (omega arith)),
-    )
+block_of_words-two s front back b is so =
+    let w = IsByteColumn-column_of s b 0 (omega arith) in
+    let x = IsByteColumn-column_of s b 1 (omega arith) in
+    let y = IsByteColumn-column_of s b 2 (omega arith) in
+    let z = IsByteColumn-column_of s b 3 (omega arith) in
+    rw (front_word _ _ front w is, back_word _ _ front w x is, front_word _ _ back y so, back_word _ _ back y z so)
     (columns_spelled s b.long)
 
 from_columns-column_sum : (a b c d e f g h : Column) →
@@ -192,18 +195,15 @@ pub words_keyed : (k : List ℕ) (w x y z : ℕ) (a b c d : Column) →
 unfolding block_of_words
 words_keyed k w x y z a b c d ew ex ey ez = rw (ew, ex, ey, ez) (from_columns-column_sum a b c d _ _ _ _)
 
-one : (w k : ℕ) (a : Column) → column_of_word w ≡ a → column_of_word (bit_xor w k) ≡ column_sum a (column_of_word k)
-one w k a e = column_of_word-xor w k ∙ ap (λ (x : Column). column_sum x (column_of_word k)) e
-
--- four words, to each of which a key word is added
-pub key_added : (k : List ℕ) (w x y z : ℕ) (a b c d : Column) → column_of_word w ≡ a → column_of_word x ≡ b →
-    column_of_word y ≡ c → column_of_word z ≡ d →
-    block_of_words (bit_xor w (slice_index k 0) ∷ bit_xor x (slice_index k 1) ∷ bit_xor y (slice_index k 2)
-    ∷ bit_xor z (slice_index k 3) ∷ [])
-    ≡ block_sum (from_columns a b c d) (block_of_words k)
-key_added k w x y z a b c d ea eb ec ed =
-    words_keyed k _ _ _ _ a b c d (one w (slice_index k 0) a ea) (one x (slice_index k 1) b eb)
-    (one y (slice_index k 2) c ec) (one z (slice_index k 3) d ed)
+pub block_of_words-sum : (s k : List ℕ) →
+    block_of_words (bit_xor (slice_index s 0) (slice_index k 0) ∷ bit_xor (slice_index s 1) (slice_index k 1)
+    ∷ bit_xor (slice_index s 2) (slice_index k 2) ∷ bit_xor (slice_index s 3) (slice_index k 3) ∷ [])
+    ≡ block_sum (block_of_words s) (block_of_words k)
+unfolding block_of_words
+block_of_words-sum s k =
+    words_keyed k _ _ _ _ _ _ _ _ (column_of_word-xor (slice_index s 0) (slice_index k 0))
+    (column_of_word-xor (slice_index s 1) (slice_index k 1)) (column_of_word-xor (slice_index s 2) (slice_index k 2))
+    (column_of_word-xor (slice_index s 3) (slice_index k 3))
 
 pub shift_rows-words : (s : List ℕ) →
     shift_rows (sub_bytes (block_of_words s))
@@ -273,45 +273,31 @@ unmixed_words_back s k w x y z ew ex ey ez =
     (ap mix_columns (sym (from_columns-column_sum _ _ _ _ _ _ _ _)) ∙ mix_columns-from_columns _ _ _ _)
     ∙ substituted_back s _ _ _ _ ew ex ey ez
 
-added_twice : (w k : ℕ) → column_sum (column_of_word (bit_xor w k)) (column_of_word k) ≡ column_of_word w
-added_twice w k =
-    ap (λ (x : Column). column_sum x (column_of_word k)) (column_of_word-xor w k)
-    ∙ column_sum-twice (column_of_word w) (column_of_word k)
-
--- and with a key that is added to each
+-- and with no mixing
 pub words_back : (s k : List ℕ) (w x y z : ℕ) →
-    substituted_word (column_of_word w)
+    substituted_word (column_sum (column_of_word w) (column_of_word (slice_index k 0)))
     ≡ gathered (slice_index s 0) (slice_index s 3) (slice_index s 2) (slice_index s 1) →
-    substituted_word (column_of_word x)
+    substituted_word (column_sum (column_of_word x) (column_of_word (slice_index k 1)))
     ≡ gathered (slice_index s 1) (slice_index s 0) (slice_index s 3) (slice_index s 2) →
-    substituted_word (column_of_word y)
+    substituted_word (column_sum (column_of_word y) (column_of_word (slice_index k 2)))
     ≡ gathered (slice_index s 2) (slice_index s 1) (slice_index s 0) (slice_index s 3) →
-    substituted_word (column_of_word z)
+    substituted_word (column_sum (column_of_word z) (column_of_word (slice_index k 3)))
     ≡ gathered (slice_index s 3) (slice_index s 2) (slice_index s 1) (slice_index s 0) →
-    shift_rows (sub_bytes (block_sum (block_of_words (bit_xor w (slice_index k 0) ∷ bit_xor x (slice_index k 1)
-    ∷ bit_xor y (slice_index k 2) ∷ bit_xor z (slice_index k 3) ∷ [])) (block_of_words k)))
-    ≡ block_of_words s
+    shift_rows (sub_bytes (block_sum (block_of_words (w ∷ x ∷ y ∷ z ∷ [])) (block_of_words k))) ≡ block_of_words s
 unfolding block_of_words
 words_back s k w x y z ew ex ey ez =
-    ap (λ (b : List ℕ). shift_rows (sub_bytes b))
-    (sym (from_columns-column_sum _ _ _ _ _ _ _ _)
-    ∙ rw (
-      added_twice w (slice_index k 0),
-      added_twice x (slice_index k 1),
-      added_twice y (slice_index k 2),
-      added_twice z (slice_index k 3),
-    )
-    refl)
+    ap (λ (b : List ℕ). shift_rows (sub_bytes b)) (sym (from_columns-column_sum _ _ _ _ _ _ _ _))
     ∙ substituted_back s _ _ _ _ ew ex ey ez
 
 -- a column that is substituted and then looked up in the tables that unmix
 pub unmixed_key_back : (w r s : ℕ) →
     substituted_word (mixed (column_sum (column_of_word r) (column_of_word 0))) ≡ gathered s s s s →
-    column_of_word s ≡ substituted_word (gathered w w w w) → mixed (column_of_word r) ≡ column_of_word w
+    column_of_word s ≡ column_sum (substituted_word (gathered w w w w)) (column_of_word 0) →
+    mixed (column_of_word r) ≡ column_of_word w
 unmixed_key_back w r s back is =
     ap mixed (sym (column_sum-zero (column_of_word r)))
     ∙ sym (unsubstituted_word-substituted_word _ (IsByteColumn-mixed (column_sum (column_of_word r) (column_of_word 0))))
-    ∙ ap unsubstituted_word (back ∙ gathered_same s ∙ is ∙ ap substituted_word (gathered_same w))
+    ∙ ap unsubstituted_word (back ∙ gathered_same s ∙ is ∙ column_sum-zero _ ∙ ap substituted_word (gathered_same w))
     ∙ unsubstituted_word-substituted_word _ (IsByteColumn-column_of_word w)
 
 -- mixing is linear

@@ -1,10 +1,10 @@
 -- Words and their columns.
-use Rattle.std.proofs.Common.{◌≡◌, ◌+◌, ◌*◌, ◌/◌, ◌%◌, ◌^◌, ℕ, refl, ap, ◌∙◌, arith, sym}
+use Rattle.std.proofs.Common.{◌≡◌, ◌<◌, ◌+◌, ◌*◌, ◌/◌, ◌%◌, ◌^◌, ℕ, zero, suc, refl, ap, ◌∙◌, arith, sym, length, get_or, ◌++◌}
 use Rattle.std.specs.Prelude.{bit_xor}
 use lib.Bits.{xor_assoc, xor_self, xor_zero_r}
-use Rattle.std.proofs.lemmas.Nat.{xor_comm, xor_shr, xor_mod}
+use Rattle.std.proofs.lemmas.Nat.{xor_comm, xor_shr, xor_mod, from_le_bytes-to_le_bytes_4, le_bytes_8}
 use Rattle.aes_block.specs.Field.{product}
-use Rattle.std.specs.Int.{from_le_bytes, w32}
+use Rattle.std.specs.Int.{from_le_bytes, to_le_bytes, w64}
 use Rattle.aes_block.specs.Column.{Column, column_bytes, column_sum, sum_of_four, row_times, circulant_times}
 use Rattle.aes_block.specs.Word.{column_of_word}
 use Rattle.aes_block.proofs.MixInverse.{IsByteColumn, column_from}
@@ -53,10 +53,62 @@ column_of_word-four a b c d p q r s ea eb ec ed =
     column_of_word-xor (bit_xor a b) (bit_xor c d)
     ∙ rw (column_of_word-xor a b, column_of_word-xor c d, ea, eb, ec, ed) refl
 
--- four bytes, the lowest first
-pub column_of_word-from_le_bytes : (x : Column) → IsByteColumn x → column_of_word (from_le_bytes w32 (column_bytes x)) ≡ x
+-- eight bytes, the lowest first, are two words
+number_of_two : (x y : Column) →
+    from_le_bytes w64 (column_bytes x ++ column_bytes y) ≡ word_of x + word_of y * 4294967296
 unfolding column_bytes word_of
-column_of_word-from_le_bytes x b = column_of_word-word_of x b
+number_of_two x y = omega arith
+
+word_of-lt : (x : Column) → IsByteColumn x → word_of x < 4294967296
+unfolding word_of
+word_of-lt x b = let p = b.first in let q = b.second in let r = b.third in let s = b.fourth in omega arith
+
+pub front_word : (x y : Column) (n : ℕ) → IsByteColumn x → n ≡ from_le_bytes w64 (column_bytes x ++ column_bytes y) →
+    column_of_word (n % 4294967296) ≡ x
+front_word x y n b is =
+    let e : n ≡ word_of x + word_of y * 4294967296 = is ∙ number_of_two x y in
+    let low = word_of-lt x b in
+    let w : n % 4294967296 ≡ word_of x = omega arith in
+    ap column_of_word w ∙ column_of_word-word_of x b
+
+pub back_word : (x y : Column) (n : ℕ) → IsByteColumn x → IsByteColumn y →
+    n ≡ from_le_bytes w64 (column_bytes x ++ column_bytes y) → column_of_word (n / 4294967296) ≡ y
+back_word x y n b d is =
+    let e : n ≡ word_of x + word_of y * 4294967296 = is ∙ number_of_two x y in
+    let low = word_of-lt x b in
+    let w : n / 4294967296 ≡ word_of y = omega arith in
+    ap column_of_word w ∙ column_of_word-word_of y d
+
+word_of-column_of_word : (w : ℕ) → w < 2 ^ 32 → word_of (column_of_word w) ≡ w
+unfolding word_of column_of_word
+word_of-column_of_word w low = from_le_bytes-to_le_bytes_4 w low
+
+eight_bytes : (x y : Column) → IsByteColumn x → IsByteColumn y → (i : ℕ) →
+    get_or (column_bytes x ++ column_bytes y) i 0 < 256
+unfolding column_bytes
+eight_bytes x y p q zero = p.first
+eight_bytes x y p q (suc zero) = p.second
+eight_bytes x y p q (suc (suc zero)) = p.third
+eight_bytes x y p q (suc (suc (suc zero))) = p.fourth
+eight_bytes x y p q (suc (suc (suc (suc zero)))) = q.first
+eight_bytes x y p q (suc (suc (suc (suc (suc zero))))) = q.second
+eight_bytes x y p q (suc (suc (suc (suc (suc (suc zero)))))) = q.third
+eight_bytes x y p q (suc (suc (suc (suc (suc (suc (suc zero))))))) = q.fourth
+eight_bytes x y p q (suc (suc (suc (suc (suc (suc (suc (suc i)))))))) = omega arith
+
+length_eight : (x y : Column) → length (column_bytes x ++ column_bytes y) ≡ 8
+unfolding column_bytes
+length_eight x y = refl
+
+pub two_words_bytes : (w x : ℕ) → w < 2 ^ 32 → x < 2 ^ 32 →
+    to_le_bytes w64 (x * 4294967296 + w) ≡ column_bytes (column_of_word w) ++ column_bytes (column_of_word x)
+two_words_bytes w x low high =
+    let n = number_of_two (column_of_word w) (column_of_word x) in
+    let front = word_of-column_of_word w low in
+    let back = word_of-column_of_word x high in
+    le_bytes_8 _ (x * 4294967296 + w) (length_eight (column_of_word w) (column_of_word x))
+    (eight_bytes (column_of_word w) (column_of_word x) (IsByteColumn-column_of_word w) (IsByteColumn-column_of_word x))
+    (omega arith)
 
 -- four words and a key word
 key_last : (a b c k : ℕ) → bit_xor (bit_xor (bit_xor a k) b) c ≡ bit_xor (bit_xor (bit_xor a b) c) k

@@ -9,7 +9,8 @@
 //! equal to its definition at every byte.
 //!
 //! The layer above may rely on this: `encrypt_block` gives `encrypted key block`, and `decrypt_block` gives the one
-//! block whose encryption stood there. No call fails or takes memory. Nothing is said of the cipher's strength, nor of
+//! block whose encryption stood there; `encrypt_words` and `decrypt_words` are the same on a block's four words, which
+//! a chain of blocks keeps in registers. No call fails or takes memory. Nothing is said of the cipher's strength, nor of
 //! the time that a call takes: look-ups in tables depend on secret bytes.
 #![tactic(auto)]
 
@@ -18,6 +19,7 @@ mod tables;
 mod words;
 
 pub use cipher::Schedule;
+pub use words::{add_words, words_of, write_words};
 
 #[cfg(test)]
 mod tests;
