@@ -5,7 +5,7 @@ pub mod Products
 pub mod WordSums
 pub mod TableRules
 pub mod Blocks
-pub mod StepInverses
-pub mod Rounds
+pub mod OneToOne
 pub mod WordRounds
+pub mod Rounds
 pub mod Keys

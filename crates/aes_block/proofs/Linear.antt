@@ -31,7 +31,8 @@ addend-xor a r s hr hs =
       ]
     ]
 
-pub product_of_bits-xor : (k a x y : ℕ) → product_of_bits k a (bit_xor x y) ≡ bit_xor (product_of_bits k a x) (product_of_bits k a y)
+pub product_of_bits-xor : (k a x y : ℕ) →
+    product_of_bits k a (bit_xor x y) ≡ bit_xor (product_of_bits k a x) (product_of_bits k a y)
 unfolding product_of_bits
 product_of_bits-xor zero a x y = refl
 product_of_bits-xor (suc k) a x y =
@@ -39,16 +40,20 @@ product_of_bits-xor (suc k) a x y =
     let q : bit_xor x y / 2 ≡ bit_xor (x / 2) (y / 2) = xor_shr x y 1 in
     let one = addend-xor a (x % 2) (y % 2) (omega arith) (omega arith) in
     rw (r, q, one, product_of_bits-xor k (times_x a) (x / 2) (y / 2))
-    (interchange (addend (x % 2) a) (addend (y % 2) a) (product_of_bits k (times_x a) (x / 2)) (product_of_bits k (times_x a) (y / 2)))
+    (interchange (addend (x % 2) a) (addend (y % 2) a) (product_of_bits k (times_x a) (x / 2))
+    (product_of_bits k (times_x a) (y / 2)))
 
 pub product-xor : (a x y : ℕ) → product a (bit_xor x y) ≡ bit_xor (product a x) (product a y)
 unfolding product
 product-xor a x y = product_of_bits-xor 8 a x y
 
-pub product-sum : (i a b c d : ℕ) → product i (sum_of_four a b c d) ≡ sum_of_four (product i a) (product i b) (product i c) (product i d)
+pub product-sum : (i a b c d : ℕ) →
+    product i (sum_of_four a b c d) ≡ sum_of_four (product i a) (product i b) (product i c) (product i d)
 unfolding sum_of_four
 product-sum i a b c d =
-    product-xor i (bit_xor a b) (bit_xor c d) ∙ (ap (λ (x : ℕ). bit_xor x (product i (bit_xor c d))) (product-xor i a b) ∙ ap (λ (x : ℕ). bit_xor (bit_xor (product i a) (product i b)) x) (product-xor i c d))
+    product-xor i (bit_xor a b) (bit_xor c d)
+    ∙ ap (λ (x : ℕ). bit_xor x (product i (bit_xor c d))) (product-xor i a b)
+    ∙ ap (λ (x : ℕ). bit_xor (bit_xor (product i a) (product i b)) x) (product-xor i c d)
 
 -- a sum of sums, by columns
 pub sum_of_four-turned : (a b c d e f g h i j k l m n o p : ℕ) →
@@ -67,4 +72,16 @@ sum_of_four-turned a b c d e f g h i j k l m n o p =
     rw (interchange ab cd ef gh, interchange ij kl mn op)
     (rw (interchange (bit_xor ab ef) (bit_xor cd gh) (bit_xor ij mn) (bit_xor kl op))
     (rw (interchange a b e f, interchange c d g h, interchange i j m n, interchange k l o p)
-    (rw (interchange (bit_xor a e) (bit_xor b f) (bit_xor i m) (bit_xor j n), interchange (bit_xor c g) (bit_xor d h) (bit_xor k o) (bit_xor l p)) refl)))
+    (rw (
+      interchange (bit_xor a e) (bit_xor b f) (bit_xor i m) (bit_xor j n),
+      interchange (bit_xor c g) (bit_xor d h) (bit_xor k o) (bit_xor l p),
+    )
+    refl)))
+
+-- the last of four comes first
+pub sum_of_four-rotated : (a b c d : ℕ) → sum_of_four b c d a ≡ sum_of_four a b c d
+unfolding sum_of_four
+sum_of_four-rotated a b c d =
+    ap (λ (x : ℕ). bit_xor (bit_xor b c) x) (xor_comm d a)
+    ∙ interchange b c a d
+    ∙ ap (λ (x : ℕ). bit_xor x (bit_xor c d)) (xor_comm b a)

@@ -9,8 +9,8 @@ pub record Column : Type 0 where
   pub fourth : ℕ
 
 -- a column's bytes
-unfoldable pub bytes_of : Column → List ℕ
-bytes_of x = x.first ∷ x.second ∷ x.third ∷ x.fourth ∷ []
+unfoldable pub column_bytes : Column → List ℕ
+column_bytes x = x.first ∷ x.second ∷ x.third ∷ x.fourth ∷ []
 
 -- the sum of two columns
 unfoldable pub column_sum : Column → Column → Column
@@ -26,7 +26,8 @@ sum_of_four a b c d = bit_xor (bit_xor a b) (bit_xor c d)
 
 -- one row of a matrix times a column
 unfoldable pub row_times : ℕ → ℕ → ℕ → ℕ → Column → ℕ
-row_times i j k l x = sum_of_four (product i x.first) (product j x.second) (product k x.third) (product l x.fourth)
+row_times i j k l x =
+    sum_of_four (product i x.first) (product j x.second) (product k x.third) (product l x.fourth)
 
 -- the circulant with this first row, times a column
 unfoldable pub circulant_times : ℕ → ℕ → ℕ → ℕ → Column → Column
@@ -40,7 +41,3 @@ circulant_times i j k l x = record {
 -- FIPS 197, 5.1.3
 unfoldable pub mixed : Column → Column
 mixed x = circulant_times 2 3 1 1 x
-
--- FIPS 197, 5.3.3
-unfoldable pub unmixed : Column → Column
-unmixed x = circulant_times 14 11 13 9 x

@@ -11,7 +11,8 @@ rotated_word w = record { first = w.second; second = w.third; third = w.fourth; 
 
 -- SubWord
 unfoldable pub substituted_word : Column → Column
-substituted_word w = record { first = s_box w.first; second = s_box w.second; third = s_box w.third; fourth = s_box w.fourth }
+substituted_word w =
+    record { first = s_box w.first; second = s_box w.second; third = s_box w.third; fourth = s_box w.fourth }
 
 -- Rcon[j], from 1
 unfoldable pub round_constant : ℕ → Column
@@ -21,7 +22,8 @@ round_constant j = record { first = power_of_x (j - 1); second = 0; third = 0; f
 -- them the last is rotated and substituted, and the round constant is added
 unfoldable pub next_key : ℕ → List ℕ → List ℕ
 next_key j k =
-    let first = column_sum (column_of k 0) (column_sum (substituted_word (rotated_word (column_of k 3))) (round_constant j)) in
+    let added = column_sum (substituted_word (rotated_word (column_of k 3))) (round_constant j) in
+    let first = column_sum (column_of k 0) added in
     let second = column_sum (column_of k 1) first in
     let third = column_sum (column_of k 2) second in
     let fourth = column_sum (column_of k 3) third in

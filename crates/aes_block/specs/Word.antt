@@ -1,6 +1,5 @@
 -- A column as a word of 32 bits whose lowest byte is the column's first.
 use Rattle.std.specs.Prelude.{ℕ, ◌/◌, ◌%◌, List, slice_index}
-use Rattle.aes_block.specs.SBox.{s_box, inverse_s_box}
 use Rattle.aes_block.specs.Column.{Column}
 use Rattle.aes_block.specs.State.{from_columns}
 
@@ -15,22 +14,15 @@ column_of_word w = record {
 
 -- the block of four words
 unfoldable pub block_of_words : List ℕ → List ℕ
-block_of_words s = from_columns (column_of_word (slice_index s 0)) (column_of_word (slice_index s 1)) (column_of_word (slice_index s 2)) (column_of_word (slice_index s 3))
+block_of_words s =
+    from_columns (column_of_word (slice_index s 0)) (column_of_word (slice_index s 1))
+    (column_of_word (slice_index s 2)) (column_of_word (slice_index s 3))
 
--- the S-box on one byte of each word, from the first byte of the first to the fourth of the fourth
-unfoldable pub substituted : ℕ → ℕ → ℕ → ℕ → Column
-substituted w x y z = record {
-  first = s_box (column_of_word w).first;
-  second = s_box (column_of_word x).second;
-  third = s_box (column_of_word y).third;
-  fourth = s_box (column_of_word z).fourth;
-}
-
--- and the inverse S-box
-unfoldable pub inverse_substituted : ℕ → ℕ → ℕ → ℕ → Column
-inverse_substituted w x y z = record {
-  first = inverse_s_box (column_of_word w).first;
-  second = inverse_s_box (column_of_word x).second;
-  third = inverse_s_box (column_of_word y).third;
-  fourth = inverse_s_box (column_of_word z).fourth;
+-- one byte of each word, from the first byte of the first to the fourth of the fourth
+unfoldable pub gathered : ℕ → ℕ → ℕ → ℕ → Column
+gathered w x y z = record {
+  first = (column_of_word w).first;
+  second = (column_of_word x).second;
+  third = (column_of_word y).third;
+  fourth = (column_of_word z).fourth;
 }

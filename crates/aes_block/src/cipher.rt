@@ -1,9 +1,10 @@
 ghost use Rattle.std.specs.Prelude.{◌≡◌, ℕ, List};
 ghost use Rattle.aes_block.specs.Bytes.{IsBytes};
-ghost use Rattle.aes_block.specs.Cipher.{encrypted, decrypted};
+ghost use Rattle.aes_block.specs.Word.{block_of_words};
+ghost use Rattle.aes_block.specs.Cipher.{encrypted};
 
 use crate::words::{
-    add_round_key, inverse_round, last_inverse_round, last_round, next_key, round, unmixed_key,
+    add_words, inverse_round, last_inverse_round, last_round, next_key, round, unmixed_key,
     words_of, write_words,
 };
 use std::marker::Model;
@@ -42,35 +43,62 @@ impl Schedule {
         Schedule { keys, inverse_keys }
     }
 
+    /// Enciphers a block that is given by its words.
+    // Each round by itself: in a loop LLVM would keep the state in one vector and take it apart for each look-up.
+    #[inline(always)]
+    pub fn encrypt_words(&self, s: &mut [u32; 4])
+        ensures enciphered { block_of_words s.new ≡ encrypted self.now (block_of_words s.old) }
+        ensures only_one { (p : List ℕ) → IsBytes 16 p → encrypted self.now p ≡ block_of_words s.new → p ≡ block_of_words s.old }
+    {
+        add_words(s, &self.keys[0]);
+        round(s, &self.keys[1]);
+        round(s, &self.keys[2]);
+        round(s, &self.keys[3]);
+        round(s, &self.keys[4]);
+        round(s, &self.keys[5]);
+        round(s, &self.keys[6]);
+        round(s, &self.keys[7]);
+        round(s, &self.keys[8]);
+        round(s, &self.keys[9]);
+        last_round(s, &self.keys[10]);
+    }
+
     /// Enciphers a block in place.
-    // Inlined, it would make LLVM take the caller's block apart into single bytes.
-    #[inline(never)]
     pub fn encrypt_block(&self, b: &mut [u8; 16])
         ensures enciphered { b.new ≡ encrypted self.now b.old }
-        ensures deciphers_back { decrypted self.now b.new ≡ b.old }
+        ensures only_one { (p : List ℕ) → IsBytes 16 p → encrypted self.now p ≡ b.new → p ≡ b.old }
     {
         let mut s = words_of(b);
-        add_round_key(&mut s, &self.keys[0]);
-        for j in 0..9 {
-            round(&mut s, &self.keys[j + 1]);
-        }
-        last_round(&mut s, &self.keys[10]);
+        self.encrypt_words(&mut s);
         write_words(&s, b);
     }
 
+    /// Deciphers a block that is given by its words.
+    #[inline(always)]
+    pub fn decrypt_words(&self, s: &mut [u32; 4])
+        ensures enciphers_back { encrypted self.now (block_of_words s.new) ≡ block_of_words s.old }
+        ensures only_one { (p : List ℕ) → IsBytes 16 p → encrypted self.now p ≡ block_of_words s.old → block_of_words s.new ≡ p }
+    {
+        add_words(s, &self.keys[10]);
+        inverse_round(s, &self.inverse_keys[0]);
+        inverse_round(s, &self.inverse_keys[1]);
+        inverse_round(s, &self.inverse_keys[2]);
+        inverse_round(s, &self.inverse_keys[3]);
+        inverse_round(s, &self.inverse_keys[4]);
+        inverse_round(s, &self.inverse_keys[5]);
+        inverse_round(s, &self.inverse_keys[6]);
+        inverse_round(s, &self.inverse_keys[7]);
+        inverse_round(s, &self.inverse_keys[8]);
+        last_inverse_round(s, &self.keys[0]);
+    }
+
     /// Deciphers a block in place: gives the one block whose encryption stood there.
-    #[inline(never)]
     pub fn decrypt_block(&self, b: &mut [u8; 16])
-        ensures deciphered { b.new ≡ decrypted self.now b.old }
         ensures enciphers_back { encrypted self.now b.new ≡ b.old }
         ensures only_one { (p : List ℕ) → IsBytes 16 p → encrypted self.now p ≡ b.old → b.new ≡ p }
     {
         let mut s = words_of(b);
-        add_round_key(&mut s, &self.keys[10]);
-        for j in 0..9 {
-            inverse_round(&mut s, &self.inverse_keys[j]);
-        }
-        last_inverse_round(&mut s, &self.keys[0]);
+        self.decrypt_words(&mut s);
         write_words(&s, b);
     }
 }

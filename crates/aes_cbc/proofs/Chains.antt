@@ -9,7 +9,7 @@ use Rattle.aes_block.specs.Bytes.{IsBytes}
 use Rattle.aes_block.specs.State.{block_sum, from_places}
 use Rattle.aes_block.specs.Cipher.{encrypted}
 use Rattle.aes_block.proofs.Blocks.{IsBytes-block_sum}
-use Rattle.aes_block.proofs.StepInverses.{block_sum-block_sum}
+use Rattle.aes_block.proofs.OneToOne.{block_sum-block_sum}
 use Rattle.cloak_model.specs.Chain.{chained, blocks_of, cbc}
 use Rattle.aes_cbc.specs.Opened.{IsOpened}
 

@@ -12,34 +12,12 @@
 ghost use Rattle.std.specs.Prelude.{◌≡◌, ◌+◌, ◌*◌, ◌<◌, ◌++◌, ℕ, List, take, drop};
 ghost use Rattle.aes_block.specs.Bytes.{IsBytes};
 ghost use Rattle.aes_block.specs.State.{block_sum};
+ghost use Rattle.aes_block.specs.Word.{block_of_words};
 ghost use Rattle.aes_block.specs.Cipher.{encrypted};
 ghost use Rattle.cloak_model.specs.Chain.{chained, cbc};
 ghost use Rattle.aes_cbc.specs.Opened.{IsOpened};
 
-use aes_block::Schedule;
-
-fn add_block(b: &mut [u8; 16], other: &[u8; 16])
-    ensures { b.new ≡ block_sum b.old other.now }
-{
-    *b = [
-        b[0] ^ other[0],
-        b[1] ^ other[1],
-        b[2] ^ other[2],
-        b[3] ^ other[3],
-        b[4] ^ other[4],
-        b[5] ^ other[5],
-        b[6] ^ other[6],
-        b[7] ^ other[7],
-        b[8] ^ other[8],
-        b[9] ^ other[9],
-        b[10] ^ other[10],
-        b[11] ^ other[11],
-        b[12] ^ other[12],
-        b[13] ^ other[13],
-        b[14] ^ other[14],
-        b[15] ^ other[15],
-    ];
-}
+use aes_block::{Schedule, add_words, words_of, write_words};
 
 fn block_at(page: &[u8; 4096], j: usize) -> [u8; 16]
     requires { j < 256 }
@@ -58,23 +36,27 @@ fn put_block(page: &mut [u8; 4096], j: usize, block: &[u8; 16])
 }
 
 /// Enciphers the block that follows cipher block `last`.
-fn seal_block(k: &Schedule, last: &mut [u8; 16], block: &mut [u8; 16])
-    ensures sealed { block.new ≡ encrypted k.now (block_sum block.old last.old) }
-    ensures next { last.new ≡ block.new }
+fn seal_block(k: &Schedule, last: &mut [u32; 4], block: &mut [u8; 16])
+    ensures sealed { block.new ≡ encrypted k.now (block_sum block.old (block_of_words last.old)) }
+    ensures next { block_of_words last.new ≡ block.new }
 {
-    add_block(block, last);
-    k.encrypt_block(block);
-    *last = *block;
+    let mut s = words_of(block);
+    add_words(&mut s, last);
+    k.encrypt_words(&mut s);
+    write_words(&s, block);
+    *last = s;
 }
 
 /// Deciphers the block that follows cipher block `last`.
-fn open_block(k: &Schedule, last: &mut [u8; 16], block: &mut [u8; 16])
-    ensures opened { IsOpened k.now last.old block.old block.new }
-    ensures next { last.new ≡ block.old }
+fn open_block(k: &Schedule, last: &mut [u32; 4], block: &mut [u8; 16])
+    ensures opened { IsOpened k.now (block_of_words last.old) block.old block.new }
+    ensures next { block_of_words last.new ≡ block.old }
 {
-    let sealed = *block;
-    k.decrypt_block(block);
-    add_block(block, last);
+    let sealed = words_of(block);
+    let mut s = sealed;
+    k.decrypt_words(&mut s);
+    add_words(&mut s, last);
+    write_words(&s, block);
     *last = sealed;
 }
 
@@ -82,7 +64,7 @@ fn open_block(k: &Schedule, last: &mut [u8; 16], block: &mut [u8; 16])
 pub fn seal_page(k: &Schedule, iv: &[u8; 16], p: &mut [u8; 4096])
     ensures { p.new ≡ cbc k.now iv.now p.old }
 {
-    let mut last = *iv;
+    let mut last = words_of(iv);
     for j in 0..256 {
         let mut block = block_at(p, j);
         seal_block(k, &mut last, &mut block);
@@ -95,7 +77,7 @@ pub fn open_page(k: &Schedule, iv: &[u8; 16], p: &mut [u8; 4096])
     ensures seals_back { cbc k.now iv.now p.new ≡ p.old }
     ensures only_one { (q : List ℕ) → IsBytes 4096 q → cbc k.now iv.now q ≡ p.old → p.new ≡ q }
 {
-    let mut last = *iv;
+    let mut last = words_of(iv);
     for j in 0..256 {
         let mut block = block_at(p, j);
         open_block(k, &mut last, &mut block);
@@ -107,7 +89,7 @@ pub fn open_page(k: &Schedule, iv: &[u8; 16], p: &mut [u8; 4096])
 pub fn seal_blocks(k: &Schedule, iv: &[u8; 16], p: &mut [[u8; 16]])
     ensures { p.new ≡ chained k.now iv.now p.old }
 {
-    let mut last = *iv;
+    let mut last = words_of(iv);
     for block in p.iter_mut() {
         seal_block(k, &mut last, block);
     }

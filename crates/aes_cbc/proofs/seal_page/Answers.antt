@@ -1,9 +1,10 @@
 use Rattle.std.proofs.Common.{◌≡◌, arith}
+use Rattle.aes_block.specs.Word.{block_of_words}
 use Rattle.aes_cbc.proofs.Chains.{sealed_start, sealed_more, sealed_end}
 use Rattle.aes_cbc.proofs.seal_page.Goals as goal
 
 pub loop-j-init : goal.loop-j-init
-loop-j-init c = sealed_start _ _ _ c.told-p
+loop-j-init c = rw c.words_of-last.ensures (sealed_start _ _ _ c.told-p)
 
 pub loop-j-preserved : goal.loop-j-preserved
 loop-j-preserved c =
@@ -13,4 +14,4 @@ loop-j-preserved c =
 pub returns : goal.returns
 returns c =
     let e : c.loop-j.j ≡ 256 = omega arith in
-    sealed_end _ _ _ c.loop-j.last (rw e at c.loop-j.invariant)
+    sealed_end _ _ _ (block_of_words c.loop-j.last) (rw e at c.loop-j.invariant)

@@ -1,10 +1,7 @@
-use Rattle.std.proofs.Common.{List, ℕ, ap, sym, ◌∙◌}
-use Rattle.aes_block.specs.State.{block_sum}
-use Rattle.aes_block.specs.Word.{block_of_words}
-use Rattle.aes_block.proofs.WordRounds.{key_added, inverse_shift_rows-words}
+use Rattle.aes_block.proofs.WordRounds.{words_back}
 use Rattle.aes_block.proofs.words.last_inverse_round.Goals as goal
 
 pub returns : goal.returns
 returns c =
-    key_added c.args.k.now _ _ _ _ _ _ _ _ c.inverse_substituted_word.ensures c.inverse_substituted_word-2.ensures c.inverse_substituted_word-3.ensures c.inverse_substituted_word-4.ensures
-    ∙ ap (λ (b : List ℕ). block_sum b (block_of_words c.args.k.now)) (sym (inverse_shift_rows-words c.args.s.now))
+    words_back c.args.s.now c.args.k.now _ _ _ _ c.unsubstituted_word.ensures c.unsubstituted_word-2.ensures
+    c.unsubstituted_word-3.ensures c.unsubstituted_word-4.ensures

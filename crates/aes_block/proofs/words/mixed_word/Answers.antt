@@ -1,5 +1,9 @@
-use Rattle.aes_block.proofs.WordRounds.{mixed_lookup}
+use Rattle.aes_block.specs.Word.{gathered, column_of_word}
+use Rattle.aes_block.proofs.WordRounds.{look_up_keyed, mixed_gathered}
 use Rattle.aes_block.proofs.words.mixed_word.Goals as goal
 
 pub returns : goal.returns
-returns c = rw (c.byte_0.ensures, c.byte_1.ensures, c.byte_2.ensures, c.byte_3.ensures) (mixed_lookup c.args.w c.args.x c.args.y c.args.z c.args.k)
+unfolding look_up_keyed gathered column_of_word
+returns c =
+    rw (c.byte_0.ensures, c.byte_1.ensures, c.byte_2.ensures, c.byte_3.ensures)
+    (mixed_gathered c.args.w c.args.x c.args.y c.args.z c.args.k)

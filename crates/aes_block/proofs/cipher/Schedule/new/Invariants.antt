@@ -1,5 +1,5 @@
 use Rattle.std.proofs.Common.{◌≡◌, ◌<◌, ◌+◌, ◌-◌, ℕ, length}
-use Rattle.aes_block.specs.State.{inverse_mix_columns}
+use Rattle.aes_block.specs.State.{mix_columns}
 use Rattle.aes_block.specs.RoundKey.{round_key}
 use Rattle.aes_block.specs.Schedule.{key_at_place}
 use Rattle.aes_block.proofs.cipher.Schedule.new.Given as goal
@@ -13,5 +13,5 @@ invariant-loop-j l = record {
 abbrev pub invariant-loop-i : goal.invariant-loop-i
 invariant-loop-i l = record {
   count : length l.inverse_keys ≡ 9;
-  made : (k : ℕ) → k < l.i → key_at_place l.inverse_keys k ≡ inverse_mix_columns (round_key l.key (9 - k));
+  made : (k : ℕ) → k < l.i → mix_columns (key_at_place l.inverse_keys k) ≡ round_key l.key (9 - k);
 }
