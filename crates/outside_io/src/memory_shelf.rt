@@ -83,6 +83,8 @@ impl Shelf for MemoryShelf {
 
     ghost writing_faults = { λ s. s.writing_faults };
 
+    ghost is_settled = { λ _. Unit {0} };
+
     fn size(&mut self, name: &str) -> Result<u64, Failed>
         ensures size { IfOk result (λ n. n ≡ length (bytes_of self.old.files name.now)) }
         ensures listed { IsErr result ↔ Contains self.old.fails (one_more self.old.calls) }
@@ -161,6 +163,22 @@ impl Shelf for MemoryShelf {
         if self.planned.is_next_to_fail()
             || table::extend(self.alloc, &mut self.files, name, bytes).is_err()
         {
+            self.writing_faults = self.writing_faults.saturating_add(1);
+            return Err(Failed);
+        }
+        Ok(())
+    }
+
+    /// Nothing is gathered, so only a call that is listed fails.
+    fn flush(&mut self) -> Result<(), Failed>
+        ensures listed { IsErr result ↔ Contains self.old.fails (one_more self.old.calls) }
+        ensures after_ok { OnOk result (self.new ≡ record self.old { calls = one_more self.old.calls }) }
+        ensures after_err { OnErr result (self.new ≡ record self.old {
+          calls = one_more self.old.calls;
+          writing_faults = one_more self.old.writing_faults;
+        }) }
+    {
+        if self.planned.is_next_to_fail() {
             self.writing_faults = self.writing_faults.saturating_add(1);
             return Err(Failed);
         }

@@ -1,4 +1,4 @@
-ghost use Rattle.std.specs.Prelude.{◌≡◌, ◌++◌, [], Some, length, Contains, IfOk, OnOk, OnErr, IsErr};
+ghost use Rattle.std.specs.Prelude.{◌≡◌, ◌++◌, ◌↔◌, [], Some, length, Contains, IfOk, OnOk, OnErr, IsErr};
 ghost use Rattle.outside_io.specs.Memory.{one_more};
 
 use crate::Sink;
@@ -73,5 +73,21 @@ impl Sink for MemorySink {
             return Err(Failed);
         }
         Ok(bytes.len())
+    }
+
+    /// Nothing is gathered, so only a call that is listed fails.
+    fn flush(&mut self) -> Result<(), Failed>
+        ensures listed { IsErr result ↔ Contains self.old.fails (one_more self.old.calls) }
+        ensures after_ok { OnOk result (self.new ≡ record self.old { calls = one_more self.old.calls }) }
+        ensures after_err { OnErr result (self.new ≡ record self.old {
+          calls = one_more self.old.calls;
+          faults = one_more self.old.faults;
+        }) }
+    {
+        if self.planned.is_next_to_fail() {
+            self.faults = self.faults.saturating_add(1);
+            return Err(Failed);
+        }
+        Ok(())
     }
 }

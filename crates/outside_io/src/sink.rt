@@ -19,6 +19,11 @@ pub trait Sink {
         ensures ok { IfOk result (λ n. Grows (taken self.old) (taken self.new) (take n bytes.now)) }
         ensures err { OnErr result (taken self.new ≡ taken self.old) }
         ensures faults { Counts (faults self.old) (faults self.new) result };
+
+    /// Shows what was taken and is gathered. Where that fails it stays gathered.
+    fn flush(&mut self) -> Result<(), Failed>
+        ensures same { taken self.new ≡ taken self.old }
+        ensures faults { Counts (faults self.old) (faults self.new) result };
 }
 
 /// Puts until the whole piece is taken. One that failed has put a front of it. For no bytes there is no call.
