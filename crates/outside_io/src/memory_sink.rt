@@ -54,6 +54,8 @@ impl Sink for MemorySink {
 
     ghost faults = { λ s. s.faults };
 
+    ghost is_settled = { λ _. Unit {0} };
+
     /// Takes the whole piece. No bytes need no memory.
     fn put(&mut self, bytes: &[u8]) -> Result<usize, Failed>
         ensures whole { IfOk result (λ n. n ≡ length bytes.now) }

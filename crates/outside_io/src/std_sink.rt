@@ -70,6 +70,8 @@ impl<P: Print + Drop> Sink for StdSink<P> {
 
     ghost faults = { λ s. s.faults };
 
+    ghost is_settled = { λ s. s.gathered ≡ [] };
+
     /// A piece with a line feed is written out with what is gathered, and so is one that there is no room for.
     fn put(&mut self, bytes: &[u8]) -> Result<usize, Failed>
         ensures count { IfOk result (λ n. n ≤ length bytes.now) }
