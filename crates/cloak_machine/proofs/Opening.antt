@@ -29,7 +29,8 @@ none_placed [] = refl
 none_placed (f ∷ frames) = none_placed frames
 
 no_items : (ram : List (List ℕ)) → opening_items [] ram ≡ []
-no_items ram = ap (λ (fs : List ℕ). map (λ (f : ℕ). Cipher f (slice_index_or ram f [])) fs) (none_placed (numbers_below (length ram)))
+no_items ram = ap (λ (fs : List ℕ). map (λ (f : ℕ). Cipher f (slice_index_or ram f [])) fs)
+    (none_placed (numbers_below (length ram)))
 
 -- how a run without programs opens
 abbrev pub opened_bare : Bundle → List ℕ → Random → Opened
@@ -41,10 +42,12 @@ unfolding opened_with
 opened_without b key rest none =
     let m : CloakedMemory = started_memory b.kernel key rest in
     ap (λ (ps : List Program). opened_with b (place_programs 0 ps m)) none
-    ∙ ap (λ (items : List Item). let o : Result Opened Lack = Ok (record { joint = started_joint b m; items = items }) in o)
+    ∙ ap (λ (items : List Item). let o : Result Opened Lack = Ok (record { joint = started_joint b m; items = items })
+    in o)
     (ap (λ (ps : List Program). opening_items ps m.ram) none ∙ no_items m.ram)
 
-pub opening-some : (b : Bundle) (s rest : Random) (key : List ℕ) → b.programs ≡ [] → next_draw s ≡ Some (key, rest) → opening b s ≡ Ok (opened_bare b key rest)
+pub opening-some : (b : Bundle) (s rest : Random) (key : List ℕ) → b.programs ≡ [] → next_draw s ≡ Some (key, rest) →
+    opening b s ≡ Ok (opened_bare b key rest)
 unfolding opened_by
 opening-some b s rest key none some = rw some (opened_without b key rest none)
 
@@ -56,7 +59,8 @@ length-started_harts entry (suc n) =
     omega (arith, before, more)
 
 -- the hart of each turn is there
-pub turns_inside : (turns schedule : List ℕ) (harts : List Hart) (entry n : ℕ) → turns ≡ schedule → harts ≡ started_harts entry n →
+pub turns_inside : (turns schedule : List ℕ) (harts : List Hart) (entry n : ℕ) → turns ≡ schedule →
+    harts ≡ started_harts entry n →
     All (λ h. h < n) schedule → All (λ h. h < length harts) turns
 turns_inside turns schedule harts entry n same started inside =
     rw (same, started, length-started_harts entry n) inside
@@ -67,9 +71,11 @@ length-with_bytes : (ram : List (List ℕ)) (pa : ℕ) (bytes : List ℕ) → le
 length-with_bytes ram pa [] = refl
 length-with_bytes ram pa (b ∷ bytes) = length-with_bytes (with_byte ram pa b) (pa + 1) bytes ∙ length-set ram _ _
 
-length-with_segments : (ram : List (List ℕ)) (segments : List Segment) → length (with_segments ram segments) ≡ length ram
+length-with_segments : (ram : List (List ℕ)) (segments : List Segment) →
+    length (with_segments ram segments) ≡ length ram
 length-with_segments ram [] = refl
-length-with_segments ram (s ∷ segments) = length-with_segments (with_bytes ram s.address s.bytes) segments ∙ length-with_bytes ram s.address s.bytes
+length-with_segments ram (s ∷ segments) =
+    length-with_segments (with_bytes ram s.address s.bytes) segments ∙ length-with_bytes ram s.address s.bytes
 
 count_started : (frames : ℕ) (segments : List Segment) → length (with_segments (zero_ram frames) segments) ≡ frames
 count_started frames segments = length-with_segments (zero_ram frames) segments ∙ length-replicate frames zero_page
@@ -86,7 +92,8 @@ pub record IsFresh (machine : Machine) (b : Bundle) (key : List ℕ) (rest : Ran
   pub stream : machine.stream ≡ rest
   pub draws : machine.draws ≡ 0
 
-first_moment_is : (machine : Machine) (b : Bundle) (key : List ℕ) (rest : Random) → b.programs ≡ [] → IsFresh machine b key rest →
+first_moment_is : (machine : Machine) (b : Bundle) (key : List ℕ) (rest : Random) → b.programs ≡ [] →
+    IsFresh machine b key rest →
     first_moment b (opened_bare b key rest).joint ≡ moment_of machine []
 unfolding started_joint started_kernel started_memory started_ledger
 first_moment_is machine b key rest none is i = record {
@@ -104,7 +111,8 @@ first_moment_is machine b key rest none is i = record {
         stream = sym is.stream i;
         draws = sym is.draws i;
         recorded = λ page. None;
-        owed = replicate (sym (ap (λ (ram : List (List ℕ)). length ram) is.frames ∙ count_started b.kernel.frames b.kernel.segments) i) None;
+        owed = replicate (sym (ap (λ (ram : List (List ℕ)). length ram) is.frames ∙ count_started b.kernel.frames
+            b.kernel.segments) i) None;
         root = λ space. None;
         missed = false;
         clashed = false;
@@ -115,7 +123,8 @@ first_moment_is machine b key rest none is i = record {
 }
 
 -- a machine that has this stands for the first moment
-pub opens_as : (machine : Machine) (b : Bundle) (s : Random) (key : List ℕ) (rest : Random) → b.programs ≡ [] → next_draw s ≡ Some (key, rest) → IsFresh machine b key rest → OpensAs b s machine
+pub opens_as : (machine : Machine) (b : Bundle) (s : Random) (key : List ℕ) (rest : Random) → b.programs ≡ [] →
+    next_draw s ≡ Some (key, rest) → IsFresh machine b key rest → OpensAs b s machine
 unfolding started_joint started_kernel
 opens_as machine b s key rest none some is = record {
   opened = opened_bare b key rest;
