@@ -1,5 +1,6 @@
 -- What the commands answer.
-use Rattle.std.proofs.Common.{◌≡◌, ◌≢◌, ◌<◌, ◌-◌, ◌^◌, ℕ, Bool, true, false, List, [], refl, sym, ◌∙◌, ap, subst, inl, inr, Option, Result, Ok, Err, OnOk, OnErr, is_err}
+use Rattle.std.proofs.Common.{◌≡◌, ◌≢◌, ◌<◌, ◌-◌, ◌^◌, ℕ, Bool, true, false, List, [], refl, sym, ◌∙◌, ap, subst, inl}
+use Rattle.std.proofs.Common.{inr, Option, Result, Ok, Err, OnOk, OnErr, is_err}
 use Rattle.cloak_base.specs.declared.causes.Failed.{Failed}
 use Rattle.cloak_base.specs.declared.causes.Stop.{Stop}
 use Rattle.cloak_base.specs.declared.causes.Stop.TheVariants as stop
@@ -72,7 +73,8 @@ answers_no_run {S} {O} {asked} {s} {before} {after} {given} none low (inr front)
 
 -- Writing a run.
 
--- an outlet over a record that was begun, and what it wrote, under the names that the shelf and the output have afterwards
+-- an outlet over a record that was begun, and what it wrote, under the names that the shelf and the output have
+-- afterwards
 abbrev at : {S O : Type 0} → (S → List ℕ → Option (List ℕ)) → (S → ℕ) → (S → ℕ) → (O → Option (List ℕ)) → (O → ℕ) →
     Outlet S O → Outside S O
 at held reading writing taken faults o = outside held reading writing taken faults o.shelf.now o.out.now

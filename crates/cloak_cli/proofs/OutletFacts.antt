@@ -1,5 +1,7 @@
 -- What an outlet wrote, piece by piece.
-use Rattle.std.proofs.Common.{◌≡◌, ◌≤◌, ◌<◌, ℕ, Bool, true, false, List, [], ◌∷◌, ◌++◌, length, take, refl, sym, ◌∙◌, ap, subst, append_assoc, arith, length-append, Option, Some, None, Result, Ok, Err, IfOk, OnOk, OnErr, is_err}
+use Rattle.std.proofs.Common.{◌≡◌, ◌≤◌, ◌<◌, ℕ, Bool, true, false, List, [], ◌∷◌, ◌++◌, length, take, refl, sym, ◌∙◌}
+use Rattle.std.proofs.Common.{ap, subst, append_assoc, arith, length-append, Option, Some, None, Result, Ok, Err, IfOk}
+use Rattle.std.proofs.Common.{OnOk, OnErr, is_err}
 use Rattle.std.proofs.lemmas.List.{append-nil}
 use Rattle.cloak_base.specs.declared.causes.Failed.{Failed}
 use Rattle.outside_io.specs.Told.{Tells, Puts, Grows, GrowsByFront, Counts, OtherFiles}
@@ -54,13 +56,14 @@ fixed_front None (Some y) piece front =
 -- The calls.
 
 -- what an append to this file did
-pub record Appends {S O : Type 0} (r : Result Unit Failed) (name bytes : List ℕ) (mid after : Outside S O) : Type 0 where
-  pub ok : OnOk r (Grows (mid.files.held name) (after.files.held name) bytes)
-  pub err : OnErr r (GrowsByFront (mid.files.held name) (after.files.held name) bytes)
-  pub others : OtherFiles name mid.files.held after.files.held
-  pub writing : Counts mid.files.writing after.files.writing r
-  pub reading : after.files.reading ≡ mid.files.reading
-  pub output : after.output ≡ mid.output
+pub record Appends {S O : Type 0} (r : Result Unit Failed) (name bytes : List ℕ) (mid after : Outside S O) : Type 0
+  where
+    pub ok : OnOk r (Grows (mid.files.held name) (after.files.held name) bytes)
+    pub err : OnErr r (GrowsByFront (mid.files.held name) (after.files.held name) bytes)
+    pub others : OtherFiles name mid.files.held after.files.held
+    pub writing : Counts mid.files.writing after.files.writing r
+    pub reading : after.files.reading ≡ mid.files.reading
+    pub output : after.output ≡ mid.output
 
 -- what putting to the output did
 pub record Shows {S O A : Type 0} (r : Result A Failed) (bytes : List ℕ) (mid after : Outside S O) : Type 0 where
@@ -243,9 +246,11 @@ emits_shown {S} {O} {A} held reading_faults writing_faults taken faults old new 
             output = out ∙ gave.output;
             name = name ∙ gave.name;
             wrote = λ begun.
-                subst (λ (b : Bool). Writes b first.name.now (at first) (at new) (before ++ shown bytes ∷ [])) (sym failed)
+                subst (λ (b : Bool). Writes b first.name.now (at first) (at new) (before ++ shown bytes ∷ []))
+                (sym failed)
                 (writes_shown r first.name.now (at first) (at old) (at new) before bytes
-                (subst (λ (b : Bool). Writes b first.name.now (at first) (at old) before) fresh (gave.wrote begun)) call);
+                (subst (λ (b : Bool). Writes b first.name.now (at first) (at old) before) fresh (gave.wrote begun))
+                call);
           };
     }
 

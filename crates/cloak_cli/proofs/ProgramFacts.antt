@@ -52,12 +52,13 @@ pub fails : {S O : Type 0} {words : Words} {before done after : Outside S O} (an
     (files shown : Result Unit Failed) (unwritten unseen : Bool) → AnswersWords words before done answer →
     Flushes files shown done after → unwritten ≡ is_err files → unseen ≡ is_err shown →
     (unwritten ≡ true) ⊎ ((unwritten ≡ false) × (unseen ≡ true)) → Exits words before after status.WriteFault
-fails {S} {O} {words} {before} {done} {after} answer files shown unwritten unseen answers f first second either = record {
-  done = done;
-  answer = answer;
-  answers = answers;
-  held = f.held;
-  taken = f.taken;
-  reading = f.reading;
-  outcome = inr (refl, failed_flush files shown unwritten unseen done after f first second either);
-}
+fails {S} {O} {words} {before} {done} {after} answer files shown unwritten unseen answers f first second either =
+    record {
+      done = done;
+      answer = answer;
+      answers = answers;
+      held = f.held;
+      taken = f.taken;
+      reading = f.reading;
+      outcome = inr (refl, failed_flush files shown unwritten unseen done after f first second either);
+    }

@@ -1,5 +1,6 @@
 -- The steps of a run, one after another, and its end.
-use Rattle.std.proofs.Common.{◌≡◌, ◌≢◌, ◌<◌, ℕ, suc, ◌+◌, ◌-◌, Bool, true, false, cond, List, [], ◌∷◌, ◌++◌, length, refl, sym, ◌∙◌, ap, subst, append_assoc, length-append, arith, Option, Some, None}
+use Rattle.std.proofs.Common.{◌≡◌, ◌≢◌, ◌<◌, ℕ, suc, ◌+◌, ◌-◌, Bool, true, false, cond, List, [], ◌∷◌, ◌++◌, length}
+use Rattle.std.proofs.Common.{refl, sym, ◌∙◌, ap, subst, append_assoc, length-append, arith, Option, Some, None}
 use Rattle.std.specs.Prelude.{unwrap_or, codes}
 use Rattle.std.proofs.lemmas.List.{append-nil}
 use Rattle.cloak_base.specs.declared.causes.Stop.{Stop}
@@ -12,7 +13,8 @@ use Rattle.cloak_model.specs.Opening.{Opened}
 use Rattle.cloak_model.specs.Parts.{Joint}
 use Rattle.cloak_model.specs.Report.{report}
 use Rattle.cloak_model.specs.Joint.{Moment, Turn, joint_step, after_turn, stop_of, stop_without_miss}
-use Rattle.cloak_model.specs.Run.{unless_stopped, turns_from, joint_after, last_stop, turn_pieces, turns_pieces, closing, cause_of, first_moment, run_of, due}
+use Rattle.cloak_model.specs.Run.{unless_stopped, turns_from, joint_after, last_stop, turn_pieces, turns_pieces}
+use Rattle.cloak_model.specs.Run.{closing, cause_of, first_moment, run_of, due}
 use Rattle.cloak_machine.specs.declared.machine.Machine.{Machine}
 use Rattle.cloak_machine.specs.Standing.{StandsForMoment, MakesTurn, EndsAs}
 use Rattle.cloak_machine.specs.Ending.{report_of}
@@ -86,7 +88,8 @@ unfolding turns_from
 turns_from-none n budget m all = ap (λ k. turns_from k m) (let e : budget - n ≡ 0 = omega (arith, all) in e)
 
 -- These steps were emitted, none stopped the run, the machine stands behind them, and those that are left follow.
-pub record GoesOn {E : Type 0} (gave : E → E → List Piece → Type 0) (e e' : E) (machine : Machine) (n budget : ℕ) (m : Moment) : Type 0 where
+pub record GoesOn {E : Type 0} (gave : E → E → List Piece → Type 0) (e e' : E) (machine : Machine) (n budget : ℕ)
+    (m : Moment) : Type 0 where
   pub made : List Turn
   pub count : length made ≡ n
   pub emits : Emits gave e e' (turns_pieces (suc m.steps) made)
@@ -127,7 +130,8 @@ goes_on-start gave e machine budget m stands = record {
 }
 
 -- What one step more comes to, by why it stopped the run.
-record IsMade {E : Type 0} (gave : E → E → List Piece → Type 0) (e e' : E) (machine : Machine) (n budget : ℕ) (m : Moment) (given : Option Stop) : Type 0 where
+record IsMade {E : Type 0} (gave : E → E → List Piece → Type 0) (e e' : E) (machine : Machine) (n budget : ℕ)
+    (m : Moment) (given : Option Stop) : Type 0 where
   made : List Turn
   now : Moment
   now_is : now ≡ moment_behind m made

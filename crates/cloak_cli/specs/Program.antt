@@ -12,9 +12,10 @@ use Rattle.cloak_cli.specs.Outside.{Outside, NothingRose}
 use Rattle.cloak_cli.specs.Recording.{Refuses}
 
 -- the status comes by its cause, and all files but the record of a run keep their bytes
-pub record AnswersAsked {S O : Type 0} (asked : spec.Asked) (before after : Outside S O) (answer : Status) : Type 0 where
-  pub answers : Answers asked before after answer
-  pub kept : KeepsFiles asked answer before.files.held after.files.held
+pub record AnswersAsked {S O : Type 0} (asked : spec.Asked) (before after : Outside S O) (answer : Status) : Type 0
+  where
+    pub answers : Answers asked before after answer
+    pub kept : KeepsFiles asked answer before.files.held after.files.held
 
 -- the line of want of memory was shown, and no file was asked for anything
 pub record WantsMemory {S O : Type 0} (before after : Outside S O) (answer : Status) : Type 0 where
@@ -33,7 +34,8 @@ abbrev pub FlushFailed : {S O : Type 0} → Outside S O → Outside S O → Type
 FlushFailed before after =
     Rose before.files.writing after.files.writing ⊎ Rose before.output.faults after.output.faults
 
--- What was done by the words, and what was answered; then what is gathered was written out, and the answer is given, or,
+-- What was done by the words, and what was answered; then what is gathered was written out, and the answer is given,
+-- or,
 -- where that failed, the write fault.
 pub record Exits {S O : Type 0} (given_words : Words) (before after : Outside S O) (given : Status) : Type 0 where
   pub done : Outside S O

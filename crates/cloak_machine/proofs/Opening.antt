@@ -1,5 +1,6 @@
 -- The opening of a run without programs.
-use Rattle.std.proofs.Common.{◌≡◌, ◌<◌, ◌∙◌, ℕ, zero, suc, ◌+◌, false, List, [], ◌∷◌, length, replicate, Some, None, Result, Ok, Err, refl, ap, sym, arith, length-append, All}
+use Rattle.std.proofs.Common.{◌≡◌, ◌<◌, ◌∙◌, ℕ, zero, suc, ◌+◌, false, List, [], ◌∷◌, length, replicate, Some, None}
+use Rattle.std.proofs.Common.{Result, Ok, Err, refl, ap, sym, arith, length-append, All}
 use Rattle.std.specs.Prelude.{filter, map, slice_index_or}
 use Rattle.cloak_base.specs.Random.{Random, next_draw}
 use Rattle.cloak_model.specs.declared.image.Bundle.{Bundle}
@@ -11,7 +12,9 @@ use Rattle.cloak_model.specs.Cloaking.{CloakedMemory}
 use Rattle.cloak_model.specs.Hart.{Hart, started}
 use Rattle.cloak_base.specs.Pages.{zero_page}
 use Rattle.cloak_model.specs.Memory.{with_byte, with_bytes, zero_ram}
-use Rattle.cloak_model.specs.Opening.{Opened, Lack, NoKey, opening, opened_by, opened_with, opening_items, is_placed, numbers_below, place_programs, started_joint, started_kernel, started_memory, started_ledger, started_harts, started_domains, with_segments}
+use Rattle.cloak_model.specs.Opening.{Opened, Lack, NoKey, opening, opened_by, opened_with, opening_items, is_placed}
+use Rattle.cloak_model.specs.Opening.{numbers_below, place_programs, started_joint, started_kernel, started_memory}
+use Rattle.cloak_model.specs.Opening.{started_ledger, started_harts, started_domains, with_segments}
 use Rattle.cloak_model.specs.Run.{first_moment}
 use Rattle.cloak_machine.specs.Console.{Shows}
 use Rattle.cloak_machine.specs.Standing.{OpensAs, moment_of}

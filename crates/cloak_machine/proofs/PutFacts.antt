@@ -1,5 +1,7 @@
 -- Texts that are put one after another.
-use Rattle.std.proofs.Common.{◌≡◌, ℕ, suc, ◌+◌, ◌<◌, List, [], ◌∷◌, ◌++◌, length, take, get_or, codes, ◌∙◌, ap, sym, subst, append_assoc, arith, length-take, length-drop, drop, refl, Option, Result, Ok, Err, OnOk, OnErr}
+use Rattle.std.proofs.Common.{◌≡◌, ℕ, suc, ◌+◌, ◌<◌, List, [], ◌∷◌, ◌++◌, length, take, get_or, codes, ◌∙◌, ap, sym}
+use Rattle.std.proofs.Common.{subst, append_assoc, arith, length-take, length-drop, drop, refl, Option, Result, Ok, Err}
+use Rattle.std.proofs.Common.{OnOk, OnErr}
 use Rattle.std.proofs.lemmas.List.{append-nil, take_more, take_all}
 use Rattle.std.specs.List.{concat}
 use Rattle.cloak_model.specs.Hart.{Hart}

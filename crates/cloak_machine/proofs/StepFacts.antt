@@ -1,5 +1,7 @@
 -- A step of the machine, by the hart whose turn it is and by how its step ended.
-use Rattle.std.proofs.Common.{◌≡◌, ◌<◌, ℕ, zero, suc, ◌+◌, ◌%◌, true, false, List, [], ◌∷◌, ◌++◌, length, get_or, replicate, slice_index, slice_index_or, slice_set, append_assoc, refl, sym, ◌∙◌, ap, subst, Option, Some, None}
+use Rattle.std.proofs.Common.{◌≡◌, ◌<◌, ℕ, zero, suc, ◌+◌, ◌%◌, true, false, List, [], ◌∷◌, ◌++◌, length, get_or}
+use Rattle.std.proofs.Common.{replicate, slice_index, slice_index_or, slice_set, append_assoc, refl, sym, ◌∙◌, ap}
+use Rattle.std.proofs.Common.{subst, Option, Some, None}
 use Rattle.std.specs.Prelude.{is_some}
 use Rattle.std.proofs.Math.Nat.{mod-lt}
 use Rattle.std.proofs.lemmas.Bool.{false≢true}
@@ -27,7 +29,8 @@ use Rattle.cloak_model.specs.declared.outcome.Kernel.TheVariants.{Stay, Put, Hal
 use Rattle.cloak_model.specs.Exchange.{Piece, Emits, item_pieces, shown_each}
 use Rattle.cloak_model.specs.Parts.{Joint}
 use Rattle.cloak_model.specs.Resuming.{resume, by_domain}
-use Rattle.cloak_model.specs.Joint.{Moment, Turn, joint_step, turn_of, outside_step, after_outside, outside_ended, inside_step, with_hart, cloak_outside, hart_in}
+use Rattle.cloak_model.specs.Joint.{Moment, Turn, joint_step, turn_of, outside_step, after_outside, outside_ended}
+use Rattle.cloak_model.specs.Joint.{inside_step, with_hart, cloak_outside, hart_in}
 use Rattle.cloak_machine.specs.Console.{Shows}
 use Rattle.cloak_machine.specs.declared.console.Console.{Console}
 use Rattle.cloak_machine.specs.Standing.{StandsForMoment, MakesTurn, moment_of}
@@ -93,7 +96,8 @@ settled_plainly : (h : Hart) (disk : List ℕ) (c : Cloak) (told : Told After) �
     }
 unfolding settled_step
 settled_plainly h disk c told none made =
-    ap (λ (s : AfterSettling). made_after h disk c s) (settles_nothing h disk c.memory none) ∙ made_plainly h disk c told made
+    ap (λ (s : AfterSettling). made_after h disk c s) (settles_nothing h disk c.memory none)
+    ∙ made_plainly h disk c told made
 
 -- the joint machine after the step of a hart, over this disk and these frames
 abbrev after_plain : Machine → List ℕ → ℕ → Hart → List ℕ → List (List ℕ) → Joint

@@ -1,6 +1,7 @@
 -- Bytes that are written in parts, and those that stay gathered.
 use Rattle.std.proofs.Common.{◌≡◌, ◌<◌, ◌+◌, ℕ, List, [], ◌++◌, length, take, drop, sym, ◌∙◌, ap, subst, arith}
-use Rattle.std.proofs.Common.{◌-◌, ◌∷◌, ◌↔◌, Bool, true, false, IsTrue, Option, None, Some, refl, append_assoc, length-append, length-drop}
+use Rattle.std.proofs.Common.{◌-◌, ◌∷◌, ◌↔◌, Bool, true, false, IsTrue, Option, None, Some, refl, append_assoc}
+use Rattle.std.proofs.Common.{length-append, length-drop}
 use Rattle.std.proofs.Math.Seq.{take-add, take-append-add}
 use Rattle.std.proofs.lemmas.List.{append-nil, drop-drop, take-append-drop}
 use Rattle.std.specs.Io.KnownBytes.{Appends}
@@ -79,7 +80,8 @@ MovesFront-through old kept rest last piece n k before mid after same m none sta
     let all : old ≡ m.front = sym same ∙ m.parts ∙ ap (λ (l : List ℕ). m.front ++ l) none ∙ append-nil m.front in
     record {
       front = old ++ take n piece;
-      parts = sym (append-nil (old ++ take n piece)) ∙ ap (λ (l : List ℕ). (old ++ take n piece) ++ l) (sym (stays ∙ none));
+      parts = sym (append-nil (old ++ take n piece)) ∙ ap (λ (l : List ℕ). (old ++ take n piece) ++ l)
+          (sym (stays ∙ none));
       written = Appends-append before mid after old (take n piece)
           (subst (λ (l : List ℕ). Appends before mid l) (sym all) m.written)
           (subst (λ (i : ℕ). Appends mid after (take i piece)) is more);

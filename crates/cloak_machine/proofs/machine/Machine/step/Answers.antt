@@ -1,6 +1,7 @@
 use Rattle.std.proofs.Common.{refl, ◌∙◌, ap, sym, slice_set}
 use Rattle.cloak_model.specs.declared.outcome.Kernel.TheVariants.{Stay, Put, Halt, Resume}
-use Rattle.cloak_machine.proofs.StepFacts.{is_next, outside_turn, inside_turn, step_made, step_of_memory, emits_as, emits_then, shows_same}
+use Rattle.cloak_machine.proofs.StepFacts.{is_next, outside_turn, inside_turn, step_made, step_of_memory, emits_as}
+use Rattle.cloak_machine.proofs.StepFacts.{emits_then, shows_same}
 use Rattle.cloak_machine.proofs.machine.Machine.step.Goals as goal
 
 pub returns-then-is_inside-clause-makes : goal.returns-then-is_inside-clause-makes
