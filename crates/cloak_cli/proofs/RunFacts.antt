@@ -17,7 +17,7 @@ use Rattle.cloak_model.specs.Run.{unless_stopped, turns_from, joint_after, last_
 use Rattle.cloak_model.specs.Run.{closing, cause_of, first_moment, run_of, due}
 use Rattle.cloak_machine.specs.declared.machine.Machine.{Machine}
 use Rattle.cloak_machine.specs.Standing.{StandsForMoment, MakesTurn, EndsAs}
-use Rattle.cloak_machine.specs.Ending.{report_of}
+use Rattle.cloak_machine.specs.Ending.{end_report}
 use Rattle.cloak_machine.specs.declared.end.End.{End}
 use Rattle.cloak_cli.specs.declared.status.Status.{Status}
 use Rattle.cloak_cli.specs.Running.{RunsSteps, EndsRun, WritesRun, last_pieces, moment_behind, status_of}
@@ -329,7 +329,7 @@ writes-whole {E} gave mid_failed failed e f h i machine stopped cause given b st
 pub ends_run : {E : Type 0} {gave : E → E → List Piece → Type 0} {e f g h : E} {end : End} {stopped : Stop}
     {m : Moment} {closed : Opened} {given : Status} →
     EndsAs gave e f end stopped m closed → Emits gave f g (shown (codes "\n") ∷ []) →
-    Emits gave g h (shown (report_of end) ∷ []) → end.stop ≡ stopped → given ≡ status_of end.stop →
+    Emits gave g h (shown (end_report end) ∷ []) → end.stop ≡ stopped → given ≡ status_of end.stop →
     EndsRun gave e h given stopped m.steps closed
 ends_run {E} {gave} {e} {f} {g} {h} {end} {stopped} {m} {closed} {given} ends line lines same is = record {
   emits = emits_then ends.emits

@@ -73,12 +73,12 @@ HasCause asked before after status.Unbuilt = IsNotBuilt asked before after ⊎ I
 HasCause asked before after _ = ⊥
 
 -- the line of a status that refuses
-abbrev pub words_line : spec.Asked → List ℕ
-words_line (spec.Faulty fault) = spec.usage_line fault
-words_line _ = []
+abbrev pub faulty_words_line : spec.Asked → List ℕ
+faulty_words_line (spec.Faulty fault) = spec.usage_line fault
+faulty_words_line _ = []
 
 abbrev pub refusal_line : spec.Asked → Status → List ℕ
-refusal_line asked status.Usage = words_line asked
+refusal_line asked status.Usage = faulty_words_line asked
 refusal_line asked status.ReadFault = codes "read fault\n"
 refusal_line asked status.NoMemory = codes "no memory\n"
 refusal_line asked status.Unbuilt = codes "unbuilt 0\n"

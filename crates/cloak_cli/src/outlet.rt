@@ -2,7 +2,7 @@
 ghost use Rattle.std.specs.Prelude.{◌≡◌, [], ◌∷◌, OnOk, OnErr};
 ghost use Rattle.outside_io.specs.Told.{Counts, Grows, GrowsByFront, OtherFiles};
 ghost use Rattle.cloak_model.specs.Exchange.{recorded, shown, Emits};
-ghost use Rattle.cloak_machine.specs.Ending.{report_of};
+ghost use Rattle.cloak_machine.specs.Ending.{end_report};
 
 use crate::item_bytes::{LONGEST, write_cipher, write_item};
 use cloak_base::Failed;
@@ -107,7 +107,7 @@ impl<'s, 'n, 'o, S: Shelf, O: Sink> Outlet<'s, 'n, 'o, S, O> {
         ensures same_shelf { self.new.shelf.ghost_name ≡ self.old.shelf.ghost_name }
         ensures same_out { self.new.out.ghost_name ≡ self.old.out.ghost_name }
         ensures emits { Emits (Gave S.held S.reading_faults S.writing_faults O.taken O.faults)
-            self.old self.new (shown (report_of end.now) ∷ []) }
+            self.old self.new (shown (end_report end.now) ∷ []) }
     {
         if self.failed {
             return;

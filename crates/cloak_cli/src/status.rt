@@ -1,5 +1,5 @@
 ghost use Rattle.std.specs.Prelude.{◌≡◌};
-ghost use Rattle.cloak_cli.specs.Status.{exit_number};
+ghost use Rattle.cloak_cli.specs.Status.{status_number};
 
 /// How a command ended; the program exits with its number.
 #[derive(Clone, Copy, Debug, PartialEq, Eq)]
@@ -19,7 +19,7 @@ pub enum Status {
 impl Status {
     /// The number that the program exits with.
     pub fn number(self) -> u8
-        ensures { result ≡ exit_number self }
+        ensures { result ≡ status_number self }
     {
         match self {
             Status::Done => 0,

@@ -17,7 +17,7 @@ use Rattle.cloak_model.specs.Exchange.{Piece, Emits, item_pieces}
 use Rattle.cloak_model.specs.Hart.{Hart}
 use Rattle.cloak_model.specs.Report.{stop_line, number_line, kernel_lines, harts_lines}
 use Rattle.cloak_model.specs.Joint.{Moment}
-use Rattle.cloak_machine.specs.Console.{Shows}
+use Rattle.cloak_machine.specs.Console.{ConsoleShows}
 use Rattle.cloak_machine.specs.Ending.{kernel_text, digest_text}
 use Rattle.cloak_machine.specs.declared.end.KernelLines.{KernelLines}
 use Rattle.cloak_machine.specs.declared.end.End.{End}
@@ -75,7 +75,7 @@ pub ends_as : {E : Type 0} {gave : E → E → List Piece → Type 0} {e e' : E}
     {stopped : Stop} {m : Moment} →
     StandsForMoment machine m → Emits gave e e' (item_pieces (item.Close machine.steps ∷ item.End ∷ [])) →
     end.stop ≡ stopped → end.steps ≡ machine.steps → end.draws ≡ machine.draws →
-    ((console : List ℕ) → Shows machine.console console → IsSaid end.lines
+    ((console : List ℕ) → ConsoleShows machine.console console → IsSaid end.lines
     (kernel_part (moment_of machine console).joint)) →
     EndsAs gave e e' end stopped m (closing m.joint)
 ends_as {E} {gave} {e} {e'} {machine} {end} {stopped} {m} stands emits stop steps draws said =

@@ -16,7 +16,7 @@ use Rattle.cloak_model.specs.Opening.{Opened, Lack, NoKey, opening, opened_by, o
 use Rattle.cloak_model.specs.Opening.{numbers_below, place_programs, started_joint, started_kernel, started_memory}
 use Rattle.cloak_model.specs.Opening.{started_ledger, started_harts, started_domains, with_segments}
 use Rattle.cloak_model.specs.Run.{first_moment}
-use Rattle.cloak_machine.specs.Console.{Shows}
+use Rattle.cloak_machine.specs.Console.{ConsoleShows}
 use Rattle.cloak_machine.specs.Standing.{OpensAs, moment_of}
 use Rattle.cloak_machine.specs.declared.machine.Machine.{Machine}
 use Rattle.std.proofs.lemmas.List.{length-set, length-replicate}
@@ -90,7 +90,7 @@ pub record IsFresh (machine : Machine) (b : Bundle) (key : List ℕ) (rest : Ran
   pub harts : machine.harts.items ≡ started_harts b.kernel.entry b.kernel.harts
   pub frames : machine.memory.frames.items ≡ with_segments (zero_ram b.kernel.frames) b.kernel.segments
   pub disk : machine.disk ≡ b.kernel.disk
-  pub console : Shows machine.console []
+  pub console : ConsoleShows machine.console []
   pub key_is : machine.key ≡ key
   pub stream : machine.stream ≡ rest
   pub draws : machine.draws ≡ 0

@@ -31,7 +31,7 @@ use Rattle.cloak_model.specs.Parts.{Joint}
 use Rattle.cloak_model.specs.Resuming.{resume, by_domain}
 use Rattle.cloak_model.specs.Joint.{Moment, Turn, joint_step, turn_of, outside_step, after_outside, outside_ended}
 use Rattle.cloak_model.specs.Joint.{inside_step, with_hart, cloak_outside, hart_in}
-use Rattle.cloak_machine.specs.Console.{Shows}
+use Rattle.cloak_machine.specs.Console.{ConsoleShows}
 use Rattle.cloak_machine.specs.declared.console.Console.{Console}
 use Rattle.cloak_machine.specs.Standing.{StandsForMoment, MakesTurn, moment_of}
 use Rattle.cloak_machine.specs.declared.machine.Machine.{Machine}
@@ -210,7 +210,7 @@ stop_by (Resume ctx answer) = Some (stop.Violation (violation.Context ctx))
 -- a turn by its ending
 made_by : {E : Type 0} (gave : E → E → List Piece → Type 0) (e e' : E) (old new : Machine) (console : List ℕ)
     (number : ℕ) (h : Hart) (disk : List ℕ) (ram : List (List ℕ)) (k : Kernel) →
-    Leaves old new number h disk ram → Shows new.console (console ++ console_byte k) →
+    Leaves old new number h disk ram → ConsoleShows new.console (console ++ console_byte k) →
     Emits gave e e' (item_pieces (Step (old.steps + 1) ∷ []) ++ shown_each (console_byte k)) →
     MakesTurn gave e e' new (stop_by k) (moment_of old console) (turn_by old console number h disk ram k)
 unfolding outside_ended resume by_domain
@@ -218,7 +218,7 @@ made_by gave e e' old new console number h disk ram Stay left shows emits = reco
   emits = emits;
   answer = refl;
   stands = record {
-    console = subst (λ (bytes : List ℕ). Shows new.console bytes) (append-nil console) shows;
+    console = subst (λ (bytes : List ℕ). ConsoleShows new.console bytes) (append-nil console) shows;
     moment = moment_after old new console number h disk ram left;
   };
 }
@@ -231,7 +231,7 @@ made_by gave e e' old new console number h disk ram (Halt value) left shows emit
   emits = emits;
   answer = refl;
   stands = record {
-    console = subst (λ (bytes : List ℕ). Shows new.console bytes) (append-nil console) shows;
+    console = subst (λ (bytes : List ℕ). ConsoleShows new.console bytes) (append-nil console) shows;
     moment = moment_after old new console number h disk ram left;
   };
 }
@@ -239,7 +239,7 @@ made_by gave e e' old new console number h disk ram (Resume ctx answer) left sho
   emits = emits;
   answer = refl;
   stands = record {
-    console = subst (λ (bytes : List ℕ). Shows new.console bytes) (append-nil console) shows;
+    console = subst (λ (bytes : List ℕ). ConsoleShows new.console bytes) (append-nil console) shows;
     moment = moment_after old new console number h disk ram left;
   };
 }
@@ -248,7 +248,7 @@ made_by gave e e' old new console number h disk ram (Resume ctx answer) left sho
 pub step_made : {E : Type 0} {gave : E → E → List Piece → Type 0} {e e' : E} {old new : Machine} {m : Moment}
     {number : ℕ} {h : Hart} {disk : List ℕ} {ram : List (List ℕ)} (k : Kernel) →
     StandsForMoment old m → MakesNext old number h disk ram k → Leaves old new number h disk ram →
-    ((bytes : List ℕ) → Shows old.console bytes → Shows new.console (bytes ++ console_byte k)) →
+    ((bytes : List ℕ) → ConsoleShows old.console bytes → ConsoleShows new.console (bytes ++ console_byte k)) →
     Emits gave e e' (item_pieces (Step (old.steps + 1) ∷ []) ++ shown_each (console_byte k)) →
     MakesTurn gave e e' new (stop_by k) m (joint_step m)
 unfolding MakesNext
@@ -259,8 +259,8 @@ step_made {E} {gave} {e} {e'} {old} {new} {m} {number} {h} {disk} {ram} k stands
     (made_by gave e e' old new bytes number h disk ram k left (console bytes stands.console) emits))
 
 -- a console that was shown nothing more
-pub shows_same : (c : Console) (bytes : List ℕ) → Shows c bytes → Shows c (bytes ++ [])
-shows_same c bytes shows = subst (λ (l : List ℕ). Shows c l) (sym (append-nil bytes)) shows
+pub shows_same : (c : Console) (bytes : List ℕ) → ConsoleShows c bytes → ConsoleShows c (bytes ++ [])
+shows_same c bytes shows = subst (λ (l : List ℕ). ConsoleShows c l) (sym (append-nil bytes)) shows
 
 -- The turn of the schedule, as it is read, is that of a hart that is there.
 pub is_next : (old : Machine) (x n : ℕ) (h : Hart) → x ≡ get_or old.schedule.items (old.steps % n) x →

@@ -4,7 +4,7 @@ use Rattle.sha2.specs.Hashers.{Holds256}
 use Rattle.cloak_machine.specs.declared.console.Console.{Console}
 
 -- the console was shown these bytes, of which some are hashed, and the others wait
-pub record Shows (c : Console) (bytes : List ℕ) : Type 0 where
+pub record ConsoleShows (c : Console) (bytes : List ℕ) : Type 0 where
   pub hashed : List ℕ
   pub digest : Holds256 c.hasher hashed
   pub all : bytes ≡ hashed ++ take c.waiting c.gathered

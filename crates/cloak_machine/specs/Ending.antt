@@ -20,7 +20,7 @@ kernel_text lines =
     ++ harts_lines 0 lines.harts.items))
 
 -- the report that an end writes
-abbrev pub report_of : End → List ℕ
-report_of e =
+abbrev pub end_report : End → List ℕ
+end_report e =
     stop_line e.stop ++ (number_line (codes "steps ") e.steps ++ (number_line (codes "draws ") e.draws
     ++ kernel_text e.lines))

@@ -11,8 +11,8 @@ use Rattle.cloak_model.specs.Opening.{Opened, NoKey, NoPageDraw, opening}
 use Rattle.cloak_model.specs.Report.{report}
 use Rattle.cloak_model.specs.Joint.{Moment, Turn, after_turn, stop_of}
 use Rattle.cloak_model.specs.Run.{first_moment, turn_pieces, cause_of}
-use Rattle.cloak_machine.specs.Console.{Shows}
-use Rattle.cloak_machine.specs.Ending.{report_of}
+use Rattle.cloak_machine.specs.Console.{ConsoleShows}
+use Rattle.cloak_machine.specs.Ending.{end_report}
 use Rattle.cloak_machine.specs.declared.end.End.{End}
 use Rattle.cloak_machine.specs.declared.machine.Machine.{Machine}
 use Rattle.cloak_machine.specs.declared.machine.OpenFault.{OpenFault}
@@ -52,7 +52,7 @@ moment_of machine console = record {
 
 -- The machine is that of this moment, of whose console it knows the digest and the length.
 pub record StandsForMoment (machine : Machine) (m : Moment) : Type 0 where
-  pub console : Shows machine.console m.joint.console
+  pub console : ConsoleShows machine.console m.joint.console
   pub moment : m ≡ moment_of machine m.joint.console
 
 -- a run opens so, shows the kernel nothing, and the machine is that of its first moment
@@ -83,4 +83,4 @@ pub record EndsAs {E : Type 0} (gave : E → E → List Piece → Type 0) (e e' 
   pub steps : end.steps ≡ m.steps
   pub draws : end.draws ≡ closed.joint.memory.ledger.draws
   pub stop : end.stop ≡ cause_of closed.joint (Some stopped)
-  pub report : report_of end ≡ report end.stop m.steps closed.joint
+  pub report : end_report end ≡ report end.stop m.steps closed.joint

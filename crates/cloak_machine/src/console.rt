@@ -18,11 +18,11 @@ pub struct Console {
 
 impl Console {
     ghost use Rattle.sha2.specs.Sha256.{sha256};
-    ghost use Rattle.cloak_machine.specs.Console.{Shows};
+    ghost use Rattle.cloak_machine.specs.Console.{ConsoleShows};
 
     pub fn new() -> Console
         ensures count { result.count ≡ 0 }
-        ensures shows { Shows result [] }
+        ensures shows { ConsoleShows result [] }
     {
         Console {
             hasher: Sha256::new(),
@@ -36,7 +36,7 @@ impl Console {
     fn make_room(&mut self)
         ensures room { self.new.waiting < GATHERED }
         ensures count { self.new.count ≡ self.old.count }
-        ensures shows { (bytes : List ℕ) → Shows self.old bytes → Shows self.new bytes }
+        ensures shows { (bytes : List ℕ) → ConsoleShows self.old bytes → ConsoleShows self.new bytes }
     {
         if self.waiting < GATHERED {
             return;
@@ -49,7 +49,7 @@ impl Console {
     pub fn put(&mut self, b: u8)
         requires { self.old.count + 1 < 2 ^ 64 }
         ensures count { self.new.count ≡ self.old.count + 1 }
-        ensures shows { (bytes : List ℕ) → Shows self.old bytes → Shows self.new (bytes ++ b ∷ []) }
+        ensures shows { (bytes : List ℕ) → ConsoleShows self.old bytes → ConsoleShows self.new (bytes ++ b ∷ []) }
     {
         self.make_room();
         self.gathered[self.waiting] = b;
@@ -59,7 +59,7 @@ impl Console {
 
     /// The digest of all bytes.
     pub fn digest(self) -> [u8; 32]
-        ensures { (bytes : List ℕ) → Shows self bytes → result ≡ sha256 bytes }
+        ensures { (bytes : List ℕ) → ConsoleShows self bytes → result ≡ sha256 bytes }
     {
         let Console {
             mut hasher,

@@ -5,7 +5,7 @@ ghost use Rattle.outside_io.specs.Told.{Puts};
 ghost use Rattle.cloak_machine.specs.Putting.{PutsMore, putting};
 ghost use Rattle.cloak_model.specs.Report as spec;
 ghost use Rattle.cloak_machine.specs.Ending.{digest_text, console_text, kernel_text};
-ghost use Rattle.cloak_machine.specs.Console.{Shows};
+ghost use Rattle.cloak_machine.specs.Console.{ConsoleShows};
 
 use crate::console::Console;
 use crate::lines::{SoFar, decimal, digest, hexadecimal, text};
@@ -55,7 +55,7 @@ impl KernelLines {
         harts: Vec<Hart>,
     ) -> KernelLines
         ensures count { result.console_length ≡ console.count }
-        ensures console { (bytes : List ℕ) → Shows console bytes → result.console ≡ sha256 bytes }
+        ensures console { (bytes : List ℕ) → ConsoleShows console bytes → result.console ≡ sha256 bytes }
         ensures ram { result.ram ≡ sha256 (concat frames.now) }
         ensures disk { result.disk ≡ sha256 disk.now }
         ensures harts { result.harts ≡ harts }
@@ -254,12 +254,12 @@ fn put_kernel<O: Sink>(out: &mut O, so_far: SoFar, lines: &KernelLines) -> SoFar
 }
 
 impl End {
-    ghost use Rattle.cloak_machine.specs.Ending.{report_of};
+    ghost use Rattle.cloak_machine.specs.Ending.{end_report};
 
     /// Writes the report. One that failed has written a front of it.
     pub fn report<O: Sink>(&self, out: &mut O) -> Result<(), Failed>
         ensures { Puts (O.taken out.old) (O.taken out.new) (O.faults out.old) (O.faults out.new)
-            (report_of self.now) result }
+            (end_report self.now) result }
     {
         let so_far = put_stop_line(out, Ok(()), &self.stop);
         let so_far = put_number(out, so_far, b"steps ", self.steps as u64);

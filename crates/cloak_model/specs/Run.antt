@@ -90,11 +90,11 @@ abbrev pub exchange : Run → List Item
 exchange r = items_in_order r.opened.items (map (λ (t : Turn). t.items) r.turns) r.closed.items
 
 -- what the kernel could see, and what a domain could see
-abbrev pub outward_half : Run → List Item
-outward_half r = half.outward_half (exchange r)
+abbrev pub run_outward_half : Run → List Item
+run_outward_half r = half.outward_half (exchange r)
 
-abbrev pub inward_half : ℕ → Run → List Item
-inward_half d r = half.inward_half d (exchange r)
+abbrev pub run_inward_half : ℕ → Run → List Item
+run_inward_half d r = half.inward_half d (exchange r)
 
 -- the bytes of the record
 abbrev pub record_bytes : Run → List ℕ

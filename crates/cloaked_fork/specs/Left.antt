@@ -10,8 +10,8 @@ use Rattle.cloak_model.specs.Fork.{Spaces, Fork, End, forked}
 abbrev pub spaces : List (Option Context) → Resources → Spaces
 spaces contexts r = record { contexts = contexts; resources = r }
 
-abbrev pub fork : Result (Option CtxId) MapFault → List (Option Context) → Resources → Fork
-fork answer contexts r = record { answer = answer; spaces = spaces contexts r }
+abbrev pub made_fork : Result (Option CtxId) MapFault → List (Option Context) → Resources → Fork
+made_fork answer contexts r = record { answer = answer; spaces = spaces contexts r }
 
 abbrev pub ending : Ended → List (Option Context) → Resources → End
 ending ended contexts r = record { ending = ended; spaces = spaces contexts r }

@@ -17,7 +17,7 @@ use Rattle.cloak_model.specs.BundleFault.{lies_in_ram, is_base_of}
 use Rattle.cloak_model.specs.BundleFault as format
 use Rattle.cloak_model.specs.Fields as grammar
 use Rattle.cloak_model.specs.Fields.{first_of, fault_in, first_in, number}
-use Rattle.cloak_model.specs.BundleFault.{Field, free, ruled, bundle_fault}
+use Rattle.cloak_model.specs.BundleFault.{BundleField, any_at, ruled_at, bundle_fault}
 use Rattle.guest_bundle.proofs.Steps.{bind_ok, passed, ok_is}
 use Rattle.guest_bundle.proofs.Takes.{bytes_take, pages_take}
 use Rattle.guest_bundle.proofs.Found.{header_from, header_steps}
@@ -40,16 +40,16 @@ segment_tells file frames at is =
     let k1 : ℕ → Result Segment BundleFault = λ address. number_at file (at + 4) >>= k2 address in
     let wrong : ℕ → ℕ → ℕ → Option BundleFault =
     λ f address size. cond (lies_in_ram f address size) None (Some (BadRange at)) in
-    let ruled_field : ℕ → ℕ → ℕ → Field =
+    let ruled_field : ℕ → ℕ → ℕ → BundleField =
     λ f address size. record { at = at + 4; size = 4; cut = Short (at + 4); wrong = wrong f address size } in
-    let rest : ℕ → List Field = λ size. free (at + 8) size ∷ [] in
+    let rest : ℕ → List BundleField = λ size. any_at (at + 8) size ∷ [] in
     let inner : (address size : ℕ) →
     Tells (k2 address size) (first_of (wrong frames address size) (first_in file (rest size))) = λ address size.
     subst (Tells (k2 address size)) (first_of-assoc (wrong frames address size) (short file (at + 8) size) None)
     (bind_tells (k3 address size) (last address) (first_of (wrong frames address size) (short file (at + 8) size)) None
     (passed_tells (lies_in_ram frames address size) (BadRange at) (bytes_at file (at + 8) size)
     (short file (at + 8) size) (bytes_tell file (at + 8) size)) (λ _ _. refl)) in
-    field_tells file (free at 4) (ruled_field (number file 12) (number file at) (number file (at + 4)) ∷ rest
+    field_tells file (any_at at 4) (ruled_field (number file 12) (number file at) (number file (at + 4)) ∷ rest
     (number file (at + 4))) (number_at file at) k1 (number_tells file at) (λ address e1.
     field_tells file (ruled_field (number file 12) (number file at) (number file (at + 4)))
     (rest (number file (at + 4))) (number_at file (at + 4)) (k2 address) (number_tells file (at + 4)) (λ size e2.
@@ -86,11 +86,11 @@ program_tells file frames at is =
     let k3 = λ (pages place base : ℕ). entry_at file (at + 12) >>= k4 pages place base in
     let k2 = λ (pages place : ℕ). base_at pages file (at + 8) >>= k3 pages place in
     let k1 = λ (pages : ℕ). place_at frames pages file (at + 4) >>= k2 pages in
-    let f1 : ℕ → ℕ → Field = λ f pages. ruled (at + 4) 4 (leb (number file (at + 4) + pages) f) (BadRange (at + 4)) in
-    let f2 : ℕ → Field = λ pages. ruled (at + 8) 4 (is_base_of pages (number file (at + 8))) (BadRange (at + 8)) in
-    let f3 : Field = ruled (at + 12) 4 (eqb (number file (at + 12) % 4) 0) (BadRange (at + 12)) in
-    let f4 : Field = free (at + 16) 4 in
-    let tail : ℕ → List Field = λ pages. format.pages pages (at + 20) in
+    let f1 : ℕ → ℕ → BundleField = λ f pages. ruled_at (at + 4) 4 (leb (number file (at + 4) + pages) f) (BadRange (at + 4)) in
+    let f2 : ℕ → BundleField = λ pages. ruled_at (at + 8) 4 (is_base_of pages (number file (at + 8))) (BadRange (at + 8)) in
+    let f3 : BundleField = ruled_at (at + 12) 4 (eqb (number file (at + 12) % 4) 0) (BadRange (at + 12)) in
+    let f4 : BundleField = any_at (at + 16) 4 in
+    let tail : ℕ → List BundleField = λ pages. format.pages pages (at + 20) in
     let t5 : (pages place base entry sp : ℕ) → Tells (k5 pages place base entry sp) (first_in file (tail pages)) =
     λ pages place base entry sp.
     subst (Tells (k5 pages place base entry sp)) (first_of-none (first_in file (tail pages)))
@@ -155,7 +155,7 @@ after_program_is file frames at p e =
 
 version_tells : (file : List ℕ) →
     Tells (version_at file) (first_in file
-    (ruled 0 8 (bytes_eq (take 8 file) (codes "CLOAKBND")) BadMagic ∷ ruled 8 4 (eqb (number file 8) 1)
+    (ruled_at 0 8 (bytes_eq (take 8 file) (codes "CLOAKBND")) BadMagic ∷ ruled_at 8 4 (eqb (number file 8) 1)
     (BadVersion (number file 8)) ∷ []))
 unfolding version_at
 version_tells file =
@@ -166,12 +166,12 @@ version_tells file =
     let k1 : List ℕ → Result ℕ BundleFault = λ bytes. after_magic bytes >>= k2 in
     let wrong_magic : List ℕ → Option BundleFault = λ bytes. cond (is_magic bytes) None (Some BadMagic) in
     let wrong_version : ℕ → Option BundleFault = λ n. cond (eqb n 1) None (Some (BadVersion n)) in
-    let version : Field = ruled 8 4 (eqb (number file 8) 1) (BadVersion (number file 8)) in
+    let version : BundleField = ruled_at 8 4 (eqb (number file 8) 1) (BadVersion (number file 8)) in
     let second : Tells (number_at file 8 >>= k2) (first_in file (version ∷ [])) =
     field_tells file version [] (number_at file 8) k2 (number_tells file 8) (λ n e.
     subst (λ m. Tells (k2 n) (first_of (wrong_version m) None)) (sym (number_is file 8 n e))
     (subst (Tells (k2 n)) (sym (first_of-none (wrong_version n))) (ruled_tells (eqb n 1) (BadVersion n) n))) in
-    field_tells file (ruled 0 8 (is_magic (take 8 file)) BadMagic) (version ∷ []) (bytes_at file 0 8) k1
+    field_tells file (ruled_at 0 8 (is_magic (take 8 file)) BadMagic) (version ∷ []) (bytes_at file 0 8) k1
     (bytes_tell file 0 8) (λ bytes e.
     subst (λ m. Tells (k1 bytes) (first_of (wrong_magic m) (first_in file (version ∷ []))))
     (sym (bytes_are file 0 8 bytes e))
@@ -202,12 +202,12 @@ header_from_tells (Err x) a b c d e f g ov oa ob oc od oe of og hv ha hb hc hd h
 pub header_tells : (file : List ℕ) → Tells (header_at file) (first_in file (format.header file))
 unfolding header_at header_from format.header
 header_tells file =
-    let m : Field = ruled 0 8 (bytes_eq (take 8 file) (codes "CLOAKBND")) BadMagic in
-    let v : Field = ruled 8 4 (eqb (number file 8) 1) (BadVersion (number file 8)) in
+    let m : BundleField = ruled_at 0 8 (bytes_eq (take 8 file) (codes "CLOAKBND")) BadMagic in
+    let v : BundleField = ruled_at 8 4 (eqb (number file 8) 1) (BadVersion (number file 8)) in
     let c1 = format.count file 12 64 4096 in
     let c2 = format.count file 16 1 4 in
     let c3 = format.count file 20 1 64 in
-    let c4 : Field = ruled 24 4 (eqb (number file 24 % 4) 0) (BadRange 24) in
+    let c4 : BundleField = ruled_at 24 4 (eqb (number file 24 % 4) 0) (BadRange 24) in
     let c5 = format.count file 28 0 16 in
     let c6 = format.count file 32 0 4096 in
     let c7 = format.count file 36 0 4 in
@@ -223,7 +223,7 @@ header_tells file =
 
 -- ---- the file
 
-chain : (file : List ℕ) (a b c d e : List Field) (end : Option BundleFault) →
+chain : (file : List ℕ) (a b c d e : List BundleField) (end : Option BundleFault) →
     first_of (first_in file (a ++ (b ++ (c ++ (d ++ e))))) end
     ≡ first_of (first_in file a) (first_of (first_in file b)
     (first_of (first_in file c) (first_of (first_in file d) (first_of (first_in file e) end))))
@@ -296,8 +296,8 @@ segments_fault file n at = first_of
     (disk_fault file (number file 32) (grammar.after_parts (format.after_segment file) n at))
 
 abbrev schedule_fault : List ℕ → ℕ → Option BundleFault
-schedule_fault file n = first_of (first_in file (grammar.parts (format.turn file) format.after_turn n 40))
-    (segments_fault file (number file 28) (grammar.after_parts format.after_turn n 40))
+schedule_fault file n = first_of (first_in file (grammar.parts (format.turn file) format.after_byte n 40))
+    (segments_fault file (number file 28) (grammar.after_parts format.after_byte n 40))
 
 programs_tell : (file : List ℕ) (h : Header) (schedule : List ℕ) (segments : List Segment × ℕ) (disk : List ℕ)
     (at : ℕ) → NumbersAre file h → at ≡ segments.1 + length disk
@@ -345,20 +345,20 @@ segments_tell file h schedule at numbers is =
     numbers (parts_end (format.after_segment file) (segment_at h.frames file) segment_size next h.segments
     schedule.1 segments e)))
 
-stays : (at : ℕ) → format.after_turn at ≡ at + 1
+stays : (at : ℕ) → format.after_byte at ≡ at + 1
 stays at = refl
 
 schedule_tells : (file : List ℕ) (h : Header) → NumbersAre file h →
     Tells (after_header file h) (schedule_fault file (number file 20))
 schedule_tells file h numbers =
     let next = λ (at : ℕ) (x : ℕ) (e : turn_at h.harts file at ≡ Ok x). stays at in
-    let read = parts_tell file (format.turn file) format.after_turn (turn_at h.harts file) (λ _. 1)
+    let read = parts_tell file (format.turn file) format.after_byte (turn_at h.harts file) (λ _. 1)
     (λ at. turn_tells file h.harts at numbers.harts) next h.turns 40 in
     rw numbers.turns (bind_tells (parts_at (turn_at h.harts file) (λ _. 1) h.turns 40) (after_schedule file h)
-    (first_in file (grammar.parts (format.turn file) format.after_turn h.turns 40))
-    (segments_fault file (number file 28) (grammar.after_parts format.after_turn h.turns 40)) read (λ schedule e.
-    segments_tell file h schedule (grammar.after_parts format.after_turn h.turns 40) numbers
-    (parts_end format.after_turn (turn_at h.harts file) (λ _. 1) next h.turns 40 schedule e)))
+    (first_in file (grammar.parts (format.turn file) format.after_byte h.turns 40))
+    (segments_fault file (number file 28) (grammar.after_parts format.after_byte h.turns 40)) read (λ schedule e.
+    segments_tell file h schedule (grammar.after_parts format.after_byte h.turns 40) numbers
+    (parts_end format.after_byte (turn_at h.harts file) (λ _. 1) next h.turns 40 schedule e)))
 
 pub bundle_tells : (file : List ℕ) → Tells (bundle_at file) (bundle_fault file)
 unfolding bundle_at bundle_fault
@@ -370,16 +370,16 @@ bundle_tells file =
     (schedule_fault file (number file 20)) (header_tells file) (λ h e. schedule_tells file h (numbers_are file h e))
     in
     let regrouped = chain file (format.header file)
-    (grammar.parts (format.turn file) format.after_turn (number file 20) 40)
+    (grammar.parts (format.turn file) format.after_byte (number file 20) 40)
     (grammar.parts (format.segment file) (format.after_segment file) (number file 28) (format.segments_from file))
     (format.pages (number file 32) (format.disk_from file))
     (grammar.parts (format.program file) (format.after_program file) (number file 36) (format.programs_from file))
     (end_fault file (format.fields_end file)) in
     let whole : Tells (header_at file >>= after_header file)
-    (first_of (first_in file (format.fields file)) (end_fault file (format.fields_end file))) =
+    (first_of (first_in file (format.bundle_fields file)) (end_fault file (format.fields_end file))) =
     subst (Tells (header_at file >>= after_header file)) (sym regrouped) read in
     subst (λ r. Tells r (cond too_large (Some (TooLarge 0))
-    (first_of (first_in file (format.fields file)) (end_fault file (format.fields_end file)))))
+    (first_of (first_in file (format.bundle_fields file)) (end_fault file (format.fields_end file)))))
     (sym (refused_bind too_large (TooLarge 0) (header_at file) (after_header file)))
     (refused_tells too_large (TooLarge 0) (header_at file >>= after_header file)
-    (first_of (first_in file (format.fields file)) (end_fault file (format.fields_end file))) whole)
+    (first_of (first_in file (format.bundle_fields file)) (end_fault file (format.fields_end file))) whole)

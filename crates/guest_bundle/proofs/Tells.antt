@@ -7,7 +7,7 @@ use Rattle.cloak_model.specs.declared.fault.BundleFault.{BundleFault}
 use Rattle.cloak_model.specs.declared.fault.BundleFault.TheVariants.{Short, BadCount, TooLarge, BadRange}
 use Rattle.guest_bundle.specs.Fields.{◌>>=◌, bytes_at, pages_at, number_at, count_at, entry_at}
 use Rattle.cloak_model.specs.Fields.{first_of, fault_in, first_in, number, parts, after_parts}
-use Rattle.cloak_model.specs.BundleFault.{Field, ruled, count, is_base_of, after_page, pages, turn}
+use Rattle.cloak_model.specs.BundleFault.{BundleField, ruled_at, count, is_base_of, after_page, pages, turn}
 use Rattle.guest_bundle.specs.Reading.{turn_at, place_at, base_at, parts_at}
 use Rattle.guest_bundle.proofs.Steps.{bind_ok, refused_not, ok_is}
 
@@ -24,7 +24,7 @@ pub first_of-assoc : (a b c : Option BundleFault) → first_of (first_of a b) c 
 first_of-assoc None b c = refl
 first_of-assoc (Some f) b c = refl
 
-pub first_in-append : (file : List ℕ) (fs gs : List Field) →
+pub first_in-append : (file : List ℕ) (fs gs : List BundleField) →
     first_in file (fs ++ gs) ≡ first_of (first_in file fs) (first_in file gs)
 first_in-append file [] gs = refl
 first_in-append file (f ∷ fs) gs =
@@ -57,11 +57,11 @@ fault_apart true e wrong = refl
 fault_apart false e wrong = refl
 
 -- the fault of a field that is not whole
-abbrev pub cut_in : List ℕ → Field → Option BundleFault
+abbrev pub cut_in : List ℕ → BundleField → Option BundleFault
 cut_in file f = cond (ltb (length file - f.at) f.size) (Some f.cut) None
 
 -- a field that is read whole, and what is read after it
-pub field_tells : {A B : Type 0} (file : List ℕ) (f : Field) (fs : List Field) (r : Result A BundleFault) (k : A →
+pub field_tells : {A B : Type 0} (file : List ℕ) (f : BundleField) (fs : List BundleField) (r : Result A BundleFault) (k : A →
     Result B BundleFault)
     → Tells r (cut_in file f) → ((x : A) → r ≡ Ok x → Tells (k x) (first_of f.wrong (first_in file fs))) →
     Tells (r >>= k) (first_in file (f ∷ fs))
@@ -86,7 +86,7 @@ bytes_are file at size x e = ok_is _ _
     (refused_not (ltb (length file - at) size) (Short at) (Ok (take size (drop at file))) x e).1
 
 -- a field whose value is tested once it is whole
-pub tested_tells : {A B : Type 0} (file : List ℕ) (f : Field) (r : Result A BundleFault) (k : A → Result B BundleFault)
+pub tested_tells : {A B : Type 0} (file : List ℕ) (f : BundleField) (r : Result A BundleFault) (k : A → Result B BundleFault)
     → Tells r (cut_in file f) → ((x : A) → r ≡ Ok x → Tells (k x) f.wrong) → Tells (r >>= k) (fault_in file f)
 tested_tells file f r k h then =
     subst (Tells (r >>= k)) (sym (fault_apart (ltb (length file - f.at) f.size) f.cut f.wrong))
@@ -130,28 +130,28 @@ count_is file at low high n e =
 -- a number with one rule
 pub one_rule_tells : (file : List ℕ) (at : ℕ) (rule : ℕ → Bool) →
     Tells (number_at file at >>= λ n. cond (rule n) (Ok n) (Err (BadRange at)))
-    (fault_in file (ruled at 4 (rule (number file at)) (BadRange at)))
+    (fault_in file (ruled_at at 4 (rule (number file at)) (BadRange at)))
 one_rule_tells file at rule =
     let k : ℕ → Result ℕ BundleFault = λ n. cond (rule n) (Ok n) (Err (BadRange at)) in
-    tested_tells file (ruled at 4 (rule (number file at)) (BadRange at)) (number_at file at) k (number_tells file at)
+    tested_tells file (ruled_at at 4 (rule (number file at)) (BadRange at)) (number_at file at) k (number_tells file at)
     (λ n e.
     subst (λ m. Tells (k n) (cond (rule m) None (Some (BadRange at)))) (sym (number_is file at n e))
     (ruled_tells (rule n) (BadRange at) n))
 
 pub entry_tells : (file : List ℕ) (at : ℕ) →
-    Tells (entry_at file at) (fault_in file (ruled at 4 (eqb (number file at % 4) 0) (BadRange at)))
+    Tells (entry_at file at) (fault_in file (ruled_at at 4 (eqb (number file at % 4) 0) (BadRange at)))
 unfolding entry_at
 entry_tells file at = one_rule_tells file at (λ n. eqb (n % 4) 0)
 
 pub place_tells : (frames page_count : ℕ) (file : List ℕ) (at : ℕ) →
     Tells (place_at frames page_count file at)
-    (fault_in file (ruled at 4 (leb (number file at + page_count) frames) (BadRange at)))
+    (fault_in file (ruled_at at 4 (leb (number file at + page_count) frames) (BadRange at)))
 unfolding place_at
 place_tells frames page_count file at = one_rule_tells file at (λ n. leb (n + page_count) frames)
 
 pub base_tells : (page_count : ℕ) (file : List ℕ) (at : ℕ) →
     Tells (base_at page_count file at)
-    (fault_in file (ruled at 4 (is_base_of page_count (number file at)) (BadRange at)))
+    (fault_in file (ruled_at at 4 (is_base_of page_count (number file at)) (BadRange at)))
 unfolding base_at
 base_tells page_count file at = one_rule_tells file at (is_base_of page_count)
 
@@ -160,15 +160,15 @@ pub turn_tells : (file : List ℕ) (harts at : ℕ) → number file 16 ≡ harts
 turn_tells file harts at is =
     let b = get_or file at 0 in
     let named = ltb b harts in
-    let one : Tells (turn_at harts file at) (fault_in file (ruled at 1 named (BadRange at))) =
+    let one : Tells (turn_at harts file at) (fault_in file (ruled_at at 1 named (BadRange at))) =
     refused_tells (ltb (length file - at) 1) (Short at) (cond named (Ok b) (Err (BadRange at)))
     (cond named None (Some (BadRange at))) (ruled_tells named (BadRange at) b) in
-    subst (λ m. Tells (turn_at harts file at) (first_in file (ruled at 1 (ltb b m) (BadRange at) ∷ []))) (sym is)
-    (subst (Tells (turn_at harts file at)) (sym (first_of-none (fault_in file (ruled at 1 named (BadRange at)))))
+    subst (λ m. Tells (turn_at harts file at) (first_in file (ruled_at at 1 (ltb b m) (BadRange at) ∷ []))) (sym is)
+    (subst (Tells (turn_at harts file at)) (sym (first_of-none (fault_in file (ruled_at at 1 named (BadRange at)))))
     one)
 
 -- parts one after the other, and where they end
-pub parts_tell : {X : Type 0} (file : List ℕ) (fields : ℕ → List Field) (after : ℕ → ℕ) (part_at : ℕ →
+pub parts_tell : {X : Type 0} (file : List ℕ) (fields : ℕ → List BundleField) (after : ℕ → ℕ) (part_at : ℕ →
     Result X BundleFault) (size : X → ℕ)
     → ((at : ℕ) → Tells (part_at at) (first_in file (fields at))) →
     ((at : ℕ) (x : X) → part_at at ≡ Ok x → after at ≡ at + size x)

@@ -11,12 +11,12 @@ use Rattle.cloak_model.specs.declared.answer.Answer.TheVariants as told
 use Rattle.cloak_model.specs.World.{World}
 use Rattle.cloak_model.specs.Contexts.{Context}
 use Rattle.cloak_model.specs.Resources.{Resources}
-use Rattle.cloak_model.specs.InsideStep.{loaded, load_reached, load_got, load, store_reached, store_put, store, system, done, decoded, executed, fetched, fetch, instruction_step}
+use Rattle.cloak_model.specs.InsideStep.{loaded_inside, load_reached, load_got, load_inside, store_reached, store_put, store_inside, system_inside, done_inside, decoded_inside, executed_inside, fetched_inside, fetch, instruction_inside}
 use Rattle.cloak_model.proofs.Later.{IsLater, IsLater-refl, IsLater-trans}
 use Rattle.cloak_model.proofs.PagesLater.{later_reach, later_read, later_write, later_get, later_put}
 
-pub later_loaded : (c : Context) (rd va width : ℕ) (signed : Bool) (value : ℕ) (w : World) → IsLater w (loaded c rd va width signed value w).world
-unfolding loaded
+pub later_loaded : (c : Context) (rd va width : ℕ) (signed : Bool) (value : ℕ) (w : World) → IsLater w (loaded_inside c rd va width signed value w).world
+unfolding loaded_inside
 later_loaded c rd va width signed value w = IsLater-refl w
 
 pub later_load_reached : (c : Context) (q : PageId) (rd va width : ℕ) (signed : Bool) (a : Answer) (w : World) → IsLater w (load_reached c q rd va width signed a w).world
@@ -33,8 +33,8 @@ later_load_got c rd va width signed (told.Absent cause) w = IsLater-refl w
 later_load_got c rd va width signed (told.Word value) w = IsLater-refl w
 later_load_got c rd va width signed told.Stopped w = IsLater-refl w
 
-pub later_load : (c : Context) (rd va width : ℕ) (signed : Bool) (place : Option PageId) (w : World) → IsLater w (load c rd va width signed place w).world
-unfolding load
+pub later_load : (c : Context) (rd va width : ℕ) (signed : Bool) (place : Option PageId) (w : World) → IsLater w (load_inside c rd va width signed place w).world
+unfolding load_inside
 later_load c rd va width signed None w = IsLater-trans _ _ _ (later_get va width w) (later_load_got c rd va width signed _ _)
 later_load c rd va width signed (Some q) w = IsLater-trans _ _ _ (later_reach _ va _ w) (later_load_reached c _ rd va width signed _ _)
 
@@ -52,19 +52,19 @@ later_store_put c va (told.Absent cause) w = IsLater-refl w
 later_store_put c va (told.Word value) w = IsLater-refl w
 later_store_put c va told.Stopped w = IsLater-refl w
 
-pub later_inside_store : (c : Context) (va width value : ℕ) (place : Option PageId) (w : World) → IsLater w (store c va width value place w).world
-unfolding store
+pub later_inside_store : (c : Context) (va width value : ℕ) (place : Option PageId) (w : World) → IsLater w (store_inside c va width value place w).world
+unfolding store_inside
 later_inside_store c va width value None w = IsLater-trans _ _ _ (later_put va width value w) (later_store_put c va _ _)
 later_inside_store c va width value (Some q) w = IsLater-trans _ _ _ (later_reach _ va _ w) (later_store_reached c _ va width value _ _)
 
-pub later_system : (c : Context) (i : Instr) (w : World) → IsLater w (system c i w).world
-unfolding system
+pub later_system : (c : Context) (i : Instr) (w : World) → IsLater w (system_inside c i w).world
+unfolding system_inside
 later_system c Ecall w = IsLater-refl w
 later_system c Ebreak w = IsLater-refl w
 later_system c _ w = IsLater-refl w
 
-pub later_done : (domain : ℕ) (r : Resources) (c : Context) (i : Instr) (e : Effect) (w : World) → IsLater w (done domain r c i e w).world
-unfolding done
+pub later_done : (domain : ℕ) (r : Resources) (c : Context) (i : Instr) (e : Effect) (w : World) → IsLater w (done_inside domain r c i e w).world
+unfolding done_inside
 later_done domain r c i (does.Write rd value) w = IsLater-refl w
 later_done domain r c i (does.Jump rd link target) w = IsLater-refl w
 later_done domain r c i (does.Go target) w = IsLater-refl w
@@ -74,17 +74,17 @@ later_done domain r c i does.System w = later_system c i w
 later_done domain r c i does.Nothing w = IsLater-refl w
 later_done domain r c i (does.Raise cause value) w = IsLater-refl w
 
-pub later_decoded : (domain : ℕ) (r : Resources) (c : Context) (i : Option Instr) (w : World) → IsLater w (decoded domain r c i w).world
-unfolding decoded
+pub later_decoded : (domain : ℕ) (r : Resources) (c : Context) (i : Option Instr) (w : World) → IsLater w (decoded_inside domain r c i w).world
+unfolding decoded_inside
 later_decoded domain r c None w = IsLater-refl w
 later_decoded domain r c (Some i) w = later_done domain r c i _ w
 
-pub later_executed : (domain : ℕ) (r : Resources) (c : Context) (word : ℕ) (w : World) → IsLater w (executed domain r c word w).world
-unfolding executed
+pub later_executed : (domain : ℕ) (r : Resources) (c : Context) (word : ℕ) (w : World) → IsLater w (executed_inside domain r c word w).world
+unfolding executed_inside
 later_executed domain r c word w = later_decoded domain r c (instruction word) w
 
-pub later_fetched : (domain : ℕ) (r : Resources) (c : Context) (q : PageId) (a : Answer) (w : World) → IsLater w (fetched domain r c q a w).world
-unfolding fetched
+pub later_fetched : (domain : ℕ) (r : Resources) (c : Context) (q : PageId) (a : Answer) (w : World) → IsLater w (fetched_inside domain r c q a w).world
+unfolding fetched_inside
 later_fetched domain r c q told.Ok w = IsLater-trans _ _ _ (later_read _ _ _ w) (later_executed domain r c _ _)
 later_fetched domain r c q (told.Absent cause) w = IsLater-refl w
 later_fetched domain r c q (told.Word value) w = IsLater-refl w
@@ -95,8 +95,8 @@ unfolding fetch
 later_fetch domain r c None w = IsLater-refl w
 later_fetch domain r c (Some q) w = IsLater-trans _ _ _ (later_reach _ _ _ w) (later_fetched domain r c _ _ _)
 
-pub later_instruction_step : (domain : ℕ) (r : Resources) (c : Context) (w : World) → IsLater w (instruction_step domain r c w).world
-unfolding instruction_step
+pub later_instruction_step : (domain : ℕ) (r : Resources) (c : Context) (w : World) → IsLater w (instruction_inside domain r c w).world
+unfolding instruction_inside
 later_instruction_step domain r c w = later_fetch domain r c _ w
 
 pub ruleset laters = (later_reach, later_read, later_write, later_get, later_put, later_loaded, later_load_reached, later_load_got, later_load, later_store_reached, later_store_put, later_inside_store, later_system, later_done, later_decoded, later_executed, later_fetched, later_fetch, later_instruction_step)

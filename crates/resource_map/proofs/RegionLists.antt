@@ -10,7 +10,7 @@ use Rattle.std.proofs.lemmas.List.Sums.{prefix_len-le-length}
 use Rattle.cloak_model.specs.declared.resource.Region.{Region}
 use Rattle.cloak_model.specs.Fork.{copied_region}
 use Rattle.cloak_model.specs.Resources.{is_inside, region_end, overlaps, with_region}
-use Rattle.resource_map.specs.Kept.{IsPlaced, EndsBelow}
+use Rattle.resource_map.specs.Kept.{IsSoundRegion, EndsBelow}
 
 -- the first of a list stands in order with all that follow, and these with one another
 pub AllPairs-head : {X : Type 0} (R : X → X → Type 0) (x : X) (xs : List X) → AllPairs R (x ∷ xs) → All (R x) xs
@@ -83,8 +83,8 @@ All-with_region P g (h ∷ xs) one all =
       | false ↦ All-cons P h (with_region g xs) first later
     ]
 
-pub IsPlaced-with_region : (g : Region) (xs : List Region) → IsPlaced g → All IsPlaced xs → All IsPlaced (with_region g xs)
-IsPlaced-with_region g xs one all = All-with_region IsPlaced g xs one all
+pub IsPlaced-with_region : (g : Region) (xs : List Region) → IsSoundRegion g → All IsSoundRegion xs → All IsSoundRegion (with_region g xs)
+IsPlaced-with_region g xs one all = All-with_region IsSoundRegion g xs one all
 
 -- which of two regions lies below
 apart_cases : (g h : Region) → overlaps g h ≡ false → (region_end g ≤ h.start) ⊎ (region_end h ≤ g.start)
@@ -102,7 +102,7 @@ EndsBelow-all g h xs below all = All-weaker (EndsBelow h) (EndsBelow g) (λ x ab
 put : Bool → Region → Region → List Region → List Region
 put t g h xs = cond t (g ∷ (h ∷ xs)) (h ∷ with_region g xs)
 
-put_apart : (t : Bool) (g h : Region) (xs : List Region) → starts_above g h ≡ t → IsPlaced g → IsPlaced h → (region_end g ≤ h.start) ⊎ (region_end h ≤ g.start) → AllPairs EndsBelow (h ∷ xs) → AllPairs EndsBelow (with_region g xs) → AllPairs EndsBelow (put t g h xs)
+put_apart : (t : Bool) (g h : Region) (xs : List Region) → starts_above g h ≡ t → IsSoundRegion g → IsSoundRegion h → (region_end g ≤ h.start) ⊎ (region_end h ≤ g.start) → AllPairs EndsBelow (h ∷ xs) → AllPairs EndsBelow (with_region g xs) → AllPairs EndsBelow (put t g h xs)
 unfolding put
 put_apart true g h xs e one first cases apart later =
     let low : g.start < h.start = ltb-true g.start h.start e in
@@ -116,13 +116,13 @@ put_apart false g h xs e one first cases apart later =
     AllPairs-cons EndsBelow h (with_region g xs) (All-with_region (EndsBelow h) g xs below above) later
 
 -- a region that shares no address with the others stands in order with them
-pub EndsBelow-with_region : (g : Region) (xs : List Region) → IsPlaced g → All IsPlaced xs → list_any (overlaps g) xs ≡ false → AllPairs EndsBelow xs → AllPairs EndsBelow (with_region g xs)
+pub EndsBelow-with_region : (g : Region) (xs : List Region) → IsSoundRegion g → All IsSoundRegion xs → list_any (overlaps g) xs ≡ false → AllPairs EndsBelow xs → AllPairs EndsBelow (with_region g xs)
 unfolding put
 EndsBelow-with_region g [] one all none apart = AllPairs-cons EndsBelow g [] (All-nil (EndsBelow g)) apart
 EndsBelow-with_region g (h ∷ xs) one all none apart =
-    let first : IsPlaced h = All-head IsPlaced h xs all in
+    let first : IsSoundRegion h = All-head IsSoundRegion h xs all in
     let none' = or_parts (overlaps g h) (list_any (overlaps g) xs) none in
-    let later = EndsBelow-with_region g xs one (All-tail IsPlaced h xs all) none'.1 (AllPairs-tail EndsBelow h xs apart) in
+    let later = EndsBelow-with_region g xs one (All-tail IsSoundRegion h xs all) none'.1 (AllPairs-tail EndsBelow h xs apart) in
     put_apart (starts_above g h) g h xs refl one first (apart_cases g h none'.0) apart later
 
 -- The regions of a copied space.
@@ -134,10 +134,10 @@ AllPairs-map R f xs all i j d l m =
     let second = get_or-map f xs j d d high in
     rw (first, second) (all i j d l high)
 
-pub IsPlaced-copied : (list : List (ℕ × ℕ)) (xs : List Region) → All IsPlaced xs → All IsPlaced (map (copied_region list) xs)
+pub IsPlaced-copied : (list : List (ℕ × ℕ)) (xs : List Region) → All IsSoundRegion xs → All IsSoundRegion (map (copied_region list) xs)
 IsPlaced-copied list xs all =
-    All-map IsPlaced (copied_region list) xs
-    (All-weaker IsPlaced (λ g. IsPlaced (copied_region list g)) (λ g h. record { aligned = h.aligned; some = h.some; top = h.top }) xs all)
+    All-map IsSoundRegion (copied_region list) xs
+    (All-weaker IsSoundRegion (λ g. IsSoundRegion (copied_region list g)) (λ g h. record { aligned = h.aligned; some = h.some; top = h.top }) xs all)
 
 pub EndsBelow-copied : (list : List (ℕ × ℕ)) (xs : List Region) → AllPairs EndsBelow xs → AllPairs EndsBelow (map (copied_region list) xs)
 EndsBelow-copied list xs all = AllPairs-map EndsBelow (copied_region list) xs all

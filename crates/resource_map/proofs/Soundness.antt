@@ -12,7 +12,7 @@ use Rattle.cloak_model.specs.declared.resource.Resource.{Resource}
 use Rattle.cloak_model.specs.declared.resource.Region.{Region}
 use Rattle.cloak_model.specs.Resources.{Resources, resource_at, regions_in, pages_of, all_pages, is_shared_with, with_regions, is_space, is_private_to, without_space, drop_space, started_resources}
 use Rattle.cloak_model.specs.Files.{holds_file}
-use Rattle.resource_map.specs.Kept.{IsInUse, IsMapped, IsThere, IsHeld, IsSound}
+use Rattle.resource_map.specs.Kept.{IsInUse, IsMapped, IsOwner, IsHeld, IsSound}
 use Rattle.resource_map.specs.Told.{MayOwn}
 use Rattle.resource_map.proofs.Lists.{get_or-replicate_none, get_or-map_all, get_or-set_none, count_by-no_position, sum_by-map-le}
 
@@ -46,12 +46,12 @@ IsSound-started pages base some few = record {
 -- A resource is made.
 
 -- what may own is there
-there_from_may : (owner : Owner) (r : Resources) → MayOwn owner r → IsThere r owner
+there_from_may : (owner : Owner) (r : Resources) → MayOwn owner r → IsOwner r owner
 there_from_may (Space space) r may = may
 there_from_may (File number) r may = tt
 
 -- an owner is there, whatever the resources are
-there_stays : (owner : Owner) (r : Resources) (held : List (Option Resource)) → IsThere r owner → IsThere (record r { held = held }) owner
+there_stays : (owner : Owner) (r : Resources) (held : List (Option Resource)) → IsOwner r owner → IsOwner (record r { held = held }) owner
 there_stays (Space space) r held there = there
 there_stays (File number) r held there = there
 
@@ -133,7 +133,7 @@ in_use_with space s regions r inside used =
       | inr other ↦ subst (λ (o : Option (List Region)). IsSome o) (sym (get_or-set_other r.spaces space s (Some regions) None other)) used
     ]
 
-there_with : (space : ℕ) (regions : List Region) (r : Resources) → space < length r.spaces → (owner : Owner) → IsThere r owner → IsThere (with_regions space regions r) owner
+there_with : (space : ℕ) (regions : List Region) (r : Resources) → space < length r.spaces → (owner : Owner) → IsOwner r owner → IsOwner (with_regions space regions r) owner
 there_with space regions r inside (Space s) there = in_use_with space s regions r inside there
 there_with space regions r inside (File number) there = tt
 
@@ -170,7 +170,7 @@ fewer_files space number (Some x) =
 
 module _ (space : ℕ) (r : Resources) where
   -- an owner that is not the space is still there
-  there_without : (owner : Owner) → is_space space owner ≡ false → IsThere r owner → IsThere (drop_space space r) owner
+  there_without : (owner : Owner) → is_space space owner ≡ false → IsOwner r owner → IsOwner (drop_space space r) owner
   unfolding drop_space
   there_without (Space s) other there =
       subst (λ (o : Option (List Region)). IsSome o) (sym (get_or-set_other r.spaces space s None None (eqb-false s space other))) there

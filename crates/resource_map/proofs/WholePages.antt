@@ -5,7 +5,7 @@ use Rattle.std.proofs.lemmas.Bool.Decides.{nat_tests}
 use Rattle.std.proofs.lemmas.List.Elements.{All-head, All-tail}
 use Rattle.cloak_model.specs.declared.resource.Region.{Region}
 use Rattle.cloak_model.specs.Resources.{is_inside, place_in}
-use Rattle.resource_map.specs.Kept.{IsPlaced}
+use Rattle.resource_map.specs.Kept.{IsSoundRegion}
 
 -- a region has all addresses of a page, or none
 same_inside : (va other : ℕ) (g : Region) → g.start % 4096 ≡ 0 → other / 4096 ≡ va / 4096 → is_inside other g ≡ is_inside va g
@@ -22,10 +22,10 @@ either_way : (va other : ℕ) (g : Region) (regions : List Region) (here : Bool)
 either_way va other g regions true place rest = ap Some place
 either_way va other g regions false place rest = rest
 
-pub same_places : (va other : ℕ) (regions : List Region) → All IsPlaced regions → other / 4096 ≡ va / 4096
+pub same_places : (va other : ℕ) (regions : List Region) → All IsSoundRegion regions → other / 4096 ≡ va / 4096
     → option_map (place_in other) (find (is_inside other) regions) ≡ option_map (place_in va) (find (is_inside va) regions)
 same_places va other [] kept page = refl
 same_places va other (g ∷ regions) kept page =
-    let head : IsPlaced g = All-head IsPlaced g regions kept in
+    let head : IsSoundRegion g = All-head IsSoundRegion g regions kept in
     rw (same_inside va other g head.aligned page)
-    (either_way va other g regions (is_inside va g) (same_place va other g head.aligned page) (same_places va other regions (All-tail IsPlaced g regions kept) page))
+    (either_way va other g regions (is_inside va g) (same_place va other g head.aligned page) (same_places va other regions (All-tail IsSoundRegion g regions kept) page))

@@ -15,7 +15,7 @@ const STORE_MISALIGNED: u32 = 6;
 pub fn load(rd: u32, address: u32, width: u32, signed: bool) -> Effect
     requires register { rd < 32 }
     requires width { model.IsWidth width }
-    ensures value { result ≡ model.load rd address width signed }
+    ensures value { result ≡ model.load_effect rd address width signed }
     ensures range { model.EffectInRange result }
 {
     if address % width == 0 {
@@ -50,7 +50,7 @@ fn low_bytes(value: u32, width: u32) -> u32
 #[inline]
 pub fn store(address: u32, width: u32, value: u32) -> Effect
     requires { model.IsWidth width }
-    ensures value { result ≡ model.store address width value }
+    ensures value { result ≡ model.store_effect address width value }
     ensures range { model.EffectInRange result }
 {
     if address % width == 0 {

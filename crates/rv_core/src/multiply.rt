@@ -6,7 +6,7 @@ ghost use Rattle.cloak_model.specs.Effect as model;
 
 #[inline]
 pub fn product(a: u32, b: u32) -> u32
-    ensures { result ≡ model.product a b }
+    ensures { result ≡ model.low_product a b }
 {
     a.wrapping_mul(b)
 }

@@ -17,7 +17,7 @@ use thread_context::Context;
 
 /// The space's regions do not fit the call any more: it is over.
 fn refuse(c: &mut Context) -> Copied
-    ensures refused { spec.copy c.new result ≡ spec.copy (context.in_phase Phase.Plain (context.with_word c.old 10 0xFFFFFFFE)) Copied.Refused }
+    ensures refused { spec.copy c.new result ≡ spec.copy (context.in_phase Phase.Plain (context.set_word c.old 10 0xFFFFFFFE)) Copied.Refused }
     ensures same_space { c.new.space ≡ c.old.space }
 {
     c.regs.set(10, 0xffff_fffe);

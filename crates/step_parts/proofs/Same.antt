@@ -16,11 +16,11 @@ use Rattle.cloak_model.specs.HostCalls.{After, ends, ecall}
 use Rattle.cloak_model.specs.Asking.{◌>>=◌}
 use Rattle.cloak_model.specs.KernelStep as whole
 use Rattle.cloak_model.specs.KernelStep.{ask_access, extended, ticked, is_ecall, or_trap}
-use Rattle.step_parts.specs.Parts.{loaded, load, took, stored, store, off_disk, done, decoded, executed, fetched, instruction_step, interrupted, step_in_parts}
+use Rattle.step_parts.specs.Parts.{loaded_part, load_part, took, stored, store_part, off_disk, done_part, decoded_part, executed_part, fetched_part, instruction_part, interrupted, step_in_parts}
 
 same_loaded : (h : Hart) (disk : List ℕ) (rd va width : ℕ) (s : Bool) (r : Result ℕ ℕ) (w : World) →
-    or_trap h disk va r (λ pa. ask_value pa width >>= (λ value. ends disk (stays (gone_on (with_word h rd (extended s width value)))))) w ≡ off_disk disk (loaded h rd va width s r) w
-unfolding loaded took
+    or_trap h disk va r (λ pa. ask_value pa width >>= (λ value. ends disk (stays (gone_on (with_word h rd (extended s width value)))))) w ≡ off_disk disk (loaded_part h rd va width s r) w
+unfolding loaded_part took
 same_loaded h disk rd va width s (Err cause) w = refl
 same_loaded h disk rd va width s (Ok pa) w = refl
 
@@ -34,8 +34,8 @@ either : (b : Bool) (f g : Asking After) (w : World) → (cond b f g) w ≡ cond
 either true f g w = refl
 either false f g w = refl
 
-same_made : (h : Hart) (disk : List ℕ) (word : ℕ) (i : Instr) (e : Effect) (w : World) → whole.carried_out h disk word i e w ≡ done h disk word i e w
-unfolding whole.carried_out done load store
+same_made : (h : Hart) (disk : List ℕ) (word : ℕ) (i : Instr) (e : Effect) (w : World) → whole.carried_out h disk word i e w ≡ done_part h disk word i e w
+unfolding whole.carried_out done_part load_part store_part
 same_made h disk word i (does.Write rd value) w = refl
 same_made h disk word i (does.Jump rd link target) w = refl
 same_made h disk word i (does.Go target) w = refl
@@ -45,19 +45,19 @@ same_made h disk word i does.System w = either (is_ecall i) (ecall h disk) (ends
 same_made h disk word i does.Nothing w = refl
 same_made h disk word i (does.Raise cause value) w = refl
 
-same_execute : (h : Hart) (disk : List ℕ) (word : ℕ) (i : Option Instr) (w : World) → whole.executed h disk word i w ≡ decoded h disk word i w
-unfolding decoded
+same_execute : (h : Hart) (disk : List ℕ) (word : ℕ) (i : Option Instr) (w : World) → whole.executed h disk word i w ≡ decoded_part h disk word i w
+unfolding decoded_part
 same_execute h disk word None w = refl
 same_execute h disk word (Some i) w = same_made h disk word i (effect i h.regs h.pc) w
 
 same_fetched : (h : Hart) (disk : List ℕ) (r : Result ℕ ℕ) (w : World) →
-    or_trap h disk h.pc r (λ pa. ask_value pa 4 >>= (λ word. whole.executed h disk word (instruction word))) w ≡ fetched h disk r w
-unfolding fetched executed
+    or_trap h disk h.pc r (λ pa. ask_value pa 4 >>= (λ word. whole.executed h disk word (instruction word))) w ≡ fetched_part h disk r w
+unfolding fetched_part executed_part
 same_fetched h disk (Err cause) w = refl
 same_fetched h disk (Ok pa) w = same_execute h disk _ _ _
 
-same_instruction : (h : Hart) (disk : List ℕ) (w : World) → whole.instruction_step h disk w ≡ instruction_step h disk w
-unfolding whole.instruction_step instruction_step
+same_instruction : (h : Hart) (disk : List ℕ) (w : World) → whole.instruction_step h disk w ≡ instruction_part h disk w
+unfolding whole.instruction_step instruction_part
 same_instruction h disk w = same_fetched h disk _ _
 
 same_interrupted : (b : Bool) (h : Hart) (disk : List ℕ) (w : World) → (cond b (ends disk (raised h 0x80000005 0)) (whole.instruction_step h disk)) w ≡ interrupted b h disk w

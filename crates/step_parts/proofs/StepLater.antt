@@ -9,16 +9,16 @@ use Rattle.cloak_model.specs.declared.outcome.Effect.TheVariants as does
 use Rattle.cloak_model.specs.Hart.{Hart}
 use Rattle.cloak_model.specs.World.{World}
 use Rattle.cloak_model.specs.HostCalls.{read_block, write_block, read_call, write_call, host_call, ecall_in, ecall}
-use Rattle.step_parts.specs.Parts.{loaded, load, stored, store, done, decoded, executed, fetched, instruction_step, interrupted, step_in_parts}
+use Rattle.step_parts.specs.Parts.{loaded_part, load_part, stored, store_part, done_part, decoded_part, executed_part, fetched_part, instruction_part, interrupted, step_in_parts}
 use Rattle.cloak_model.proofs.Later.{IsLater, IsLater-refl, IsLater-trans, IsLater-either, later_translate, later_count, later_value, later_store, later_frame, later_fill}
 
-pub later_loaded : (h : Hart) (rd va width : ℕ) (signed : Bool) (to : Result ℕ ℕ) (w : World) → IsLater w (loaded h rd va width signed to w).world
-unfolding loaded
+pub later_loaded : (h : Hart) (rd va width : ℕ) (signed : Bool) (to : Result ℕ ℕ) (w : World) → IsLater w (loaded_part h rd va width signed to w).world
+unfolding loaded_part
 later_loaded h rd va width signed (Err cause) w = IsLater-refl w
 later_loaded h rd va width signed (Ok pa) w = later_value pa width w
 
-pub later_load : (h : Hart) (rd va width : ℕ) (signed : Bool) (w : World) → IsLater w (load h rd va width signed w).world
-unfolding load
+pub later_load : (h : Hart) (rd va width : ℕ) (signed : Bool) (w : World) → IsLater w (load_part h rd va width signed w).world
+unfolding load_part
 later_load h rd va width signed w = IsLater-trans _ _ _ (later_translate _ _ w) (later_loaded h rd va width signed _ _)
 
 pub later_stored : (h : Hart) (va width value : ℕ) (to : Result ℕ ℕ) (w : World) → IsLater w (stored h va width value to w).world
@@ -26,8 +26,8 @@ unfolding stored
 later_stored h va width value (Err cause) w = IsLater-refl w
 later_stored h va width value (Ok pa) w = later_store pa width value w
 
-pub later_made_store : (h : Hart) (va width value : ℕ) (w : World) → IsLater w (store h va width value w).world
-unfolding store
+pub later_made_store : (h : Hart) (va width value : ℕ) (w : World) → IsLater w (store_part h va width value w).world
+unfolding store_part
 later_made_store h va width value w = IsLater-trans _ _ _ (later_translate _ _ w) (later_stored h va width value _ _)
 
 pub later_read_block : (h : Hart) (disk : List ℕ) (frames : ℕ) (w : World) → IsLater w (read_block h disk frames w).world
@@ -59,8 +59,8 @@ pub later_ecall : (h : Hart) (disk : List ℕ) (w : World) → IsLater w (ecall 
 unfolding ecall
 later_ecall h disk w = IsLater-either _ _ _ w (IsLater-refl w) (later_ecall_in h.mode h disk w)
 
-pub later_done : (h : Hart) (disk : List ℕ) (word : ℕ) (i : Instr) (e : Effect) (w : World) → IsLater w (done h disk word i e w).world
-unfolding done
+pub later_done : (h : Hart) (disk : List ℕ) (word : ℕ) (i : Instr) (e : Effect) (w : World) → IsLater w (done_part h disk word i e w).world
+unfolding done_part
 later_done h disk word i (does.Write rd value) w = IsLater-refl w
 later_done h disk word i (does.Jump rd link target) w = IsLater-refl w
 later_done h disk word i (does.Go target) w = IsLater-refl w
@@ -70,22 +70,22 @@ later_done h disk word i does.System w = IsLater-either _ _ _ w (later_ecall h d
 later_done h disk word i does.Nothing w = IsLater-refl w
 later_done h disk word i (does.Raise cause value) w = IsLater-refl w
 
-pub later_decoded : (h : Hart) (disk : List ℕ) (word : ℕ) (i : Option Instr) (w : World) → IsLater w (decoded h disk word i w).world
-unfolding decoded
+pub later_decoded : (h : Hart) (disk : List ℕ) (word : ℕ) (i : Option Instr) (w : World) → IsLater w (decoded_part h disk word i w).world
+unfolding decoded_part
 later_decoded h disk word None w = IsLater-refl w
 later_decoded h disk word (Some i) w = later_done h disk word i _ w
 
-pub later_executed : (h : Hart) (disk : List ℕ) (word : ℕ) (w : World) → IsLater w (executed h disk word w).world
-unfolding executed
+pub later_executed : (h : Hart) (disk : List ℕ) (word : ℕ) (w : World) → IsLater w (executed_part h disk word w).world
+unfolding executed_part
 later_executed h disk word w = later_decoded h disk word (instruction word) w
 
-pub later_fetched : (h : Hart) (disk : List ℕ) (to : Result ℕ ℕ) (w : World) → IsLater w (fetched h disk to w).world
-unfolding fetched
+pub later_fetched : (h : Hart) (disk : List ℕ) (to : Result ℕ ℕ) (w : World) → IsLater w (fetched_part h disk to w).world
+unfolding fetched_part
 later_fetched h disk (Err cause) w = IsLater-refl w
 later_fetched h disk (Ok pa) w = IsLater-trans _ _ _ (later_value pa 4 w) (later_executed h disk _ _)
 
-pub later_instruction_step : (h : Hart) (disk : List ℕ) (w : World) → IsLater w (instruction_step h disk w).world
-unfolding instruction_step
+pub later_instruction_step : (h : Hart) (disk : List ℕ) (w : World) → IsLater w (instruction_part h disk w).world
+unfolding instruction_part
 later_instruction_step h disk w = IsLater-trans _ _ _ (later_translate _ _ w) (later_fetched h disk _ _)
 
 pub later_interrupted : (due : Bool) (h : Hart) (disk : List ℕ) (w : World) → IsLater w (interrupted due h disk w).world

@@ -20,14 +20,14 @@ unfoldable pub took : Hart → ℕ → ℕ → Bool → ℕ → Made
 took h rd width is_signed value = stays (gone_on (with_word h rd (extended is_signed width value)))
 
 -- where a load leads
-unfoldable pub loaded : Hart → ℕ → ℕ → ℕ → Bool → Result ℕ ℕ → Asking Made
-loaded h rd va width is_signed (Err cause) world = answered (raised h cause va) world
-loaded h rd va width is_signed (Ok pa) world =
+unfoldable pub loaded_part : Hart → ℕ → ℕ → ℕ → Bool → Result ℕ ℕ → Asking Made
+loaded_part h rd va width is_signed (Err cause) world = answered (raised h cause va) world
+loaded_part h rd va width is_signed (Ok pa) world =
     then_ask (ask_value pa width) (λ value. answered (took h rd width is_signed value)) world
 
 -- a load
-unfoldable pub load : Hart → ℕ → ℕ → ℕ → Bool → Asking Made
-load h rd va width is_signed world = then_ask (ask_access h Load va) (loaded h rd va width is_signed) world
+unfoldable pub load_part : Hart → ℕ → ℕ → ℕ → Bool → Asking Made
+load_part h rd va width is_signed world = then_ask (ask_access h Load va) (loaded_part h rd va width is_signed) world
 
 -- where a store leads
 unfoldable pub stored : Hart → ℕ → ℕ → ℕ → Result ℕ ℕ → Asking Made
@@ -35,47 +35,47 @@ stored h va width value (Err cause) world = answered (raised h cause va) world
 stored h va width value (Ok pa) world = then_ask (ask_store pa width value) (λ done. answered (stays (gone_on h))) world
 
 -- a store
-unfoldable pub store : Hart → ℕ → ℕ → ℕ → Asking Made
-store h va width value world = then_ask (ask_access h Store va) (stored h va width value) world
+unfoldable pub store_part : Hart → ℕ → ℕ → ℕ → Asking Made
+store_part h va width value world = then_ask (ask_access h Store va) (stored h va width value) world
 
 -- a step that leaves the disk
 abbrev pub off_disk : List ℕ → Asking Made → Asking After
 off_disk disk ask world = let told = ask world in record { answer = over disk told.answer; world = told.world }
 
 -- what an instruction does is done
-unfoldable pub done : Hart → List ℕ → ℕ → Instr → Effect → Asking After
-done h disk w i (does.Write rd value) world = ends disk (stays (gone_on (with_word h rd value))) world
-done h disk w i (does.Jump rd link target) world =
+unfoldable pub done_part : Hart → List ℕ → ℕ → Instr → Effect → Asking After
+done_part h disk w i (does.Write rd value) world = ends disk (stays (gone_on (with_word h rd value))) world
+done_part h disk w i (does.Jump rd link target) world =
     ends disk (stays (record (with_word h rd link) { pc = target })) world
-done h disk w i (does.Go target) world = ends disk (stays (record h { pc = target })) world
-done h disk w i (does.Load rd va width is_signed) world = off_disk disk (load h rd va width is_signed) world
-done h disk w i (does.Store va width value) world = off_disk disk (store h va width value) world
-done h disk w i does.System world = if is_ecall i then ecall h disk world else ends disk (system h w i) world
-done h disk w i does.Nothing world = ends disk (stays (gone_on h)) world
-done h disk w i (does.Raise cause value) world = ends disk (raised h cause value) world
+done_part h disk w i (does.Go target) world = ends disk (stays (record h { pc = target })) world
+done_part h disk w i (does.Load rd va width is_signed) world = off_disk disk (load_part h rd va width is_signed) world
+done_part h disk w i (does.Store va width value) world = off_disk disk (store_part h va width value) world
+done_part h disk w i does.System world = if is_ecall i then ecall h disk world else ends disk (system h w i) world
+done_part h disk w i does.Nothing world = ends disk (stays (gone_on h)) world
+done_part h disk w i (does.Raise cause value) world = ends disk (raised h cause value) world
 
 -- a word, which may be an instruction
-unfoldable pub decoded : Hart → List ℕ → ℕ → Option Instr → Asking After
-decoded h disk w None world = ends disk (illegal h w) world
-decoded h disk w (Some i) world = done h disk w i (effect i h.regs h.pc) world
+unfoldable pub decoded_part : Hart → List ℕ → ℕ → Option Instr → Asking After
+decoded_part h disk w None world = ends disk (illegal h w) world
+decoded_part h disk w (Some i) world = done_part h disk w i (effect i h.regs h.pc) world
 
 -- the word at the program counter
-unfoldable pub executed : Hart → List ℕ → ℕ → Asking After
-executed h disk w world = decoded h disk w (instruction w) world
+unfoldable pub executed_part : Hart → List ℕ → ℕ → Asking After
+executed_part h disk w world = decoded_part h disk w (instruction w) world
 
 -- where the program counter leads
-unfoldable pub fetched : Hart → List ℕ → Result ℕ ℕ → Asking After
-fetched h disk (Err cause) world = ends disk (raised h cause h.pc) world
-fetched h disk (Ok pa) world = then_ask (ask_value pa 4) (executed h disk) world
+unfoldable pub fetched_part : Hart → List ℕ → Result ℕ ℕ → Asking After
+fetched_part h disk (Err cause) world = ends disk (raised h cause h.pc) world
+fetched_part h disk (Ok pa) world = then_ask (ask_value pa 4) (executed_part h disk) world
 
 -- one instruction
-unfoldable pub instruction_step : Hart → List ℕ → Asking After
-instruction_step h disk world = then_ask (ask_access h Fetch h.pc) (fetched h disk) world
+unfoldable pub instruction_part : Hart → List ℕ → Asking After
+instruction_part h disk world = then_ask (ask_access h Fetch h.pc) (fetched_part h disk) world
 
 -- the interrupt, where it is due, and otherwise the instruction
 unfoldable pub interrupted : Bool → Hart → List ℕ → Asking After
 interrupted true h disk world = ends disk (raised h 0x80000005 0) world
-interrupted false h disk world = instruction_step h disk world
+interrupted false h disk world = instruction_part h disk world
 
 -- one step
 unfoldable pub step_in_parts : Hart → List ℕ → Asking After

@@ -65,19 +65,19 @@ unfolding
     calls.in_step calls.copy_in_step calls.out_reached calls.out_got calls.out_placed calls.out_step
     calls.copy_out_step calls.finish_call files.file_found files.file_resource fork.fork_fits fork.forked_resources
     fork.forked fork.ask_copies fork.fork_cleared fork.fork_if fork.fork fork.ask_forgets fork.end_cleared fork.end_if
-    fork.end_context ask_pages.answers ask_pages.if_drawn ask_pages.ask_inside_address ask_pages.offered_by
+    fork.end_context ask_pages.replies ask_pages.if_drawn ask_pages.ask_inside_address ask_pages.offered_by
     ask_pages.ask_offer ask_pages.reached ask_pages.reach_by_table ask_pages.got ask_pages.get_by_table
     ask_pages.put_at ask_pages.stored_inside ask_pages.put_by_table ask_pages.settled_if_marked ask_pages.clear_from
     ask_pages.next_answer ask_pages.ask_read ask_pages.ask_write ask_pages.ask_get
-    ask_pages.ask_put ask_pages.ask_clear ask_pages.ask_copy ask_pages.ask_forget inside_step.loaded
-    inside_step.load_reached inside_step.load_got inside_step.load inside_step.store_reached inside_step.store_put
-    inside_step.store inside_step.system inside_step.done inside_step.decoded inside_step.executed inside_step.fetched
-    inside_step.fetch inside_step.instruction_step hypercalls.remapped hypercalls.new_call hypercalls.map_call
+    ask_pages.ask_put ask_pages.ask_clear ask_pages.ask_copy ask_pages.ask_forget inside_step.loaded_inside
+    inside_step.load_reached inside_step.load_got inside_step.load_inside inside_step.store_reached inside_step.store_put
+    inside_step.store_inside inside_step.system_inside inside_step.done_inside inside_step.decoded_inside inside_step.executed_inside inside_step.fetched_inside
+    inside_step.fetch inside_step.instruction_inside hypercalls.remapped hypercalls.new_call hypercalls.map_call
     hypercalls.unmap_call hypercalls.file_call hypercalls.thread_at hypercalls.thread_call hypercalls.fork_told
     hypercalls.fork_call hypercalls.end_told hypercalls.exit_call hypercalls.call_begun hypercalls.kernel_call
     hypercalls.hypercall domain_state.started_control domain_state.started_domain domain_step.instruction_ended
     domain_step.copy_ended domain_step.phase_step domain_step.step_if domain_step.domain_step domain_step.interrupt_if
-    domain_step.interrupt domain_step.answer_in domain_step.take_answer domain_step.resume_told domain_step.resume
+    domain_step.interrupt domain_step.answer_in domain_step.answer_taken domain_step.resume_told domain_step.resume_slot
 told_steps = tt
 
 -- the step of a cloaked program
@@ -114,8 +114,8 @@ joint_runs = tt
 unfoldable pub lone_kernels : Unit {0}
 unfolding
     plain_steps kernel_alone.take_cipher kernel_alone.take_put kernel_alone.take_leave kernel_alone.plain_step
-    kernel_alone.ended kernel_alone.begun kernel_alone.take_step kernel_alone.take_fit kernel_alone.take_item
-    kernel_alone.taken_from opening.started_ledger opening.started_kernel opening.started_memory opening.started_joint
+    kernel_alone.kernel_step_ended kernel_alone.kernel_step_begun kernel_alone.take_kernel_step kernel_alone.kernel_takes kernel_alone.take_kernel_item
+    kernel_alone.kernel_taken opening.started_ledger opening.started_kernel opening.started_memory opening.started_joint
     opening.opened_with opening.opened_by leaving.shown_registers leaving.leave
 lone_kernels = tt
 
@@ -123,9 +123,9 @@ lone_kernels = tt
 unfoldable pub lone_programs : Unit {0}
 unfolding
     program_steps domain_alone.tried domain_alone.try_with domain_alone.answered_by domain_alone.take_answer
-    domain_alone.take_timer domain_alone.resumed_by domain_alone.take_resume domain_alone.made_by domain_alone.ended
-    domain_alone.slot_on domain_alone.begun domain_alone.take_step domain_alone.take_fit domain_alone.take_item
-    domain_alone.taken_from
+    domain_alone.take_timer domain_alone.resumed_by domain_alone.take_resume domain_alone.made_by domain_alone.domain_step_ended
+    domain_alone.slot_on domain_alone.domain_step_begun domain_alone.take_domain_step domain_alone.domain_takes domain_alone.take_domain_item
+    domain_alone.domain_taken
 lone_programs = tt
 
 -- numbers as texts

@@ -15,9 +15,9 @@ use Rattle.cloak_model.specs.Run as run
 use Rattle.cloak_model.specs.Bundle as bundle
 use Rattle.cloak_model.specs.Exchange as exchange
 use Rattle.cloak_model.specs.Exchange.{record_of}
-use Rattle.worked_rows.specs.Images.{halt, boot, remap_and_resume, image, program_page}
+use Rattle.worked_rows.specs.Images.{halt, boot, remap_and_resume, image, words_page}
 use Rattle.worked_rows.specs.JointRuns.{Seen, seen, seen_of, counted, key, draw_1, draw_2}
-use Rattle.worked_rows.specs.JointRows.{opening_cipher, program_with, not_started, whole, WholeProgram, ThreeDraws, TwoDraws, OtherRoot}
+use Rattle.worked_rows.specs.JointRows.{opening_cipher, program_with, not_started, whole, WholeRun, ThreeDraws, TwoDraws, OtherRoot}
 use Rattle.worked_rows.proofs.Computing.{joint_steps, joint_runs}
 use Rattle.worked_rows.proofs.Ciphers.{length-cbc, length-record_of}
 use Rattle.worked_rows.proofs.Turns.{plus}
@@ -61,9 +61,9 @@ halted = refl
 
 whole_size : length (record_of whole.items) ≡ 8355
 unfolding exchange.item_bytes
-whole_size = length-record_of whole.items ∙ rw (length-cbc key draw_1 program_page, length-cbc key draw_2 (with_value_in program_page 0x100 4 7)) refl
+whole_size = length-record_of whole.items ∙ rw (length-cbc key draw_1 words_page, length-cbc key draw_2 (with_value_in words_page 0x100 4 7)) refl
 
-pub whole_program : WholeProgram
+pub whole_program : WholeRun
 unfolding joint_runs zero_page bundle.bundle_bytes
 whole_program = record { run = halts 256 refl ∙ ap there_is halted; size = whole_size; image_size = refl }
 

@@ -63,7 +63,7 @@ if_drawn-drawn next w e = rw e refl
 
 -- what the offer of a page comes to
 offer_asked : PageId → ℕ → Cloak → AfterOffer → Told Answer
-unfolding ask_pages.offered_by ask_pages.answers
+unfolding ask_pages.offered_by ask_pages.replies
 offer_asked q g c o = ask_pages.offered_by q g o.answer (Cloaked (record c { memory = o.memory; items = c.items ++ cipher_items o.ciphers }))
 
 reach-offer : (q : PageId) (va : ℕ) (kind : Kind) (c : Cloak) → IsPlainAccess va c

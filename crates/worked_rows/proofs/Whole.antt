@@ -20,17 +20,17 @@ use Rattle.cloak_model.specs.Hart.{Hart}
 use Rattle.cloak_model.specs.Contexts.{Context, with_space}
 use Rattle.cloak_model.specs.DomainState.{Domain}
 use Rattle.cloak_model.specs.DomainStep.{DomainStepped, instruction_ended}
-use Rattle.cloak_model.specs.InsideStep.{fetched, store_reached}
+use Rattle.cloak_model.specs.InsideStep.{fetched_inside, store_reached}
 use Rattle.cloak_model.specs.World.{World, Cloak, Cloaked}
 use Rattle.cloak_model.specs.Asking.{Told, then_ask}
 use Rattle.cloak_model.specs.AskPages.{ask_reach}
 use Rattle.cloak_model.specs.Parts.{Joint}
 use Rattle.cloak_model.specs.Joint.{Moment, Turn, joint_step, quiet, after_turn, after_domain_step, cloak_of, pages_for, with_domain, stop_of}
 use Rattle.cloak_model.specs.Run.{turns_from}
-use Rattle.worked_rows.specs.Images.{boot, program_page}
+use Rattle.worked_rows.specs.Images.{boot, words_page}
 use Rattle.worked_rows.specs.Runs.{running, registers_from}
 use Rattle.worked_rows.specs.JointRuns.{key, csrs_of, outside_hart, inside_hart}
-use Rattle.worked_rows.specs.JointRows.{opening_cipher, program_resources, program_with, program_at_call, kernel_hart, started, not_started}
+use Rattle.worked_rows.specs.JointRows.{opening_cipher, program_resources, program_with, program_at_call, called_hart, started_context, not_started}
 use Rattle.worked_rows.proofs.Computing.{joint_steps, told_steps, joint_runs}
 use Rattle.worked_rows.proofs.Offers.{reach-shown}
 use Rattle.worked_rows.proofs.Turns.{first_turns, moment_after, goes_on, plus, turns_from-plus, turns_from-step}
@@ -42,7 +42,7 @@ page = record { domain = 0; resource = 0; page = 0 }
 
 -- with the 7 that the program stores
 abbrev pub stored_page : List ℕ
-stored_page = with_value_in program_page 0x100 4 7
+stored_page = with_value_in words_page 0x100 4 7
 
 -- frame 0 has the kernel, and frame 8 what the kernel sees of the program's page
 abbrev pub opened_ram : List ℕ → List (List ℕ)
@@ -57,7 +57,7 @@ bare_root = with_space no_root (record { domain = 0; number = 0 }) (Some 0)
 
 -- every page but the program's is zeros
 abbrev pub opened_plain : PageId → List ℕ
-opened_plain = with_page (λ q. zero_page) page program_page
+opened_plain = with_page (λ q. zero_page) page words_page
 
 abbrev pub memory_of : List ℕ → Random → (SpaceId → Option ℕ) → (PageId → List ℕ) → List (Option PageId) → CloakedMemory
 memory_of rest stream root plain owed = record {
@@ -109,7 +109,7 @@ abbrev pub opened_moment : List ℕ → Random → Moment
 opened_moment rest stream = at_step 0 (machine first_hart (program_with not_started []) (opened_memory rest stream))
 
 abbrev pub resumed_moment : List ℕ → Random → Moment
-resumed_moment rest stream = at_step 5 (machine program_hart (program_with started []) (resumed_memory rest stream))
+resumed_moment rest stream = at_step 5 (machine program_hart (program_with started_context []) (resumed_memory rest stream))
 
 abbrev pub fetched_moment : List ℕ → Random → Moment
 fetched_moment rest stream = at_step 6 (machine program_hart (program_with (with_seven 0x80008004) []) (resumed_memory rest stream))
@@ -118,7 +118,7 @@ abbrev pub stored_moment : List ℕ → Random → Moment
 stored_moment rest stream = at_step 7 (machine program_hart (program_with (with_seven 0x80008008) []) (stored_memory rest stream))
 
 abbrev pub left_moment : List ℕ → Random → Moment
-left_moment rest stream = at_step 12 (machine (kernel_hart 0x80000014 9) program_at_call (stored_memory rest stream))
+left_moment rest stream = at_step 12 (machine (called_hart 0x80000014 9) program_at_call (stored_memory rest stream))
 
 -- The kernel's boot: five steps.
 
@@ -137,7 +137,7 @@ calls rest stream = refl
 -- a step of the one context whose fetch was told so
 fetched_step : Domain → Context → CloakedMemory → Told Answer → Turn
 unfolding told_steps
-fetched_step d c m told = after_domain_step (machine program_hart d m) 0 program_hart 0 (then_ask (fetched 0 program_resources c page told.answer) (λ made. instruction_ended 0 d made.context made.ending) told.world)
+fetched_step d c m told = after_domain_step (machine program_hart d m) 0 program_hart 0 (then_ask (fetched_inside 0 program_resources c page told.answer) (λ made. instruction_ended 0 d made.context made.ending) told.world)
 
 -- the memory as the context asks
 cloak_for : Domain → Context → CloakedMemory → Cloak
@@ -162,9 +162,9 @@ first_turn rest stream = quiet (machine program_hart (program_with (with_seven 0
 
 first : (rest : List ℕ) (stream : Random) → joint_step (resumed_moment rest stream) ≡ first_turn rest stream
 unfolding joint_steps fetched_step cloak_for fetch_granted
-first rest stream = joint_step-fetching 5 (program_with started []) started (resumed_memory rest stream) (first_turn rest stream) (record {
+first rest stream = joint_step-fetching 5 (program_with started_context []) started_context (resumed_memory rest stream) (first_turn rest stream) (record {
   asks = refl;
-  granted = reach-shown page 0x80008000 Fetch (cloak_for (program_with started []) started (resumed_memory rest stream)) (record { bare = refl; inside = refl; drawn = refl }) (record { owed = refl; owing = refl; shown = refl });
+  granted = reach-shown page 0x80008000 Fetch (cloak_for (program_with started_context []) started_context (resumed_memory rest stream)) (record { bare = refl; inside = refl; drawn = refl }) (record { owed = refl; owing = refl; shown = refl });
   ends = refl;
 })
 

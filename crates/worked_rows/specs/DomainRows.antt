@@ -21,9 +21,9 @@ use Rattle.cloak_model.specs.AskPages.{ask_write}
 use Rattle.cloak_model.specs.Resources.{Resources, lookup}
 use Rattle.cloak_model.specs.Contexts.{Context, admit}
 use Rattle.cloak_model.specs.DomainState.{Domain, started_domain, state_bytes}
-use Rattle.cloak_model.specs.DomainStep.{DomainStepped, domain_step, resume, interrupt}
-use Rattle.worked_rows.specs.Images.{program_start, program_page}
-use Rattle.worked_rows.specs.Runs.{Run, run, alone, one_page, AllUsed, running, registers, registers_from, call_registers, with_first, resumed, answer_and_pc, phase_of, small, ecalls, at_ecall, hypercall}
+use Rattle.cloak_model.specs.DomainStep.{DomainStepped, domain_step, resume_slot, interrupt}
+use Rattle.worked_rows.specs.Images.{program_start, words_page}
+use Rattle.worked_rows.specs.Runs.{ProgramRun, run, alone, one_page, AllUsed, running, registers, registers_from, call_registers, with_first, resumed_first, answer_and_pc, phase_of, small, ecalls, at_ecall, made_hypercall}
 
 -- What a context shows as it leaves.
 
@@ -42,11 +42,11 @@ stays_then n s = replicate n went.Stay ++ went.Leave s ∷ []
 -- The whole cloaked program.
 
 -- it runs for the first time, on hart 0
-abbrev pub program : Domain
-program = resumed 0 0 (started_domain 0 program_start)
+abbrev pub program_alone : Domain
+program_alone = resumed_first 0 0 (started_domain 0 program_start)
 
-abbrev pub granted : Run
-granted = run 7 0 program (alone (one_page 0 0 program_page) (replicate 9 told.Ok))
+abbrev pub granted : ProgramRun
+granted = run 7 0 program_alone (alone (one_page 0 0 words_page) (replicate 9 told.Ok))
 
 -- its state at the end, of which the report gives a digest
 abbrev pub whole_state : List ℕ
@@ -76,8 +76,8 @@ pub record WholeProgram : Type 0 where
   pub state : state_bytes granted.domain.control ≡ whole_state
   pub size : length whole_state ≡ 202
 
-abbrev pub faulted : Run
-faulted = run 3 0 program (alone (one_page 0 0 program_page) (replicate 4 told.Ok ++ told.Absent 13 ∷ []))
+abbrev pub faulted : ProgramRun
+faulted = run 3 0 program_alone (alone (one_page 0 0 words_page) (replicate 4 told.Ok ++ told.Absent 13 ∷ []))
 
 -- Where the second question of the load finds no page, that step leaves with the page's address and the cause of loads.
 -- The context is as it was behind the two steps before.
@@ -88,7 +88,7 @@ pub record LoadFault : Type 0 where
       Some (record { pc = 0x80008008; regs = registers_from 2 (0x80008100 ∷ []) (registers_from 10 (7 ∷ []) (replicate 32 0)); phase = phase.Plain; space = 0; on = None }) ∷ replicate 7 None
   pub loads : faulted.domain.loads ≡ []
 
-abbrev pub lost : Run
+abbrev pub lost : ProgramRun
 lost = run 1 0 (with_first (running 0x00500004 (replicate 32 0)) (started_domain 0 (small 1))) (alone ecalls [])
 
 -- At an address that is not cloaked nothing is fetched, and nothing is asked.
@@ -110,31 +110,31 @@ texts = one_page 0 0 (0x73 ∷ replicate 255 0 ++ (97 ∷ 98 ∷ 99 ∷ replicat
 abbrev pub writer : ℕ → Domain
 writer n = with_first (running 0x00400000 (call_registers 1 (0 ∷ 0x00400100 ∷ n ∷ 0x00600000 ∷ []))) (started_domain 0 (small 1))
 
-abbrev pub three : Run
-three = run 5 0 (writer 3) (alone texts (replicate 7 told.Ok))
+abbrev pub three_written : ProgramRun
+three_written = run 5 0 (writer 3) (alone texts (replicate 7 told.Ok))
 
 -- WRITE of three bytes: the ecall's step, one for each byte, and one that leaves. The area stands for the buffer in what is
 -- shown, and each byte counts as a load.
 pub record WriteThree : Type 0 where
-  pub wents : three.wents ≡ stays_then 4 (shown_call 1 (0 ∷ 0x00600000 ∷ 3 ∷ 0x00600000 ∷ 0 ∷ 0 ∷ []))
-  pub answers : AllUsed three.world
-  pub loads : three.domain.loads ≡ (0x00400100, 97) ∷ (0x00400101, 98) ∷ (0x00400102, 99) ∷ []
-  pub phase : phase_of 0 three.domain ≡ phase.Waiting
+  pub wents : three_written.wents ≡ stays_then 4 (shown_call 1 (0 ∷ 0x00600000 ∷ 3 ∷ 0x00600000 ∷ 0 ∷ 0 ∷ []))
+  pub answers : AllUsed three_written.world
+  pub loads : three_written.domain.loads ≡ (0x00400100, 97) ∷ (0x00400101, 98) ∷ (0x00400102, 99) ∷ []
+  pub phase : phase_of 0 three_written.domain ≡ phase.Waiting
 
-abbrev pub none : Run
-none = run 2 0 (writer 0) (alone texts (told.Ok ∷ []))
+abbrev pub none_written : ProgramRun
+none_written = run 2 0 (writer 0) (alone texts (told.Ok ∷ []))
 
 -- WRITE of no byte: the ecall's step, and one that leaves.
 pub record WriteNone : Type 0 where
-  pub wents : none.wents ≡ stays_then 1 (shown_call 1 (0 ∷ 0x00600000 ∷ 0 ∷ 0x00600000 ∷ 0 ∷ 0 ∷ []))
-  pub answers : AllUsed none.world
-  pub loads : none.domain.loads ≡ []
+  pub wents : none_written.wents ≡ stays_then 1 (shown_call 1 (0 ∷ 0x00600000 ∷ 0 ∷ 0x00600000 ∷ 0 ∷ 0 ∷ []))
+  pub answers : AllUsed none_written.world
+  pub loads : none_written.domain.loads ≡ []
 
 -- a READ of n bytes into 0x00402800, with an area at 0x00600000, by a program of four pages
 abbrev pub reader : ℕ → Domain
 reader n = with_first (running 0x00400000 (call_registers 3 (0 ∷ 0x00402800 ∷ n ∷ 0x00600000 ∷ []))) (started_domain 0 (small 4))
 
-abbrev pub long : Run
+abbrev pub long : ProgramRun
 long = run 1 0 (reader 4097) (alone ecalls (told.Ok ∷ []))
 
 -- A READ of 4097 bytes is refused, and does not leave.
@@ -143,23 +143,23 @@ pub record ReadTooLong : Type 0 where
   pub answer : answer_and_pc 0 long.domain ≡ (0xFFFFFFFE, 0x00400004)
   pub answers : AllUsed long.world
 
-abbrev pub waits : Run
+abbrev pub waits : ProgramRun
 waits = run 1 0 (reader 4096) (alone ecalls (told.Ok ∷ []))
 
-abbrev pub begun : Run
-begun = run 1 0 (resumed 0 4096 waits.domain) (alone ecalls (told.Word 5 ∷ told.Ok ∷ []))
+abbrev pub read_begun : ProgramRun
+read_begun = run 1 0 (resumed_first 0 4096 waits.domain) (alone ecalls (told.Word 5 ∷ told.Ok ∷ []))
 
 -- the same behind the first bytes
 abbrev pub copying : ℕ → Domain
 copying done = with_first (record (running 0x00400004 (call_registers 3 (4096 ∷ 0x00402800 ∷ 4096 ∷ 0x00600000 ∷ []))) { phase = phase.CopyOut done 4096 }) (started_domain 0 (small 4))
 
-abbrev pub crossing : Run
+abbrev pub crossing : ProgramRun
 crossing = run 2 0 (copying 2047) (alone ecalls (told.Word 9 ∷ told.Ok ∷ told.Word 8 ∷ told.Absent 15 ∷ []))
 
-abbrev pub mended : Run
-mended = run 1 0 (resumed 1 77 crossing.domain) (alone ecalls (told.Word 8 ∷ told.Ok ∷ []))
+abbrev pub mended : ProgramRun
+mended = run 1 0 (resumed_first 1 77 crossing.domain) (alone ecalls (told.Word 8 ∷ told.Ok ∷ []))
 
-abbrev pub final : Run
+abbrev pub final : ProgramRun
 final = run 2 0 (copying 4095) (alone ecalls (told.Word 7 ∷ told.Ok ∷ []))
 
 -- A READ of 4096 bytes leaves at once. Its answer is a count, and bytes are copied one a step, each got from the area and
@@ -167,8 +167,8 @@ final = run 2 0 (copying 4095) (alone ecalls (told.Word 7 ∷ told.Ok ∷ []))
 -- any answer it goes on with that byte. When all are there one step more ends the call, whose answer is the first.
 pub record ReadCrossing : Type 0 where
   pub leaves : waits.wents ≡ stays_then 0 (shown_call 3 (0 ∷ 0x00600000 ∷ 4096 ∷ 0x00600000 ∷ 0 ∷ 0 ∷ []))
-  pub begins : phase_of 0 begun.domain ≡ phase.CopyOut 1 4096
-  pub first : value_in (plain_of begun.world (record { domain = 0; resource = 0; page = 2 })) 0x800 1 ≡ 5
+  pub begins : phase_of 0 read_begun.domain ≡ phase.CopyOut 1 4096
+  pub first : value_in (plain_of read_begun.world (record { domain = 0; resource = 0; page = 2 })) 0x800 1 ≡ 5
   pub wents : crossing.wents ≡ stays_then 1 (shown_trap 15 0x00403000)
   pub stored : value_in (plain_of crossing.world (record { domain = 0; resource = 0; page = 2 })) 0xFFF 1 ≡ 9
   pub done : phase_of 0 crossing.domain ≡ phase.CopyOut 2048 4096
@@ -181,77 +181,77 @@ pub record ReadCrossing : Type 0 where
   pub loads : final.domain.loads ≡ []
 
 -- a WRITE of three bytes, one of which is done, from a buffer that is mapped no more
-abbrev pub cut : Run
-cut = run 1 0 (with_first (record (running 0x00400004 (call_registers 1 (0 ∷ 0x00500000 ∷ 3 ∷ 0x00600000 ∷ []))) { phase = phase.CopyIn 1 }) (started_domain 0 (small 1))) (alone ecalls [])
+abbrev pub copy_cut : ProgramRun
+copy_cut = run 1 0 (with_first (record (running 0x00400004 (call_registers 1 (0 ∷ 0x00500000 ∷ 3 ∷ 0x00600000 ∷ []))) { phase = phase.CopyIn 1 }) (started_domain 0 (small 1))) (alone ecalls [])
 
-abbrev pub behind_cut : Run
-behind_cut = run 1 0 cut.domain (alone ecalls (told.Ok ∷ []))
+abbrev pub behind_copy_cut : ProgramRun
+behind_copy_cut = run 1 0 copy_cut.domain (alone ecalls (told.Ok ∷ []))
 
 -- Another context unmaps the buffer in the middle of a copy: the next step asks nothing and refuses the call, and the one
 -- behind it fetches the instruction behind the ecall.
 pub record UnmappedBuffer : Type 0 where
-  pub wents : cut.wents ≡ went.Stay ∷ []
-  pub answers : AllUsed cut.world
-  pub answer : answer_and_pc 0 cut.domain ≡ (0xFFFFFFFE, 0x00400004)
-  pub phase : phase_of 0 cut.domain ≡ phase.Plain
-  pub loads : cut.domain.loads ≡ []
-  pub next : AllUsed behind_cut.world
+  pub wents : copy_cut.wents ≡ went.Stay ∷ []
+  pub answers : AllUsed copy_cut.world
+  pub answer : answer_and_pc 0 copy_cut.domain ≡ (0xFFFFFFFE, 0x00400004)
+  pub phase : phase_of 0 copy_cut.domain ≡ phase.Plain
+  pub loads : copy_cut.domain.loads ≡ []
+  pub next : AllUsed behind_copy_cut.world
 
 -- Refused hypercalls.
 
 -- A hypercall asks for its instruction alone, answers this word, and goes on behind its ecall. Nothing else changes.
-abbrev pub Refuses : ℕ → List ℕ → ℕ → Domain → Type 0
-Refuses number arguments word d = hypercall number arguments (told.Ok ∷ []) d ≡ record {
+abbrev pub HypercallRefuses : ℕ → List ℕ → ℕ → Domain → Type 0
+HypercallRefuses number arguments word d = made_hypercall number arguments (told.Ok ∷ []) d ≡ record {
   answer = record { domain = with_first (running 0x00400004 (slice_set (registers number arguments) 10 word)) d; went = went.Stay };
   world = alone ecalls [];
 }
 
 -- a program of one page behind a hypercall
 abbrev pub behind : ℕ → List ℕ → Domain → Domain
-behind number arguments d = (hypercall number arguments (told.Ok ∷ []) d).answer.domain
+behind number arguments d = (made_hypercall number arguments (told.Ok ∷ []) d).answer.domain
 
-abbrev pub one : Domain
-one = started_domain 0 (small 1)
+abbrev pub one_page_domain : Domain
+one_page_domain = started_domain 0 (small 1)
 
 -- with a resource 1 of 1023 pages
-abbrev pub two : Domain
-two = behind 0x4F560001 (1023 ∷ []) one
+abbrev pub two_resources : Domain
+two_resources = behind 0x4F560001 (1023 ∷ []) one_page_domain
 
 -- NEW of 0 or of 1025 pages, and of 1024 where the domain has one page already; of 1023 it gives resource 1.
 pub record NewRefused : Type 0 where
-  pub no_page : Refuses 0x4F560001 (0 ∷ []) 0xFFFFFFFE one
-  pub too_many : Refuses 0x4F560001 (1025 ∷ []) 0xFFFFFFFE one
-  pub full : Refuses 0x4F560001 (1024 ∷ []) 0xFFFFFFFF one
-  pub made : answer_and_pc 0 two ≡ (1, 0x00400004)
-  pub held : two.control.resources.held ≡ Some (record { owner = owner.Space 0; pages = 1 }) ∷ Some (record { owner = owner.Space 0; pages = 1023 }) ∷ replicate 14 None
+  pub no_page : HypercallRefuses 0x4F560001 (0 ∷ []) 0xFFFFFFFE one_page_domain
+  pub too_many : HypercallRefuses 0x4F560001 (1025 ∷ []) 0xFFFFFFFE one_page_domain
+  pub full : HypercallRefuses 0x4F560001 (1024 ∷ []) 0xFFFFFFFF one_page_domain
+  pub made : answer_and_pc 0 two_resources ≡ (1, 0x00400004)
+  pub held : two_resources.control.resources.held ≡ Some (record { owner = owner.Space 0; pages = 1 }) ∷ Some (record { owner = owner.Space 0; pages = 1023 }) ∷ replicate 14 None
 
 -- MAP of resource 1 at an address that begins no page, or over the program's region; of a resource 9 that there is not,
 -- which goes before a bad address; in a good place it answers 0.
 pub record MapRefused : Type 0 where
-  pub unaligned : Refuses 0x4F560002 (1 ∷ 0x00001001 ∷ 0 ∷ 1 ∷ []) 0xFFFFFFFE two
-  pub overlap : Refuses 0x4F560002 (1 ∷ 0x00400000 ∷ 0 ∷ 1 ∷ []) 0xFFFFFFFD two
-  pub unknown : Refuses 0x4F560002 (9 ∷ 0x00500000 ∷ 0 ∷ 1 ∷ []) 0xFFFFFFFC two
-  pub unknown_first : Refuses 0x4F560002 (9 ∷ 0x00001001 ∷ 0 ∷ 1 ∷ []) 0xFFFFFFFC two
-  pub mapped : answer_and_pc 0 (behind 0x4F560002 (1 ∷ 0x00500000 ∷ 0 ∷ 1023 ∷ []) two) ≡ (0, 0x00400004)
+  pub unaligned : HypercallRefuses 0x4F560002 (1 ∷ 0x00001001 ∷ 0 ∷ 1 ∷ []) 0xFFFFFFFE two_resources
+  pub overlap : HypercallRefuses 0x4F560002 (1 ∷ 0x00400000 ∷ 0 ∷ 1 ∷ []) 0xFFFFFFFD two_resources
+  pub unknown : HypercallRefuses 0x4F560002 (9 ∷ 0x00500000 ∷ 0 ∷ 1 ∷ []) 0xFFFFFFFC two_resources
+  pub unknown_first : HypercallRefuses 0x4F560002 (9 ∷ 0x00001001 ∷ 0 ∷ 1 ∷ []) 0xFFFFFFFC two_resources
+  pub mapped : answer_and_pc 0 (behind 0x4F560002 (1 ∷ 0x00500000 ∷ 0 ∷ 1023 ∷ []) two_resources) ≡ (0, 0x00400004)
 
 -- UNMAP where no region starts; a number that is no hypercall, also that of resuming.
 pub record OthersRefused : Type 0 where
-  pub unmap : Refuses 0x4F560003 (0x00005000 ∷ []) 0xFFFFFFFC two
-  pub unknown : Refuses 0x4F560009 [] 0xFFFFFFFB two
-  pub resuming : Refuses 0x4F560000 [] 0xFFFFFFFB two
+  pub unmap : HypercallRefuses 0x4F560003 (0x00005000 ∷ []) 0xFFFFFFFC two_resources
+  pub unknown : HypercallRefuses 0x4F560009 [] 0xFFFFFFFB two_resources
+  pub resuming : HypercallRefuses 0x4F560000 [] 0xFFFFFFFB two_resources
 
 -- Files and contexts.
 
 -- with file 4 of one page
 abbrev pub filed : Domain
-filed = behind 0x4F560004 (4 ∷ 1 ∷ []) one
+filed = behind 0x4F560004 (4 ∷ 1 ∷ []) one_page_domain
 
 -- FILE gives a resource, the same one again, and refuses another size.
-pub record Files : Type 0 where
+pub record FileRows : Type 0 where
   pub made : answer_and_pc 0 filed ≡ (1, 0x00400004)
   pub again : answer_and_pc 0 (behind 0x4F560004 (4 ∷ 1 ∷ []) filed) ≡ (1, 0x00400004)
   pub same : (behind 0x4F560004 (4 ∷ 1 ∷ []) filed).control.resources ≡ filed.control.resources
-  pub other_size : Refuses 0x4F560004 (4 ∷ 2 ∷ []) 0xFFFFFFFE filed
+  pub other_size : HypercallRefuses 0x4F560004 (4 ∷ 2 ∷ []) 0xFFFFFFFE filed
 
 -- the registers of a new thread: its stack pointer and its argument
 abbrev pub thread_registers : List ℕ
@@ -282,15 +282,15 @@ with_threads n = record filed {
 pub record Threads : Type 0 where
   pub first : threads 1 ≡ with_threads 1
   pub seventh : threads 7 ≡ with_threads 7
-  pub full : Refuses 0x4F560005 new_thread 0xFFFFFFFF (with_threads 7)
-  pub fork_full : Refuses 0x4F560006 [] 0xFFFFFFFF (with_threads 7)
-  pub unaligned : Refuses 0x4F560005 (0x00400002 ∷ 5 ∷ 6 ∷ []) 0xFFFFFFFE filed
+  pub full : HypercallRefuses 0x4F560005 new_thread 0xFFFFFFFF (with_threads 7)
+  pub fork_full : HypercallRefuses 0x4F560006 [] 0xFFFFFFFF (with_threads 7)
+  pub unaligned : HypercallRefuses 0x4F560005 (0x00400002 ∷ 5 ∷ 6 ∷ []) 0xFFFFFFFE filed
 
 abbrev pub exited : Told DomainStepped
-exited = hypercall 0x4F560007 [] (told.Ok ∷ told.Ok ∷ []) filed
+exited = made_hypercall 0x4F560007 [] (told.Ok ∷ told.Ok ∷ []) filed
 
-abbrev pub stopped : Told DomainStepped
-stopped = hypercall 0x4F560007 [] (told.Ok ∷ told.Stopped ∷ []) filed
+abbrev pub exit_stopped : Told DomainStepped
+exit_stopped = made_hypercall 0x4F560007 [] (told.Ok ∷ told.Stopped ∷ []) filed
 
 -- The last context ends: its space and the private resource are gone, and the file stays. Where the clearing of frames is
 -- stopped, the domain is as it was.
@@ -301,10 +301,10 @@ pub record LastExit : Type 0 where
   pub spaces : exited.answer.domain.control.resources.spaces ≡ replicate 8 None
   pub contexts : exited.answer.domain.control.contexts ≡ replicate 8 None
   pub page : plain_of exited.world (record { domain = 0; resource = 0; page = 0 }) ≡ zero_page
-  pub stopped : stopped.answer ≡ record { domain = at_ecall 0x4F560007 [] filed; went = went.Stopped }
+  pub stopped : exit_stopped.answer ≡ record { domain = at_ecall 0x4F560007 [] filed; went = went.Stopped }
 
 abbrev pub left_one : Told DomainStepped
-left_one = hypercall 0x4F560007 [] (told.Ok ∷ []) (with_threads 1)
+left_one = made_hypercall 0x4F560007 [] (told.Ok ∷ []) (with_threads 1)
 
 -- A context that is not the last of its space ends alone, and clears nothing.
 pub record OtherExit : Type 0 where
@@ -318,34 +318,34 @@ pub record OtherExit : Type 0 where
 abbrev pub parent : Domain
 parent = behind 0x4F560002 (1 ∷ 0x00500000 ∷ 0 ∷ 1 ∷ []) (behind 0x4F560004 (4 ∷ 1 ∷ []) (started_domain 0 (small 3)))
 
-abbrev pub forked : Told DomainStepped
-forked = hypercall 0x4F560006 [] (told.Ok ∷ told.Ok ∷ []) parent
+abbrev pub fork_made : Told DomainStepped
+fork_made = made_hypercall 0x4F560006 [] (told.Ok ∷ told.Ok ∷ []) parent
 
-abbrev pub forked_resources : Resources
-forked_resources = forked.answer.domain.control.resources
+abbrev pub fork_resources : Resources
+fork_resources = fork_made.answer.domain.control.resources
 
 abbrev pub page : ℕ → ℕ → PageId
 page resource n = record { domain = 0; resource = resource; page = n }
 
 -- after a store by the child
 abbrev pub child_stored : World
-child_stored = (ask_write (page 2 0) 0 4 0x99 forked.world).world
+child_stored = (ask_write (page 2 0) 0 4 0x99 fork_made.world).world
 
 -- FORK gives the parent context 1, which is answered 0. The private resource 0 is copied to resource 2 of space 1, page by
 -- page, and the file is shared. What the child stores the parent does not load.
 pub record ForkedSpace : Type 0 where
-  pub went : forked.answer.went ≡ went.Stay
-  pub answers : AllUsed forked.world
-  pub parent : answer_and_pc 0 forked.answer.domain ≡ (1, 0x00400004)
-  pub child : answer_and_pc 1 forked.answer.domain ≡ (0, 0x00400004)
-  pub held : forked_resources.held ≡
+  pub went : fork_made.answer.went ≡ went.Stay
+  pub answers : AllUsed fork_made.world
+  pub parent : answer_and_pc 0 fork_made.answer.domain ≡ (1, 0x00400004)
+  pub child : answer_and_pc 1 fork_made.answer.domain ≡ (0, 0x00400004)
+  pub held : fork_resources.held ≡
       Some (record { owner = owner.Space 0; pages = 3 }) ∷ Some (record { owner = owner.File 4; pages = 1 }) ∷ Some (record { owner = owner.Space 1; pages = 3 }) ∷ replicate 13 None
-  pub own_page : lookup forked_resources 0 0x00401004 ≡ Some (0, 1)
-  pub own_copy : lookup forked_resources 1 0x00401004 ≡ Some (2, 1)
-  pub file : lookup forked_resources 0 0x00500000 ≡ Some (1, 0)
-  pub same_file : lookup forked_resources 1 0x00500000 ≡ Some (1, 0)
-  pub copied : plain_of forked.world (page 2 0) ≡ plain_of forked.world (page 0 0)
-  pub instruction : value_in (plain_of forked.world (page 2 0)) 4 4 ≡ 0x73
+  pub own_page : lookup fork_resources 0 0x00401004 ≡ Some (0, 1)
+  pub own_copy : lookup fork_resources 1 0x00401004 ≡ Some (2, 1)
+  pub file : lookup fork_resources 0 0x00500000 ≡ Some (1, 0)
+  pub same_file : lookup fork_resources 1 0x00500000 ≡ Some (1, 0)
+  pub copied : plain_of fork_made.world (page 2 0) ≡ plain_of fork_made.world (page 0 0)
+  pub instruction : value_in (plain_of fork_made.world (page 2 0)) 4 4 ≡ 0x73
   pub stored : value_in (plain_of child_stored (page 2 0)) 0 4 ≡ 0x99
   pub kept : value_in (plain_of child_stored (page 0 0)) 0 4 ≡ 0x73
 

@@ -100,11 +100,11 @@ exit_words =
     []
 
 -- a page that begins with these words
-abbrev pub page_of : List ℕ → List ℕ
-page_of words = take 4096 (flat_map word words ++ replicate 4096 0)
+abbrev pub page_with : List ℕ → List ℕ
+page_with words = take 4096 (flat_map word words ++ replicate 4096 0)
 
-abbrev pub program_page : List ℕ
-program_page = page_of program_words
+abbrev pub words_page : List ℕ
+words_page = page_with program_words
 
 -- 64 frames, and these words from the beginning of RAM on
 abbrev pub kernel_of : ℕ → List ℕ → List ℕ → KernelImage
@@ -126,7 +126,7 @@ program_of page = record { place = 8; start = program_start; bytes = page }
 
 -- a kernel of these words, and a program whose page begins with those
 abbrev pub image_of : ℕ → List ℕ → List ℕ → List ℕ → Bundle
-image_of harts schedule words program = record { kernel = kernel_of harts schedule words; programs = program_of (page_of program) ∷ [] }
+image_of harts schedule words program = record { kernel = kernel_of harts schedule words; programs = program_of (page_with program) ∷ [] }
 
 -- one hart, and the program above
 abbrev pub image : List ℕ → Bundle

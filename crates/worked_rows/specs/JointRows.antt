@@ -23,7 +23,7 @@ use Rattle.cloak_model.specs.Exchange.{record_of, recorded, shown}
 use Rattle.cloak_model.specs.Opening.{NoKey, NoPageDraw}
 use Rattle.cloak_model.specs.Report.{stop_line}
 use Rattle.cloak_model.specs.Run.{report_of, due}
-use Rattle.worked_rows.specs.Images.{boot, halt, letter_words, remap_and_resume, resume_words, resume_third, program_words, program_page, image, image_of, lone_image}
+use Rattle.worked_rows.specs.Images.{boot, halt, letter_words, remap_and_resume, resume_words, resume_third, program_words, words_page, image, image_of, lone_image}
 use Rattle.worked_rows.specs.Runs.{registers_from, running}
 use Rattle.worked_rows.specs.JointRuns.{counted, key, draw_1, draw_2, Seen, seen, read_off, csrs_of, outside_hart, inside_hart}
 
@@ -31,15 +31,15 @@ use Rattle.worked_rows.specs.JointRuns.{counted, key, draw_1, draw_2, Seen, seen
 
 -- the program's page under the first draw
 abbrev pub opening_cipher : List ℕ
-opening_cipher = cbc key draw_1 program_page
+opening_cipher = cbc key draw_1 words_page
 
 -- the page with the 7 that the program stored, under the second draw
 abbrev pub closing_cipher : List ℕ
-closing_cipher = cbc key draw_2 (with_value_in program_page 0x100 4 7)
+closing_cipher = cbc key draw_2 (with_value_in words_page 0x100 4 7)
 
 -- what call 9 shows
-abbrev pub shown_call : Shown
-shown_call = record { cause = 8; stval = 0; ctx = 0; number = 9; args = 7 ∷ 7 ∷ 0 ∷ 0 ∷ 0 ∷ 0 ∷ [] }
+abbrev pub shown_nine : Shown
+shown_nine = record { cause = 8; stval = 0; ctx = 0; number = 9; args = 7 ∷ 7 ∷ 0 ∷ 0 ∷ 0 ∷ 0 ∷ [] }
 
 -- the items up to the program's call: the kernel resumes the program in step 5, which makes its seven instructions in the
 -- steps behind it; the store and the load ask for two pages each
@@ -57,12 +57,12 @@ items_to_call =
     ∷ item.Step 9 ∷ item.Ok 0
     ∷ item.Step 10 ∷ item.Ok 0
     ∷ item.Step 11 ∷ item.Ok 0
-    ∷ item.Step 12 ∷ item.Ok 0 ∷ item.Leave shown_call
+    ∷ item.Step 12 ∷ item.Ok 0 ∷ item.Leave shown_nine
     ∷ []
 
 -- the program at its call
-abbrev pub waiting : Context
-waiting = record {
+abbrev pub waiting_context : Context
+waiting_context = record {
   pc = 0x8000801C;
   regs = registers_from 2 (0x80008100 ∷ []) (registers_from 10 (7 ∷ 7 ∷ 0 ∷ 0 ∷ 0 ∷ 0 ∷ 9 ∷ 0x4F560008 ∷ []) (replicate 32 0));
   phase = phase.Waiting;
@@ -83,11 +83,11 @@ program_with c loads = record { control = record { number = 0; contexts = Some c
 
 -- it loaded 7
 abbrev pub program_at_call : Domain
-program_at_call = program_with waiting ((0x80008100, 7) ∷ [])
+program_at_call = program_with waiting_context ((0x80008100, 7) ∷ [])
 
 -- a kernel's hart that has taken the program's call and has this number in x17
-abbrev pub kernel_hart : ℕ → ℕ → Hart
-kernel_hart pc number = outside_hart pc (registers_from 10 (7 ∷ 7 ∷ 0 ∷ 0 ∷ 0 ∷ 0 ∷ 0 ∷ number ∷ []) (replicate 32 0)) (csrs_of 0x80000014 0x00001000 8 0)
+abbrev pub called_hart : ℕ → ℕ → Hart
+called_hart pc number = outside_hart pc (registers_from 10 (7 ∷ 7 ∷ 0 ∷ 0 ∷ 0 ∷ 0 ∷ 0 ∷ number ∷ []) (replicate 32 0)) (csrs_of 0x80000014 0x00001000 8 0)
 
 abbrev pub whole : Seen
 whole = record {
@@ -95,14 +95,14 @@ whole = record {
   steps = 14;
   draws = 2;
   items = items_to_call ++ item.Step 13 ∷ item.Step 14 ∷ item.Close 14 ∷ item.Cipher 8 closing_cipher ∷ item.End ∷ [];
-  harts = kernel_hart 0x8000001C 4 ∷ [];
+  harts = called_hart 0x8000001C 4 ∷ [];
   console = [];
   domains = program_at_call ∷ [];
 }
 
 -- The whole program: the kernel sets its trap vector and resumes the program, which stores 7, loads it and calls; then the
 -- kernel halts with the 7 that the call shows.
-pub record WholeProgram : Type 0 where
+pub record WholeRun : Type 0 where
   pub run : seen (image (boot ++ halt)) (counted 256) 100 ≡ Ok whole
   -- the size of its record, and of its image
   pub size : length (record_of whole.items) ≡ 8355
@@ -123,18 +123,18 @@ TwoDraws = seen (image (boot ++ halt)) (counted 47) 100 ≡ Ok (record whole {
 })
 
 -- Without a draw for the program's page there is no run, and without a key neither.
-pub record NoRun : Type 0 where
+pub record NoOpening : Type 0 where
   pub no_page_draw : seen (image (boot ++ halt)) (counted 31) 100 ≡ Err NoPageDraw
   pub no_key : seen (image (boot ++ halt)) (counted 15) 100 ≡ Err NoKey
 
 -- Resumes that are refused.
 
 -- the program as it runs for the first time
-abbrev pub started : Context
-started = running 0x80008000 (registers_from 2 (0x80008100 ∷ []) (replicate 32 0))
+abbrev pub started_context : Context
+started_context = running 0x80008000 (registers_from 2 (0x80008100 ∷ []) (replicate 32 0))
 
 abbrev pub not_started : Context
-not_started = record started { on = None }
+not_started = record started_context { on = None }
 
 -- Two harts boot by turns, and the second resumes the context that the first runs.
 abbrev pub TwoHarts : Type 0
@@ -149,7 +149,7 @@ TwoHarts = seen (image_of 2 (0 ∷ 1 ∷ []) (boot ++ halt) program_words) (coun
       ∷ item.Step 10 ∷ item.Close 10 ∷ item.End ∷ [];
   harts = inside_hart 0 (csrs_of 0x80000014 0 0 0) ∷ inside_hart 0 (csrs_of 0x80000014 0 0 0) ∷ [];
   console = [];
-  domains = program_with started [] ∷ [];
+  domains = program_with started_context [] ∷ [];
 })
 
 -- A context that there is not is resumed: there is one program, with one context.

@@ -11,7 +11,7 @@ use Rattle.cloak_model.specs.Asking.{Told}
 use Rattle.cloak_base.specs.Registers.{register}
 use Rattle.cloak_model.specs.Contexts.{Context, context_at, with_context}
 use Rattle.cloak_model.specs.DomainState.{Domain}
-use Rattle.cloak_model.specs.DomainStep.{DomainStepped, domain_step, resume}
+use Rattle.cloak_model.specs.DomainStep.{DomainStepped, domain_step, resume_slot}
 
 -- Worlds.
 
@@ -36,16 +36,16 @@ AllUsed w = left_in w ≡ ([], false)
 -- Steps.
 
 -- the last domain and world, and how each step ended
-pub record Run : Type 0 where
+pub record ProgramRun : Type 0 where
   pub domain : Domain
   pub world : World
   pub wents : List Went
 
-abbrev pub run_after : List Went → Told DomainStepped → Run
+abbrev pub run_after : List Went → Told DomainStepped → ProgramRun
 run_after wents told = record { domain = told.answer.domain; world = told.world; wents = wents ++ told.answer.went ∷ [] }
 
 -- n steps of the context of a slot
-unfoldable pub run : ℕ → ℕ → Domain → World → Run
+unfoldable pub run : ℕ → ℕ → Domain → World → ProgramRun
 run zero slot d w = record { domain = d; world = w; wents = [] }
 run (suc n) slot d w = let before = run n slot d w in run_after before.wents (domain_step slot before.domain before.world)
 
@@ -73,8 +73,8 @@ abbrev pub with_first : Context → Domain → Domain
 with_first c d = record d { control = record d.control { contexts = with_context 0 c d.control.contexts } }
 
 -- the context of slot 0 runs on a hart, with this answer
-abbrev pub resumed : ℕ → ℕ → Domain → Domain
-resumed hart answer d = record d { control = (resume 0 hart answer d.control).control }
+abbrev pub resumed_first : ℕ → ℕ → Domain → Domain
+resumed_first hart answer d = record d { control = (resume_slot 0 hart answer d.control).control }
 
 abbrev pub context_of : ℕ → Domain → Context
 context_of slot d = unwrap_or (context_at d.control.contexts slot) (running 0 [])
@@ -101,5 +101,5 @@ abbrev pub at_ecall : ℕ → List ℕ → Domain → Domain
 at_ecall number arguments d = with_first (running 0x00400000 (registers number arguments)) d
 
 -- it makes the hypercall, and its questions find these answers
-abbrev pub hypercall : ℕ → List ℕ → List Answer → Domain → Told DomainStepped
-hypercall number arguments answers d = domain_step 0 (at_ecall number arguments d) (alone ecalls answers)
+abbrev pub made_hypercall : ℕ → List ℕ → List Answer → Domain → Told DomainStepped
+made_hypercall number arguments answers d = domain_step 0 (at_ecall number arguments d) (alone ecalls answers)

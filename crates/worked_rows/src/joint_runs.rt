@@ -2,12 +2,12 @@ ghost use Rattle.worked_rows.specs.JointRows as row;
 
 /// Joint runs: of the whole cloaked program, and of kernels alone.
 pub fn rows_of_joint_runs()
-    ensures whole { row.WholeProgram }
+    ensures whole { row.WholeRun }
 
     // Random streams that end.
     ensures three_draws { row.ThreeDraws }
     ensures two_draws { row.TwoDraws }
-    ensures no_run { row.NoRun }
+    ensures no_run { row.NoOpening }
 
     // Resumes that are refused.
     ensures two_harts { row.TwoHarts }

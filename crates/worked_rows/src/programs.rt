@@ -18,7 +18,7 @@ pub fn rows_of_a_program()
     ensures new_refused { row.NewRefused }
     ensures map_refused { row.MapRefused }
     ensures others_refused { row.OthersRefused }
-    ensures files { row.Files }
+    ensures files { row.FileRows }
     ensures threads { row.Threads }
     ensures last_exit { row.LastExit }
     ensures other_exit { row.OtherExit }

@@ -3,7 +3,7 @@ use Rattle.std.specs.Prelude.{All, AllPairs, insert}
 use Rattle.std.specs.List.{position_or_len}
 use Rattle.cloak_model.specs.declared.resource.Region.{Region}
 use Rattle.cloak_model.specs.Resources.{with_region}
-use Rattle.resource_map.specs.Kept.{IsPlaced, EndsBelow}
+use Rattle.resource_map.specs.Kept.{IsSoundRegion, EndsBelow}
 use Rattle.resource_map.proofs.RegionLists.{with_region-is_insert, IsPlaced-with_region, EndsBelow-with_region}
 use Rattle.resource_map.proofs.regions.Regions.insert.Goals as goal
 
@@ -18,8 +18,8 @@ returns c = inserted c.args.g _ _ _ _ c.insert.ensures.items c.place_for-at.ensu
 pub invariant_of-self : goal.invariant_of-self
 invariant_of-self c =
     let now = c.args.self.now in
-    let placed = subst (All IsPlaced) c.self.view_is c.self.invariant.0 in
+    let placed = subst (All IsSoundRegion) c.self.view_is c.self.invariant.0 in
     let apart = subst (AllPairs EndsBelow) c.self.view_is c.self.invariant.1 in (
-      subst (All IsPlaced) (sym (returns c)) (IsPlaced-with_region c.args.g now c.requires.placed placed),
+      subst (All IsSoundRegion) (sym (returns c)) (IsPlaced-with_region c.args.g now c.requires.placed placed),
       subst (AllPairs EndsBelow) (sym (returns c)) (EndsBelow-with_region c.args.g now c.requires.placed placed c.requires.apart apart),
     )

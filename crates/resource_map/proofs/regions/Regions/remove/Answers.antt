@@ -5,7 +5,7 @@ use Rattle.std.proofs.lemmas.List.Kept.{AllPairs-filter}
 use Rattle.arrayvec.proofs.ArrayVecLemmas.{filter-from_retain}
 use Rattle.cloak_model.specs.declared.resource.Region.{Region}
 use Rattle.cloak_model.specs.Resources.{starts_at}
-use Rattle.resource_map.specs.Kept.{IsPlaced, EndsBelow}
+use Rattle.resource_map.specs.Kept.{IsSoundRegion, EndsBelow}
 use Rattle.resource_map.proofs.regions.Regions.remove.Goals as goal
 
 pub returns : goal.returns
@@ -16,6 +16,6 @@ returns c =
 pub invariant_of-self : goal.invariant_of-self
 invariant_of-self c =
     let is = returns c ∙ ap (filter (λ (g : Region). not (starts_at c.args.start g))) (sym c.self.view_is) in (
-      subst (All IsPlaced) (sym is) (All-filter _ IsPlaced _ c.self.invariant.0),
+      subst (All IsSoundRegion) (sym is) (All-filter _ IsSoundRegion _ c.self.invariant.0),
       subst (AllPairs EndsBelow) (sym is) (AllPairs-filter EndsBelow _ _ c.self.invariant.1),
     )
