@@ -3,3 +3,4 @@ mod NumberFacts
 pub mod OutletFacts
 pub mod PrepareFacts
 pub mod RunFacts
+pub mod ProgramFacts

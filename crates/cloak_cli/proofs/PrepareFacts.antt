@@ -12,7 +12,8 @@ use Rattle.cloak_cli.specs.Answering.{IsFirstForm, IsOtherForm}
 
 -- the one bundle that these bytes are is of another form
 pub other_form : (bytes : List ℕ) (found : Bundle) (first_form : Bool) →
-    ((b : Bundle) → IsBundle bytes b → found ≡ b) → (IsFirstForm found → first_form ≡ true) → first_form ≡ false → IsOtherForm bytes
+    ((b : Bundle) → IsBundle bytes b → found ≡ b) → (IsFirstForm found → first_form ≡ true) → first_form ≡ false →
+    IsOtherForm bytes
 other_form bytes found first_form only test no_test = λ b is first.
     let yes : first_form ≡ true = test (subst IsFirstForm (sym (only b is)) first) in
     absurd (let clash : true ≡ false = sym yes ∙ no_test in cc)
@@ -22,8 +23,12 @@ never_lacks : (b : Bundle) (n : ℕ) (lack : Lack) → b.programs ≡ [] → ope
 unfolding numbered next_draw
 never_lacks b n lack none is = let some = opening-some b (numbered n) _ _ none refl in cc
 
-pub always_opens : (b : Bundle) (s : Random) (n : ℕ) (e : OpenFault) → b.programs ≡ [] → s ≡ numbered n → Opens b s (Err e) → (e ≡ fault.NoKey) ⊎ (e ≡ fault.NoRandom) → ⊥
+pub always_opens : (b : Bundle) (s : Random) (n : ℕ) (e : OpenFault) → b.programs ≡ [] → s ≡ numbered n →
+    Opens b s (Err e) → (e ≡ fault.NoKey) ⊎ (e ≡ fault.NoRandom) → ⊥
 always_opens b s n e none is opens (inl no_key) =
-    never_lacks b n NoKey none (subst (λ (r : Random). opening b r ≡ Err NoKey) is (subst (λ (f : OpenFault). Opens b s (Err f)) no_key opens))
+    never_lacks b n NoKey none
+    (subst (λ (r : Random). opening b r ≡ Err NoKey) is (subst (λ (f : OpenFault). Opens b s (Err f)) no_key opens))
 always_opens b s n e none is opens (inr no_random) =
-    never_lacks b n NoPageDraw none (subst (λ (r : Random). opening b r ≡ Err NoPageDraw) is (subst (λ (f : OpenFault). Opens b s (Err f)) no_random opens))
+    never_lacks b n NoPageDraw none
+    (subst (λ (r : Random). opening b r ≡ Err NoPageDraw) is
+    (subst (λ (f : OpenFault). Opens b s (Err f)) no_random opens))

@@ -1,5 +1,5 @@
 -- What the program answers, each status with its cause.
-use Rattle.std.specs.Prelude.{ℕ, ◌≡◌, ◌<◌, ◌⊎◌, List, [], length, codes, Option, IfSome, Ok}
+use Rattle.std.specs.Prelude.{ℕ, ◌≡◌, ◌⊎◌, List, [], length, codes, Option, IfSome, Ok}
 use Rattle.cloak_base.specs.Random.{numbered}
 use Rattle.outside_io.specs.Told.{Tells, Grows, GrowsByFront, SameFiles, OtherFiles}
 use Rattle.cloak_model.specs.declared.image.Bundle.{Bundle}
@@ -10,7 +10,7 @@ use Rattle.cloak_model.specs.Exchange.{recorded_bytes, shown_bytes}
 use Rattle.cloak_model.specs.Run.{Run, joint_run, due}
 use Rattle.cloak_cli.specs.declared.status.Status.{Status}
 use Rattle.cloak_cli.specs.declared.status.Status.TheVariants as status
-use Rattle.cloak_cli.specs.Outside.{Outside, NothingRose}
+use Rattle.cloak_cli.specs.Outside.{Outside, Raised, NothingRose}
 use Rattle.cloak_cli.specs.Outlet.{Cut, pieces_left, FailedAt}
 use Rattle.cloak_cli.specs.Running.{status_of}
 
@@ -56,7 +56,7 @@ pub record IsRefusedFile {S O : Type 0} (asked : spec.Asked) (before after : Out
 pub record IsReadFault {S O : Type 0} (asked : spec.Asked) (before after : Outside S O) : Type 0 where
   pub bundle_name : List ℕ
   pub asks : AsksFile asked bundle_name
-  pub reading : before.files.reading < after.files.reading
+  pub reading : Raised before.files.reading after.files.reading
 
 -- A growth was refused in opening the machine of a run. (What refused it, no clause can name.)
 pub record IsNoMemory {S O : Type 0} (asked : spec.Asked) (before after : Outside S O) : Type 0 where
@@ -100,15 +100,16 @@ pub record IsRefused {S O : Type 0} (asked : spec.Asked) (refused : Status) (bef
 
 -- The words ask for a run of this file, which, where its bytes are told, is a bundle of the first form, and this is its
 -- joint run.
-pub record AsksRun (asked : spec.Asked) (held : List ℕ → Option (List ℕ)) (record_name : List ℕ) (r : Run) : Type 0 where
-  pub bundle_name : List ℕ
-  pub steps : ℕ
-  pub number : ℕ
-  pub run : asked ≡ spec.Run bundle_name record_name steps number
-  pub bundle : Bundle
-  pub is : IfSome (held bundle_name) (λ bytes. IsBundle bytes bundle)
-  pub first_form : IsFirstForm bundle
-  pub joint : joint_run bundle (numbered number) steps ≡ Ok r
+pub record AsksRun (asked : spec.Asked) (held : List ℕ → Option (List ℕ)) (record_name : List ℕ) (r : Run) : Type 0
+  where
+    pub bundle_name : List ℕ
+    pub steps : ℕ
+    pub number : ℕ
+    pub run : asked ≡ spec.Run bundle_name record_name steps number
+    pub bundle : Bundle
+    pub is : IfSome (held bundle_name) (λ bytes. IsBundle bytes bundle)
+    pub first_form : IsFirstForm bundle
+    pub joint : joint_run bundle (numbered number) steps ≡ Ok r
 
 -- The run was made and written whole, and this is the status of its stop.
 pub record HasRun {S O : Type 0} (asked : spec.Asked) (answer : Status) (before after : Outside S O) : Type 0 where
@@ -128,7 +129,7 @@ pub record LineFailed {S O : Type 0} (asked : spec.Asked) (before after : Outsid
   pub refused : Status
   pub no_run : NoRun asked refused before after
   pub line : GrowsByFront before.output.taken after.output.taken (refusal_line asked refused)
-  pub faults : before.output.faults < after.output.faults
+  pub faults : Raised before.output.faults after.output.faults
 
 -- The record of a run could not be begun: it is empty or has its bytes, and nothing was done to the output.
 pub record BeginFailed {S O : Type 0} (asked : spec.Asked) (before after : Outside S O) : Type 0 where
@@ -138,11 +139,11 @@ pub record BeginFailed {S O : Type 0} (asked : spec.Asked) (before after : Outsi
   pub file : (after.files.held record_name ≡ before.files.held record_name) ⊎ Tells (after.files.held record_name) []
   pub others : OtherFiles record_name before.files.held after.files.held
   pub reading : after.files.reading ≡ before.files.reading
-  pub writing : before.files.writing < after.files.writing
+  pub writing : Raised before.files.writing after.files.writing
   pub untouched : after.output ≡ before.output
 
--- A run broke off. Of the one list of what is due of it, record and output have what is left where it is cut at one place,
--- and the count of faults of where the piece there goes rose.
+-- A run broke off. Of the one list of what is due of it, record and output have what is left where it is cut at one
+-- place, and the count of faults of where the piece there goes rose.
 pub record BrokeOff {S O : Type 0} (asked : spec.Asked) (before after : Outside S O) : Type 0 where
   pub record_name : List ℕ
   pub due_run : Run
@@ -152,10 +153,11 @@ pub record BrokeOff {S O : Type 0} (asked : spec.Asked) (before after : Outside 
   pub output : Grows before.output.taken after.output.taken (shown_bytes (pieces_left cut))
   pub others : OtherFiles record_name before.files.held after.files.held
   pub reading : after.files.reading ≡ before.files.reading
-  pub fault : FailedAt ◌<◌ cut.piece before after
+  pub fault : FailedAt Raised cut.piece before after
 
 abbrev pub IsWriteFault : {S O : Type 0} → spec.Asked → Outside S O → Outside S O → Type 0
-IsWriteFault asked before after = LineFailed asked before after ⊎ (BeginFailed asked before after ⊎ BrokeOff asked before after)
+IsWriteFault asked before after =
+    LineFailed asked before after ⊎ (BeginFailed asked before after ⊎ BrokeOff asked before after)
 
 -- What each status says. Its causes exclude each other, so each status comes exactly there; only want of
 -- memory may stand in the place of another, before anything is written.
@@ -174,7 +176,7 @@ Answers asked before after status.Unbuilt = IsRefused asked status.Unbuilt befor
 -- Every file keeps its bytes, save the record's of a run that was begun, or might have been. (A write fault says by its
 -- cause which.)
 abbrev pub KeepsFiles : spec.Asked → Status → (List ℕ → Option (List ℕ)) → (List ℕ → Option (List ℕ)) → Type 0
-KeepsFiles (spec.Run bundle_name record_name steps number) status.Done held held' = OtherFiles record_name held held'
-KeepsFiles (spec.Run bundle_name record_name steps number) status.Violation held held' = OtherFiles record_name held held'
-KeepsFiles (spec.Run bundle_name record_name steps number) status.WriteFault held held' = OtherFiles record_name held held'
+KeepsFiles (spec.Run bundle record_name steps number) status.Done held held' = OtherFiles record_name held held'
+KeepsFiles (spec.Run bundle record_name steps number) status.Violation held held' = OtherFiles record_name held held'
+KeepsFiles (spec.Run bundle record_name steps number) status.WriteFault held held' = OtherFiles record_name held held'
 KeepsFiles asked answer held held' = SameFiles held held'

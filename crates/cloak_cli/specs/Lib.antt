@@ -7,3 +7,4 @@ pub mod Recording
 pub mod Request
 pub mod Running
 pub mod Status
+pub mod Program

@@ -26,8 +26,10 @@ pieces_left cut = cut.whole ++ front_of cut.bytes cut.piece ∷ []
 
 -- the count of faults of where the piece goes rose so, and no other
 abbrev pub FailedAt : {S O : Type 0} → (ℕ → ℕ → Type 0) → Piece → Outside S O → Outside S O → Type 0
-FailedAt rose (recorded bytes) before after = rose before.files.writing after.files.writing × (after.output.faults ≡ before.output.faults)
-FailedAt rose (shown bytes) before after = (after.files.writing ≡ before.files.writing) × rose before.output.faults after.output.faults
+FailedAt rose (recorded bytes) before after =
+    rose before.files.writing after.files.writing × (after.output.faults ≡ before.output.faults)
+FailedAt rose (shown bytes) before after =
+    (after.files.writing ≡ before.files.writing) × rose before.output.faults after.output.faults
 
 -- these pieces were written, those for the record to the file of this name, and nothing else was done
 pub record Wrote {S O : Type 0} (name : List ℕ) (before after : Outside S O) (pieces : List Piece) : Type 0 where
@@ -54,7 +56,8 @@ Writes true name before after pieces = WroteFront name before after pieces
 
 -- From an earlier state of an outlet to a later one these pieces were given to it: it writes to the same
 -- places, and wrote them.
-pub record Gave {S O : Type 0} (held : S → List ℕ → Option (List ℕ)) (reading_faults writing_faults : S → ℕ) (taken : O → Option (List ℕ)) (faults : O → ℕ) (first now : Outlet S O) (pieces : List Piece) : Type 0 where
+pub record Gave {S O : Type 0} (held : S → List ℕ → Option (List ℕ)) (reading_faults writing_faults : S → ℕ)
+    (taken : O → Option (List ℕ)) (faults : O → ℕ) (first now : Outlet S O) (pieces : List Piece) : Type 0 where
   pub shelf : now.shelf.ghost_name ≡ first.shelf.ghost_name
   pub output : now.out.ghost_name ≡ first.out.ghost_name
   pub name : now.name ≡ first.name

@@ -1,5 +1,6 @@
 -- What is outside: the files of a shelf, and an output.
-use Rattle.std.specs.Prelude.{ℕ, ◌≡◌, List, Option}
+use Rattle.std.specs.Prelude.{ℕ, ◌≡◌, ◌<◌, List, Option}
+use Rattle.outside_io.specs.Told.{Rose}
 
 -- a shelf, the bytes of its files by their names as far as it tells them, and how often reading and writing them failed
 pub record Files (S : Type 0) : Type 0 where
@@ -21,13 +22,27 @@ pub record Outside (S O : Type 0) : Type 0 where
 -- what this shelf and this output tell
 
 abbrev pub files : {S : Type 0} → (S → List ℕ → Option (List ℕ)) → (S → ℕ) → (S → ℕ) → S → Files S
-files held reading writing shelf = record { shelf = shelf; held = held shelf; reading = reading shelf; writing = writing shelf }
+files held reading writing shelf = record {
+  shelf = shelf;
+  held = held shelf;
+  reading = reading shelf;
+  writing = writing shelf;
+}
 
 abbrev pub output : {O : Type 0} → (O → Option (List ℕ)) → (O → ℕ) → O → Output O
 output taken faults out = record { out = out; taken = taken out; faults = faults out }
 
-abbrev pub outside : {S O : Type 0} → (S → List ℕ → Option (List ℕ)) → (S → ℕ) → (S → ℕ) → (O → Option (List ℕ)) → (O → ℕ) → S → O → Outside S O
-outside held reading writing taken faults shelf out = record { files = files held reading writing shelf; output = output taken faults out }
+abbrev pub outside : {S O : Type 0} → (S → List ℕ → Option (List ℕ)) → (S → ℕ) → (S → ℕ) →
+    (O → Option (List ℕ)) → (O → ℕ) → S → O → Outside S O
+outside held reading writing taken faults shelf out = record {
+  files = files held reading writing shelf;
+  output = output taken faults out;
+}
+
+-- A count of faults is greater, as a call that failed leaves it.
+pub record Raised (before now : ℕ) : Type 0 where
+  pub greater : before < now
+  pub by_call : Rose before now
 
 -- no call failed
 pub record NothingRose {S O : Type 0} (before after : Outside S O) : Type 0 where

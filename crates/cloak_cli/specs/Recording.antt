@@ -10,10 +10,11 @@ use Rattle.cloak_cli.specs.Outlet.{Cut, pieces_left, FailedAt}
 use Rattle.cloak_cli.specs.Running.{IsStatusOf}
 
 -- the line was shown, and this is the answer
-pub record ShowsLine {O : Type 0} (before after : Output O) (refused : Status) (line : List ℕ) (given : Status) : Type 0 where
-  pub answer : given ≡ refused
-  pub line_shown : Grows before.taken after.taken line
-  pub faults : after.faults ≡ before.faults
+pub record ShowsLine {O : Type 0} (before after : Output O) (refused : Status) (line : List ℕ) (given : Status) : Type 0
+  where
+    pub answer : given ≡ refused
+    pub line_shown : Grows before.taken after.taken line
+    pub faults : after.faults ≡ before.faults
 
 -- a front of it was shown
 pub record ShowsFront {O : Type 0} (before after : Output O) (line : List ℕ) (given : Status) : Type 0 where
@@ -25,11 +26,12 @@ abbrev pub Refuses : {O : Type 0} → Output O → Output O → Status → List 
 Refuses before after refused line given = ShowsLine before after refused line given ⊎ ShowsFront before after line given
 
 -- the whole run was written
-pub record RecordsAll {S O : Type 0} (name : List ℕ) (before after : Outside S O) (given : Status) (r : Run) : Type 0 where
-  pub answer : IsStatusOf given r.stop
-  pub file : Tells (after.files.held name) (recorded_bytes (due r))
-  pub output : Grows before.output.taken after.output.taken (shown_bytes (due r))
-  pub nothing_rose : NothingRose before after
+pub record RecordsAll {S O : Type 0} (name : List ℕ) (before after : Outside S O) (given : Status) (r : Run) : Type 0
+  where
+    pub answer : IsStatusOf given r.stop
+    pub file : Tells (after.files.held name) (recorded_bytes (due r))
+    pub output : Grows before.output.taken after.output.taken (shown_bytes (due r))
+    pub nothing_rose : NothingRose before after
 
 -- the record could not be begun
 pub record BeginsNot {S O : Type 0} (name : List ℕ) (before after : Outside S O) (given : Status) : Type 0 where
@@ -39,15 +41,17 @@ pub record BeginsNot {S O : Type 0} (name : List ℕ) (before after : Outside S 
   pub untouched : after.output ≡ before.output
 
 -- the run broke off
-pub record RecordsFront {S O : Type 0} (name : List ℕ) (before after : Outside S O) (given : Status) (r : Run) : Type 0 where
-  pub answer : given ≡ status.WriteFault
-  pub cut : Cut (due r)
-  pub file : Tells (after.files.held name) (recorded_bytes (pieces_left cut))
-  pub output : Grows before.output.taken after.output.taken (shown_bytes (pieces_left cut))
-  pub fault : FailedAt Rose cut.piece before after
+pub record RecordsFront {S O : Type 0} (name : List ℕ) (before after : Outside S O) (given : Status) (r : Run) : Type 0
+  where
+    pub answer : given ≡ status.WriteFault
+    pub cut : Cut (due r)
+    pub file : Tells (after.files.held name) (recorded_bytes (pieces_left cut))
+    pub output : Grows before.output.taken after.output.taken (shown_bytes (pieces_left cut))
+    pub fault : FailedAt Rose cut.piece before after
 
 -- what writing this run into the file of this name answers
 pub record Records {S O : Type 0} (name : List ℕ) (before after : Outside S O) (given : Status) (r : Run) : Type 0 where
   pub reading : after.files.reading ≡ before.files.reading
   pub others : OtherFiles name before.files.held after.files.held
-  pub outcome : RecordsAll name before after given r ⊎ (BeginsNot name before after given ⊎ RecordsFront name before after given r)
+  pub outcome : RecordsAll name before after given r ⊎
+      (BeginsNot name before after given ⊎ RecordsFront name before after given r)

@@ -1,5 +1,6 @@
 -- A run over an outlet.
-use Rattle.std.specs.Prelude.{ℕ, suc, ◌≡◌, ◌≢◌, ◌+◌, Bool, false, List, [], ◌∷◌, ◌++◌, length, codes, Option, Some, None}
+use Rattle.std.specs.Prelude.{ℕ, suc, ◌≡◌, ◌≢◌, ◌+◌, Bool, false, List, [], ◌∷◌, ◌++◌, length, codes, Option, Some}
+use Rattle.std.specs.Prelude.{None}
 use Rattle.cloak_base.specs.declared.causes.Stop.{Stop}
 use Rattle.cloak_base.specs.declared.causes.Stop.TheVariants as stop
 use Rattle.cloak_model.specs.declared.item.Item.TheVariants as item
@@ -15,7 +16,11 @@ use Rattle.cloak_cli.specs.declared.status.Status.TheVariants as status
 
 -- the moment behind these steps
 abbrev pub moment_behind : Moment → List Turn → Moment
-moment_behind m turns = record { schedule = m.schedule; steps = m.steps + length turns; joint = joint_after m.joint turns }
+moment_behind m turns = record {
+  schedule = m.schedule;
+  steps = m.steps + length turns;
+  joint = joint_after m.joint turns;
+}
 
 -- all of these steps were made, the last of them stopped the run for this cause, if it did, and no draw was missing
 pub record MadeAll (machine : Machine) (stopped : Option Stop) (m : Moment) (turns : List Turn) : Type 0 where
@@ -24,14 +29,16 @@ pub record MadeAll (machine : Machine) (stopped : Option Stop) (m : Moment) (tur
   pub stands : StandsForMoment machine (moment_behind m turns)
 
 -- the pieces of these steps were given, and all of them were made unless the outlet failed
-pub record RunsSteps {E : Type 0} (gave : E → E → List Piece → Type 0) (failed : Bool) (e e' : E) (machine : Machine) (stopped : Option Stop) (m : Moment) (turns : List Turn) : Type 0 where
+pub record RunsSteps {E : Type 0} (gave : E → E → List Piece → Type 0) (failed : Bool) (e e' : E) (machine : Machine)
+    (stopped : Option Stop) (m : Moment) (turns : List Turn) : Type 0 where
   pub emits : Emits gave e e' (turns_pieces (suc m.steps) turns)
   pub made : failed ≡ false → MadeAll machine stopped m turns
 
 -- the pieces behind the steps of a run that ended so
 abbrev pub last_pieces : Stop → ℕ → Opened → List Piece
 last_pieces cause steps closed =
-    item_pieces (item.Close steps ∷ (closed.items ++ item.End ∷ [])) ++ (shown (codes "\n") ∷ shown (report cause steps closed.joint) ∷ [])
+    item_pieces (item.Close steps ∷ (closed.items ++ item.End ∷ []))
+    ++ (shown (codes "\n") ∷ shown (report cause steps closed.joint) ∷ [])
 
 -- the status of a run that this stopped
 abbrev pub status_of : Stop → Status
@@ -40,9 +47,10 @@ status_of stop.Budget = status.Done
 status_of (stop.Violation violation) = status.Violation
 status_of stop.NoRandom = status.NoRandom
 
--- The end of a run that this stopped behind so many steps, and that closed so, was given, and its status answered; no draw
--- was missing as it closed.
-pub record EndsRun {E : Type 0} (gave : E → E → List Piece → Type 0) (e e' : E) (given : Status) (stopped : Stop) (steps : ℕ) (closed : Opened) : Type 0 where
+-- The end of a run that this stopped behind so many steps, and that closed so, was given, and its status answered; no
+-- draw was missing as it closed.
+pub record EndsRun {E : Type 0} (gave : E → E → List Piece → Type 0) (e e' : E) (given : Status) (stopped : Stop)
+    (steps : ℕ) (closed : Opened) : Type 0 where
   pub emits : Emits gave e e' (last_pieces (cause_of closed.joint (Some stopped)) steps closed)
   pub status : given ≡ status_of (cause_of closed.joint (Some stopped))
   pub drawn : cause_of closed.joint (Some stopped) ≡ stopped
@@ -53,6 +61,7 @@ pub record IsStatusOf (given : Status) (cause : Stop) : Type 0 where
   pub drawn : cause ≢ stop.NoRandom
 
 -- what is due of a run was given, and the answer is its status unless the outlet failed
-pub record WritesRun {E : Type 0} (gave : E → E → List Piece → Type 0) (failed : Bool) (e e' : E) (given : Status) (r : Run) : Type 0 where
+pub record WritesRun {E : Type 0} (gave : E → E → List Piece → Type 0) (failed : Bool) (e e' : E) (given : Status)
+    (r : Run) : Type 0 where
   pub emits : Emits gave e e' (due r)
   pub status : failed ≡ false → IsStatusOf given r.stop

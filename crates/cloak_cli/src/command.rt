@@ -22,7 +22,7 @@ use outside_io::{Shelf, Sink, put_all};
 use std::alloc::Global;
 
 /// Shows a line that refuses, and answers the status, or the write fault.
-fn refuse<O: Sink>(out: &mut O, status: Status, line: &[u8]) -> Status
+pub fn refuse<O: Sink>(out: &mut O, status: Status, line: &[u8]) -> Status
     ensures { Refuses (output O.taken O.faults out.old) (output O.taken O.faults out.new) status line.now result }
 {
     match put_all(out, line) {
@@ -32,7 +32,7 @@ fn refuse<O: Sink>(out: &mut O, status: Status, line: &[u8]) -> Status
 }
 
 /// Shows what is wrong with the words.
-fn refuse_words<O: Sink>(out: &mut O, fault: UsageFault) -> Status
+pub fn refuse_words<O: Sink>(out: &mut O, fault: UsageFault) -> Status
     ensures { Refuses (output O.taken O.faults out.old) (output O.taken O.faults out.new)
         Status.Usage (spec.usage_line fault) result }
 {
@@ -83,6 +83,7 @@ fn run_command<S: Shelf, O: Sink>(
     shelf: &mut S,
     out: &mut O,
 ) -> Status
+    requires settled { S.is_settled shelf.old }
     requires reading { S.reading_faults shelf.old < 2 ^ 64 - 1 }
     requires writing { S.writing_faults shelf.old < 2 ^ 64 - 1 }
     requires output { O.faults out.old < 2 ^ 64 - 1 }
@@ -98,13 +99,14 @@ fn run_command<S: Shelf, O: Sink>(
     }
 }
 
-/// Does what the words ask for, with the files of a shelf, and shows it.
+/// Does what the words ask for, with the files of a shelf on which nothing is gathered, and shows it.
 pub fn cloak<S: Shelf, O: Sink>(
     alloc: Global,
     words: &Vec<String>,
     shelf: &mut S,
     out: &mut O,
 ) -> Status
+    requires settled { S.is_settled shelf.old }
     requires reading { S.reading_faults shelf.old < 2 ^ 64 - 1 }
     requires writing { S.writing_faults shelf.old < 2 ^ 64 - 1 }
     requires output { O.faults out.old < 2 ^ 64 - 1 }

@@ -22,9 +22,11 @@ pub fn read_whole<S: Shelf>(
     name: &str,
     limit: u64,
 ) -> Result<Vec<u8>, ReadFailure>
+    requires { S.is_settled shelf.old }
     ensures bytes { IfOk result (λ v. IfSome (S.held shelf.old name.now) (λ bytes. v.items ≡ bytes)) }
     ensures fits { IfOk result (λ v. length v.items ≤ limit) }
-    ensures too_large { IsErrOf result ReadFailure.TooLarge → IfSome (S.held shelf.old name.now) (λ bytes. limit < length bytes) }
+    ensures too_large { IsErrOf result ReadFailure.TooLarge →
+        IfSome (S.held shelf.old name.now) (λ bytes. limit < length bytes) }
     ensures files { SameFiles (S.held shelf.old) (S.held shelf.new) }
     ensures reading { ReadsCount (S.reading_faults shelf.old) (S.reading_faults shelf.new) result }
     ensures writing { S.writing_faults shelf.new ≡ S.writing_faults shelf.old }

@@ -1,7 +1,13 @@
 //! Runs of guest images that are given by the words of their code.
 
+use crate::item_bytes::LONGEST;
+use crate::outlet::Outlet;
+use crate::run::write_run;
 use crate::status::Status;
 use crate::tests::called;
+use cloak_machine::Machine;
+use guest_bundle::read;
+use outside_io::{MemoryShelf, MemorySink, Stream};
 use std::alloc::Global;
 use std::test::*;
 
@@ -133,5 +139,49 @@ fn runs_of_code(rt: HostRuntime) -> Result<(), Fail> {
         assert_eq!(rt; left.status, status, "{name}");
         assert_eq!(rt; left.sink.taken(), output.as_bytes(), "{name}");
     }
+    Ok(())
+}
+
+/// `addi x10,x0,65`, and in a segment of its own `addi x11,x0,66`, on two harts that take turns as 0, 1, 1.
+const TWO_HARTS: [u8; 67] = [
+    0x43, 0x4c, 0x4f, 0x41, 0x4b, 0x42, 0x4e, 0x44, 1, 0, 0, 0, 0x40, 0, 0, 0, 2, 0, 0, 0, 3, 0, 0,
+    0, 0, 0, 0, 0x80, 2, 0, 0, 0, 0, 0, 0, 0, 0, 0, 0, 0, 0, 1, 1, 0, 0, 0, 0x80, 4, 0, 0, 0, 0x13,
+    0x05, 0x10, 0x04, 4, 0, 0, 0x80, 4, 0, 0, 0, 0x93, 0x05, 0x20, 0x04,
+];
+
+const TURNS: &str = "
+stop budget
+steps 3
+draws 0
+console 0 e3b0c44298fc1c149afbf4c8996fb92427ae41e4649b934ca495991b7852b855
+ram 20e4c1730273d8feb3eafbfdee3fe0e68468487dbf62936307a563cae1dc42cc
+disk e3b0c44298fc1c149afbf4c8996fb92427ae41e4649b934ca495991b7852b855
+hart 0 S pc 80000004 inside - timer 0
+regs 00000000 00000000 00000000 00000000 00000000 00000000 00000000 00000000 00000000 00000041 00000000 00000000 00000000 00000000 00000000 00000000 00000000 00000000 00000000 00000000 00000000 00000000 00000000 00000000 00000000 00000000 00000000 00000000 00000000 00000000 00000000
+csrs 00000000 00000000 00000000 00000000 00000000 00000000 00000000 00000000 00000000
+hart 1 S pc 80000008 inside - timer 0
+regs 00000000 00000000 00000000 00000000 00000000 00000000 00000000 00000000 00000000 00000041 00000042 00000000 00000000 00000000 00000000 00000000 00000000 00000000 00000000 00000000 00000000 00000000 00000000 00000000 00000000 00000000 00000000 00000000 00000000 00000000 00000000
+csrs 00000000 00000000 00000000 00000000 00000000 00000000 00000000 00000000 00000000
+";
+
+/// The command refuses an image of several harts, so its machine is opened here.
+#[test]
+fn harts_take_their_turns(rt: HostRuntime) -> Result<(), Fail> {
+    let bundle = read(rt.alloc(), &TWO_HARTS).ok().ok_or("it is a bundle")?;
+    assert!(rt; bundle.programs.as_slice().is_empty());
+    let machine = Machine::open(rt.alloc(), &bundle, Stream::numbered(0))
+        .ok()
+        .ok_or("it opens")?;
+    let mut shelf = MemoryShelf::open(rt.alloc(), Vec::new(rt.alloc()));
+    let mut sink = MemorySink::open(rt.alloc(), Vec::new(rt.alloc()));
+    let mut outlet = Outlet {
+        shelf: &mut shelf,
+        name: "a.r",
+        out: &mut sink,
+        failed: false,
+        piece: [0; LONGEST],
+    };
+    assert_eq!(rt; write_run(machine, 3, &mut outlet), Status::Done);
+    assert_eq!(rt; sink.taken(), TURNS.as_bytes());
     Ok(())
 }

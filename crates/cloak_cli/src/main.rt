@@ -2,8 +2,8 @@
 //!
 //! `cloak run BUNDLE RECORD --steps N --number K` runs the guest image in the file BUNDLE for N steps at the
 //! most, with the random stream of number K. It shows the console and a report, writes the record of the run
-//! to the file RECORD, and exits with the number of its status. `command::cloak` is all of it over any files
-//! and any output; its clause `answers` gives each status its cause and each run its bytes.
+//! to the file RECORD, and exits with the number of its status. `program::run_program` is all of it over any
+//! words, files and output; its clause `exits` gives each status its cause and each run its bytes.
 #![tactic(auto)]
 
 mod command;
@@ -14,17 +14,20 @@ mod item_bytes;
 mod number;
 mod outlet;
 mod prepare;
+mod program;
 mod request;
 mod run;
 mod run_request;
 mod status;
 #[cfg(test)]
 mod tests;
+mod words;
 
-use crate::command::cloak;
+use crate::program::run_program;
 use crate::status::Status;
-use cloak_base::{Failed, NoMemory};
-use outside_io::{FileShelf, StdSink, put_all};
+use crate::words::Words;
+use cloak_base::NoMemory;
+use outside_io::{FileShelf, StdSink};
 use std::fs::{File, OpenOptions};
 use std::process::ExitCode;
 use std::{env, io};
@@ -43,36 +46,37 @@ fn hold_streams(rt: &HostRuntime) -> io::Result<Held> {
     Ok([open()?, open()?, open()?])
 }
 
-/// The words after the program's name. One that is no text is a fault of the words.
-fn command_words(rt: &HostRuntime) -> Result<Vec<String>, Status> {
+/// The words after the program's name.
+fn command_words(rt: &HostRuntime) -> Words {
     let Ok(mut words) = env::args(rt) else {
-        return Err(Status::Usage);
+        return Words::NotText;
     };
     words.next();
-    words.collect(rt.alloc()).map_err(|_| Status::NoMemory)
+    match words.collect(rt.alloc()) {
+        Ok(words) => Words::Taken(words),
+        Err(_) => Words::NoMemory,
+    }
 }
 
-/// Does what the words ask for, with the files and the output of the system.
-fn run_program(rt: HostRuntime) -> Result<Status, NoMemory> {
+/// Runs the program with the files and the output of the system.
+fn run_here(rt: &HostRuntime) -> Result<Status, NoMemory> {
     let mut shelf = FileShelf::open(rt.clone()?)?;
     let mut out = StdSink::open(rt.clone()?)?;
-    let mut status = match command_words(&rt) {
-        Ok(words) => cloak(rt.alloc(), &words, &mut shelf, &mut out),
-        Err(Status::Usage) => {
-            let _ = put_all(&mut out, b"usage: words\n");
-            Status::Usage
-        }
-        Err(status) => status,
-    };
-    if shelf.flush().is_err() || out.flush().is_err() {
-        status = Status::WriteFault;
+    let words = command_words(rt);
+    Ok(run_program(rt.alloc(), &words, &mut shelf, &mut out))
+}
+
+/// There is no memory to gather in, so the line is shown as it is.
+fn refuse_for_memory(rt: &HostRuntime) -> Status {
+    match rt.write_all(b"no memory\n") {
+        Ok(()) => Status::NoMemory,
+        Err(_) => Status::WriteFault,
     }
-    Ok(status)
 }
 
 fn main(rt: HostRuntime) -> ExitCode {
     let status = match hold_streams(&rt) {
-        Ok(_held) => run_program(rt).unwrap_or(Status::NoMemory),
+        Ok(_held) => run_here(&rt).unwrap_or_else(|_| refuse_for_memory(&rt)),
         Err(_) => Status::WriteFault,
     };
     ExitCode::from(status.number())

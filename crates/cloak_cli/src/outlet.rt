@@ -1,9 +1,11 @@
 //! Where a run writes: the record to a shelf, the console and the report to a sink.
-ghost use Rattle.std.specs.Prelude.{◌≡◌, [], ◌∷◌};
+ghost use Rattle.std.specs.Prelude.{◌≡◌, [], ◌∷◌, OnOk, OnErr};
+ghost use Rattle.outside_io.specs.Told.{Counts, Grows, GrowsByFront, OtherFiles};
 ghost use Rattle.cloak_model.specs.Exchange.{recorded, shown, Emits};
 ghost use Rattle.cloak_machine.specs.Ending.{end_report};
 
 use crate::item_bytes::{LONGEST, write_cipher, write_item};
+use cloak_base::Failed;
 use cloak_machine::End;
 use cloak_model::{Emit, Item};
 use outside_io::{Shelf, Sink, put_all};
@@ -19,6 +21,27 @@ pub struct Outlet<'s, 'n, 'o, S: Shelf, O: Sink> {
     pub piece: [u8; LONGEST],
 }
 
+/// Appends an item to the record. Behind the last one all of the record is written out, so its fault comes before the
+/// report.
+fn append_item<S: Shelf>(
+    shelf: &mut S,
+    name: &str,
+    bytes: &[u8],
+    is_last: bool,
+) -> Result<(), Failed>
+    ensures ok { OnOk result (Grows (S.held shelf.old name.now) (S.held shelf.new name.now) bytes.now) }
+    ensures err { OnErr result (GrowsByFront (S.held shelf.old name.now) (S.held shelf.new name.now) bytes.now) }
+    ensures others { OtherFiles name.now (S.held shelf.old) (S.held shelf.new) }
+    ensures writing { Counts (S.writing_faults shelf.old) (S.writing_faults shelf.new) result }
+    ensures reading { S.reading_faults shelf.new ≡ S.reading_faults shelf.old }
+{
+    shelf.append(name, bytes)?;
+    if is_last {
+        return shelf.flush();
+    }
+    Ok(())
+}
+
 impl<'s, 'n, 'o, S: Shelf, O: Sink> Emit for Outlet<'s, 'n, 'o, S, O> {
     ghost use Rattle.cloak_cli.specs.Outlet.{Gave};
 
@@ -29,7 +52,8 @@ impl<'s, 'n, 'o, S: Shelf, O: Sink> Emit for Outlet<'s, 'n, 'o, S, O> {
             return;
         }
         let n = write_item(i, &mut self.piece);
-        self.failed = self.shelf.append(self.name, &self.piece[..n]).is_err();
+        let is_last = matches!(i, Item::End);
+        self.failed = append_item(self.shelf, self.name, &self.piece[..n], is_last).is_err();
     }
 
     fn cipher(&mut self, frame: u32, bytes: &[u8; 4096]) {
@@ -41,7 +65,11 @@ impl<'s, 'n, 'o, S: Shelf, O: Sink> Emit for Outlet<'s, 'n, 'o, S, O> {
     }
 
     fn console(&mut self, b: u8) {
-        self.show(&[b]);
+        if self.failed {
+            return;
+        }
+        // One byte is taken in one call, or not at all.
+        self.failed = self.out.put(&[b]).is_err();
     }
 }
 
@@ -52,7 +80,8 @@ impl<'s, 'n, 'o, S: Shelf, O: Sink> Outlet<'s, 'n, 'o, S, O> {
     pub fn append(&mut self, bytes: &[u8])
         ensures same_shelf { self.new.shelf.ghost_name ≡ self.old.shelf.ghost_name }
         ensures same_out { self.new.out.ghost_name ≡ self.old.out.ghost_name }
-        ensures emits { Emits (Gave S.held S.reading_faults S.writing_faults O.taken O.faults) self.old self.new (recorded bytes.now ∷ []) }
+        ensures emits { Emits (Gave S.held S.reading_faults S.writing_faults O.taken O.faults)
+            self.old self.new (recorded bytes.now ∷ []) }
     {
         if self.failed {
             return;
@@ -64,7 +93,8 @@ impl<'s, 'n, 'o, S: Shelf, O: Sink> Outlet<'s, 'n, 'o, S, O> {
     pub fn show(&mut self, bytes: &[u8])
         ensures same_shelf { self.new.shelf.ghost_name ≡ self.old.shelf.ghost_name }
         ensures same_out { self.new.out.ghost_name ≡ self.old.out.ghost_name }
-        ensures emits { Emits (Gave S.held S.reading_faults S.writing_faults O.taken O.faults) self.old self.new (shown bytes.now ∷ []) }
+        ensures emits { Emits (Gave S.held S.reading_faults S.writing_faults O.taken O.faults)
+            self.old self.new (shown bytes.now ∷ []) }
     {
         if self.failed {
             return;
@@ -76,7 +106,8 @@ impl<'s, 'n, 'o, S: Shelf, O: Sink> Outlet<'s, 'n, 'o, S, O> {
     pub fn report(&mut self, end: &End)
         ensures same_shelf { self.new.shelf.ghost_name ≡ self.old.shelf.ghost_name }
         ensures same_out { self.new.out.ghost_name ≡ self.old.out.ghost_name }
-        ensures emits { Emits (Gave S.held S.reading_faults S.writing_faults O.taken O.faults) self.old self.new (shown (end_report end.now) ∷ []) }
+        ensures emits { Emits (Gave S.held S.reading_faults S.writing_faults O.taken O.faults)
+            self.old self.new (shown (end_report end.now) ∷ []) }
     {
         if self.failed {
             return;

@@ -66,6 +66,7 @@ pub fn prepare<S: Shelf>(
     number: u64,
     shelf: &mut S,
 ) -> Result<Machine, Refusal>
+    requires { S.is_settled shelf.old }
     ensures prepares { Prepares (S.held shelf.old name.now) number
         (S.reading_faults shelf.old) (S.reading_faults shelf.new) result }
     ensures fresh { IfOk result (λ machine. steps_made machine ≡ 0) }

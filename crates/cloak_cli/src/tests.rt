@@ -1,5 +1,6 @@
-use crate::command::cloak;
+use crate::program::run_program;
 use crate::status::Status;
+use crate::words::Words;
 use outside_io::{MemoryShelf, MemorySink};
 use std::alloc::{AllocError, Global};
 use std::test::*;
@@ -90,7 +91,7 @@ pub fn called(
     for word in line.split_whitespace() {
         words.push(String::from_str(alloc, word)?)?;
     }
-    let status = cloak(alloc, &words, &mut shelf, &mut sink);
+    let status = run_program(alloc, &Words::Taken(words), &mut shelf, &mut sink);
     Ok(Left {
         status,
         shelf,
@@ -214,16 +215,18 @@ fn refused_words(rt: HostRuntime) -> Result<(), Fail> {
 
 /// Runs of the smallest image whose Nth call on the files or the output fails: the status, the output and
 /// how much of the record stands. Call 1 asks for the size, 2 reads, 3 begins the record, 4 appends its
-/// first bytes, 5 to 8 the steps, 9 and 10 its end.
+/// first bytes, 5 to 8 the steps, 9 and 10 its end, 11 writes it out, and 12 writes out what is left.
 #[test]
 fn failing_calls(rt: HostRuntime) -> Result<(), Fail> {
-    let rows: [(u64, u64, Status, &str, &[u8]); 9] = [
+    let rows: [(u64, u64, Status, &str, &[u8]); 11] = [
         (1, 0, Status::ReadFault, "read fault\n", &RECORD[..0]),
         (2, 0, Status::ReadFault, "read fault\n", &RECORD[..0]),
         (3, 0, Status::WriteFault, "", &RECORD[..0]),
         (4, 0, Status::WriteFault, "", &RECORD[..0]),
         (6, 0, Status::WriteFault, "", &RECORD[..13]),
         (10, 0, Status::WriteFault, "A", &RECORD[..33]),
+        (11, 0, Status::WriteFault, "A", &RECORD[..34]),
+        (12, 0, Status::WriteFault, WHOLE_RUN, &RECORD[..34]),
         (0, 1, Status::WriteFault, "", &RECORD[..18]),
         (0, 2, Status::WriteFault, "A", &RECORD[..34]),
         (0, 3, Status::WriteFault, "A\n", &RECORD[..34]),

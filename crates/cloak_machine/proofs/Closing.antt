@@ -41,19 +41,22 @@ settles_none_below zero c none = refl
 settles_none_below (suc n) c none = ap (settled_in n) (settles_none_below n c none) ∙ settles_none n c (none n)
 
 -- the machine stays as it is, and the kernel is shown nothing
-pub closing-bare : (machine : Machine) (console : List ℕ) → let j = (moment_of machine console).joint in closing j ≡ record { joint = j; items = [] }
+pub closing-bare : (machine : Machine) (console : List ℕ) →
+    let j = (moment_of machine console).joint in closing j ≡ record { joint = j; items = [] }
 unfolding closing
 closing-bare machine console =
     let j = (moment_of machine console).joint in
     ap (λ (c : Cloak). let o : Opened = record { joint = record j { memory = c.memory }; items = c.items } in o)
-    (settles_none_below (length j.memory.ram) (cloak_outside j.memory (hart_in j 0)) (owed_nothing (length j.memory.ram)))
+    (settles_none_below (length j.memory.ram) (cloak_outside j.memory (hart_in j 0))
+    (owed_nothing (length j.memory.ram)))
 
 -- The report.
 
 -- the lines of console, memory, disk and harts, by what they say
 texts : (count : ℕ) (console ram disk : List ℕ) (harts : List Hart) → List ℕ
 texts count console ram disk harts =
-    (codes "console " ++ (decimal count ++ digest_text (codes " ") console)) ++ (digest_text (codes "ram ") ram ++ (digest_text (codes "disk ") disk ++ harts_lines 0 harts))
+    (codes "console " ++ (decimal count ++ digest_text (codes " ") console)) ++
+    (digest_text (codes "ram ") ram ++ (digest_text (codes "disk ") disk ++ harts_lines 0 harts))
 
 -- what the lines of a machine's end say
 pub record IsSaid (lines : KernelLines) (k : KernelPart) : Type 0 where
@@ -68,19 +71,25 @@ unfolding texts
 kernel_text-is lines k said i = texts (said.count i) (said.console i) (said.ram i) (said.disk i) (said.harts i)
 
 -- What is emitted and reported where nothing is shown as it closes.
-pub ends_as : {E : Type 0} {gave : E → E → List Piece → Type 0} {e e' : E} {machine : Machine} {end : End} {stopped : Stop} {m : Moment} →
-    StandsForMoment machine m → Emits gave e e' (item_pieces (item.Close machine.steps ∷ item.End ∷ [])) → end.stop ≡ stopped → end.steps ≡ machine.steps → end.draws ≡ machine.draws →
-    ((console : List ℕ) → ConsoleShows machine.console console → IsSaid end.lines (kernel_part (moment_of machine console).joint)) →
+pub ends_as : {E : Type 0} {gave : E → E → List Piece → Type 0} {e e' : E} {machine : Machine} {end : End}
+    {stopped : Stop} {m : Moment} →
+    StandsForMoment machine m → Emits gave e e' (item_pieces (item.Close machine.steps ∷ item.End ∷ [])) →
+    end.stop ≡ stopped → end.steps ≡ machine.steps → end.draws ≡ machine.draws →
+    ((console : List ℕ) → ConsoleShows machine.console console → IsSaid end.lines
+    (kernel_part (moment_of machine console).joint)) →
     EndsAs gave e e' end stopped m (closing m.joint)
 ends_as {E} {gave} {e} {e'} {machine} {end} {stopped} {m} stands emits stop steps draws said =
     let bytes = m.joint.console in
     let k = kernel_part (moment_of machine bytes).joint in
-    let lines : kernel_text end.lines ≡ kernel_lines k ++ [] = kernel_text-is end.lines k (said bytes stands.console) ∙ sym (append-nil (kernel_lines k)) in
+    let lines : kernel_text end.lines ≡ kernel_lines k ++ [] = kernel_text-is end.lines k (said bytes stands.console)
+    ∙ sym (append-nil (kernel_lines k)) in
     subst (λ (x : Moment). EndsAs gave e e' end stopped x (closing x.joint)) (sym stands.moment)
-    (subst (λ (o : Opened). EndsAs gave e e' end stopped (moment_of machine bytes) o) (sym (closing-bare machine bytes)) (record {
+    (subst (λ (o : Opened). EndsAs gave e e' end stopped (moment_of machine bytes) o)
+    (sym (closing-bare machine bytes)) (record {
       emits = emits;
       stop = stop;
       steps = steps;
       draws = draws;
-      report = λ i. stop_line end.stop ++ (number_line (codes "steps ") (steps i) ++ (number_line (codes "draws ") (draws i) ++ lines i));
+      report = λ i. stop_line end.stop ++
+          (number_line (codes "steps ") (steps i) ++ (number_line (codes "draws ") (draws i) ++ lines i));
     }))

@@ -1,5 +1,6 @@
 -- The opening of a run without programs.
-use Rattle.std.proofs.Common.{◌≡◌, ◌<◌, ◌∙◌, ℕ, zero, suc, ◌+◌, false, List, [], ◌∷◌, length, replicate, Some, None, Result, Ok, Err, refl, ap, sym, arith, length-append, All}
+use Rattle.std.proofs.Common.{◌≡◌, ◌<◌, ◌∙◌, ℕ, zero, suc, ◌+◌, false, List, [], ◌∷◌, length, replicate, Some, None}
+use Rattle.std.proofs.Common.{Result, Ok, Err, refl, ap, sym, arith, length-append, All}
 use Rattle.std.specs.Prelude.{filter, map, slice_index_or}
 use Rattle.cloak_base.specs.Random.{Random, next_draw}
 use Rattle.cloak_model.specs.declared.image.Bundle.{Bundle}
@@ -11,7 +12,9 @@ use Rattle.cloak_model.specs.Cloaking.{CloakedMemory}
 use Rattle.cloak_model.specs.Hart.{Hart, started}
 use Rattle.cloak_base.specs.Pages.{zero_page}
 use Rattle.cloak_model.specs.Memory.{with_byte, with_bytes, zero_ram}
-use Rattle.cloak_model.specs.Opening.{Opened, Lack, NoKey, opening, opened_by, opened_with, opening_items, is_placed, numbers_below, place_programs, started_joint, started_kernel, started_memory, started_ledger, started_harts, started_domains, with_segments}
+use Rattle.cloak_model.specs.Opening.{Opened, Lack, NoKey, opening, opened_by, opened_with, opening_items, is_placed}
+use Rattle.cloak_model.specs.Opening.{numbers_below, place_programs, started_joint, started_kernel, started_memory}
+use Rattle.cloak_model.specs.Opening.{started_ledger, started_harts, started_domains, with_segments}
 use Rattle.cloak_model.specs.Run.{first_moment}
 use Rattle.cloak_machine.specs.Console.{ConsoleShows}
 use Rattle.cloak_machine.specs.Standing.{OpensAs, moment_of}
@@ -29,7 +32,8 @@ none_placed [] = refl
 none_placed (f ∷ frames) = none_placed frames
 
 no_items : (ram : List (List ℕ)) → opening_items [] ram ≡ []
-no_items ram = ap (λ (fs : List ℕ). map (λ (f : ℕ). Cipher f (slice_index_or ram f [])) fs) (none_placed (numbers_below (length ram)))
+no_items ram = ap (λ (fs : List ℕ). map (λ (f : ℕ). Cipher f (slice_index_or ram f [])) fs)
+    (none_placed (numbers_below (length ram)))
 
 -- how a run without programs opens
 abbrev pub opened_bare : Bundle → List ℕ → Random → Opened
@@ -41,10 +45,12 @@ unfolding opened_with
 opened_without b key rest none =
     let m : CloakedMemory = started_memory b.kernel key rest in
     ap (λ (ps : List Program). opened_with b (place_programs 0 ps m)) none
-    ∙ ap (λ (items : List Item). let o : Result Opened Lack = Ok (record { joint = started_joint b m; items = items }) in o)
+    ∙ ap (λ (items : List Item). let o : Result Opened Lack = Ok (record { joint = started_joint b m; items = items })
+    in o)
     (ap (λ (ps : List Program). opening_items ps m.ram) none ∙ no_items m.ram)
 
-pub opening-some : (b : Bundle) (s rest : Random) (key : List ℕ) → b.programs ≡ [] → next_draw s ≡ Some (key, rest) → opening b s ≡ Ok (opened_bare b key rest)
+pub opening-some : (b : Bundle) (s rest : Random) (key : List ℕ) → b.programs ≡ [] → next_draw s ≡ Some (key, rest) →
+    opening b s ≡ Ok (opened_bare b key rest)
 unfolding opened_by
 opening-some b s rest key none some = rw some (opened_without b key rest none)
 
@@ -56,7 +62,8 @@ length-started_harts entry (suc n) =
     omega (arith, before, more)
 
 -- the hart of each turn is there
-pub turns_inside : (turns schedule : List ℕ) (harts : List Hart) (entry n : ℕ) → turns ≡ schedule → harts ≡ started_harts entry n →
+pub turns_inside : (turns schedule : List ℕ) (harts : List Hart) (entry n : ℕ) → turns ≡ schedule →
+    harts ≡ started_harts entry n →
     All (λ h. h < n) schedule → All (λ h. h < length harts) turns
 turns_inside turns schedule harts entry n same started inside =
     rw (same, started, length-started_harts entry n) inside
@@ -67,9 +74,11 @@ length-with_bytes : (ram : List (List ℕ)) (pa : ℕ) (bytes : List ℕ) → le
 length-with_bytes ram pa [] = refl
 length-with_bytes ram pa (b ∷ bytes) = length-with_bytes (with_byte ram pa b) (pa + 1) bytes ∙ length-set ram _ _
 
-length-with_segments : (ram : List (List ℕ)) (segments : List Segment) → length (with_segments ram segments) ≡ length ram
+length-with_segments : (ram : List (List ℕ)) (segments : List Segment) →
+    length (with_segments ram segments) ≡ length ram
 length-with_segments ram [] = refl
-length-with_segments ram (s ∷ segments) = length-with_segments (with_bytes ram s.address s.bytes) segments ∙ length-with_bytes ram s.address s.bytes
+length-with_segments ram (s ∷ segments) =
+    length-with_segments (with_bytes ram s.address s.bytes) segments ∙ length-with_bytes ram s.address s.bytes
 
 count_started : (frames : ℕ) (segments : List Segment) → length (with_segments (zero_ram frames) segments) ≡ frames
 count_started frames segments = length-with_segments (zero_ram frames) segments ∙ length-replicate frames zero_page
@@ -86,7 +95,8 @@ pub record IsFresh (machine : Machine) (b : Bundle) (key : List ℕ) (rest : Ran
   pub stream : machine.stream ≡ rest
   pub draws : machine.draws ≡ 0
 
-first_moment_is : (machine : Machine) (b : Bundle) (key : List ℕ) (rest : Random) → b.programs ≡ [] → IsFresh machine b key rest →
+first_moment_is : (machine : Machine) (b : Bundle) (key : List ℕ) (rest : Random) → b.programs ≡ [] →
+    IsFresh machine b key rest →
     first_moment b (opened_bare b key rest).joint ≡ moment_of machine []
 unfolding started_joint started_kernel started_memory started_ledger
 first_moment_is machine b key rest none is i = record {
@@ -104,7 +114,8 @@ first_moment_is machine b key rest none is i = record {
         stream = sym is.stream i;
         draws = sym is.draws i;
         recorded = λ page. None;
-        owed = replicate (sym (ap (λ (ram : List (List ℕ)). length ram) is.frames ∙ count_started b.kernel.frames b.kernel.segments) i) None;
+        owed = replicate (sym (ap (λ (ram : List (List ℕ)). length ram) is.frames ∙ count_started b.kernel.frames
+            b.kernel.segments) i) None;
         root = λ space. None;
         missed = false;
         clashed = false;
@@ -115,7 +126,8 @@ first_moment_is machine b key rest none is i = record {
 }
 
 -- a machine that has this stands for the first moment
-pub opens_as : (machine : Machine) (b : Bundle) (s : Random) (key : List ℕ) (rest : Random) → b.programs ≡ [] → next_draw s ≡ Some (key, rest) → IsFresh machine b key rest → OpensAs b s machine
+pub opens_as : (machine : Machine) (b : Bundle) (s : Random) (key : List ℕ) (rest : Random) → b.programs ≡ [] →
+    next_draw s ≡ Some (key, rest) → IsFresh machine b key rest → OpensAs b s machine
 unfolding started_joint started_kernel
 opens_as machine b s key rest none some is = record {
   opened = opened_bare b key rest;

@@ -1,5 +1,7 @@
 -- A step of the machine, by the hart whose turn it is and by how its step ended.
-use Rattle.std.proofs.Common.{◌≡◌, ◌<◌, ℕ, zero, suc, ◌+◌, ◌%◌, true, false, List, [], ◌∷◌, ◌++◌, length, get_or, replicate, slice_index, slice_index_or, slice_set, append_assoc, refl, sym, ◌∙◌, ap, subst, Option, Some, None}
+use Rattle.std.proofs.Common.{◌≡◌, ◌<◌, ℕ, zero, suc, ◌+◌, ◌%◌, true, false, List, [], ◌∷◌, ◌++◌, length, get_or}
+use Rattle.std.proofs.Common.{replicate, slice_index, slice_index_or, slice_set, append_assoc, refl, sym, ◌∙◌, ap}
+use Rattle.std.proofs.Common.{subst, Option, Some, None}
 use Rattle.std.specs.Prelude.{is_some}
 use Rattle.std.proofs.Math.Nat.{mod-lt}
 use Rattle.std.proofs.lemmas.Bool.{false≢true}
@@ -20,13 +22,15 @@ use Rattle.step_parts.proofs.StepLater.{later_step_in_parts}
 use Rattle.settling_ahead.proofs.Laws.{settles_nothing}
 use Rattle.cloak_model.specs.HostCalls.{After}
 use Rattle.cloak_model.specs.KernelStep.{kernel_step, ticked}
+use Rattle.cloak_model.specs.declared.item.Item.{Item}
 use Rattle.cloak_model.specs.declared.item.Item.TheVariants.{Step}
 use Rattle.cloak_model.specs.declared.outcome.Kernel.{Kernel}
 use Rattle.cloak_model.specs.declared.outcome.Kernel.TheVariants.{Stay, Put, Halt, Resume}
 use Rattle.cloak_model.specs.Exchange.{Piece, Emits, item_pieces, shown_each}
 use Rattle.cloak_model.specs.Parts.{Joint}
 use Rattle.cloak_model.specs.Resuming.{resume, by_domain}
-use Rattle.cloak_model.specs.Joint.{Moment, Turn, joint_step, turn_of, outside_step, after_outside, outside_ended, inside_step, with_hart, cloak_outside, hart_in}
+use Rattle.cloak_model.specs.Joint.{Moment, Turn, joint_step, turn_of, outside_step, after_outside, outside_ended}
+use Rattle.cloak_model.specs.Joint.{inside_step, with_hart, cloak_outside, hart_in}
 use Rattle.cloak_machine.specs.Console.{ConsoleShows}
 use Rattle.cloak_machine.specs.declared.console.Console.{Console}
 use Rattle.cloak_machine.specs.Standing.{StandsForMoment, MakesTurn, moment_of}
@@ -53,31 +57,47 @@ none_of (Some x) none = absurd (false≢true (sym none))
 abbrev told_of : Hart → List ℕ → Kernel → List (List ℕ) → Told After
 told_of h disk k ram = record { answer = record { hart = h; disk = disk; ending = k }; world = Flat ram }
 
-told_as : {A : Type 0} (told : Told A) (a : A) (w : World) → told.answer ≡ a → told.world ≡ w → told ≡ record { answer = a; world = w }
+told_as : {A : Type 0} (told : Told A) (a : A) (w : World) → told.answer ≡ a → told.world ≡ w →
+    told ≡ record { answer = a; world = w }
 told_as told a w e f i = record { answer = e i; world = f i }
 
 later_kernel_step : (h : Hart) (disk : List ℕ) (w : World) → IsLater w (kernel_step h disk w).world
-later_kernel_step h disk w = subst (λ (told : Told After). IsLater w told.world) (sym (same_step h disk w)) (later_step_in_parts h disk w)
+later_kernel_step h disk w =
+    subst (λ (told : Told After). IsLater w told.world) (sym (same_step h disk w)) (later_step_in_parts h disk w)
 
 -- the step over the machine's memory
 pub step_of_memory : (old new : Memory) (h h' : Hart) (disk disk' : List ℕ) (k : Kernel) →
-    Follows (λ (first side : Memory) w. w ≡ Flat side.frames.items) old new (record { hart = h'; disk = disk'; ending = k }) (kernel_step h disk) →
+    Follows (λ (first side : Memory) w. w ≡ Flat side.frames.items) old new
+    (record { hart = h'; disk = disk'; ending = k }) (kernel_step h disk) →
     kernel_step h disk (Flat old.frames.items) ≡ told_of h' disk' k new.frames.items
 step_of_memory old new h h' disk disk' k follows =
-    let followed = follows old (Flat old.frames.items) refl (unclashed_after_flat old.frames.items _ (later_kernel_step h disk (Flat old.frames.items))) in
+    let followed = follows old (Flat old.frames.items) refl
+    (unclashed_after_flat old.frames.items _ (later_kernel_step h disk (Flat old.frames.items))) in
     told_as _ _ _ (sym followed.answer) followed.stands
 
 -- where nothing is owed, the step is the plain step on RAM
-made_plainly : (h : Hart) (disk : List ℕ) (c : Cloak) (told : Told After) → kernel_step h disk (Flat c.memory.ram) ≡ told →
-    made_after h disk c (unsettled c.memory) ≡ record { answer = told.answer; world = Cloaked (record c { memory = record c.memory { ram = ram_of told.world }; items = c.items ++ [] }) }
+made_plainly : (h : Hart) (disk : List ℕ) (c : Cloak) (told : Told After) →
+    kernel_step h disk (Flat c.memory.ram) ≡ told →
+    made_after h disk c (unsettled c.memory) ≡
+    record {
+      answer = told.answer;
+      world = Cloaked
+          (record c { memory = record c.memory { ram = ram_of told.world }; items = c.items ++ [] });
+    }
 unfolding made_after
 made_plainly h disk c told made = rw made refl
 
-settled_plainly : (h : Hart) (disk : List ℕ) (c : Cloak) (told : Told After) → ((f : ℕ) → is_owed c.memory f ≡ false) → kernel_step h disk (Flat c.memory.ram) ≡ told →
-    settled_step h disk c ≡ record { answer = told.answer; world = Cloaked (record c { memory = record c.memory { ram = ram_of told.world }; items = c.items ++ [] }) }
+settled_plainly : (h : Hart) (disk : List ℕ) (c : Cloak) (told : Told After) →
+    ((f : ℕ) → is_owed c.memory f ≡ false) → kernel_step h disk (Flat c.memory.ram) ≡ told →
+    settled_step h disk c ≡ record {
+      answer = told.answer;
+      world = Cloaked
+          (record c { memory = record c.memory { ram = ram_of told.world }; items = c.items ++ [] });
+    }
 unfolding settled_step
 settled_plainly h disk c told none made =
-    ap (λ (s : AfterSettling). made_after h disk c s) (settles_nothing h disk c.memory none) ∙ made_plainly h disk c told made
+    ap (λ (s : AfterSettling). made_after h disk c s) (settles_nothing h disk c.memory none)
+    ∙ made_plainly h disk c told made
 
 -- the joint machine after the step of a hart, over this disk and these frames
 abbrev after_plain : Machine → List ℕ → ℕ → Hart → List ℕ → List (List ℕ) → Joint
@@ -91,7 +111,8 @@ turn_by old console number h disk ram k = outside_ended (after_plain old console
 
 -- The next step of the machine is this turn, whatever its console showed.
 pub MakesNext : Machine → ℕ → Hart → List ℕ → List (List ℕ) → Kernel → Type 0
-MakesNext old number h disk ram k = (console : List ℕ) → joint_step (moment_of old console) ≡ turn_by old console number h disk ram k
+MakesNext old number h disk ram k =
+    (console : List ℕ) → joint_step (moment_of old console) ≡ turn_by old console number h disk ram k
 
 -- it is the turn of this hart
 pub record IsNext (old : Machine) (number : ℕ) (h : Hart) : Type 0 where
@@ -103,10 +124,12 @@ joint_step-of : (old : Machine) (number : ℕ) (h : Hart) (console : List ℕ) �
 unfolding joint_step
 joint_step-of old number h console is =
     let j = (moment_of old console).joint in
-    ap (λ (n : ℕ). turn_of j n (hart_in j n) (hart_in j n).inside) (sym is.turn) ∙ ap (λ (x : Hart). turn_of j number x x.inside) is.hart
+    ap (λ (n : ℕ). turn_of j n (hart_in j n) (hart_in j n).inside)
+    (sym is.turn) ∙ ap (λ (x : Hart). turn_of j number x x.inside) is.hart
 
 -- the turn of a hart outside, whose step was made so
-pub outside_turn : (old : Machine) (number : ℕ) (h h' : Hart) (disk : List ℕ) (k : Kernel) (ram : List (List ℕ)) → IsNext old number h → is_some h.inside ≡ false →
+pub outside_turn : (old : Machine) (number : ℕ) (h h' : Hart) (disk : List ℕ) (k : Kernel) (ram : List (List ℕ)) →
+    IsNext old number h → is_some h.inside ≡ false →
     kernel_step h old.disk (Flat old.memory.frames.items) ≡ told_of h' disk k ram → MakesNext old number h' disk ram k
 unfolding MakesNext turn_of outside_step after_outside
 outside_turn old number h h' disk k ram is outside made console =
@@ -114,14 +137,18 @@ outside_turn old number h h' disk k ram is outside made console =
     joint_step-of old number h console is
     ∙ ap (λ (o : Option ℕ). turn_of j number h o) (none_of h.inside outside)
     ∙ ap (λ (told : Told After). after_outside j number told)
-    (settled_plainly h old.disk (cloak_outside j.memory h) (told_of h' disk k ram) (owes_nothing (length old.memory.frames.items)) made)
+    (settled_plainly h old.disk (cloak_outside j.memory h) (told_of h' disk k ram)
+    (owes_nothing (length old.memory.frames.items)) made)
 
 -- the turn of a hart inside a context that there is not
-pub inside_turn : (old : Machine) (number : ℕ) (h : Hart) → IsNext old number h → is_some h.inside ≡ true → MakesNext old number (ticked h) old.disk old.memory.frames.items Stay
+pub inside_turn : (old : Machine) (number : ℕ) (h : Hart) → IsNext old number h → is_some h.inside ≡ true →
+    MakesNext old number (ticked h) old.disk old.memory.frames.items Stay
 unfolding MakesNext turn_of inside_step outside_ended
 inside_turn old number h is inside console = joint_step-of old number h console is ∙ by h.inside inside
   where
-    by : (o : Option ℕ) → is_some o ≡ true → turn_of (moment_of old console).joint number h o ≡ turn_by old console number (ticked h) old.disk old.memory.frames.items Stay
+    by : (o : Option ℕ) → is_some o ≡ true →
+        turn_of (moment_of old console).joint number h o ≡
+        turn_by old console number (ticked h) old.disk old.memory.frames.items Stay
     by None some = absurd (false≢true some)
     by (Some ctx) some = refl
 
@@ -138,8 +165,10 @@ pub record Leaves (old new : Machine) (number : ℕ) (h : Hart) (disk : List ℕ
   pub draws : new.draws ≡ old.draws
 
 -- the moment of the machine that a step left
-moment_after : (old new : Machine) (console : List ℕ) (number : ℕ) (h : Hart) (disk : List ℕ) (ram : List (List ℕ)) → Leaves old new number h disk ram →
-    record { schedule = old.schedule.items; steps = old.steps + 1; joint = after_plain old console number h disk ram } ≡ moment_of new console
+moment_after : (old new : Machine) (console : List ℕ) (number : ℕ) (h : Hart) (disk : List ℕ) (ram : List (List ℕ)) →
+    Leaves old new number h disk ram →
+    record { schedule = old.schedule.items; steps = old.steps + 1; joint = after_plain old console number h disk ram }
+    ≡ moment_of new console
 moment_after old new console number h disk ram left i = record {
   schedule = sym left.schedule i;
   steps = sym left.steps i;
@@ -179,7 +208,8 @@ stop_by (Halt value) = Some (stop.Halt value)
 stop_by (Resume ctx answer) = Some (stop.Violation (violation.Context ctx))
 
 -- a turn by its ending
-made_by : {E : Type 0} (gave : E → E → List Piece → Type 0) (e e' : E) (old new : Machine) (console : List ℕ) (number : ℕ) (h : Hart) (disk : List ℕ) (ram : List (List ℕ)) (k : Kernel) →
+made_by : {E : Type 0} (gave : E → E → List Piece → Type 0) (e e' : E) (old new : Machine) (console : List ℕ)
+    (number : ℕ) (h : Hart) (disk : List ℕ) (ram : List (List ℕ)) (k : Kernel) →
     Leaves old new number h disk ram → ConsoleShows new.console (console ++ console_byte k) →
     Emits gave e e' (item_pieces (Step (old.steps + 1) ∷ []) ++ shown_each (console_byte k)) →
     MakesTurn gave e e' new (stop_by k) (moment_of old console) (turn_by old console number h disk ram k)
@@ -215,7 +245,8 @@ made_by gave e e' old new console number h disk ram (Resume ctx answer) left sho
 }
 
 -- A whole step.
-pub step_made : {E : Type 0} {gave : E → E → List Piece → Type 0} {e e' : E} {old new : Machine} {m : Moment} {number : ℕ} {h : Hart} {disk : List ℕ} {ram : List (List ℕ)} (k : Kernel) →
+pub step_made : {E : Type 0} {gave : E → E → List Piece → Type 0} {e e' : E} {old new : Machine} {m : Moment}
+    {number : ℕ} {h : Hart} {disk : List ℕ} {ram : List (List ℕ)} (k : Kernel) →
     StandsForMoment old m → MakesNext old number h disk ram k → Leaves old new number h disk ram →
     ((bytes : List ℕ) → ConsoleShows old.console bytes → ConsoleShows new.console (bytes ++ console_byte k)) →
     Emits gave e e' (item_pieces (Step (old.steps + 1) ∷ []) ++ shown_each (console_byte k)) →
@@ -232,20 +263,31 @@ pub shows_same : (c : Console) (bytes : List ℕ) → ConsoleShows c bytes → C
 shows_same c bytes shows = subst (λ (l : List ℕ). ConsoleShows c l) (sym (append-nil bytes)) shows
 
 -- The turn of the schedule, as it is read, is that of a hart that is there.
-pub is_next : (old : Machine) (x n : ℕ) (h : Hart) → x ≡ get_or old.schedule.items (old.steps % n) x → n ≡ length old.schedule.items → h ≡ get_or old.harts.items x h → IsNext old x h
+pub is_next : (old : Machine) (x n : ℕ) (h : Hart) → x ≡ get_or old.schedule.items (old.steps % n) x →
+    n ≡ length old.schedule.items → h ≡ get_or old.harts.items x h → IsNext old x h
 is_next old x n h read same at =
     let turns = old.schedule.items in
-    let here : x ≡ get_or turns (old.steps % length turns) x = subst (λ (k : ℕ). x ≡ get_or turns (old.steps % k) x) same read in
+    let here : x ≡ get_or turns (old.steps % length turns) x = subst (λ (k : ℕ). x ≡ get_or turns (old.steps % k) x)
+    same read in
     let inside = mod-lt old.steps old.some_turns in
-    let there : x < length old.harts.items = subst (λ (k : ℕ). k < length old.harts.items) (sym here) (old.turns (old.steps % length turns) x inside) in
+    let there : x < length old.harts.items = subst (λ (k : ℕ). k < length old.harts.items) (sym here)
+    (old.turns (old.steps % length turns) x inside) in
     record {
       turn = get_or_read_under turns (old.steps % length turns) (length turns) x 0 here inside refl;
       hart = get_or_default old.harts.items x (started 0 0) h there ∙ sym at;
     }
 
+-- an item that is emitted by another name
+pub emits_as : {E : Type 0} {gave : E → E → List Piece → Type 0} {e e' : E} {i j : Item} → i ≡ j →
+    Emits gave e e' (item_pieces (i ∷ [])) → Emits gave e e' (item_pieces (j ∷ []))
+emits_as {E} {gave} {e} {e'} {i} {j} same emits =
+    subst (λ (x : Item). Emits gave e e' (item_pieces (x ∷ []))) same emits
+
 -- pieces, and then others
-pub emits_then : {E : Type 0} {gave : E → E → List Piece → Type 0} {e f h : E} {ps qs : List Piece} → Emits gave e f ps → Emits gave f h qs → Emits gave e h (ps ++ qs)
+pub emits_then : {E : Type 0} {gave : E → E → List Piece → Type 0} {e f h : E} {ps qs : List Piece} →
+    Emits gave e f ps → Emits gave f h qs → Emits gave e h (ps ++ qs)
 emits_then {E} {gave} {e} {f} {h} {ps} {qs} first second = record {
   more = λ start before given.
-      subst (λ (pieces : List Piece). gave start h pieces) (append_assoc before ps qs) (second.more start (before ++ ps) (first.more start before given));
+      subst (λ (pieces : List Piece). gave start h pieces) (append_assoc before ps qs)
+      (second.more start (before ++ ps) (first.more start before given));
 }

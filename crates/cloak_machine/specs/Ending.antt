@@ -16,9 +16,11 @@ console_text lines = codes "console " ++ (decimal lines.console_length ++ digest
 -- the lines of console, memory, disk and harts
 abbrev pub kernel_text : KernelLines → List ℕ
 kernel_text lines =
-    console_text lines ++ (digest_text (codes "ram ") lines.ram ++ (digest_text (codes "disk ") lines.disk ++ harts_lines 0 lines.harts.items))
+    console_text lines ++ (digest_text (codes "ram ") lines.ram ++ (digest_text (codes "disk ") lines.disk
+    ++ harts_lines 0 lines.harts.items))
 
 -- the report that an end writes
 abbrev pub end_report : End → List ℕ
 end_report e =
-    stop_line e.stop ++ (number_line (codes "steps ") e.steps ++ (number_line (codes "draws ") e.draws ++ kernel_text e.lines))
+    stop_line e.stop ++ (number_line (codes "steps ") e.steps ++ (number_line (codes "draws ") e.draws
+    ++ kernel_text e.lines))

@@ -3,6 +3,17 @@ use Rattle.std.specs.Prelude.{ℕ, List, ◌++◌, Option, Result}
 use Rattle.cloak_base.specs.declared.causes.Failed.{Failed}
 use Rattle.outside_io.specs.Told.{Puts}
 
+-- A sink behind the texts that were put to it: the bytes that it tells, its count of faults, and whether a text failed.
+pub record Putting : Type 0 where
+  pub taken : Option (List ℕ)
+  pub faults : ℕ
+  pub so_far : Result Unit Failed
+
+abbrev pub putting : {O : Type 0} → (O → Option (List ℕ)) → (O → ℕ) → O → Result Unit Failed → Putting
+putting taken faults out so_far = record { taken = taken out; faults = faults out; so_far = so_far }
+
 -- Behind whatever was put so far, this text was put too, unless something failed before.
-pub record PutsMore (old : Option (List ℕ)) (before : ℕ) (so_far : Result Unit Failed) (new : Option (List ℕ)) (now : ℕ) (result : Result Unit Failed) (text : List ℕ) : Type 0 where
-  pub more : (told : Option (List ℕ)) (count : ℕ) (texts : List ℕ) → Puts told old count before texts so_far → Puts told new count now (texts ++ text) result
+pub record PutsMore (old new : Putting) (text : List ℕ) : Type 0 where
+  pub more : (told : Option (List ℕ)) (count : ℕ) (texts : List ℕ) →
+      Puts told old.taken count old.faults texts old.so_far →
+      Puts told new.taken count new.faults (texts ++ text) new.so_far

@@ -1,5 +1,6 @@
 -- What a machine stands for: moments of the joint run.
-use Rattle.std.specs.Prelude.{ℕ, ◌≡◌, ◌+◌, false, List, [], ◌∷◌, ◌++◌, length, replicate, Option, Some, None, Result, Ok, Err}
+use Rattle.std.specs.Prelude.{ℕ, ◌≡◌, ◌+◌, false, List, [], ◌∷◌, ◌++◌, length, replicate, Option, Some, None, Result}
+use Rattle.std.specs.Prelude.{Ok, Err}
 use Rattle.cloak_base.specs.Random.{Random}
 use Rattle.cloak_base.specs.declared.causes.Stop.{Stop}
 use Rattle.cloak_model.specs.declared.image.Bundle.{Bundle}
@@ -21,8 +22,8 @@ use Rattle.cloak_machine.specs.declared.machine.OpenFault.TheVariants as fault
 abbrev pub steps_made : Machine → ℕ
 steps_made machine = machine.steps
 
--- The moment of a machine without programs whose console was shown these bytes. No page is anywhere: all are zeros, none
--- is recorded, no frame is owed one, and no space has a page table.
+-- The moment of a machine without programs whose console was shown these bytes. Every page is zeros, none is recorded,
+-- no frame is owed one, and no space has a page table.
 abbrev pub moment_of : Machine → List ℕ → Moment
 moment_of machine console = record {
   schedule = machine.schedule.items;
@@ -69,13 +70,15 @@ Opens b stream (Err fault.NoRandom) = opening b stream ≡ Err NoPageDraw
 Opens b stream (Err fault.NoMemory) = Unit {0}
 
 -- what a step from this moment emits and answers, where it is this turn, and what the machine then stands for
-pub record MakesTurn {E : Type 0} (gave : E → E → List Piece → Type 0) (e e' : E) (machine : Machine) (given : Option Stop) (m : Moment) (t : Turn) : Type 0 where
+pub record MakesTurn {E : Type 0} (gave : E → E → List Piece → Type 0) (e e' : E) (machine : Machine)
+    (given : Option Stop) (m : Moment) (t : Turn) : Type 0 where
   pub emits : Emits gave e e' (turn_pieces (m.steps + 1) t)
   pub answer : given ≡ stop_of t
   pub stands : StandsForMoment machine (after_turn m t)
 
 -- what the closing of a run that this stopped emits, where it closes so, and what is reported then
-pub record EndsAs {E : Type 0} (gave : E → E → List Piece → Type 0) (e e' : E) (end : End) (stopped : Stop) (m : Moment) (closed : Opened) : Type 0 where
+pub record EndsAs {E : Type 0} (gave : E → E → List Piece → Type 0) (e e' : E) (end : End) (stopped : Stop)
+    (m : Moment) (closed : Opened) : Type 0 where
   pub emits : Emits gave e e' (item_pieces (item.Close m.steps ∷ (closed.items ++ item.End ∷ [])))
   pub steps : end.steps ≡ m.steps
   pub draws : end.draws ≡ closed.joint.memory.ledger.draws

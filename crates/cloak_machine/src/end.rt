@@ -2,7 +2,7 @@ ghost use Rattle.std.specs.Prelude.{◌≡◌, ◌+◌, ◌<◌, ◌≤◌, ◌^
 ghost use Rattle.std.specs.List.{concat};
 ghost use Rattle.sha2.specs.Sha256.{sha256};
 ghost use Rattle.outside_io.specs.Told.{Puts};
-ghost use Rattle.cloak_machine.specs.Putting.{PutsMore};
+ghost use Rattle.cloak_machine.specs.Putting.{PutsMore, putting};
 ghost use Rattle.cloak_model.specs.Report as spec;
 ghost use Rattle.cloak_machine.specs.Ending.{digest_text, console_text, kernel_text};
 ghost use Rattle.cloak_machine.specs.Console.{ConsoleShows};
@@ -60,10 +60,9 @@ impl KernelLines {
         ensures disk { result.disk ≡ sha256 disk.now }
         ensures harts { result.harts ≡ harts }
     {
-        let Console { hasher, count } = console;
         KernelLines {
-            console_length: count,
-            console: hasher.finalize(),
+            console_length: console.count,
+            console: console.digest(),
             ram: digest_of(frames),
             disk: Sha256::digest(disk),
             harts,
@@ -73,7 +72,8 @@ impl KernelLines {
 
 /// What the kernel presented.
 fn put_violation<O: Sink>(out: &mut O, so_far: SoFar, violation: &Violation) -> SoFar
-    ensures { PutsMore (O.taken out.old) (O.faults out.old) so_far (O.taken out.new) (O.faults out.new) result (spec.violation_text violation.now) }
+    ensures { PutsMore (putting O.taken O.faults out.old so_far) (putting O.taken O.faults out.new result)
+        (spec.violation_text violation.now) }
 {
     match *violation {
         Violation::Page { page, frame } => {
@@ -101,7 +101,8 @@ fn put_violation<O: Sink>(out: &mut O, so_far: SoFar, violation: &Violation) -> 
 
 /// The line that says why a run ended.
 fn put_stop_line<O: Sink>(out: &mut O, so_far: SoFar, stop: &Stop) -> SoFar
-    ensures { PutsMore (O.taken out.old) (O.faults out.old) so_far (O.taken out.new) (O.faults out.new) result (spec.stop_line stop.now) }
+    ensures { PutsMore (putting O.taken O.faults out.old so_far) (putting O.taken O.faults out.new result)
+        (spec.stop_line stop.now) }
 {
     let so_far = put_stop(out, so_far, stop);
     text(out, so_far, b"\n")
@@ -109,7 +110,8 @@ fn put_stop_line<O: Sink>(out: &mut O, so_far: SoFar, stop: &Stop) -> SoFar
 
 /// Why a run ended.
 fn put_stop<O: Sink>(out: &mut O, so_far: SoFar, stop: &Stop) -> SoFar
-    ensures { PutsMore (O.taken out.old) (O.faults out.old) so_far (O.taken out.new) (O.faults out.new) result (spec.stop_text stop.now) }
+    ensures { PutsMore (putting O.taken O.faults out.old so_far) (putting O.taken O.faults out.new result)
+        (spec.stop_text stop.now) }
 {
     match *stop {
         Stop::Halt(value) => {
@@ -127,7 +129,8 @@ fn put_stop<O: Sink>(out: &mut O, so_far: SoFar, stop: &Stop) -> SoFar
 
 /// Each word behind a space.
 fn put_words<O: Sink>(out: &mut O, so_far: SoFar, words: &[u32]) -> SoFar
-    ensures { PutsMore (O.taken out.old) (O.faults out.old) so_far (O.taken out.new) (O.faults out.new) result (spec.words_text words.now) }
+    ensures { PutsMore (putting O.taken O.faults out.old so_far) (putting O.taken O.faults out.new result)
+        (spec.words_text words.now) }
 {
     let mut so_far = so_far;
     for word in words {
@@ -139,7 +142,8 @@ fn put_words<O: Sink>(out: &mut O, so_far: SoFar, words: &[u32]) -> SoFar
 
 /// A line of a name and a number.
 fn put_number<O: Sink>(out: &mut O, so_far: SoFar, name: &[u8], n: u64) -> SoFar
-    ensures { PutsMore (O.taken out.old) (O.faults out.old) so_far (O.taken out.new) (O.faults out.new) result (spec.number_line name.now n) }
+    ensures { PutsMore (putting O.taken O.faults out.old so_far) (putting O.taken O.faults out.new result)
+        (spec.number_line name.now n) }
 {
     let so_far = text(out, so_far, name);
     let so_far = decimal(out, so_far, n);
@@ -148,7 +152,8 @@ fn put_number<O: Sink>(out: &mut O, so_far: SoFar, name: &[u8], n: u64) -> SoFar
 
 /// A line of a name and a digest.
 fn put_digest<O: Sink>(out: &mut O, so_far: SoFar, name: &[u8], bytes: &[u8; 32]) -> SoFar
-    ensures { PutsMore (O.taken out.old) (O.faults out.old) so_far (O.taken out.new) (O.faults out.new) result (digest_text name.now bytes.now) }
+    ensures { PutsMore (putting O.taken O.faults out.old so_far) (putting O.taken O.faults out.new result)
+        (digest_text name.now bytes.now) }
 {
     let so_far = text(out, so_far, name);
     let so_far = digest(out, so_far, bytes);
@@ -157,7 +162,8 @@ fn put_digest<O: Sink>(out: &mut O, so_far: SoFar, name: &[u8], bytes: &[u8; 32]
 
 /// A line of a name and words.
 fn put_words_line<O: Sink>(out: &mut O, so_far: SoFar, name: &[u8], words: &[u32]) -> SoFar
-    ensures { PutsMore (O.taken out.old) (O.faults out.old) so_far (O.taken out.new) (O.faults out.new) result (spec.words_line name.now words.now) }
+    ensures { PutsMore (putting O.taken O.faults out.old so_far) (putting O.taken O.faults out.new result)
+        (spec.words_line name.now words.now) }
 {
     let so_far = text(out, so_far, name);
     let so_far = put_words(out, so_far, words);
@@ -166,7 +172,8 @@ fn put_words_line<O: Sink>(out: &mut O, so_far: SoFar, name: &[u8], words: &[u32
 
 /// The letter of a mode.
 fn put_mode<O: Sink>(out: &mut O, so_far: SoFar, mode: Mode) -> SoFar
-    ensures { PutsMore (O.taken out.old) (O.faults out.old) so_far (O.taken out.new) (O.faults out.new) result (spec.mode_text mode) }
+    ensures { PutsMore (putting O.taken O.faults out.old so_far) (putting O.taken O.faults out.new result)
+        (spec.mode_text mode) }
 {
     match mode {
         Mode::U => text(out, so_far, b"U"),
@@ -176,7 +183,8 @@ fn put_mode<O: Sink>(out: &mut O, so_far: SoFar, mode: Mode) -> SoFar
 
 /// The number of the context that a hart runs, or a hyphen.
 fn put_inside<O: Sink>(out: &mut O, so_far: SoFar, inside: Option<u32>) -> SoFar
-    ensures { PutsMore (O.taken out.old) (O.faults out.old) so_far (O.taken out.new) (O.faults out.new) result (spec.inside_text inside) }
+    ensures { PutsMore (putting O.taken O.faults out.old so_far) (putting O.taken O.faults out.new result)
+        (spec.inside_text inside) }
 {
     match inside {
         None => text(out, so_far, b"-"),
@@ -186,7 +194,8 @@ fn put_inside<O: Sink>(out: &mut O, so_far: SoFar, inside: Option<u32>) -> SoFar
 
 /// A hart's number, mode, program counter, context and timer.
 fn put_hart_line<O: Sink>(out: &mut O, so_far: SoFar, number: u64, hart: &Hart) -> SoFar
-    ensures { PutsMore (O.taken out.old) (O.faults out.old) so_far (O.taken out.new) (O.faults out.new) result (spec.hart_line number hart.now) }
+    ensures { PutsMore (putting O.taken O.faults out.old so_far) (putting O.taken O.faults out.new result)
+        (spec.hart_line number hart.now) }
 {
     let so_far = text(out, so_far, b"hart ");
     let so_far = decimal(out, so_far, number);
@@ -203,7 +212,8 @@ fn put_hart_line<O: Sink>(out: &mut O, so_far: SoFar, number: u64, hart: &Hart) 
 
 /// A hart's line, its registers and its CSRs.
 fn put_hart<O: Sink>(out: &mut O, so_far: SoFar, number: u64, hart: &Hart) -> SoFar
-    ensures { PutsMore (O.taken out.old) (O.faults out.old) so_far (O.taken out.new) (O.faults out.new) result (spec.hart_lines number hart.now) }
+    ensures { PutsMore (putting O.taken O.faults out.old so_far) (putting O.taken O.faults out.new result)
+        (spec.hart_lines number hart.now) }
 {
     let so_far = put_hart_line(out, so_far, number, hart);
     let so_far = put_words_line(out, so_far, b"regs", &hart.regs.words()[1..]);
@@ -212,7 +222,8 @@ fn put_hart<O: Sink>(out: &mut O, so_far: SoFar, number: u64, hart: &Hart) -> So
 
 /// The lines of all harts.
 fn put_harts<O: Sink>(out: &mut O, so_far: SoFar, harts: &[Hart]) -> SoFar
-    ensures { PutsMore (O.taken out.old) (O.faults out.old) so_far (O.taken out.new) (O.faults out.new) result (spec.harts_lines 0 harts.now) }
+    ensures { PutsMore (putting O.taken O.faults out.old so_far) (putting O.taken O.faults out.new result)
+        (spec.harts_lines 0 harts.now) }
 {
     let mut so_far = so_far;
     for (number, hart) in harts.iter().enumerate() {
@@ -223,7 +234,8 @@ fn put_harts<O: Sink>(out: &mut O, so_far: SoFar, harts: &[Hart]) -> SoFar
 
 /// The console's line.
 fn put_console<O: Sink>(out: &mut O, so_far: SoFar, lines: &KernelLines) -> SoFar
-    ensures { PutsMore (O.taken out.old) (O.faults out.old) so_far (O.taken out.new) (O.faults out.new) result (console_text lines.now) }
+    ensures { PutsMore (putting O.taken O.faults out.old so_far) (putting O.taken O.faults out.new result)
+        (console_text lines.now) }
 {
     let so_far = text(out, so_far, b"console ");
     let so_far = decimal(out, so_far, lines.console_length);
@@ -232,7 +244,8 @@ fn put_console<O: Sink>(out: &mut O, so_far: SoFar, lines: &KernelLines) -> SoFa
 
 /// The lines of console, memory, disk and harts.
 fn put_kernel<O: Sink>(out: &mut O, so_far: SoFar, lines: &KernelLines) -> SoFar
-    ensures { PutsMore (O.taken out.old) (O.faults out.old) so_far (O.taken out.new) (O.faults out.new) result (kernel_text lines.now) }
+    ensures { PutsMore (putting O.taken O.faults out.old so_far) (putting O.taken O.faults out.new result)
+        (kernel_text lines.now) }
 {
     let so_far = put_console(out, so_far, lines);
     let so_far = put_digest(out, so_far, b"ram ", &lines.ram);
@@ -245,7 +258,8 @@ impl End {
 
     /// Writes the report. One that failed has written a front of it.
     pub fn report<O: Sink>(&self, out: &mut O) -> Result<(), Failed>
-        ensures { Puts (O.taken out.old) (O.taken out.new) (O.faults out.old) (O.faults out.new) (end_report self.now) result }
+        ensures { Puts (O.taken out.old) (O.taken out.new) (O.faults out.old) (O.faults out.new)
+            (end_report self.now) result }
     {
         let so_far = put_stop_line(out, Ok(()), &self.stop);
         let so_far = put_number(out, so_far, b"steps ", self.steps as u64);

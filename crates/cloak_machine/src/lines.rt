@@ -2,7 +2,7 @@
 ghost use Rattle.std.specs.Prelude.{decimal};
 ghost use Rattle.hex.specs.Hex.{encode_lower};
 ghost use Rattle.cloak_model.specs.Report as spec;
-ghost use Rattle.cloak_machine.specs.Putting.{PutsMore};
+ghost use Rattle.cloak_machine.specs.Putting.{PutsMore, putting};
 
 use cloak_base::Failed;
 use outside_io::{Sink, put_all};
@@ -12,7 +12,7 @@ pub type SoFar = Result<(), Failed>;
 
 /// A text as it is.
 pub fn text<O: Sink>(out: &mut O, so_far: SoFar, piece: &[u8]) -> SoFar
-    ensures { PutsMore (O.taken out.old) (O.faults out.old) so_far (O.taken out.new) (O.faults out.new) result piece.now }
+    ensures { PutsMore (putting O.taken O.faults out.old so_far) (putting O.taken O.faults out.new result) piece.now }
 {
     match so_far {
         Ok(()) => put_all(out, piece),
@@ -22,7 +22,8 @@ pub fn text<O: Sink>(out: &mut O, so_far: SoFar, piece: &[u8]) -> SoFar
 
 /// A number in decimal digits.
 pub fn decimal<O: Sink>(out: &mut O, so_far: SoFar, n: u64) -> SoFar
-    ensures { PutsMore (O.taken out.old) (O.faults out.old) so_far (O.taken out.new) (O.faults out.new) result (decimal n) }
+    ensures { PutsMore (putting O.taken O.faults out.old so_far) (putting O.taken O.faults out.new result)
+        (decimal n) }
 {
     let mut digits = itoa::Buffer::new();
     text(out, so_far, digits.format(n).as_bytes())
@@ -30,7 +31,8 @@ pub fn decimal<O: Sink>(out: &mut O, so_far: SoFar, n: u64) -> SoFar
 
 /// A word in eight hexadecimal digits.
 pub fn hexadecimal<O: Sink>(out: &mut O, so_far: SoFar, w: u32) -> SoFar
-    ensures { PutsMore (O.taken out.old) (O.faults out.old) so_far (O.taken out.new) (O.faults out.new) result (spec.hexadecimal w) }
+    ensures { PutsMore (putting O.taken O.faults out.old so_far) (putting O.taken O.faults out.new result)
+        (spec.hexadecimal w) }
 {
     let mut digits = [0; 8];
     let Ok(()) = hex::encode_to_slice(w.to_be_bytes().as_slice(), &mut digits) else {
@@ -41,7 +43,8 @@ pub fn hexadecimal<O: Sink>(out: &mut O, so_far: SoFar, w: u32) -> SoFar
 
 /// A digest in hexadecimal digits.
 pub fn digest<O: Sink>(out: &mut O, so_far: SoFar, bytes: &[u8; 32]) -> SoFar
-    ensures { PutsMore (O.taken out.old) (O.faults out.old) so_far (O.taken out.new) (O.faults out.new) result (encode_lower bytes.now) }
+    ensures { PutsMore (putting O.taken O.faults out.old so_far) (putting O.taken O.faults out.new result)
+        (encode_lower bytes.now) }
 {
     let mut digits = [0; 64];
     let Ok(()) = hex::encode_to_slice(bytes.as_slice(), &mut digits) else {

@@ -54,12 +54,24 @@ pub struct Machine {
     schedule: Vec<u8>,
     steps: u32,
     console: Console,
+    /// The marker of the last step. It is kept, since an item has room for a page, and to build one clears it.
+    marker: Item,
     key: [u8; 16],
     stream: Stream,
     draws: u64,
     ghost some_turns: { 0 < length schedule.items },
     ghost turns: { All (λ h. h < length harts.items) schedule.items },
     ghost counted: { console.count ≤ steps },
+}
+
+/// Makes an item the marker of a step.
+fn set_number(marker: &mut Item, number: u32)
+    ensures { marker.new ≡ Item.Step number }
+{
+    match marker {
+        Item::Step { number: n } => *n = number,
+        _ => *marker = Item::Step { number },
+    }
 }
 
 impl Machine {
@@ -89,6 +101,7 @@ impl Machine {
             schedule,
             steps: 0,
             console: Console::new(),
+            marker: Item::Step { number: 0 },
             key,
             stream,
             draws: 0,
@@ -106,7 +119,8 @@ impl Machine {
     {
         let number = self.schedule[self.steps as usize % self.schedule.len()] as usize;
         self.steps += 1;
-        e.item(&Item::Step { number: self.steps });
+        set_number(&mut self.marker, self.steps);
+        e.item(&self.marker);
         let hart = &mut self.harts[number];
         if hart::is_inside(hart) {
             tick(hart);

@@ -69,7 +69,7 @@ impl Words for Memory {
     }
 }
 
-#[tactic(auto, using(cloak_model::proofs::Later::laters), unfolding(cloak_model::specs::Ask::ask_translate, cloak_model::specs::Ask::ask_inside, cloak_model::specs::Ask::ask_value, cloak_model::specs::Ask::ask_store, cloak_model::specs::Ask::ask_frame, cloak_model::specs::Ask::ask_fill, cloak_model::specs::Ask::ask_count))]
+#[tactic(auto, using(cloak_model::proofs::Later::laters), unfolding(cloak_model::specs::Ask::ask_translate, cloak_model::specs::Ask::ask_inside, cloak_model::specs::Ask::ask_value, cloak_model::specs::Ask::ask_store, cloak_model::specs::Ask::ask_frame, cloak_model::specs::Ask::ask_fill, cloak_model::specs::Ask::ask_count,))]
 impl Ram for Memory {
     ghost use Rattle.std.specs.Prelude.{◌≡◌, length};
     ghost use Rattle.cloak_model.specs.World.{Flat};

@@ -1,5 +1,6 @@
 -- A file that is read is the spelling of what is read.
-use Rattle.std.proofs.Common.{◌≡◌, ℕ, ◌+◌, ◌*◌, ◌/◌, ◌%◌, ◌^◌, ◌<◌, ◌≤◌, cond, ltb, eqb, List, [], ◌∷◌, ◌++◌, length, drop, codes, Result, Ok, Err, refl, sym, ap, subst, ◌∙◌, arith}
+use Rattle.std.proofs.Common.{◌≡◌, ℕ, ◌+◌, ◌*◌, ◌/◌, ◌%◌, ◌^◌, ◌<◌, ◌≤◌, cond, ltb, eqb, List, [], ◌∷◌, ◌++◌, length}
+use Rattle.std.proofs.Common.{drop, codes, Result, Ok, Err, refl, sym, ap, subst, ◌∙◌, arith}
 use Rattle.std.specs.Str.{bytes_eq}
 use Rattle.std.proofs.lemmas.Slice.Eq.{bytes_eq-Decides}
 use Rattle.std.specs.List.{flat_map, AllByRecursion}
@@ -8,7 +9,8 @@ use Rattle.std.proofs.lemmas.List.{append-nil, drop_all}
 use Rattle.std.proofs.lemmas.List.Concat.{flat_map-cons}
 use Rattle.std.proofs.lemmas.List.Elements.{All-from_recursion}
 use Rattle.cloak_model.specs.Bits.{word}
-use Rattle.cloak_model.specs.Bundle.{segment_bytes, program_bytes, bundle_bytes, IsSegmentIn, IsProgramIn, IsInGrammar, IsBundle, largest_bundle}
+use Rattle.cloak_model.specs.Bundle.{segment_bytes, program_bytes, bundle_bytes, IsSegmentIn, IsProgramIn, IsInGrammar}
+use Rattle.cloak_model.specs.Bundle.{IsBundle, largest_bundle}
 use Rattle.cloak_model.specs.declared.image.Segment.{Segment}
 use Rattle.cloak_model.specs.declared.image.Program.{Program}
 use Rattle.cloak_model.specs.declared.image.Bundle.{Bundle}
@@ -16,20 +18,28 @@ use Rattle.cloak_model.specs.declared.fault.BundleFault.{BundleFault}
 use Rattle.cloak_model.specs.declared.fault.BundleFault.TheVariants.{BadMagic, BadVersion, TooLarge, Extra}
 use Rattle.guest_bundle.specs.declared.header.Header.{Header}
 use Rattle.guest_bundle.specs.Fields.{◌>>=◌, bytes_at, pages_at, number_at, count_at, entry_at}
-use Rattle.guest_bundle.specs.Reading.{version_at, header_at, turn_at, segment_at, segment_size, program_at, program_size, parts_at, bundle_of, bundle_at}
+use Rattle.guest_bundle.specs.Reading.{version_at, header_at, turn_at, segment_at, segment_size, program_at}
+use Rattle.guest_bundle.specs.Reading.{program_size, parts_at, bundle_of, bundle_at}
 use Rattle.guest_bundle.proofs.Steps.{bind_ok, refused_not, passed, ok_is, IsBytes, Stands, Stands-then}
-use Rattle.guest_bundle.proofs.Takes.{bytes_take, pages_take, number_takes, count_takes, entry_takes, turn_takes, segment_takes, program_takes, parts_take}
+use Rattle.guest_bundle.proofs.Takes.{bytes_take, pages_take, number_takes, count_takes, entry_takes, turn_takes}
+use Rattle.guest_bundle.proofs.Takes.{segment_takes, program_takes, parts_take}
 
-version_takes : (file : List ℕ) (v : ℕ) → IsBytes file → version_at file ≡ Ok v → Stands file 0 (codes "CLOAKBND" ++ word 1) 12
+version_takes : (file : List ℕ) (v : ℕ) → IsBytes file → version_at file ≡ Ok v →
+    Stands file 0 (codes "CLOAKBND" ++ word 1) 12
 unfolding version_at
 version_takes file v fits e =
-    let a = bind_ok (bytes_at file 0 8) (λ magic. cond (bytes_eq magic (codes "CLOAKBND")) (number_at file 8) (Err BadMagic) >>= λ n. cond (eqb n 1) (Ok n) (Err (BadVersion n))) v e in
-    let b = bind_ok (cond (bytes_eq a.0 (codes "CLOAKBND")) (number_at file 8) (Err BadMagic)) (λ n. cond (eqb n 1) (Ok n) (Err (BadVersion n))) v a.2 in
+    let a = bind_ok (bytes_at file 0 8)
+    (λ magic. cond (bytes_eq magic (codes "CLOAKBND")) (number_at file 8) (Err BadMagic) >>= λ n. cond (eqb n 1)
+    (Ok n) (Err (BadVersion n))) v e in
+    let b = bind_ok (cond (bytes_eq a.0 (codes "CLOAKBND")) (number_at file 8) (Err BadMagic))
+    (λ n. cond (eqb n 1) (Ok n) (Err (BadVersion n))) v a.2 in
     let magic = passed (bytes_eq a.0 (codes "CLOAKBND")) BadMagic (number_at file 8) b.0 b.1 in
     let one = passed (eqb b.0 1) (BadVersion b.0) (Ok b.0) v b.2 in
     let magic_is : a.0 ≡ codes "CLOAKBND" = (bytes_eq-Decides a.0 (codes "CLOAKBND")).0 magic.0 in
-    let front : Stands file 0 (codes "CLOAKBND") 8 = subst (λ t. Stands file 0 t 8) magic_is (bytes_take file 0 8 a.0 a.1).0 in
-    let number : Stands file 8 (word 1) 12 = subst (λ n. Stands file 8 (word n) 12) (eqb-true _ _ one.0) (number_takes file 8 b.0 fits magic.1).text in
+    let front : Stands file 0 (codes "CLOAKBND") 8 =
+    subst (λ t. Stands file 0 t 8) magic_is (bytes_take file 0 8 a.0 a.1).0 in
+    let number : Stands file 8 (word 1) 12 =
+    subst (λ n. Stands file 8 (word n) 12) (eqb-true _ _ one.0) (number_takes file 8 b.0 fits magic.1).text in
     Stands-then file 0 (codes "CLOAKBND") 8 (word 1) 12 front number
 
 -- what a header that was read says of its numbers
@@ -43,7 +53,9 @@ pub record HeaderSteps (v a b c d e f g : Result ℕ BundleFault) (h : Header) :
   pub blocks : f ≡ Ok h.blocks
   pub programs : g ≡ Ok h.programs
 
-unfoldable pub header_from : Result ℕ BundleFault → Result ℕ BundleFault → Result ℕ BundleFault → Result ℕ BundleFault → Result ℕ BundleFault → Result ℕ BundleFault → Result ℕ BundleFault → Result ℕ BundleFault → Result Header BundleFault
+unfoldable pub header_from : Result ℕ BundleFault → Result ℕ BundleFault → Result ℕ BundleFault → Result ℕ BundleFault →
+    Result ℕ BundleFault → Result ℕ BundleFault → Result ℕ BundleFault → Result ℕ BundleFault →
+    Result Header BundleFault
 header_from v a b c d e f g = do
   version ← v
   frames ← a
@@ -53,13 +65,43 @@ header_from v a b c d e f g = do
   segments ← e
   blocks ← f
   programs ← g
-  Ok (record { frames = frames; harts = harts; turns = turns; entry = entry; segments = segments; blocks = blocks; programs = programs })
+  Ok (record {
+    frames = frames;
+    harts = harts;
+    turns = turns;
+    entry = entry;
+    segments = segments;
+    blocks =
+        blocks;
+    programs = programs;
+  })
 
-pub header_steps : (v a b c d e f g : Result ℕ BundleFault) (h : Header) → header_from v a b c d e f g ≡ Ok h → HeaderSteps v a b c d e f g h
+pub header_steps : (v a b c d e f g : Result ℕ BundleFault) (h : Header) → header_from v a b c d e f g ≡ Ok h →
+    HeaderSteps v a b c d e f g h
 unfolding header_from
 header_steps (Ok v) (Ok a) (Ok b) (Ok c) (Ok d) (Ok e) (Ok f) (Ok g) h is =
-    let made : Header = record { frames = a; harts = b; turns = c; entry = d; segments = e; blocks = f; programs = g } in
-    subst (λ (x : Header). HeaderSteps (Ok v) (Ok a) (Ok b) (Ok c) (Ok d) (Ok e) (Ok f) (Ok g) x) (ok_is made h is) (record { version = (v, refl); frames = refl; harts = refl; turns = refl; entry = refl; segments = refl; blocks = refl; programs = refl })
+    let made : Header = record {
+      frames = a;
+      harts = b;
+      turns = c;
+      entry = d;
+      segments = e;
+      blocks = f;
+      programs =
+          g;
+    } in
+    subst (λ (x : Header). HeaderSteps (Ok v) (Ok a) (Ok b) (Ok c) (Ok d) (Ok e) (Ok f) (Ok g) x) (ok_is made h is)
+    (record {
+      version = (v, refl);
+      frames = refl;
+      harts = refl;
+      turns = refl;
+      entry = refl;
+      segments =
+          refl;
+      blocks = refl;
+      programs = refl;
+    })
 header_steps (Ok v) (Ok a) (Ok b) (Ok c) (Ok d) (Ok e) (Ok f) (Err x) h is = absurd cc
 header_steps (Ok v) (Ok a) (Ok b) (Ok c) (Ok d) (Ok e) (Err x) g h is = absurd cc
 header_steps (Ok v) (Ok a) (Ok b) (Ok c) (Ok d) (Err x) f g h is = absurd cc
@@ -70,7 +112,8 @@ header_steps (Ok v) (Err x) b c d e f g h is = absurd cc
 header_steps (Err x) a b c d e f g h is = absurd cc
 
 header_text : Header → List ℕ
-header_text h = word h.frames ++ (word h.harts ++ (word h.turns ++ (word h.entry ++ (word h.segments ++ (word h.blocks ++ word h.programs)))))
+header_text h = word h.frames ++
+    (word h.harts ++ (word h.turns ++ (word h.entry ++ (word h.segments ++ (word h.blocks ++ word h.programs)))))
 
 record HeaderFits (h : Header) : Type 0 where
   some_frames : 64 ≤ h.frames
@@ -85,10 +128,12 @@ record HeaderFits (h : Header) : Type 0 where
   few_blocks : h.blocks ≤ 4096
   few_programs : h.programs ≤ 4
 
-header_takes : (file : List ℕ) (h : Header) → IsBytes file → header_at file ≡ Ok h → Stands file 0 ((codes "CLOAKBND" ++ word 1) ++ header_text h) 40 × HeaderFits h
+header_takes : (file : List ℕ) (h : Header) → IsBytes file → header_at file ≡ Ok h →
+    Stands file 0 ((codes "CLOAKBND" ++ word 1) ++ header_text h) 40 × HeaderFits h
 unfolding header_at header_from header_text
 header_takes file h fits e =
-    let s = header_steps (version_at file) (count_at file 12 64 4096) (count_at file 16 1 4) (count_at file 20 1 64) (entry_at file 24) (count_at file 28 0 16) (count_at file 32 0 4096) (count_at file 36 0 4) h e in
+    let s = header_steps (version_at file) (count_at file 12 64 4096) (count_at file 16 1 4) (count_at file 20 1 64)
+    (entry_at file 24) (count_at file 28 0 16) (count_at file 32 0 4096) (count_at file 36 0 4) h e in
     let version = version_takes file s.version.0 fits s.version.1 in
     let frames = count_takes file 12 64 4096 h.frames fits s.frames in
     let harts = count_takes file 16 1 4 h.harts fits s.harts in
@@ -98,13 +143,33 @@ header_takes file h fits e =
     let blocks = count_takes file 32 0 4096 h.blocks fits s.blocks in
     let programs = count_takes file 36 0 4 h.programs fits s.programs in
     let text = Stands-then file 0 (codes "CLOAKBND" ++ word 1) 12 (header_text h) 40 version
-    (Stands-then file 12 (word h.frames) 16 (word h.harts ++ (word h.turns ++ (word h.entry ++ (word h.segments ++ (word h.blocks ++ word h.programs))))) 40 frames.0.text
-    (Stands-then file 16 (word h.harts) 20 (word h.turns ++ (word h.entry ++ (word h.segments ++ (word h.blocks ++ word h.programs)))) 40 harts.0.text
-    (Stands-then file 20 (word h.turns) 24 (word h.entry ++ (word h.segments ++ (word h.blocks ++ word h.programs))) 40 turns.0.text
+    (Stands-then file 12 (word h.frames) 16
+    (word h.harts ++ (word h.turns ++ (word h.entry ++ (word h.segments ++ (word h.blocks ++ word h.programs))))) 40
+    frames.0.text
+    (Stands-then file 16 (word h.harts) 20
+    (word h.turns ++ (word h.entry ++ (word h.segments ++ (word h.blocks ++ word h.programs)))) 40 harts.0.text
+    (Stands-then file 20 (word h.turns) 24 (word h.entry ++ (word h.segments ++ (word h.blocks ++ word h.programs))) 40
+    turns.0.text
     (Stands-then file 24 (word h.entry) 28 (word h.segments ++ (word h.blocks ++ word h.programs)) 40 entry.0.text
     (Stands-then file 28 (word h.segments) 32 (word h.blocks ++ word h.programs) 40 segments.0.text
-    (Stands-then file 32 (word h.blocks) 36 (word h.programs) 40 blocks.0.text programs.0.text)))))) in
-    (text, record { some_frames = frames.1; few_frames = frames.2; some_harts = harts.1; few_harts = harts.2; some_turns = turns.1; few_turns = turns.2; entry = entry.1; entry_fits = entry.0.small; few_segments = segments.2; few_blocks = blocks.2; few_programs = programs.2 })
+    (Stands-then file 32 (word h.blocks) 36 (word h.programs) 40 blocks.0.text programs.0.text)))))) in (
+      text,
+      record {
+        some_frames = frames.1;
+        few_frames = frames.2;
+        some_harts = harts.1;
+        few_harts =
+            harts.2;
+        some_turns = turns.1;
+        few_turns = turns.2;
+        entry = entry.1;
+        entry_fits = entry.0.small;
+        few_segments =
+            segments.2;
+        few_blocks = blocks.2;
+        few_programs = programs.2;
+      },
+    )
 
 -- bytes, each as a list of its own
 joined : (xs : List ℕ) → flat_map (λ x. x ∷ []) xs ≡ xs
@@ -130,37 +195,65 @@ record BundleSteps (file : List ℕ) (bundle : Bundle) : Type 0 where
 bundle_steps : (file : List ℕ) (bundle : Bundle) → bundle_at file ≡ Ok bundle → BundleSteps file bundle
 unfolding bundle_at
 bundle_steps file bundle e =
-    let k4 = λ (h : Header) (schedule : List ℕ × ℕ) (segments : List Segment × ℕ) (disk : List ℕ) (programs : List Program × ℕ). cond (eqb programs.1 (length file)) (Ok (bundle_of h schedule.0 segments.0 disk programs.0)) (Err (Extra programs.1)) in
-    let k3 = λ (h : Header) (schedule : List ℕ × ℕ) (segments : List Segment × ℕ) (disk : List ℕ). parts_at (program_at h.frames file) program_size h.programs (segments.1 + length disk) >>= k4 h schedule segments disk in
-    let k2 = λ (h : Header) (schedule : List ℕ × ℕ) (segments : List Segment × ℕ). pages_at file segments.1 h.blocks >>= k3 h schedule segments in
-    let k1 = λ (h : Header) (schedule : List ℕ × ℕ). parts_at (segment_at h.frames file) segment_size h.segments schedule.1 >>= k2 h schedule in
+    let k4 = λ (h : Header) (schedule : List ℕ × ℕ) (segments : List Segment × ℕ) (disk : List ℕ)
+    (programs : List Program × ℕ). cond (eqb programs.1 (length file))
+    (Ok (bundle_of h schedule.0 segments.0 disk programs.0)) (Err (Extra programs.1)) in
+    let k3 = λ (h : Header) (schedule : List ℕ × ℕ) (segments : List Segment × ℕ) (disk : List ℕ). parts_at
+    (program_at h.frames file) program_size h.programs (segments.1 + length disk) >>= k4 h schedule segments disk in
+    let k2 = λ (h : Header) (schedule : List ℕ × ℕ) (segments : List Segment × ℕ). pages_at file segments.1 h.blocks >>=
+    k3 h schedule segments in
+    let k1 = λ (h : Header) (schedule : List ℕ × ℕ). parts_at (segment_at h.frames file) segment_size h.segments
+    schedule.1 >>= k2 h schedule in
     let k0 = λ (h : Header). parts_at (turn_at h.harts file) (λ _. 1) h.turns 40 >>= k1 h in
     let a = bind_ok (cond (ltb largest_bundle (length file)) (Err (TooLarge 0)) (header_at file)) k0 bundle e in
     let small = refused_not (ltb largest_bundle (length file)) (TooLarge 0) (header_at file) a.0 a.1 in
     let b = bind_ok (parts_at (turn_at a.0.harts file) (λ _. 1) a.0.turns 40) (k1 a.0) bundle a.2 in
     let c = bind_ok (parts_at (segment_at a.0.frames file) segment_size a.0.segments b.0.1) (k2 a.0 b.0) bundle b.2 in
     let d = bind_ok (pages_at file c.0.1 a.0.blocks) (k3 a.0 b.0 c.0) bundle c.2 in
-    let p = bind_ok (parts_at (program_at a.0.frames file) program_size a.0.programs (c.0.1 + length d.0)) (k4 a.0 b.0 c.0 d.0) bundle d.2 in
+    let p = bind_ok (parts_at (program_at a.0.frames file) program_size a.0.programs (c.0.1 + length d.0))
+    (k4 a.0 b.0 c.0 d.0) bundle d.2 in
     let end = passed (eqb p.0.1 (length file)) (Extra p.0.1) (Ok (bundle_of a.0 b.0.0 c.0.0 d.0 p.0.0)) bundle p.2 in
-    record { h = a.0; schedule = b.0; segments = c.0; disk = d.0; programs = p.0; small = ltb-false _ _ small.0; header_is = small.1; schedule_is = b.1; segments_is = c.1; disk_is = d.1; programs_is = p.1; end = eqb-true _ _ end.0; bundle_is = ok_is _ _ end.1 }
+    record {
+      h = a.0;
+      schedule = b.0;
+      segments = c.0;
+      disk = d.0;
+      programs = p.0;
+      small =
+          ltb-false _ _ small.0;
+      header_is = small.1;
+      schedule_is = b.1;
+      segments_is = c.1;
+      disk_is = d.1;
+      programs_is =
+          p.1;
+      end = eqb-true _ _ end.0;
+      bundle_is = ok_is _ _ end.1;
+    }
 
 -- the numbers of a header that its parts fit
-record CountsAre (h : Header) (schedule : List ℕ) (segments : List Segment) (disk : List ℕ) (programs : List Program) : Type 0 where
+record CountsAre (h : Header) (schedule : List ℕ) (segments : List Segment) (disk : List ℕ)
+    (programs : List Program) : Type 0 where
   turn_count : length schedule ≡ h.turns
   segment_count : length segments ≡ h.segments
   block_bytes : length disk ≡ 4096 * h.blocks
   program_count : length programs ≡ h.programs
 
-made_spelled : (h : Header) (schedule : List ℕ) (segments : List Segment) (disk : List ℕ) (programs : List Program) → CountsAre h schedule segments disk programs
-    → bundle_bytes (bundle_of h schedule segments disk programs) ≡ ((codes "CLOAKBND" ++ word 1) ++ header_text h) ++ (schedule ++ (flat_map segment_bytes segments ++ (disk ++ flat_map program_bytes programs)))
+made_spelled : (h : Header) (schedule : List ℕ) (segments : List Segment) (disk : List ℕ) (programs : List Program) →
+    CountsAre h schedule segments disk programs
+    → bundle_bytes (bundle_of h schedule segments disk programs) ≡ ((codes "CLOAKBND" ++ word 1) ++ header_text h) ++
+    (schedule ++ (flat_map segment_bytes segments ++ (disk ++ flat_map program_bytes programs)))
 unfolding bundle_bytes header_text
 made_spelled h schedule segments disk programs counts =
     let blocks : length disk / 4096 ≡ h.blocks = omega (arith, counts.block_bytes) in
     rw (counts.turn_count, counts.segment_count, blocks, counts.program_count) refl
 
-made_in_grammar : (h : Header) (schedule : List ℕ) (segments : List Segment) (disk : List ℕ) (programs : List Program) → HeaderFits h → CountsAre h schedule segments disk programs
-    → AllByRecursion (λ x. x < h.harts) schedule → AllByRecursion (IsSegmentIn h.frames) segments → AllByRecursion (IsProgramIn h.frames) programs
-    → length (bundle_bytes (bundle_of h schedule segments disk programs)) ≤ largest_bundle → IsInGrammar (bundle_of h schedule segments disk programs)
+made_in_grammar : (h : Header) (schedule : List ℕ) (segments : List Segment) (disk : List ℕ) (programs : List Program) →
+    HeaderFits h → CountsAre h schedule segments disk programs
+    → AllByRecursion (λ x. x < h.harts) schedule → AllByRecursion (IsSegmentIn h.frames) segments →
+    AllByRecursion (IsProgramIn h.frames) programs
+    → length (bundle_bytes (bundle_of h schedule segments disk programs)) ≤ largest_bundle →
+    IsInGrammar (bundle_of h schedule segments disk programs)
 made_in_grammar h schedule segments disk programs fits counts turns_fit segments_fit programs_fit small = record {
   kernel = record {
     some_frames = fits.some_frames;
@@ -182,29 +275,45 @@ made_in_grammar h schedule segments disk programs fits counts turns_fit segments
   not_too_large = small;
 }
 
-made_takes : (file : List ℕ) (h : Header) (schedule : List ℕ × ℕ) (segments : List Segment × ℕ) (disk : List ℕ) (programs : List Program × ℕ) → IsBytes file → length file ≤ largest_bundle
-    → header_at file ≡ Ok h → parts_at (turn_at h.harts file) (λ _. 1) h.turns 40 ≡ Ok schedule → parts_at (segment_at h.frames file) segment_size h.segments schedule.1 ≡ Ok segments
-    → pages_at file segments.1 h.blocks ≡ Ok disk → parts_at (program_at h.frames file) program_size h.programs (segments.1 + length disk) ≡ Ok programs → programs.1 ≡ length file
+made_takes : (file : List ℕ) (h : Header) (schedule : List ℕ × ℕ) (segments : List Segment × ℕ) (disk : List ℕ)
+    (programs : List Program × ℕ) → IsBytes file → length file ≤ largest_bundle
+    → header_at file ≡ Ok h → parts_at (turn_at h.harts file) (λ _. 1) h.turns 40 ≡ Ok schedule →
+    parts_at (segment_at h.frames file) segment_size h.segments schedule.1 ≡ Ok segments
+    → pages_at file segments.1 h.blocks ≡ Ok disk →
+    parts_at (program_at h.frames file) program_size h.programs (segments.1 + length disk) ≡ Ok programs →
+    programs.1 ≡ length file
     → IsBundle file (bundle_of h schedule.0 segments.0 disk programs.0)
 made_takes file h schedule segments disk programs fits small header_is schedule_is segments_is disk_is programs_is end =
     let a = header_takes file h fits header_is in
-    let b = parts_take (λ x. x ∷ []) (λ x. x < h.harts) file (turn_at h.harts file) (λ _. 1) (λ at x is. turn_takes h.harts file at x is) h.turns 40 schedule schedule_is in
-    let c = parts_take segment_bytes (IsSegmentIn h.frames) file (segment_at h.frames file) segment_size (λ at x is. segment_takes h.frames file at x fits is) h.segments schedule.1 segments segments_is in
+    let b = parts_take (λ x. x ∷ []) (λ x. x < h.harts) file (turn_at h.harts file) (λ _. 1)
+    (λ at x is. turn_takes h.harts file at x is) h.turns 40 schedule schedule_is in
+    let c = parts_take segment_bytes (IsSegmentIn h.frames) file (segment_at h.frames file) segment_size
+    (λ at x is. segment_takes h.frames file at x fits is) h.segments schedule.1 segments segments_is in
     let d = pages_take file segments.1 h.blocks disk disk_is in
-    let p = parts_take program_bytes (IsProgramIn h.frames) file (program_at h.frames file) program_size (λ at x is. program_takes h.frames file at x fits is) h.programs (segments.1 + length disk) programs programs_is in
-    let counts : CountsAre h schedule.0 segments.0 disk programs.0 = record { turn_count = b.1; segment_count = c.1; block_bytes = d.1; program_count = p.1 } in
-    let disk_text : Stands file segments.1 disk (segments.1 + length disk) = subst (λ k. Stands file segments.1 disk (segments.1 + k)) (sym d.1) d.0 in
-    let schedule_text : Stands file 40 schedule.0 schedule.1 = subst (λ t. Stands file 40 t schedule.1) (joined schedule.0) b.0 in
+    let p = parts_take program_bytes (IsProgramIn h.frames) file (program_at h.frames file) program_size
+    (λ at x is. program_takes h.frames file at x fits is) h.programs (segments.1 + length disk) programs programs_is
+    in
+    let counts : CountsAre h schedule.0 segments.0 disk programs.0 =
+    record { turn_count = b.1; segment_count = c.1; block_bytes = d.1; program_count = p.1 } in
+    let disk_text : Stands file segments.1 disk (segments.1 + length disk) =
+    subst (λ k. Stands file segments.1 disk (segments.1 + k)) (sym d.1) d.0 in
+    let schedule_text : Stands file 40 schedule.0 schedule.1 =
+    subst (λ t. Stands file 40 t schedule.1) (joined schedule.0) b.0 in
     let front = (codes "CLOAKBND" ++ word 1) ++ header_text h in
     let body = schedule.0 ++ (flat_map segment_bytes segments.0 ++ (disk ++ flat_map program_bytes programs.0)) in
     let whole : Stands file 0 (front ++ body) programs.1 =
     Stands-then file 0 front 40 body programs.1 a.0
-    (Stands-then file 40 schedule.0 schedule.1 (flat_map segment_bytes segments.0 ++ (disk ++ flat_map program_bytes programs.0)) programs.1 schedule_text
-    (Stands-then file schedule.1 (flat_map segment_bytes segments.0) segments.1 (disk ++ flat_map program_bytes programs.0) programs.1 c.0
-    (Stands-then file segments.1 disk (segments.1 + length disk) (flat_map program_bytes programs.0) programs.1 disk_text p.0))) in
+    (Stands-then file 40 schedule.0 schedule.1
+    (flat_map segment_bytes segments.0 ++ (disk ++ flat_map program_bytes programs.0)) programs.1 schedule_text
+    (Stands-then file schedule.1 (flat_map segment_bytes segments.0) segments.1
+    (disk ++ flat_map program_bytes programs.0) programs.1 c.0
+    (Stands-then file segments.1 disk (segments.1 + length disk) (flat_map program_bytes programs.0) programs.1
+    disk_text p.0))) in
     let nothing : drop programs.1 file ≡ [] = drop_all programs.1 file (omega (arith, end)) in
-    let text : file ≡ front ++ body = whole.parts ∙ ap (λ (r : List ℕ). (front ++ body) ++ r) nothing ∙ append-nil (front ++ body) in
-    let spelling : bundle_bytes (bundle_of h schedule.0 segments.0 disk programs.0) ≡ file = made_spelled h schedule.0 segments.0 disk programs.0 counts ∙ sym text in
+    let text : file ≡ front ++ body =
+    whole.parts ∙ ap (λ (r : List ℕ). (front ++ body) ++ r) nothing ∙ append-nil (front ++ body) in
+    let spelling : bundle_bytes (bundle_of h schedule.0 segments.0 disk programs.0) ≡ file =
+    made_spelled h schedule.0 segments.0 disk programs.0 counts ∙ sym text in
     record {
       spelled = spelling;
       in_grammar = made_in_grammar h schedule.0 segments.0 disk programs.0 a.1 counts b.2 c.2 p.2 (rw spelling small);
@@ -214,4 +323,6 @@ made_takes file h schedule segments disk programs fits small header_is schedule_
 pub bundle_takes : (file : List ℕ) (b : Bundle) → IsBytes file → bundle_at file ≡ Ok b → IsBundle file b
 bundle_takes file bundle fits e =
     let s = bundle_steps file bundle e in
-    subst (IsBundle file) s.bundle_is (made_takes file s.h s.schedule s.segments s.disk s.programs fits s.small s.header_is s.schedule_is s.segments_is s.disk_is s.programs_is s.end)
+    subst (IsBundle file) s.bundle_is
+    (made_takes file s.h s.schedule s.segments s.disk s.programs fits s.small s.header_is s.schedule_is
+    s.segments_is s.disk_is s.programs_is s.end)

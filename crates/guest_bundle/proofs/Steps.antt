@@ -1,21 +1,25 @@
 -- Steps of reading that did not fail.
-use Rattle.std.proofs.Common.{◌≡◌, ℕ, ◌+◌, ◌<◌, Bool, true, false, cond, List, ◌++◌, length, get_or, take, drop, Result, Ok, Err, refl, sym, ap, ◌∙◌, arith, inl, inr}
+use Rattle.std.proofs.Common.{◌≡◌, ℕ, ◌+◌, ◌<◌, Bool, true, false, cond, List, ◌++◌, length, get_or, take, drop, Result}
+use Rattle.std.proofs.Common.{Ok, Err, refl, sym, ap, ◌∙◌, arith, inl, inr}
 use Rattle.std.proofs.lemmas.Bool.{cases_lt}
 use Rattle.std.proofs.lemmas.List.{drop-drop, drop_at, length-take, get_or-drop, get_or-take, get_or_past, append_assoc}
 use Rattle.cloak_model.specs.declared.fault.BundleFault.{BundleFault}
 use Rattle.guest_bundle.specs.Fields.{◌>>=◌}
 
 -- the value of a step that did not fail
-pub bind_ok : {A B : Type 0} (r : Result A BundleFault) (f : A → Result B BundleFault) (y : B) → (r >>= f) ≡ Ok y → (x : A) × (r ≡ Ok x) × (f x ≡ Ok y)
+pub bind_ok : {A B : Type 0} (r : Result A BundleFault) (f : A → Result B BundleFault) (y : B) → (r >>= f) ≡ Ok y →
+    (x : A) × (r ≡ Ok x) × (f x ≡ Ok y)
 bind_ok (Ok x) f y e = (x, refl, e)
 bind_ok (Err d) f y e = absurd cc
 
 -- a test that did not fail
-pub refused_not : {A : Type 0} (b : Bool) (d : BundleFault) (r : Result A BundleFault) (y : A) → cond b (Err d) r ≡ Ok y → (b ≡ false) × (r ≡ Ok y)
+pub refused_not : {A : Type 0} (b : Bool) (d : BundleFault) (r : Result A BundleFault) (y : A) →
+    cond b (Err d) r ≡ Ok y → (b ≡ false) × (r ≡ Ok y)
 refused_not true d r y e = absurd cc
 refused_not false d r y e = (refl, e)
 
-pub passed : {A : Type 0} (b : Bool) (d : BundleFault) (r : Result A BundleFault) (y : A) → cond b r (Err d) ≡ Ok y → (b ≡ true) × (r ≡ Ok y)
+pub passed : {A : Type 0} (b : Bool) (d : BundleFault) (r : Result A BundleFault) (y : A) → cond b r (Err d) ≡ Ok y →
+    (b ≡ true) × (r ≡ Ok y)
 passed true d r y e = (refl, e)
 passed false d r y e = absurd cc
 
@@ -44,9 +48,13 @@ IsBytes-take n bytes h i =
 pub record Stands (file : List ℕ) (at : ℕ) (text : List ℕ) (next : ℕ) : Type 0 where
   pub parts : drop at file ≡ text ++ drop next file
 
-pub Stands-then : (file : List ℕ) (a : ℕ) (x : List ℕ) (b : ℕ) (y : List ℕ) (c : ℕ) → Stands file a x b → Stands file b y c → Stands file a (x ++ y) c
-Stands-then file a x b y c p q = record { parts = p.parts ∙ ap (λ t. x ++ t) q.parts ∙ sym (append_assoc x y (drop c file)) }
+pub Stands-then : (file : List ℕ) (a : ℕ) (x : List ℕ) (b : ℕ) (y : List ℕ) (c : ℕ) → Stands file a x b →
+    Stands file b y c → Stands file a (x ++ y) c
+Stands-then file a x b y c p q =
+    record { parts = p.parts ∙ ap (λ t. x ++ t) q.parts ∙ sym (append_assoc x y (drop c file)) }
 
 -- what stands behind a text
-pub behind : (file : List ℕ) (at : ℕ) (text rest : List ℕ) → drop at file ≡ text ++ rest → drop (at + length text) file ≡ rest
-behind file at text rest e = sym (drop-drop (length text) at file) ∙ ap (drop (length text)) e ∙ drop_at text rest (length text) refl
+pub behind : (file : List ℕ) (at : ℕ) (text rest : List ℕ) → drop at file ≡ text ++ rest →
+    drop (at + length text) file ≡ rest
+behind file at text rest e = sym (drop-drop (length text) at file) ∙ ap (drop (length text)) e
+    ∙ drop_at text rest (length text) refl

@@ -1,8 +1,10 @@
 -- The fields of a file, each at its offset: its value, or the fault that it has.
-use Rattle.std.specs.Prelude.{◌≡◌, ℕ, ◌+◌, ◌-◌, ◌*◌, ◌/◌, ◌%◌, ◌==◌, List, length, take, drop, Result, Ok, Err, MatchResult, nat_lt, if◌then◌else◌}
+use Rattle.std.specs.Prelude.{◌≡◌, ℕ, ◌+◌, ◌-◌, ◌*◌, ◌/◌, ◌%◌, ◌==◌, List, length, take, drop, Result, Ok, Err}
+use Rattle.std.specs.Prelude.{MatchResult, nat_lt, if◌then◌else◌}
 use Rattle.std.specs.Int.{w32, from_le_bytes}
 use Rattle.cloak_model.specs.declared.fault.BundleFault.{BundleFault}
-use Rattle.cloak_model.specs.declared.fault.BundleFault.TheVariants.{Short, BadMagic, BadVersion, BadCount, TooLarge, BadRange, Extra, NoMemory}
+use Rattle.cloak_model.specs.declared.fault.BundleFault.TheVariants.{Short, BadMagic, BadVersion, BadCount, TooLarge}
+use Rattle.cloak_model.specs.declared.fault.BundleFault.TheVariants.{BadRange, Extra, NoMemory}
 
 infixl 10 ◌>>=◌
 abbrev pub ◌>>=◌ : {A B : Type 0} → Result A BundleFault → (A → Result B BundleFault) → Result B BundleFault

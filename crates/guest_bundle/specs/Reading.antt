@@ -1,5 +1,6 @@
 -- A file is read from left to right, each field tested as soon as it is read whole.
-use Rattle.std.specs.Prelude.{ℕ, zero, suc, ◌+◌, ◌*◌, ◌%◌, ◌^◌, ◌-◌, ◌==◌, Bool, List, [], ◌∷◌, length, slice_index, codes, Result, Ok, Err, nat_lt, nat_le, if◌then◌else◌, ◌&&◌}
+use Rattle.std.specs.Prelude.{ℕ, zero, suc, ◌+◌, ◌*◌, ◌%◌, ◌^◌, ◌-◌, ◌==◌, Bool, List, [], ◌∷◌, length, slice_index}
+use Rattle.std.specs.Prelude.{codes, Result, Ok, Err, nat_lt, nat_le, if◌then◌else◌, ◌&&◌}
 use Rattle.std.specs.Str.{bytes_eq}
 use Rattle.cloak_model.specs.Bundle.{largest_bundle}
 use Rattle.cloak_model.specs.declared.image.Segment.{Segment}
@@ -7,7 +8,8 @@ use Rattle.cloak_model.specs.declared.image.KernelImage.{KernelImage}
 use Rattle.cloak_model.specs.declared.image.Program.{Program}
 use Rattle.cloak_model.specs.declared.image.Bundle.{Bundle}
 use Rattle.cloak_model.specs.declared.fault.BundleFault.{BundleFault}
-use Rattle.cloak_model.specs.declared.fault.BundleFault.TheVariants.{Short, BadMagic, BadVersion, TooLarge, BadRange, Extra}
+use Rattle.cloak_model.specs.declared.fault.BundleFault.TheVariants.{Short, BadMagic, BadVersion, TooLarge, BadRange}
+use Rattle.cloak_model.specs.declared.fault.BundleFault.TheVariants.{Extra}
 use Rattle.cloak_model.specs.BundleFault.{lies_in_ram, is_base_of}
 use Rattle.guest_bundle.specs.declared.header.Header.{Header}
 use Rattle.guest_bundle.specs.Fields.{◌>>=◌, bytes_at, pages_at, number_at, count_at, entry_at}

@@ -3,7 +3,8 @@ ghost use Rattle.cloak_model.specs.declared.image.Segment.{Segment};
 ghost use Rattle.cloak_model.specs.declared.image.Program.{Program};
 ghost use Rattle.guest_bundle.specs.Fields.{Gives, Shows};
 ghost use Rattle.cloak_model.specs.BundleFault.{lies_in_ram, is_base_of};
-ghost use Rattle.guest_bundle.specs.Reading.{turn_at, segment_at, segment_size, place_at, base_at, program_at, program_size, parts_at};
+ghost use Rattle.guest_bundle.specs.Reading.{turn_at, segment_at, segment_size, place_at, base_at, program_at};
+ghost use Rattle.guest_bundle.specs.Reading.{program_size, parts_at};
 
 use crate::BundleFault;
 use crate::fields::{bytes, count, entry, number, pages};

@@ -1,5 +1,5 @@
 use super::*;
-use std::alloc::Global;
+use std::alloc::{AllocError, Global};
 use std::test::*;
 
 /// One hart and 64 frames; a segment of four instructions: `addi x10,x0,65`, `ecall`, `addi x17,x0,4`,
@@ -96,4 +96,63 @@ fn a_damaged_file(rt: HostRuntime) {
             "{word} at {at}"
         );
     }
+}
+
+/// Two harts, a schedule of three bytes, two segments, a block of disk, and two programs, of one page and of two.
+fn larger(alloc: Global) -> Result<Vec<u8>, AllocError> {
+    let mut file = Vec::from_slice(alloc, b"CLOAKBND")?;
+    for word in [1, 64, 2, 3, 0x8000_0010, 2, 1, 2] {
+        file.extend_from_slice(&u32::to_le_bytes(word))?;
+    }
+    file.extend_from_slice(&[0, 1, 1])?;
+    for (address, byte) in [(0x8000_0000, 7), (0x8000_0004, 9)] {
+        file.extend_from_slice(&u32::to_le_bytes(address))?;
+        file.extend_from_slice(&[4, 0, 0, 0, byte, byte, byte, byte])?;
+    }
+    file.extend_from_slice(&[3; 4096])?;
+    for (pages, place) in [(1, 16), (2, 20)] {
+        for word in [pages, place, 0x0001_0000, 0x0001_0004, 0x0001_0ff0] {
+            file.extend_from_slice(&u32::to_le_bytes(word))?;
+        }
+        for _ in 0..pages {
+            file.extend_from_slice(&[5; 4096])?;
+        }
+    }
+    Ok(file)
+}
+
+#[test]
+fn a_larger_bundle_is_read_and_written(rt: HostRuntime) -> Result<(), Fail> {
+    let file = larger(rt.alloc())?;
+    let bundle = read(rt.alloc(), file.as_slice())
+        .ok()
+        .ok_or("it is a bundle")?;
+    assert_eq!(rt; bundle.kernel.schedule.as_slice(), [0, 1, 1].as_slice());
+    assert_eq!(rt; bundle.kernel.segments.as_slice().len(), 2);
+    for (program, (place, pages)) in bundle.programs.as_slice().iter().zip([(16, 1), (20, 2)]) {
+        assert_eq!(rt; program.place, place);
+        assert_eq!(rt; program.bytes.as_slice().len(), pages * 4096);
+    }
+    let again = rewritten(rt.alloc(), file.as_slice())
+        .ok()
+        .ok_or("it is a bundle")?;
+    assert_eq!(rt; again.as_slice(), file.as_slice());
+    Ok(())
+}
+
+/// The second program's base is no page, and then its entry no word.
+#[test]
+fn a_damaged_program(rt: HostRuntime) -> Result<(), Fail> {
+    for at in [8287, 8291] {
+        let mut file = larger(rt.alloc())?;
+        if at < file.len() {
+            file[at] = 2;
+        }
+        assert_eq!(rt;
+            read(rt.alloc(), file.as_slice()).err(),
+            Some(BundleFault::BadRange(at as u64)),
+            "{at}"
+        );
+    }
+    Ok(())
 }

@@ -1,26 +1,6 @@
 -- What a draw gives, by the kind of its stream.
-use Rattle.std.proofs.Common.{
-  ◌≡◌,
-  ◌<◌,
-  ◌≤◌,
-  ◌+◌,
-  ℕ,
-  List,
-  Option,
-  None,
-  Some,
-  length,
-  take,
-  drop,
-  refl,
-  ◌∙◌,
-  ap,
-  arith,
-  true,
-  false,
-  nat_lt,
-  MatchOption,
-}
+use Rattle.std.proofs.Common.{◌≡◌, ◌<◌, ◌≤◌, ◌+◌, ℕ, List, Option, None, Some, length, take, drop, refl, ◌∙◌, ap}
+use Rattle.std.proofs.Common.{arith, true, false, nat_lt, MatchOption}
 use Rattle.std.proofs.lemmas.Bool.Decides.{nat_tests}
 use Rattle.std.proofs.lemmas.List.{drop-drop}
 use Rattle.std.specs.Int.{w32, to_le_bytes}

@@ -1,24 +1,6 @@
 -- A piece that is put in parts.
-use Rattle.std.proofs.Common.{
-  ◌≡◌,
-  ◌≤◌,
-  ◌+◌,
-  ◌-◌,
-  ℕ,
-  List,
-  [],
-  length,
-  take,
-  drop,
-  refl,
-  sym,
-  ◌∙◌,
-  ap,
-  subst,
-  arith,
-  Option,
-  length-drop,
-}
+use Rattle.std.proofs.Common.{◌≡◌, ◌≤◌, ◌+◌, ◌-◌, ℕ, List, [], length, take, drop, refl, sym, ◌∙◌, ap, subst, arith}
+use Rattle.std.proofs.Common.{Option, length-drop}
 use Rattle.std.proofs.Math.Seq.{take-add}
 use Rattle.std.proofs.lemmas.List.{drop-drop, take_all}
 use Rattle.outside_io.specs.Told.{Grows, GrowsByFront}

@@ -1,44 +1,11 @@
 -- What a table of files has at a name, before and after it is written.
-use Rattle.std.proofs.Common.{
-  ◌≡◌,
-  ◌≢◌,
-  rules,
-  ℕ,
-  Bool,
-  true,
-  false,
-  cond,
-  List,
-  [],
-  ◌∷◌,
-  map,
-  refl,
-  sym,
-  ◌∙◌,
-  ap,
-  Option,
-  None,
-  Some,
-  option_map,
-  unwrap_or,
-  is_some,
-  String,
-  string_bytes,
-  Vec,
-}
+use Rattle.std.proofs.Common.{◌≡◌, ◌≢◌, rules, ℕ, Bool, true, false, cond, List, [], ◌∷◌, map, refl, sym, ◌∙◌, ap}
+use Rattle.std.proofs.Common.{Option, None, Some, option_map, unwrap_or, is_some, String, string_bytes, Vec}
 use Rattle.std.specs.Ordering.{nat_cmp, is_eq, eq_by_cmp}
 use Rattle.std.specs.Cmp.{eq_by_cmp_equiv}
 use Rattle.std.specs.Cmp.Lexicographic.{slice_cmp, nat_list_cmp_total}
-use Rattle.std.specs.FinMap.{
-  get,
-  insert,
-  find,
-  get-insert,
-  get-from_entries,
-  same_map,
-  slice_cmp-IsAntisymmetric,
-  nat_cmp-IsAntisymmetric,
-}
+use Rattle.std.specs.FinMap.{get, insert, find, get-insert, get-from_entries, same_map, slice_cmp-IsAntisymmetric}
+use Rattle.std.specs.FinMap.{nat_cmp-IsAntisymmetric}
 use Rattle.std.specs.BTreeMap.{BTreeMap, get_by_text, is_at}
 use Rattle.std.specs.Map.{lookup, update}
 use Rattle.std.specs.Str.{bytes_eq}

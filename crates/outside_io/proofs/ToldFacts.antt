@@ -1,31 +1,6 @@
 -- Facts on what shelves and sinks tell, and on their counts.
-use Rattle.std.proofs.Common.{
-  ◌≡◌,
-  ◌≤◌,
-  ◌<◌,
-  ◌+◌,
-  ◌-◌,
-  ◌^◌,
-  ℕ,
-  List,
-  [],
-  ◌++◌,
-  length,
-  take,
-  sym,
-  ◌∙◌,
-  ap,
-  subst,
-  arith,
-  append_assoc,
-  Option,
-  Result,
-  Ok,
-  Err,
-  OnOk,
-  OnErr,
-  length-append,
-}
+use Rattle.std.proofs.Common.{◌≡◌, ◌≤◌, ◌<◌, ◌+◌, ◌-◌, ◌^◌, ℕ, List, [], ◌++◌, length, take, sym, ◌∙◌, ap, subst}
+use Rattle.std.proofs.Common.{arith, append_assoc, Option, Result, Ok, Err, OnOk, OnErr, length-append}
 use Rattle.std.proofs.Math.Seq.{take-append-add}
 use Rattle.std.proofs.lemmas.List.{take_all, append-nil, take-append-le}
 use Rattle.cloak_base.specs.declared.causes.Failed.{Failed}

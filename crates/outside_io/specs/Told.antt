@@ -1,25 +1,6 @@
 -- What shelves and sinks tell of their bytes, and what their counts of faults say.
-use Rattle.std.specs.Prelude.{
-  ℕ,
-  ◌≡◌,
-  ◌≢◌,
-  ◌+◌,
-  ◌-◌,
-  ◌^◌,
-  ◌<◌,
-  ◌≤◌,
-  min,
-  List,
-  ◌++◌,
-  length,
-  take,
-  drop,
-  Option,
-  IfSome,
-  Result,
-  Ok,
-  Err,
-}
+use Rattle.std.specs.Prelude.{ℕ, ◌≡◌, ◌≢◌, ◌+◌, ◌-◌, ◌^◌, ◌<◌, ◌≤◌, min, List, ◌++◌, length, take, drop, Option}
+use Rattle.std.specs.Prelude.{◌⊎◌, IfSome, Result, Ok, Err}
 use Rattle.cloak_base.specs.declared.causes.Failed.{Failed}
 
 -- where bytes are told, they are these
@@ -43,6 +24,12 @@ Rose before now = min (before + 1) (2 ^ 64 - 1) ≤ now
 abbrev pub Counts : {A : Type 0} → ℕ → ℕ → Result A Failed → Type 0
 Counts before now (Ok a) = now ≡ before
 Counts before now (Err e) = Rose before now
+
+-- a call that succeeded leaves both counts, and at one that failed one of them rose
+abbrev pub CountsEither : {A : Type 0} → ℕ → ℕ → ℕ → ℕ → Result A Failed → Type 0
+CountsEither reading reads writing writes (Ok a) = (reads ≡ reading) × (writes ≡ writing)
+CountsEither reading reads writing writes (Err e) =
+    (Rose reading reads × (writes ≡ writing)) ⊎ (Rose writing writes × (reads ≡ reading))
 
 -- the bytes of every name, as far as they are told, stay
 abbrev pub SameFiles : (List ℕ → Option (List ℕ)) → (List ℕ → Option (List ℕ)) → Type 0

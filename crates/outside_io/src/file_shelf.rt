@@ -1,8 +1,10 @@
-ghost use Rattle.std.specs.Prelude.{◌≡◌, None, IfOk, IsErr};
+ghost use Rattle.std.specs.Prelude.{◌≡◌, ◌⊎◌, ◌↔◌, [], None, length, IfOk, IsErr, OnOk, IsTrue, false};
 ghost use Rattle.outside_io.specs.Told.{Counts};
+ghost use Rattle.outside_io.specs.Files.{IsOpen, SameCounts, SameFile, TakesPiece};
+ghost use Rattle.outside_io.specs.Pieces.{MovesFront, Takes};
 
 use crate::Shelf;
-use crate::gathered::{Gathered, write_front};
+use crate::gathered::Gathered;
 use crate::named_file::NamedFile;
 use crate::reader::Reader;
 use cloak_base::{Failed, NoMemory};
@@ -17,8 +19,8 @@ use std::rt::Files;
 ///
 /// Appended pieces are gathered for the one file that is being written, and written out where there is no room for
 /// the next, before another file is written, before any is read, and at `flush`. What could not be written out
-/// stays gathered, so the file's bytes and the gathered bytes are always what was appended. Where writing out fails
-/// in a reading call, that call fails, and so does the next writing call or `flush`.
+/// stays gathered, so the file's bytes and the gathered bytes are always what was appended. A call that reads and meets
+/// such a fault fails by a fault of writing.
 ///
 /// The one file that is being read stays open, and is read up to 64 KiB ahead. What was read ahead is forgotten
 /// where another file is read, and at each `begin` and `append`.
@@ -28,17 +30,24 @@ pub struct FileShelf<R: Files + Drop> {
     writing: NamedFile<R::File>,
     gathered: Gathered,
     reader: Reader<R::File>,
-    is_fault_owed: bool,
     reading_faults: u64,
     writing_faults: u64,
 }
 
 impl<R: Files + Drop> Model for FileShelf<R> {
-    ghost use Rattle.outside_io.specs.Files.{FileFaults};
+    ghost use Rattle.std.specs.Prelude.{is_some, string_bytes};
+    ghost use Rattle.outside_io.specs.Files.{FileState, written_of};
 
-    ghost Value = { FileFaults };
+    ghost Value = { FileState };
 
-    ghost view = { λ s. record { reading = s.reading_faults; writing = s.writing_faults } };
+    ghost view = { λ s. record {
+      reading = s.reading_faults;
+      writing = s.writing_faults;
+      is_open = is_some s.writing.file;
+      name = string_bytes s.writing.name;
+      written = written_of R.File.contents s.writing.file;
+      gathered = s.gathered;
+    } };
 }
 
 impl<R: Files + Drop> FileShelf<R> {
@@ -46,7 +55,9 @@ impl<R: Files + Drop> FileShelf<R> {
     pub fn open(files: R) -> Result<FileShelf<R>, NoMemory>
     where
         R: AllocGlobal,
-        ensures { IfOk result (λ shelf. shelf ≡ record { reading = 0; writing = 0 }) }
+        ensures reading { IfOk result (λ shelf. shelf.reading ≡ 0) }
+        ensures writing { IfOk result (λ shelf. shelf.writing ≡ 0) }
+        ensures gathered { IfOk result (λ shelf. shelf.gathered ≡ []) }
     {
         let writing = NamedFile::none(files.alloc())?;
         let gathered = Gathered::open(files.alloc())?;
@@ -56,55 +67,44 @@ impl<R: Files + Drop> FileShelf<R> {
             writing,
             gathered,
             reader,
-            is_fault_owed: false,
             reading_faults: 0,
             writing_faults: 0,
         })
     }
 
-    /// Writes out what is gathered.
-    pub fn flush(&mut self) -> Result<(), Failed>
-        ensures writing { Counts self.old.writing self.new.writing result }
-        ensures reading { self.new.reading ≡ self.old.reading }
-    {
-        if self.write_out() && !self.is_fault_owed {
-            return Ok(());
-        }
-        self.fail_writing()
-    }
-
     /// Says whether all that is gathered was written out.
     fn write_out(&mut self) -> bool
-        ensures { self.new ≡ self.old }
+        ensures all { IsTrue result ↔ (self.new.gathered ≡ []) }
+        ensures moved { MovesFront self.old.gathered self.new.gathered self.old.written self.new.written }
+        ensures file { SameFile self.old self.new }
+        ensures counts { SameCounts self.old self.new }
     {
         match &mut self.writing.file {
             Some(file) => self.gathered.write_out(file),
-            None => true,
+            None => self.gathered.is_empty(),
         }
     }
 
-    /// Writes a long piece behind what was written out, and says whether all of it was written.
-    fn write_through(&mut self, bytes: &[u8]) -> bool
-        ensures { self.new ≡ self.old }
+    /// Takes a piece for the file that is being written, and says whether it was taken whole.
+    fn write(&mut self, bytes: &[u8]) -> bool
+        ensures whole { IsTrue result →
+            Takes (length bytes.now) bytes.now self.old.gathered self.new.gathered self.old.written self.new.written }
+        ensures file { SameFile self.old self.new }
+        ensures counts { SameCounts self.old self.new }
     {
         match &mut self.writing.file {
-            Some(file) => write_front(file, bytes) == bytes.len(),
+            Some(file) => self.gathered.append(file, bytes),
             None => false,
         }
     }
 
-    /// As `write_out`, before a file is read. The next writing call answers for a fault that is met here.
-    fn settle(&mut self) -> bool
-        ensures { self.new ≡ self.old }
-    {
-        let is_written = self.write_out();
-        self.is_fault_owed = self.is_fault_owed || !is_written;
-        is_written
-    }
-
-    /// Says whether this file is now the one that is being written.
+    /// Opens a file, and says whether it is now the one that is being written. What is gathered is for the same file,
+    /// which is emptied, or there is nothing.
     fn start(&mut self, name: &str, how: &OpenOptions) -> bool
-        ensures { self.new ≡ self.old }
+        requires { IsOpen name.now self.old ⊎ (self.old.gathered ≡ []) }
+        ensures open { IsTrue result → IsOpen name.now self.new }
+        ensures gathered { IsTrue result → self.new.gathered ≡ [] }
+        ensures counts { SameCounts self.old self.new }
     {
         let Ok(file) = how.open(&self.files, name) else {
             return false;
@@ -113,12 +113,27 @@ impl<R: Files + Drop> FileShelf<R> {
         self.writing.keep(name, file)
     }
 
-    fn fail_writing(&mut self) -> Result<(), Failed>
+    /// Says whether the file of this name is now the one that is being written.
+    fn turn_to(&mut self, name: &str) -> bool
+        ensures open { IsTrue result → IsOpen name.now self.new }
+        ensures same { IsOpen name.now self.old → self.new ≡ self.old }
+        ensures start { IsTrue result → (self.new ≡ self.old) ⊎ (self.new.gathered ≡ []) }
+        ensures counts { SameCounts self.old self.new }
+    {
+        if self.writing.is_open(name) {
+            return true;
+        }
+        if !self.write_out() {
+            return false;
+        }
+        self.start(name, OpenOptions::new().append(true).create(true))
+    }
+
+    fn fail_writing<T>(&mut self) -> Result<T, Failed>
         ensures err { IsErr result }
         ensures writing { Counts self.old.writing self.new.writing result }
-        ensures reading { self.new.reading ≡ self.old.reading }
+        ensures kept { self.new ≡ record self.old { writing = self.new.writing } }
     {
-        self.is_fault_owed = false;
         self.writing_faults = self.writing_faults.saturating_add(1);
         Err(Failed)
     }
@@ -126,7 +141,7 @@ impl<R: Files + Drop> FileShelf<R> {
     fn fail_reading<T>(&mut self) -> Result<T, Failed>
         ensures err { IsErr result }
         ensures reading { Counts self.old.reading self.new.reading result }
-        ensures writing { self.new.writing ≡ self.old.writing }
+        ensures kept { self.new ≡ record self.old { reading = self.new.reading } }
     {
         self.reading_faults = self.reading_faults.saturating_add(1);
         Err(Failed)
@@ -140,10 +155,12 @@ impl<R: Files + Drop> Shelf for FileShelf<R> {
 
     ghost writing_faults = { λ s. s.writing };
 
+    ghost is_settled = { λ s. s.gathered ≡ [] };
+
     /// A folder is no file, and has no size.
     fn size(&mut self, name: &str) -> Result<u64, Failed> {
-        if !self.settle() {
-            return self.fail_reading();
+        if !self.write_out() {
+            return self.fail_writing();
         }
         match fs::metadata(&self.files, name) {
             Ok(metadata) if !metadata.is_dir() => Ok(metadata.len()),
@@ -153,8 +170,8 @@ impl<R: Files + Drop> Shelf for FileShelf<R> {
     }
 
     fn read_at(&mut self, name: &str, at: u64, into: &mut [u8]) -> Result<usize, Failed> {
-        if !self.settle() {
-            return self.fail_reading();
+        if !self.write_out() {
+            return self.fail_writing();
         }
         if at > i64::MAX as u64 {
             return Ok(0);
@@ -175,10 +192,14 @@ impl<R: Files + Drop> Shelf for FileShelf<R> {
         }
     }
 
-    fn begin(&mut self, name: &str) -> Result<(), Failed> {
+    fn begin(&mut self, name: &str) -> Result<(), Failed>
+        ensures emptied { OnOk result (IsOpen name.now self.new × (self.new.gathered ≡ [])) }
+        ensures writing { Counts self.old.writing self.new.writing result }
+        ensures reading { self.new.reading ≡ self.old.reading }
+    {
         self.reader.close();
         // Where the same file is emptied, what is gathered for it is not written any more.
-        if self.is_fault_owed || !self.writing.is_open(name) && !self.write_out() {
+        if !self.writing.is_open(name) && !self.write_out() {
             return self.fail_writing();
         }
         if self.start(
@@ -191,24 +212,26 @@ impl<R: Files + Drop> Shelf for FileShelf<R> {
         }
     }
 
-    fn append(&mut self, name: &str, bytes: &[u8]) -> Result<(), Failed> {
+    fn append(&mut self, name: &str, bytes: &[u8]) -> Result<(), Failed>
+        ensures taken { OnOk result (TakesPiece name.now bytes.now self.old self.new) }
+        ensures writing { Counts self.old.writing self.new.writing result }
+        ensures reading { self.new.reading ≡ self.old.reading }
+    {
         self.reader.close();
-        if self.is_fault_owed {
-            return self.fail_writing();
+        if self.turn_to(name) && self.write(bytes) {
+            Ok(())
+        } else {
+            self.fail_writing()
         }
-        if !self.writing.is_open(name)
-            && !(self.write_out()
-                && self.start(name, OpenOptions::new().append(true).create(true)))
-        {
-            return self.fail_writing();
-        }
-        if self.gathered.gather(bytes) {
-            return Ok(());
-        }
-        if !self.write_out() {
-            return self.fail_writing();
-        }
-        if self.gathered.gather(bytes) || self.write_through(bytes) {
+    }
+
+    fn flush(&mut self) -> Result<(), Failed>
+        ensures all { OnOk result (self.new.gathered ≡ []) }
+        ensures moved { MovesFront self.old.gathered self.new.gathered self.old.written self.new.written }
+        ensures writing { Counts self.old.writing self.new.writing result }
+        ensures reading { self.new.reading ≡ self.old.reading }
+    {
+        if self.write_out() {
             Ok(())
         } else {
             self.fail_writing()
@@ -315,7 +338,7 @@ mod tests {
     }
 
     /// A name that is missing is empty, and a folder a fault. A fault of writing is answered by the call that meets it,
-    /// and where that reads by the next that writes as well; what is gathered is not lost by it.
+    /// also by one that reads; what is gathered is not lost by it.
     #[test]
     fn faults_are_answered(rt: HostRuntime) -> Result<(), Fail> {
         let mut shelf = FileShelf::open(rt.clone()?)?;
@@ -334,9 +357,8 @@ mod tests {
             (Call::AppendLong, full, None),
             (Call::Append, missing, None),
             (Call::Size, missing, None),
-            (Call::Append, full, None),
-            (Call::Size, missing, None),
-            (Call::Begin, full, None),
+            (Call::Append, full, Some(0)),
+            (Call::Begin, missing, None),
             (Call::Read, missing, None),
         ] {
             assert_eq!(rt; answer(&mut shelf, call, name), answered);
@@ -344,10 +366,8 @@ mod tests {
         // From here on the disk has room.
         let name = "file_shelf_test_full.bytes";
         assert!(rt; shelf.writing.keep(name, File::create(&rt, name)?));
-        for answered in [None, Some(0)] {
-            assert_eq!(rt; answer(&mut shelf, Call::Flush, name), answered);
-        }
-        assert_eq!(rt; fs::read_to_string(&rt, name)?.as_str(), "a");
+        shelf.flush()?;
+        assert_eq!(rt; fs::read_to_string(&rt, name)?.as_str(), "aa");
         fs::remove_file(&rt, name)?;
         Ok(())
     }

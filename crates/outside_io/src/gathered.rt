@@ -1,7 +1,7 @@
 //! Small pieces are gathered before they are written out.
 ghost use Rattle.std.specs.Prelude.{◌≡◌, ◌≤◌, ◌-◌, ◌++◌, ◌↔◌, [], length, take, IsTrue, IfOk, false};
 ghost use Rattle.std.specs.Io.KnownBytes.{Appends};
-ghost use Rattle.outside_io.specs.Pieces.{MovesFront};
+ghost use Rattle.outside_io.specs.Pieces.{MovesFront, Takes, TakesFront};
 
 use cloak_base::NoMemory;
 use std::alloc::Global;
@@ -46,15 +46,63 @@ impl Gathered {
             && self.bytes.extend_from_slice(piece).is_ok()
     }
 
+    /// Takes a whole piece: it is gathered, or written behind what was gathered where there is no room. Says whether
+    /// that was done; where it was not, a front of the piece was taken.
+    pub fn append<W: Write>(&mut self, out: &mut W, piece: &[u8]) -> bool
+        ensures whole { IsTrue result →
+            Takes (length piece.now) piece.now self.old self.new (W.contents out.old) (W.contents out.new) }
+        ensures front { TakesFront piece.now self.old self.new (W.contents out.old) (W.contents out.new) }
+    {
+        if self.gather(piece) {
+            return true;
+        }
+        let is_written = self.write_out(out);
+        if !is_written {
+            return false;
+        }
+        if self.gather(piece) {
+            return true;
+        }
+        write_front(out, piece) == piece.len()
+    }
+
+    /// Writes out what is gathered and a piece behind it, and answers how many bytes of the piece were taken. Where
+    /// these are not all, a write failed.
+    pub fn show<W: Write>(&mut self, out: &mut W, piece: &[u8]) -> usize
+        ensures count { result ≤ length piece.now }
+        ensures taken { Takes result piece.now self.old self.new (W.contents out.old) (W.contents out.new) }
+    {
+        if self.gather(piece) {
+            if self.write_out(out) {
+                return piece.len();
+            }
+            return self.take_back(piece.len());
+        }
+        if !self.write_out(out) {
+            return 0;
+        }
+        write_front(out, piece)
+    }
+
     /// Takes back up to `count` of the bytes that were gathered last, and answers how many of them were written out
     /// before.
-    pub fn take_back(&mut self, count: usize) -> usize
+    fn take_back(&mut self, count: usize) -> usize
         ensures left { self.new ≡ take (length self.old - count) self.old }
         ensures written { result ≡ count - length self.old }
     {
         let back = count.min(self.bytes.len() - self.written);
         self.bytes.truncate(self.bytes.len() - back);
         count - back
+    }
+
+    /// Says whether nothing is gathered.
+    pub fn is_empty(&self) -> bool
+        ensures { IsTrue result ↔ (self.now ≡ []) }
+    {
+        if self.written < self.bytes.len() {
+            return false;
+        }
+        true
     }
 
     /// Forgets what is gathered.

@@ -83,6 +83,8 @@ impl Shelf for MemoryShelf {
 
     ghost writing_faults = { λ s. s.writing_faults };
 
+    ghost is_settled = { λ _. Unit {0} };
+
     fn size(&mut self, name: &str) -> Result<u64, Failed>
         ensures size { IfOk result (λ n. n ≡ length (bytes_of self.old.files name.now)) }
         ensures listed { IsErr result ↔ Contains self.old.fails (one_more self.old.calls) }
@@ -166,6 +168,22 @@ impl Shelf for MemoryShelf {
         }
         Ok(())
     }
+
+    /// Nothing is gathered, so only a call that is listed fails.
+    fn flush(&mut self) -> Result<(), Failed>
+        ensures listed { IsErr result ↔ Contains self.old.fails (one_more self.old.calls) }
+        ensures after_ok { OnOk result (self.new ≡ record self.old { calls = one_more self.old.calls }) }
+        ensures after_err { OnErr result (self.new ≡ record self.old {
+          calls = one_more self.old.calls;
+          writing_faults = one_more self.old.writing_faults;
+        }) }
+    {
+        if self.planned.is_next_to_fail() {
+            self.writing_faults = self.writing_faults.saturating_add(1);
+            return Err(Failed);
+        }
+        Ok(())
+    }
 }
 
 #[cfg(test)]
@@ -188,6 +206,25 @@ mod tests {
         }
         for (name, bytes) in [("a", "oldone"), ("b", "two"), ("c", "three")] {
             assert_eq!(rt; shelf.bytes(name), bytes.as_bytes());
+        }
+        Ok(())
+    }
+
+    /// A missing name is read as empty, and made where it is begun or something is added; a file that has bytes is
+    /// emptied in its place.
+    #[test]
+    fn missing_names_and_files_that_have_bytes(rt: HostRuntime) -> Result<(), Fail> {
+        let mut shelf = MemoryShelf::open(rt.alloc(), Vec::new(rt.alloc()));
+        shelf.add("full", b"bytes")?;
+        let mut into = [7; 2];
+        assert_eq!(rt; shelf.size("missing"), Ok(0));
+        assert_eq!(rt; shelf.read_at("missing", 0, &mut into), Ok(0));
+        assert_eq!(rt; shelf.read_at("full", 4, &mut into), Ok(1));
+        assert_eq!(rt; into, [b's', 7]);
+        for name in ["missing", "full"] {
+            shelf.begin(name)?;
+            shelf.append(name, b"new")?;
+            assert_eq!(rt; shelf.bytes(name), b"new".as_slice());
         }
         Ok(())
     }

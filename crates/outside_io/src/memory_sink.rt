@@ -1,4 +1,4 @@
-ghost use Rattle.std.specs.Prelude.{◌≡◌, ◌++◌, [], Some, length, Contains, IfOk, OnOk, OnErr, IsErr};
+ghost use Rattle.std.specs.Prelude.{◌≡◌, ◌++◌, ◌↔◌, [], Some, length, Contains, IfOk, OnOk, OnErr, IsErr};
 ghost use Rattle.outside_io.specs.Memory.{one_more};
 
 use crate::Sink;
@@ -54,6 +54,8 @@ impl Sink for MemorySink {
 
     ghost faults = { λ s. s.faults };
 
+    ghost is_settled = { λ _. Unit {0} };
+
     /// Takes the whole piece. No bytes need no memory.
     fn put(&mut self, bytes: &[u8]) -> Result<usize, Failed>
         ensures whole { IfOk result (λ n. n ≡ length bytes.now) }
@@ -73,5 +75,21 @@ impl Sink for MemorySink {
             return Err(Failed);
         }
         Ok(bytes.len())
+    }
+
+    /// Nothing is gathered, so only a call that is listed fails.
+    fn flush(&mut self) -> Result<(), Failed>
+        ensures listed { IsErr result ↔ Contains self.old.fails (one_more self.old.calls) }
+        ensures after_ok { OnOk result (self.new ≡ record self.old { calls = one_more self.old.calls }) }
+        ensures after_err { OnErr result (self.new ≡ record self.old {
+          calls = one_more self.old.calls;
+          faults = one_more self.old.faults;
+        }) }
+    {
+        if self.planned.is_next_to_fail() {
+            self.faults = self.faults.saturating_add(1);
+            return Err(Failed);
+        }
+        Ok(())
     }
 }

@@ -1,5 +1,6 @@
 //! Files are read ahead of what is asked for.
-ghost use Rattle.std.specs.Prelude.{◌≡◌, ◌≤◌, ◌↔◌, Some, IsTrue, IsSome, IsNone, IfOk, false, length, vec_len, string_bytes};
+ghost use Rattle.std.specs.Prelude.{◌≡◌, ◌≤◌, ◌↔◌, Some, IsTrue, IsSome, IsNone, IfOk, false};
+ghost use Rattle.std.specs.Prelude.{length, vec_len, string_bytes};
 
 use crate::copied::copy_from;
 use crate::named_file::NamedFile;

@@ -1,10 +1,12 @@
 ghost use Rattle.std.specs.Prelude.{◌≡◌, ◌≤◌, ◌⊎◌, ℕ, List, [], Option, length, IfOk, IfSome, OnOk, OnErr};
-ghost use Rattle.outside_io.specs.Told.{Tells, Grows, GrowsByFront, Counts, SameFiles, OtherFiles, IsCopied};
+ghost use Rattle.outside_io.specs.Told.{Tells, Grows, GrowsByFront, Counts, CountsEither};
+ghost use Rattle.outside_io.specs.Told.{SameFiles, OtherFiles, IsCopied};
 
 use cloak_base::Failed;
 
 /// Files by name. A name that is not there is read as an empty file, and `append` makes it; neither is a
-/// fault.
+/// fault. What was added may be gathered first: a reading call writes it out, and fails by a fault of writing where
+/// that fails.
 pub trait Shelf {
     /// The bytes of the file of a name, where the shelf tells them.
     ghost held: { Self → List ℕ → Option (List ℕ) };
@@ -15,12 +17,19 @@ pub trait Shelf {
     /// How often writing failed, up to 2^64 - 1.
     ghost writing_faults: { Self → ℕ };
 
+    /// Nothing is gathered that is still to be written out.
+    ghost is_settled: { Self → Type 0 };
+
     /// The number of the name's bytes.
     fn size(&mut self, name: &str) -> Result<u64, Failed>
         ensures size { IfOk result (λ n. IfSome (held self.old name.now) (λ bytes. n ≡ length bytes)) }
         ensures files { SameFiles (held self.old) (held self.new) }
-        ensures reading { Counts (reading_faults self.old) (reading_faults self.new) result }
-        ensures writing { writing_faults self.new ≡ writing_faults self.old };
+        ensures counts { CountsEither (reading_faults self.old) (reading_faults self.new)
+            (writing_faults self.old) (writing_faults self.new) result }
+        ensures reading { is_settled self.old → Counts (reading_faults self.old) (reading_faults self.new) result }
+        ensures writing { is_settled self.old → writing_faults self.new ≡ writing_faults self.old }
+        ensures settled { is_settled self.old → is_settled self.new }
+        ensures unsettled { ¬ is_settled self.new → reading_faults self.new ≡ reading_faults self.old };
 
     /// Copies bytes from `at` on to the front of `into`, and answers how many. The rest of `into` stays.
     /// After a failure the bytes of `into` may be any.
@@ -29,8 +38,12 @@ pub trait Shelf {
         ensures copied { IfOk result (λ n.
             IfSome (held self.old name.now) (λ bytes. IsCopied bytes at n into.old into.new)) }
         ensures files { SameFiles (held self.old) (held self.new) }
-        ensures reading { Counts (reading_faults self.old) (reading_faults self.new) result }
-        ensures writing { writing_faults self.new ≡ writing_faults self.old };
+        ensures counts { CountsEither (reading_faults self.old) (reading_faults self.new)
+            (writing_faults self.old) (writing_faults self.new) result }
+        ensures reading { is_settled self.old → Counts (reading_faults self.old) (reading_faults self.new) result }
+        ensures writing { is_settled self.old → writing_faults self.new ≡ writing_faults self.old }
+        ensures settled { is_settled self.old → is_settled self.new }
+        ensures unsettled { ¬ is_settled self.new → reading_faults self.new ≡ reading_faults self.old };
 
     /// Empties the file of this name, or makes it.
     fn begin(&mut self, name: &str) -> Result<(), Failed>
@@ -46,6 +59,13 @@ pub trait Shelf {
         ensures ok { OnOk result (Grows (held self.old name.now) (held self.new name.now) bytes.now) }
         ensures err { OnErr result (GrowsByFront (held self.old name.now) (held self.new name.now) bytes.now) }
         ensures others { OtherFiles name.now (held self.old) (held self.new) }
+        ensures writing { Counts (writing_faults self.old) (writing_faults self.new) result }
+        ensures reading { reading_faults self.new ≡ reading_faults self.old };
+
+    /// Writes out what is gathered. Where that fails it stays gathered.
+    fn flush(&mut self) -> Result<(), Failed>
+        ensures settled { OnOk result (is_settled self.new) }
+        ensures files { SameFiles (held self.old) (held self.new) }
         ensures writing { Counts (writing_faults self.old) (writing_faults self.new) result }
         ensures reading { reading_faults self.new ≡ reading_faults self.old };
 }

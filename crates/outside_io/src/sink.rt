@@ -11,6 +11,9 @@ pub trait Sink {
     /// How often a call failed, up to 2^64 - 1.
     ghost faults: { Self → ℕ };
 
+    /// Nothing is gathered that is still to be shown.
+    ghost is_settled: { Self → Type 0 };
+
     /// Takes a front of the piece and answers its length, which is above 0 for a piece that is not empty.
     /// One that failed has taken nothing.
     fn put(&mut self, bytes: &[u8]) -> Result<usize, Failed>
@@ -18,6 +21,12 @@ pub trait Sink {
         ensures progress { IfOk result (λ n. 0 < length bytes.now → 0 < n) }
         ensures ok { IfOk result (λ n. Grows (taken self.old) (taken self.new) (take n bytes.now)) }
         ensures err { OnErr result (taken self.new ≡ taken self.old) }
+        ensures faults { Counts (faults self.old) (faults self.new) result };
+
+    /// Shows what was taken and is gathered. Where that fails it stays gathered.
+    fn flush(&mut self) -> Result<(), Failed>
+        ensures settled { OnOk result (is_settled self.new) }
+        ensures same { taken self.new ≡ taken self.old }
         ensures faults { Counts (faults self.old) (faults self.new) result };
 }
 

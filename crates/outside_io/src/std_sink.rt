@@ -1,11 +1,11 @@
-ghost use Rattle.std.specs.Prelude.{◌≡◌, ◌<◌, ◌≤◌, None, IfOk, IsErr, length};
+ghost use Rattle.std.specs.Prelude.{◌≡◌, ◌<◌, ◌≤◌, [], None, length, IfOk, OnOk, IsErr, IsTrue};
 ghost use Rattle.outside_io.specs.Told.{Counts};
+ghost use Rattle.outside_io.specs.Pieces.{MovesFront, Takes};
 
 use crate::Sink;
 use crate::gathered::Gathered;
 use cloak_base::{Failed, NoMemory};
 use std::io;
-use std::io::Write;
 use std::marker::Model;
 
 /// Standard output. Small pieces are gathered, and written out in one go at each line feed at the latest, and at
@@ -22,11 +22,11 @@ pub struct StdSink<P: Print + Drop> {
 }
 
 impl<P: Print + Drop> Model for StdSink<P> {
-    ghost use Rattle.std.specs.Prelude.{ℕ};
+    ghost use Rattle.outside_io.specs.Files.{OutputState};
 
-    ghost Value = { ℕ };
+    ghost Value = { OutputState };
 
-    ghost view = { λ s. s.faults };
+    ghost view = { λ s. record { faults = s.faults; gathered = s.gathered } };
 }
 
 impl<P: Print + Drop> StdSink<P> {
@@ -34,7 +34,7 @@ impl<P: Print + Drop> StdSink<P> {
     pub fn open(print: P) -> Result<StdSink<P>, NoMemory>
     where
         P: AllocGlobal,
-        ensures { IfOk result (λ sink. sink ≡ 0) }
+        ensures { IfOk result (λ sink. sink ≡ record { faults = 0; gathered = [] }) }
     {
         let gathered = Gathered::open(print.alloc())?;
         Ok(StdSink {
@@ -45,40 +45,19 @@ impl<P: Print + Drop> StdSink<P> {
         })
     }
 
-    /// Writes out what is gathered.
-    pub fn flush(&mut self) -> Result<(), Failed>
-        ensures { Counts self.old self.new result }
-    {
-        if self.write_out() && !self.is_fault_owed {
-            return Ok(());
-        }
-        self.fail()
-    }
-
     /// Says whether all that is gathered was written out.
     fn write_out(&mut self) -> bool
-        ensures { self.new ≡ self.old }
+        ensures all { IsTrue result → self.new.gathered ≡ [] }
+        ensures moved { MovesFront self.old.gathered self.new.gathered None None }
+        ensures faults { self.new.faults ≡ self.old.faults }
     {
         self.gathered.write_out(&mut io::writer(&self.print))
     }
 
-    /// Writes out what is gathered, of which a piece of this length is the end, and answers how much of the piece is
-    /// taken. What is not is gathered no more.
-    fn show(&mut self, piece: usize) -> usize
-        ensures same { self.new ≡ self.old }
-        ensures taken { result ≤ piece }
-    {
-        if self.write_out() {
-            return piece;
-        }
-        let written = self.gathered.take_back(piece);
-        self.is_fault_owed = written > 0;
-        written
-    }
-
     fn fail<T>(&mut self) -> Result<T, Failed>
-        ensures counted { Counts self.old self.new result }
+        ensures counted { Counts self.old.faults self.new.faults result }
         ensures err { IsErr result }
+        ensures gathered { self.new.gathered ≡ self.old.gathered }
     {
         self.is_fault_owed = false;
         self.faults = self.faults.saturating_add(1);
@@ -89,27 +68,43 @@ impl<P: Print + Drop> StdSink<P> {
 impl<P: Print + Drop> Sink for StdSink<P> {
     ghost taken = { λ _. None };
 
-    ghost faults = { λ s. s };
+    ghost faults = { λ s. s.faults };
 
-    /// A piece with a line feed is written out with what is gathered, and one with no room for it behind that.
-    fn put(&mut self, bytes: &[u8]) -> Result<usize, Failed> {
+    ghost is_settled = { λ s. s.gathered ≡ [] };
+
+    /// A piece with a line feed is written out with what is gathered, and so is one that there is no room for.
+    fn put(&mut self, bytes: &[u8]) -> Result<usize, Failed>
+        ensures count { IfOk result (λ n. n ≤ length bytes.now) }
+        ensures progress { IfOk result (λ n. 0 < length bytes.now → 0 < n) }
+        ensures taken { IfOk result (λ n. Takes n bytes.now self.old.gathered self.new.gathered None None) }
+        ensures faults { Counts self.old.faults self.new.faults result }
+    {
         if self.is_fault_owed {
             return self.fail();
         }
-        if self.gathered.gather(bytes) {
-            if !bytes.contains(&b'\n') {
-                return Ok(bytes.len());
-            }
-            let taken = self.show(bytes.len());
-            return if taken > 0 { Ok(taken) } else { self.fail() };
+        if !bytes.contains(&b'\n') && self.gathered.gather(bytes) {
+            return Ok(bytes.len());
         }
-        if !self.write_out() {
+        let taken = self.gathered.show(&mut io::writer(&self.print), bytes);
+        if taken == bytes.len() {
+            return Ok(taken);
+        }
+        if taken == 0 {
             return self.fail();
         }
-        match io::writer(&self.print).write(bytes) {
-            Ok(n) if n > 0 || bytes.is_empty() => Ok(n),
-            _ => self.fail(),
+        self.is_fault_owed = true;
+        Ok(taken)
+    }
+
+    fn flush(&mut self) -> Result<(), Failed>
+        ensures all { OnOk result (self.new.gathered ≡ []) }
+        ensures moved { MovesFront self.old.gathered self.new.gathered None None }
+        ensures faults { Counts self.old.faults self.new.faults result }
+    {
+        if self.write_out() && !self.is_fault_owed {
+            return Ok(());
         }
+        self.fail()
     }
 }
 
@@ -227,7 +222,7 @@ mod tests {
         let long = vec![in rt.alloc(); b'x'; 70_000]?;
         sink.put(b"ab")?;
         // So many calls were before, and the second one fails.
-        for (before, taken) in [(1, None), (2, Some(2)), (1, None)] {
+        for (before, taken) in [(1, None), (0, None), (0, Some(2)), (2, None)] {
             calls.set(before);
             assert_eq!(rt; sink.put(&long).ok(), taken);
         }

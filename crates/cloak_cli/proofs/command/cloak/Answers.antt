@@ -6,23 +6,33 @@ use Rattle.cloak_cli.proofs.command.cloak.Goals as goal
 
 pub returns-in-NotBuilt-clause-answers : goal.returns-in-NotBuilt-clause-answers
 returns-in-NotBuilt-clause-answers g c =
-    answers_asked _ _ _ (c.in-NotBuilt.ensures ∙ ap (λ (ws : List _). spec.words_of (map string_bytes ws)) c.as_slice.ensures.value)
-    (answers_no_run {s = status.Unbuilt} (record { cause = inl (record { not_built = refl; untouched = refl }); held = λ name. refl; writing = refl }) c.requires.output c.refuse.ensures)
+    answers_asked _ _ _ (c.in-NotBuilt.ensures ∙ ap (λ (ws : List _). spec.words_of (map string_bytes ws))
+    c.as_slice.ensures.value)
+    (answers_no_run {s = status.Unbuilt}
+    (record { cause = inl (record { not_built = refl; untouched = refl }); held = λ name. refl; writing = refl })
+    c.requires.output c.refuse.ensures)
 
 pub returns-in-NotBuilt-clause-kept : goal.returns-in-NotBuilt-clause-kept
 returns-in-NotBuilt-clause-kept g c = keeps_files _ _ _ _ (returns-in-NotBuilt-clause-answers g c)
 
 pub returns-in-Faulty-clause-answers : goal.returns-in-Faulty-clause-answers
 returns-in-Faulty-clause-answers g c =
-    answers_asked _ _ _ (c.in-Faulty.ensures ∙ ap (λ (ws : List _). spec.words_of (map string_bytes ws)) c.as_slice.ensures.value)
-    (answers_no_run {s = status.Usage} (record { cause = record { fault = c.in-Faulty.fault; faulty = refl; untouched = refl }; held = λ name. refl; writing = refl }) c.requires.output c.refuse_words.ensures)
+    answers_asked _ _ _ (c.in-Faulty.ensures ∙ ap (λ (ws : List _). spec.words_of (map string_bytes ws))
+    c.as_slice.ensures.value)
+    (answers_no_run {s = status.Usage}
+    (record {
+      cause = record { fault = c.in-Faulty.fault; faulty = refl; untouched = refl };
+      held = λ name. refl;
+      writing = refl;
+    }) c.requires.output c.refuse_words.ensures)
 
 pub returns-in-Faulty-clause-kept : goal.returns-in-Faulty-clause-kept
 returns-in-Faulty-clause-kept g c = keeps_files _ _ _ _ (returns-in-Faulty-clause-answers g c)
 
 pub returns-in-Run-clause-answers : goal.returns-in-Run-clause-answers
 returns-in-Run-clause-answers g c =
-    answers_asked _ _ _ (c.in-Run.ensures ∙ ap (λ (ws : List _). spec.words_of (map string_bytes ws)) c.as_slice.ensures.value) c.run_command.ensures
+    answers_asked _ _ _ (c.in-Run.ensures ∙ ap (λ (ws : List _). spec.words_of (map string_bytes ws))
+    c.as_slice.ensures.value) c.run_command.ensures
 
 pub returns-in-Run-clause-kept : goal.returns-in-Run-clause-kept
 returns-in-Run-clause-kept g c = keeps_files _ _ _ _ (returns-in-Run-clause-answers g c)

@@ -21,14 +21,18 @@ pub returns-then-outlet : goal.returns-then-outlet
 returns-then-outlet g c = λ b o none stands.
     let well = sym c.is_err.ensures.value ∙ c.if-is_err.false in
     recorded_front _ _ _ _ (gave_all (c.write_run-status.ensures.runs b o none stands).emits) refl c.if-outlet.true
-    (c.shelf-1.given.1 (sym c.write_run-status.ensures.same_shelf)) (c.out-1.given.1 (sym c.write_run-status.ensures.same_out))
-    (succeeded c.begin.result _ well c.begin.ensures.emptied) c.begin.ensures.others c.begin.ensures.reading (counted _ _ c.begin.result well c.begin.ensures.writing)
+    (c.shelf-1.given.1 (sym c.write_run-status.ensures.same_shelf))
+    (c.out-1.given.1 (sym c.write_run-status.ensures.same_out))
+    (succeeded c.begin.result _ well c.begin.ensures.emptied) c.begin.ensures.others c.begin.ensures.reading
+    (counted _ _ c.begin.result well c.begin.ensures.writing)
 
 pub returns : goal.returns
 returns g c = λ b o none stands.
     let run = c.write_run-status.ensures.runs b o none stands in
     let well = sym c.is_err.ensures.value ∙ c.if-is_err.false in
     recorded_all _ _ _ _ _ (gave_all run.emits) refl c.if-outlet.false
-    (c.shelf-1.given.1 (sym c.write_run-status.ensures.same_shelf)) (c.out-1.given.1 (sym c.write_run-status.ensures.same_out))
+    (c.shelf-1.given.1 (sym c.write_run-status.ensures.same_shelf))
+    (c.out-1.given.1 (sym c.write_run-status.ensures.same_out))
     (run.status c.if-outlet.false)
-    (succeeded c.begin.result _ well c.begin.ensures.emptied) c.begin.ensures.others c.begin.ensures.reading (counted _ _ c.begin.result well c.begin.ensures.writing)
+    (succeeded c.begin.result _ well c.begin.ensures.emptied) c.begin.ensures.others c.begin.ensures.reading
+    (counted _ _ c.begin.result well c.begin.ensures.writing)

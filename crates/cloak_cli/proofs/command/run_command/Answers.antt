@@ -1,7 +1,6 @@
 use Rattle.std.proofs.Common.{refl, inr}
-use Rattle.outside_io.proofs.ToldFacts.{Rose-below}
 use Rattle.cloak_cli.specs.declared.status.Status.TheVariants as status
-use Rattle.cloak_cli.proofs.AnswerFacts.{asks_run, answers_no_run, answers_recorded}
+use Rattle.cloak_cli.proofs.AnswerFacts.{raised, asks_run, answers_no_run, answers_recorded}
 use Rattle.cloak_cli.proofs.command.run_command.Goals as goal
 
 pub returns-in-Ok : goal.returns-in-Ok
@@ -17,7 +16,7 @@ returns-in-Err-ReadFault g c = answers_no_run {s = status.ReadFault} (record {
   cause = record {
     bundle_name = c.args.run.now.bundle.now;
     asks = record { record_name = _; steps = _; number = _; run = refl };
-    reading = Rose-below _ _ (rw c.in-Err-ReadFault.field-0-is at c.in-Err-ReadFault.ensures.prepares) c.requires.reading;
+    reading = raised (rw c.in-Err-ReadFault.field-0-is at c.in-Err-ReadFault.ensures.prepares) c.requires.reading;
   };
   held = c.prepare.ensures.files;
   writing = c.prepare.ensures.writing;

@@ -11,6 +11,7 @@ invariant-loop-piece g l = record {
   fits : l.size ≤ l.limit;
   files : SameFiles (g.S.Shelf.held l.fn.shelf) (g.S.Shelf.held l.shelf);
   reading : g.S.Shelf.reading_faults l.shelf ≡ g.S.Shelf.reading_faults l.fn.shelf;
+  settled : g.S.Shelf.is_settled l.shelf;
   writing : g.S.Shelf.writing_faults l.shelf ≡ g.S.Shelf.writing_faults l.fn.shelf;
 }
 

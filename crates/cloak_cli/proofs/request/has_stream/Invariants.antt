@@ -5,4 +5,5 @@ use Rattle.cloak_cli.proofs.request.has_stream.Given as goal
 
 -- what is left decides
 abbrev pub invariant-loop-word : goal.invariant-loop-word
-invariant-loop-word l = list_any (is (codes "--stream")) (map string_bytes (drop l.word-index l.words)) ≡ list_any (is (codes "--stream")) (map string_bytes l.words)
+invariant-loop-word l = list_any (is (codes "--stream")) (map string_bytes (drop l.word-index l.words)) ≡ list_any
+    (is (codes "--stream")) (map string_bytes l.words)

@@ -4,7 +4,13 @@ use Rattle.cloak_cli.proofs.RunFacts.{goes_on-start, goes_on-more, stops-more, r
 use Rattle.cloak_cli.proofs.run.run_steps.Goals as goal
 
 pub loop-made-init : goal.loop-made-init
-loop-made-init g c = record { same_shelf = refl; same_out = refl; made = c.requires.fresh; runs = λ m stands. goes_on-start _ _ _ _ m stands }
+loop-made-init g c = record {
+  same_shelf = refl;
+  same_out = refl;
+  made = c.requires.fresh;
+  runs = λ m stands.
+      goes_on-start _ _ _ _ m stands;
+}
 
 pub loop-made-preserved : goal.loop-made-preserved
 loop-made-preserved g c = let given = gave_all c.step.ensures.emits_some.1 in record {
@@ -13,23 +19,30 @@ loop-made-preserved g c = let given = gave_all c.step.ensures.emits_some.1 in re
   made = c.step.ensures.steps ∙ ap (λ (n : ℕ). n + 1) c.loop-made.invariant.made;
   runs = λ m stands.
       let on = c.loop-made.invariant.runs m stands in
-      goes_on-more _ _ _ _ _ _ c.step.result c.loop-made.made _ m on (c.step.ensures.makes _ on.stands) c.loop-made-test.true c.in_default.is;
+      goes_on-more _ _ _ _ _ _ c.step.result c.loop-made.made _ m on (c.step.ensures.makes _ on.stands)
+      c.loop-made-test.true c.in_default.is;
 }
 
 pub returns-then-outlet-clause-runs : goal.returns-then-outlet-clause-runs
 returns-then-outlet-clause-runs g c = λ m stands.
-    runs-failed _ _ _ _ _ _ _ c.loop-made.made m (c.loop-made.invariant.runs m stands) c.if-outlet.true (λ ps. emits_none _ _ _ _ _ _ ps c.if-outlet.true)
+    runs-failed _ _ _ _ _ _ _ c.loop-made.made m (c.loop-made.invariant.runs m stands) c.if-outlet.true
+    (λ ps. emits_none _ _ _ _ _ _ ps c.if-outlet.true)
 
 pub returns-in-Some-clause-runs : goal.returns-in-Some-clause-runs
 returns-in-Some-clause-runs g c = λ m stands.
     let on = c.loop-made.invariant.runs m stands in
-    stops-more _ _ _ _ _ _ _ c.step.result c.in-Some.stop c.loop-made.made c.args.steps m on (c.step.ensures.makes _ on.stands) c.in-Some.is c.loop-made-test.true
+    stops-more _ _ _ _ _ _ _ c.step.result c.in-Some.stop c.loop-made.made c.args.steps m on
+    (c.step.ensures.makes _ on.stands) c.in-Some.is c.loop-made-test.true
 
 pub returns-clause-runs : goal.returns-clause-runs
-returns-clause-runs g c = λ m stands. runs-all _ _ _ _ _ c.args.steps c.loop-made.made m (c.loop-made.invariant.runs m stands) (let low = c.loop-made-test.false in let high = c.loop-made.auto.made-end in omega (arith, low, high))
+returns-clause-runs g c =
+    λ m stands. runs-all _ _ _ _ _ c.args.steps c.loop-made.made m (c.loop-made.invariant.runs m stands)
+    (let low = c.loop-made-test.false in let high = c.loop-made.auto.made-end in omega (arith, low, high))
 
 pub returns-in-Some-clause-same_shelf : goal.returns-in-Some-clause-same_shelf
-returns-in-Some-clause-same_shelf g c = let given = gave_all c.step.ensures.emits_some.1 in given.shelf ∙ c.loop-made.invariant.same_shelf
+returns-in-Some-clause-same_shelf g c = let given =
+    gave_all c.step.ensures.emits_some.1 in given.shelf ∙ c.loop-made.invariant.same_shelf
 
 pub returns-in-Some-clause-same_out : goal.returns-in-Some-clause-same_out
-returns-in-Some-clause-same_out g c = let given = gave_all c.step.ensures.emits_some.1 in given.output ∙ c.loop-made.invariant.same_out
+returns-in-Some-clause-same_out g c = let given =
+    gave_all c.step.ensures.emits_some.1 in given.output ∙ c.loop-made.invariant.same_out

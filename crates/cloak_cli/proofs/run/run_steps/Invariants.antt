@@ -12,5 +12,6 @@ invariant-loop-made g l = record {
   same_out : l.outlet.out.ghost_name ≡ l.fn.outlet.out.ghost_name;
   made : steps_made l.machine ≡ l.made;
   runs : (m : Moment) → StandsForMoment l.fn.machine m →
-      GoesOn (Gave g.S.Shelf.held g.S.Shelf.reading_faults g.S.Shelf.writing_faults g.O.Sink.taken g.O.Sink.faults) l.fn.outlet l.outlet l.machine l.made l.steps m;
+      GoesOn (Gave g.S.Shelf.held g.S.Shelf.reading_faults g.S.Shelf.writing_faults g.O.Sink.taken g.O.Sink.faults)
+      l.fn.outlet l.outlet l.machine l.made l.steps m;
 }

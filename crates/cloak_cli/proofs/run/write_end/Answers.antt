@@ -4,10 +4,15 @@ use Rattle.cloak_cli.proofs.RunFacts.{ends_run}
 use Rattle.cloak_cli.proofs.run.write_end.Goals as goal
 
 pub returns-clause-ends : goal.returns-clause-ends
-returns-clause-ends g c = λ m stands. ends_run (c.finish-end.ensures.ends m stands) c.show.ensures.emits c.report.ensures.emits c.finish-end.ensures.stop c.status.ensures
+returns-clause-ends g c =
+    λ m stands. ends_run (c.finish-end.ensures.ends m stands) c.show.ensures.emits c.report.ensures.emits
+    c.finish-end.ensures.stop c.status.ensures
 
 pub returns-clause-same_shelf : goal.returns-clause-same_shelf
-returns-clause-same_shelf g c = let given = gave_all c.finish-end.ensures.emits_some.1 in c.report.ensures.same_shelf ∙ (c.show.ensures.same_shelf ∙ given.shelf)
+returns-clause-same_shelf g c = let given =
+    gave_all c.finish-end.ensures.emits_some.1 in c.report.ensures.same_shelf ∙
+    (c.show.ensures.same_shelf ∙ given.shelf)
 
 pub returns-clause-same_out : goal.returns-clause-same_out
-returns-clause-same_out g c = let given = gave_all c.finish-end.ensures.emits_some.1 in c.report.ensures.same_out ∙ (c.show.ensures.same_out ∙ given.output)
+returns-clause-same_out g c = let given =
+    gave_all c.finish-end.ensures.emits_some.1 in c.report.ensures.same_out ∙ (c.show.ensures.same_out ∙ given.output)

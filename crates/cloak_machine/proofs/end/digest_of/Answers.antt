@@ -9,5 +9,6 @@ pub loop-frame-preserved : goal.loop-frame-preserved
 loop-frame-preserved c =
     let so_far = concat (take c.loop-frame.frame-index c.args.frames.now) in
     subst (λ (m : List ℕ). Holds256 c.update.new.self m)
-    (ap (λ (l : List ℕ). so_far ++ l) c.as_slice.ensures ∙ sym (concat-take_more c.args.frames.now c.loop-frame.frame-index [] c.loop-frame-test.true))
+    (ap (λ (l : List ℕ). so_far ++ l) c.as_slice.ensures ∙ sym
+    (concat-take_more c.args.frames.now c.loop-frame.frame-index [] c.loop-frame-test.true))
     (c.update.ensures so_far c.loop-frame.invariant)

@@ -6,5 +6,6 @@ use Rattle.cloak_machine.proofs.end.put_harts.Goals as goal
 
 pub loop-number-preserved : goal.loop-number-preserved
 loop-number-preserved g c = text_is (then c.loop-number.invariant c.put_hart-so_far.ensures)
-    (ap (λ (h : Hart). harts_lines 0 (take c.loop-number.number c.args.harts.now) ++ hart_lines c.loop-number.number h) c.index-harts-number.is
+    (ap (λ (h : Hart). harts_lines 0 (take c.loop-number.number c.args.harts.now) ++ hart_lines c.loop-number.number
+    h) c.index-harts-number.is
     ∙ harts_lines-take_more _ _ _ c.loop-number-test.true)

@@ -1,10 +1,11 @@
 use Rattle.std.proofs.Common.{take}
 use Rattle.cloak_model.specs.Report.{harts_lines}
-use Rattle.cloak_machine.specs.Putting.{PutsMore}
+use Rattle.cloak_machine.specs.Putting.{PutsMore, putting}
 use Rattle.cloak_machine.proofs.end.put_harts.Given as goal
 
 -- the harts so far were put
 abbrev pub invariant-loop-number : goal.invariant-loop-number
 invariant-loop-number g l =
-    PutsMore (g.O.Sink.taken l.initial.out) (g.O.Sink.faults l.initial.out) l.initial.so_far (g.O.Sink.taken l.out) (g.O.Sink.faults l.out) l.so_far
+    PutsMore (putting g.O.Sink.taken g.O.Sink.faults l.initial.out l.initial.so_far)
+    (putting g.O.Sink.taken g.O.Sink.faults l.out l.so_far)
     (harts_lines 0 (take l.number l.harts))

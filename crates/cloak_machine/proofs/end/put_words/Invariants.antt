@@ -1,10 +1,11 @@
 use Rattle.std.proofs.Common.{take}
 use Rattle.cloak_model.specs.Report.{words_text}
-use Rattle.cloak_machine.specs.Putting.{PutsMore}
+use Rattle.cloak_machine.specs.Putting.{PutsMore, putting}
 use Rattle.cloak_machine.proofs.end.put_words.Given as goal
 
 -- the words so far were put
 abbrev pub invariant-loop-word : goal.invariant-loop-word
 invariant-loop-word g l =
-    PutsMore (g.O.Sink.taken l.initial.out) (g.O.Sink.faults l.initial.out) l.initial.so_far (g.O.Sink.taken l.out) (g.O.Sink.faults l.out) l.so_far
+    PutsMore (putting g.O.Sink.taken g.O.Sink.faults l.initial.out l.initial.so_far)
+    (putting g.O.Sink.taken g.O.Sink.faults l.out l.so_far)
     (words_text (take l.word-index l.words))

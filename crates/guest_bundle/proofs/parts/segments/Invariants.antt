@@ -5,6 +5,7 @@ use Rattle.guest_bundle.proofs.parts.segments.Given as goal
 
 abbrev pub invariant-loop : goal.invariant-loop
 invariant-loop l = record {
-  so_far : with_front l.segments.items (parts_at (segment_at l.frames l.file) segment_size (l.n - l.counter) l.at) ≡ parts_at (segment_at l.frames l.file) segment_size l.n l.from;
+  so_far : with_front l.segments.items (parts_at (segment_at l.frames l.file) segment_size (l.n - l.counter) l.at) ≡
+      parts_at (segment_at l.frames l.file) segment_size l.n l.from;
   within : l.at ≤ length l.file;
 }

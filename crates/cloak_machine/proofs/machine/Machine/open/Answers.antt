@@ -13,14 +13,15 @@ invariant_of-result-clause-turns c =
     (c.in_ok-schedule.ensures.items ∙ c.as_slice-3.ensures) c.in_ok-harts.ensures c.requires.in_grammar.kernel.turns
 
 pub returns-clause-opens : goal.returns-clause-opens
-returns-clause-opens c = opens_as _ c.args.b.now c.args.s c.in-Some.key c.draw.new.self c.requires.kernel_only c.in-Some.ensures (record {
-  schedule = c.in_ok-schedule.ensures.items ∙ c.as_slice-3.ensures;
-  steps = refl;
-  harts = c.in_ok-harts.ensures;
-  frames = c.in_ok-memory.ensures ∙ ap (with_segments (zero_ram c.args.b.now.kernel.frames)) c.as_slice.ensures;
-  disk = c.in_ok-disk.ensures ∙ c.as_slice-2.ensures;
-  console = c.new.ensures.shows;
-  key_is = refl;
-  stream = refl;
-  draws = refl;
-})
+returns-clause-opens c = opens_as _ c.args.b.now c.args.s c.in-Some.key c.draw.new.self c.requires.kernel_only
+    c.in-Some.ensures (record {
+      schedule = c.in_ok-schedule.ensures.items ∙ c.as_slice-3.ensures;
+      steps = refl;
+      harts = c.in_ok-harts.ensures;
+      frames = c.in_ok-memory.ensures ∙ ap (with_segments (zero_ram c.args.b.now.kernel.frames)) c.as_slice.ensures;
+      disk = c.in_ok-disk.ensures ∙ c.as_slice-2.ensures;
+      console = c.new.ensures.shows;
+      key_is = refl;
+      stream = refl;
+      draws = refl;
+    })

@@ -1,8 +1,6 @@
 use Rattle.std.proofs.Common.{IsOk, List, ℕ, length, ap, arith, rules}
 use Rattle.outside_io.proofs.memory_sink.MemorySinkSink.put.Goals.{then-is_next_to_fail-via-then-is_next_to_fail}
-use Rattle.outside_io.proofs.memory_sink.MemorySinkSink.put.Goals.{
-  then-is_next_to_fail-via-else-is_next_to_fail+then-is_err,
-}
+use Rattle.outside_io.proofs.memory_sink.MemorySinkSink.put.Goals.{then-is_next_to_fail-via-else-is_next_to_fail+then-is_err}
 use Rattle.outside_io.proofs.memory_sink.MemorySinkSink.put.Goals as goal
 
 pub returns-then-is_next_to_fail-clause-empty : goal.returns-then-is_next_to_fail-clause-empty

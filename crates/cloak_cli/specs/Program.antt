@@ -1,0 +1,47 @@
+-- What the program answers as it ends.
+use Rattle.std.specs.Prelude.{ℕ, ◌≡◌, ◌⊎◌, List, map, codes, string_bytes}
+use Rattle.outside_io.specs.Told.{Rose, SameFiles}
+use Rattle.cloak_model.specs.declared.outcome.UsageFault.TheVariants.{WrongWords}
+use Rattle.cloak_model.specs.Command as spec
+use Rattle.cloak_cli.specs.declared.status.Status.{Status}
+use Rattle.cloak_cli.specs.declared.status.Status.TheVariants as status
+use Rattle.cloak_cli.specs.declared.words.Words.{Words}
+use Rattle.cloak_cli.specs.declared.words.Words.TheVariants as words
+use Rattle.cloak_cli.specs.Answering.{Answers, KeepsFiles}
+use Rattle.cloak_cli.specs.Outside.{Outside, NothingRose}
+use Rattle.cloak_cli.specs.Recording.{Refuses}
+
+-- the status comes by its cause, and all files but the record of a run keep their bytes
+pub record AnswersAsked {S O : Type 0} (asked : spec.Asked) (before after : Outside S O) (answer : Status) : Type 0
+  where
+    pub answers : Answers asked before after answer
+    pub kept : KeepsFiles asked answer before.files.held after.files.held
+
+-- the line of want of memory was shown, and no file was asked for anything
+pub record WantsMemory {S O : Type 0} (before after : Outside S O) (answer : Status) : Type 0 where
+  pub line : Refuses before.output after.output status.NoMemory (codes "no memory\n") answer
+  pub untouched : after.files ≡ before.files
+
+-- What was answered to these words. One that is no text makes them faulty.
+abbrev pub AnswersWords : {S O : Type 0} → Words → Outside S O → Outside S O → Status → Type 0
+AnswersWords (words.Taken texts) before after answer =
+    AnswersAsked (spec.words_of (map string_bytes texts.items)) before after answer
+AnswersWords words.NotText before after answer = AnswersAsked (spec.Faulty WrongWords) before after answer
+AnswersWords words.NoMemory before after answer = WantsMemory before after answer
+
+-- a call that writes out what is gathered failed
+abbrev pub FlushFailed : {S O : Type 0} → Outside S O → Outside S O → Type 0
+FlushFailed before after =
+    Rose before.files.writing after.files.writing ⊎ Rose before.output.faults after.output.faults
+
+-- What was done by the words, and what was answered; then what is gathered was written out, and the answer is given,
+-- or,
+-- where that failed, the write fault.
+pub record Exits {S O : Type 0} (given_words : Words) (before after : Outside S O) (given : Status) : Type 0 where
+  pub done : Outside S O
+  pub answer : Status
+  pub answers : AnswersWords given_words before done answer
+  pub held : SameFiles done.files.held after.files.held
+  pub taken : after.output.taken ≡ done.output.taken
+  pub reading : after.files.reading ≡ done.files.reading
+  pub outcome : ((given ≡ answer) × NothingRose done after) ⊎ ((given ≡ status.WriteFault) × FlushFailed done after)

@@ -1,0 +1,54 @@
+//! All that the program does, over any files and any output.
+ghost use Rattle.std.specs.Prelude.{◌≡◌, ◌≢◌, ◌<◌, ◌-◌, ◌^◌};
+ghost use Rattle.cloak_cli.specs.Outside.{outside};
+ghost use Rattle.cloak_cli.specs.Program.{AnswersWords, Exits};
+
+use crate::command::{cloak, refuse, refuse_words};
+use crate::status::Status;
+use crate::words::Words;
+use cloak_model::UsageFault;
+use outside_io::{Shelf, Sink};
+use std::alloc::Global;
+
+/// Does what the words ask for.
+fn obey<S: Shelf, O: Sink>(alloc: Global, words: &Words, shelf: &mut S, out: &mut O) -> Status
+    requires settled { S.is_settled shelf.old }
+    requires reading { S.reading_faults shelf.old < 2 ^ 64 - 1 }
+    requires writing { S.writing_faults shelf.old < 2 ^ 64 - 1 }
+    requires output { O.faults out.old < 2 ^ 64 - 1 }
+    ensures { AnswersWords words.now
+        (outside S.held S.reading_faults S.writing_faults O.taken O.faults shelf.old out.old)
+        (outside S.held S.reading_faults S.writing_faults O.taken O.faults shelf.new out.new) result }
+{
+    match words {
+        Words::Taken(words) => cloak(alloc, words, shelf, out),
+        Words::NotText => refuse_words(out, UsageFault::WrongWords),
+        Words::NoMemory => refuse(out, Status::NoMemory, b"no memory\n"),
+    }
+}
+
+/// Does what the words ask for, and then writes out what is gathered for files and output.
+pub fn run_program<S: Shelf, O: Sink>(
+    alloc: Global,
+    words: &Words,
+    shelf: &mut S,
+    out: &mut O,
+) -> Status
+    requires settled { S.is_settled shelf.old }
+    requires reading { S.reading_faults shelf.old < 2 ^ 64 - 1 }
+    requires writing { S.writing_faults shelf.old < 2 ^ 64 - 1 }
+    requires output { O.faults out.old < 2 ^ 64 - 1 }
+    ensures exits { Exits words.now
+        (outside S.held S.reading_faults S.writing_faults O.taken O.faults shelf.old out.old)
+        (outside S.held S.reading_faults S.writing_faults O.taken O.faults shelf.new out.new) result }
+    ensures files { result ≢ Status.WriteFault → S.is_settled shelf.new }
+    ensures shown { result ≢ Status.WriteFault → O.is_settled out.new }
+{
+    let status = obey(alloc, words, shelf, out);
+    let are_unwritten = shelf.flush().is_err();
+    let is_unshown = out.flush().is_err();
+    if are_unwritten || is_unshown {
+        return Status::WriteFault;
+    }
+    status
+}

@@ -1,0 +1,9 @@
+/// The words behind the program's name.
+#[derive(Drop)]
+pub enum Words {
+    Taken(Vec<String>),
+    /// One of them is no text.
+    NotText,
+    /// There was not enough memory for them.
+    NoMemory,
+}
