@@ -1,0 +1,80 @@
+-- What frames hold after calls on their pager.
+use Rattle.std.proofs.Common.{◌≡◌, ◌≢◌, ℕ, Option, None, Some, List, slice_index_or, inl, inr, refl, ap, sym, ◌∙◌, subst}
+use Rattle.cloak_base.specs.declared.names.PageId.{PageId}
+use Rattle.cloak_pager.specs.State.{PagerState, page_of, owed_under, right_at, held_in, owed_at}
+use Rattle.cloak_pager.specs.Turns.{StaysBut}
+use Rattle.cloak_pager.specs.declared.held.Held.{Held}
+use Rattle.cloak_pager.specs.declared.held.Held.TheVariants.{Outside, Clean, Changed, Spent}
+use Rattle.cloak_pager.proofs.Pages.{same_or_not}
+use Rattle.cloak_pager.proofs.Stands.{owed_held}
+use Rattle.cloaked_side.specs.Holding.{HoldsNoMore, HoldsNoOther}
+
+pub no_more_self : (p : PagerState) → HoldsNoMore p p
+no_more_self p = record { held = λ k q e. e; owed = λ k q e. e }
+
+pub no_more_then : (a b c : PagerState) → HoldsNoMore a b → HoldsNoMore b c → HoldsNoMore a c
+no_more_then a b c first second = record {
+  held = λ k q e. first.held k q (second.held k q e);
+  owed = λ k q e. first.owed k q (second.owed k q e);
+}
+
+-- all rights stayed
+pub no_more_rights : (old new : PagerState) → new.rights ≡ old.rights → HoldsNoMore old new
+no_more_rights old new same = record {
+  held = λ k q e. sym (ap (λ (rs : List Held). page_of (slice_index_or rs k Spent)) same) ∙ e;
+  owed = λ k q e. sym (ap (λ (rs : List Held). owed_under (slice_index_or rs k Spent)) same) ∙ e;
+}
+
+never : (o : Option PageId) (q : PageId) → o ≡ None → o ≡ Some q → ⊥
+never o q none some = let e : None ≡ Some q = sym none ∙ some in cc
+
+-- a frame was brought outside
+pub no_more_emptied : (f : ℕ) (old new : PagerState) → StaysBut f old new → held_in new f ≡ None → HoldsNoMore old new
+no_more_emptied f old new stays none = record { held = held; owed = owed }
+  where
+    held : (k : ℕ) (q : PageId) → held_in new k ≡ Some q → held_in old k ≡ Some q
+    held k q e = elim (same_or_not k f) [
+      | inl same ↦ absurd (never (held_in new f) q none (subst (λ (n : ℕ). held_in new n ≡ Some q) same e))
+      | inr other ↦ sym (ap page_of (stays.rights k other)) ∙ e
+    ]
+
+    owed : (k : ℕ) (q : PageId) → owed_at new k ≡ Some q → owed_at old k ≡ Some q
+    owed k q e = elim (same_or_not k f) [
+      | inl same ↦ absurd (never (held_in new f) q none (owed_held (right_at new f) q (subst (λ (n : ℕ). owed_at new n ≡ Some q) same e)))
+      | inr other ↦ sym (ap owed_under (stays.rights k other)) ∙ e
+    ]
+
+-- a frame came to hold page q
+pub no_other_taken : (g : ℕ) (q : PageId) (old new : PagerState) → StaysBut g old new → held_in new g ≡ Some q → HoldsNoOther q old new
+no_other_taken g q old new stays taken k p not_q e = elim (same_or_not k g) [
+  | inl same ↦ absurd (not_q (one p q (sym (subst (λ (n : ℕ). held_in new n ≡ Some p) same e) ∙ taken)))
+  | inr other ↦ sym (ap page_of (stays.rights k other)) ∙ e
+]
+  where
+    one : (p q : PageId) → Some p ≡ Some q → p ≡ q
+    one p q e = cc
+
+-- before that frames came to hold less
+pub no_other_later : (q : PageId) (a b c : PagerState) → HoldsNoMore a b → HoldsNoOther q b c → HoldsNoOther q a c
+no_other_later q a b c less other k p not_q e = less.held k p (other k p not_q e)
+
+-- a pager that is the same
+pub no_other_same : (q : PageId) (old new : PagerState) → new ≡ old → HoldsNoOther q old new
+no_other_same q old new same k p not_q e = sym (ap (λ (s : PagerState). held_in s k) same) ∙ e
+
+-- a frame that is owed a page is owed the one that it holds
+owed_is_held : (h : Held) → owed_under h ≢ None → owed_under h ≡ page_of h
+owed_is_held (Outside r) owed = absurd (owed refl)
+owed_is_held (Clean r) owed = absurd (owed refl)
+owed_is_held (Changed r) owed = refl
+owed_is_held Spent owed = absurd (owed refl)
+
+pub owed_at_is : (p : PagerState) (f : ℕ) → owed_at p f ≢ None → held_in p f ≡ owed_at p f
+owed_at_is p f owed = sym (owed_is_held (right_at p f) owed)
+
+not_not : (o : Option PageId) → ¬ (o ≢ None) → None ≡ o
+not_not None denied = refl
+not_not (Some q) denied = absurd (denied (λ (e : Some q ≡ None). cc))
+
+pub owed_none : (p : PagerState) (f : ℕ) → ¬ (owed_at p f ≢ None) → None ≡ owed_at p f
+owed_none p f denied = not_not (owed_at p f) denied

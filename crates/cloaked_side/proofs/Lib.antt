@@ -1,0 +1,9 @@
+pub mod Emitting
+pub mod Holders
+pub mod Settling
+pub mod Rooming
+pub mod Sided
+pub mod Answering
+pub mod Cleared
+pub mod Serving
+pub mod Telling

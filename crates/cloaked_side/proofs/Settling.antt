@@ -1,0 +1,80 @@
+-- A memory that settled a frame.
+use Rattle.std.proofs.Common.{◌≡◌, ℕ, ◌+◌, ◌-◌, ◌^◌, Bool, true, false, List, [], ◌∷◌, Option, None, Some, refl, ap, sym, ◌∙◌, subst}
+use Rattle.std.specs.Prelude.{min}
+use Rattle.std.proofs.lemmas.Bool.{false≢true}
+use Rattle.cloak_base.specs.declared.names.PageId.{PageId}
+use Rattle.cloak_base.specs.Random.{Random}
+use Rattle.cloak_model.specs.Cloaking.{CloakedMemory, AfterSettling, settle, settle_if, settle_owed, owed_in}
+use Rattle.cloak_model.specs.Exchange.{Piece, Emits, item_pieces}
+use Rattle.cloak_model.specs.World.{cipher_items}
+use Rattle.cloak_pager.specs.State.{PagerState}
+use Rattle.cloak_pager.specs.Relation.{StandsForMemory}
+use Rattle.cloak_pager.specs.AfterCall.{Meets, after_touch, wiped_with}
+use Rattle.cloaked_side.specs.Holding.{Holds, Settles}
+use Rattle.cloaked_side.specs.declared.memory.Memory.{Memory}
+
+-- the draws behind a settling that showed this
+abbrev pub draws_by : List (ℕ × List ℕ) → Bool → ℕ → ℕ
+draws_by [] missed n = n
+draws_by (c ∷ ciphers) true n = n
+draws_by (c ∷ ciphers) false n = min (n + 1) (2 ^ 64 - 1)
+
+abbrev pub missed_by : Bool → Bool → Bool
+missed_by true before = true
+missed_by false before = before
+
+-- what a settling shows tells what became of the two
+pub record Counts (m : CloakedMemory) (s : AfterSettling) : Type 0 where
+  pub draws : s.memory.ledger.draws ≡ draws_by s.ciphers s.missed m.ledger.draws
+  pub missed : s.memory.ledger.missed ≡ missed_by s.missed m.ledger.missed
+
+counts_owed : (f : ℕ) (q : PageId) (draw : Option (List ℕ × Random)) (m : CloakedMemory) → Counts m (settle_owed f q draw m)
+unfolding settle_owed
+counts_owed f q None m = record { draws = refl; missed = refl }
+counts_owed f q (Some draw) m = record { draws = refl; missed = refl }
+
+counts_if : (f : ℕ) (owed : Option PageId) (m : CloakedMemory) → Counts m (settle_if f owed m)
+unfolding settle_if
+counts_if f None m = record { draws = refl; missed = refl }
+counts_if f (Some q) m = counts_owed f q _ m
+
+pub counts : (f : ℕ) (m : CloakedMemory) → Counts m (settle f m)
+unfolding settle
+counts f m = counts_if f (owed_in m f) m
+
+unwiped : (missed before : Bool) (owed : Option PageId) (w : PageId → Bool) → missed_by missed before ≡ false → (before ≡ false → (q : PageId) → w q ≡ false) → (q : PageId) → wiped_with missed owed w q ≡ false
+unwiped true before owed w e none q = absurd (false≢true (sym e))
+unwiped false before owed w e none q = none e q
+
+-- A touch of this pager made this of it and of the stream, and showed this. What the memory has is that, read again.
+pub settled_so : {E : Type 0} (gave : E → E → List Piece → Type 0) (e e' : E) (old new : Memory) (p : PagerState) (left : Random) (f : ℕ) (shown : List (ℕ × List ℕ)) (missed : Bool) →
+    Meets old.pager old.stream p left (shown, missed) (after_touch f) →
+    ((w : PageId → Bool) (m : CloakedMemory) → StandsForMemory p w m → StandsForMemory new.pager w m) →
+    new.stream ≡ left → new.draws ≡ draws_by shown missed old.draws → new.missed ≡ missed_by missed old.missed →
+    Emits gave e e' (item_pieces (cipher_items shown)) →
+    (m : CloakedMemory) → Holds old m → Settles gave e e' new (settle f m)
+settled_so {E} gave e e' old new p left f shown missed meets again stream draws mark emits m h =
+    let s : AfterSettling = settle f m in
+    let v = meets h.wiped m h.pager h.stream in
+    let cs : shown ≡ s.ciphers = ap (λ (x : List (ℕ × List ℕ) × Bool). x.0) v.answered in
+    let ms : missed ≡ s.missed = ap (λ (x : List (ℕ × List ℕ) × Bool). x.1) v.answered in
+    let mark' : new.missed ≡ missed_by s.missed old.missed = mark ∙ ap (λ b. missed_by b old.missed) ms in
+    record {
+      holds = record {
+        wiped = wiped_with s.missed (owed_in m f) h.wiped;
+        pager = again _ _ v.stands;
+        whole = λ none. unwiped s.missed old.missed (owed_in m f) h.wiped (sym mark' ∙ none) h.whole;
+        stream = v.drawn ∙ sym stream;
+        draws = draws ∙ ap (λ (x : List (ℕ × List ℕ) × Bool). draws_by x.0 x.1 old.draws) v.answered ∙ ap (λ n. draws_by s.ciphers s.missed n) h.draws ∙ sym (counts f m).draws;
+        missed = mark' ∙ ap (λ b. missed_by s.missed b) h.missed ∙ sym (counts f m).missed;
+      };
+      emits = subst (λ (x : List (ℕ × List ℕ)). Emits gave e e' (item_pieces (cipher_items x))) cs emits;
+    }
+
+-- whether a draw was missing in a settling, where none was before
+pub settle_missed : (f : ℕ) (m : CloakedMemory) → m.ledger.missed ≡ false → (settle f m).missed ≡ (settle f m).memory.ledger.missed
+settle_missed f m none = by_value (settle f m).missed (counts f m).missed
+  where
+    by_value : (b : Bool) → (settle f m).memory.ledger.missed ≡ missed_by b m.ledger.missed → b ≡ (settle f m).memory.ledger.missed
+    by_value true e = sym e
+    by_value false e = sym (e ∙ none)

@@ -1,0 +1,75 @@
+use Rattle.std.proofs.Common.{rules, ◌≡◌, ◌≢◌, ◌∙◌, ◌++◌, refl, sym, not, Some}
+use Rattle.cloak_model.specs.Cloaking.{settle}
+use Rattle.cloak_pager.specs.State.{held_in}
+use Rattle.cloaked_side.proofs.Settling.{settle_missed}
+use Rattle.cloaked_side.proofs.Emitting.{emits_then, emits_ciphers}
+use Rattle.cloaked_side.proofs.Rooming.{rooms_missed, rooms_alone, rooms_home, rest_by, home_gone, outside_still}
+use Rattle.cloaked_side.proofs.Holders.{no_more_self, no_more_then, no_more_emptied}
+use Rattle.cloaked_side.proofs.memory.Memory.make_room.Goals as goal
+
+pub returns-then-self-clause-rooms : goal.returns-then-self-clause-rooms
+returns-then-self-clause-rooms g c m h =
+    let f = c.args.g.0 in
+    let n : held_in c.args.self.now.pager f ≢ Some c.args.q = c.if-is_held.ensures.not_held refl in
+    let st = c.settle.ensures.settles m h in
+    let missed = settle_missed f m (sym h.missed ∙ c.requires.drawn) ∙ sym st.holds.missed ∙ c.if-self.true in
+    record {
+      memory = (settle f m).memory;
+      ciphers = (settle f m).ciphers;
+      holds = st.holds;
+      emits = st.emits;
+      offers = λ write. rooms_missed _ h.wiped m f c.args.q write h.pager n missed;
+    }
+
+pub returns-in_default-clause-rooms : goal.returns-in_default-clause-rooms
+returns-in_default-clause-rooms g c m h =
+    let f = c.args.g.0 in
+    let n : held_in c.args.self.now.pager f ≢ Some c.args.q = c.if-is_held.ensures.not_held refl in
+    let st = c.settle.ensures.settles m h in
+    let missed = settle_missed f m (sym h.missed ∙ c.requires.drawn) ∙ sym st.holds.missed ∙ c.if-self.false in
+    record {
+      memory = (settle f m).memory;
+      ciphers = (settle f m).ciphers;
+      holds = record { wiped = st.holds.wiped; pager = st.holds.pager; whole = st.holds.whole; stream = st.holds.stream; draws = st.holds.draws; missed = st.holds.missed };
+      emits = st.emits;
+      offers = λ write. rooms_alone _ _ h.wiped st.holds.wiped m f c.args.q write h.pager n missed st.holds.pager c.settle.ensures.outside (search rules);
+    }
+
+pub returns-clause-emits_some : goal.returns-clause-emits_some
+returns-clause-emits_some g c = (_, emits_then c.settle.ensures.emits_some.1 c.settle-2.ensures.emits_some.1)
+
+pub returns-clause-rooms : goal.returns-clause-rooms
+returns-clause-rooms g c m h =
+    let f = c.args.g.0 in
+    let home = c.in-Some.home.0 in
+    let n : held_in c.args.self.now.pager f ≢ Some c.args.q = c.if-is_held.ensures.not_held refl in
+    let st = c.settle.ensures.settles m h in
+    let m1 = (settle f m).memory in
+    let missed = settle_missed f m (sym h.missed ∙ c.requires.drawn) ∙ sym st.holds.missed ∙ c.if-self.false in
+    let held : held_in c.settle.new.self.pager home ≡ Some c.args.q = search rules in
+    let st2 = c.settle-2.ensures.settles m1 st.holds in
+    let missed2 = settle_missed home m1 (sym st.holds.missed ∙ c.if-self.false) ∙ sym st2.holds.missed in
+    record {
+      memory = (settle home m1).memory;
+      ciphers = (settle f m).ciphers ++ (settle home m1).ciphers;
+      holds = st2.holds;
+      emits = emits_ciphers (settle f m).ciphers (settle home m1).ciphers st.emits st2.emits;
+      offers = λ write. rooms_home _ _ h.wiped st.holds.wiped m f home c.args.q write (not c.settle-2.new.self.missed) h.pager n missed st.holds.pager held
+          (rest_by c.settle-2.new.self.pager st2.holds.wiped m1 f home c.args.q write c.settle-2.new.self.missed missed2 st2.holds.pager
+          (outside_still c.settle.new.self.pager _ home f c.args.q c.settle-2.ensures.stays c.settle.ensures.outside held)
+          (home_gone c.settle.new.self.pager _ home c.args.q st.holds.pager.whole c.settle-2.ensures.stays c.settle-2.ensures.outside held));
+    }
+
+pub returns-then-is_held-clause-no_more : goal.returns-then-is_held-clause-no_more
+returns-then-is_held-clause-no_more g c = no_more_self _
+
+pub returns-then-self-clause-no_more : goal.returns-then-self-clause-no_more
+returns-then-self-clause-no_more g c = no_more_emptied c.args.g.0 _ _ c.settle.ensures.stays c.settle.ensures.outside
+
+pub returns-in_default-clause-no_more : goal.returns-in_default-clause-no_more
+returns-in_default-clause-no_more g c = no_more_emptied c.args.g.0 _ _ c.settle.ensures.stays c.settle.ensures.outside
+
+pub returns-clause-no_more : goal.returns-clause-no_more
+returns-clause-no_more g c =
+    no_more_then _ c.settle.new.self.pager _ (no_more_emptied c.args.g.0 _ _ c.settle.ensures.stays c.settle.ensures.outside)
+    (no_more_emptied c.in-Some.home.0 _ _ c.settle-2.ensures.stays c.settle-2.ensures.outside)

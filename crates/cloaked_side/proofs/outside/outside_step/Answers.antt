@@ -1,0 +1,39 @@
+use Rattle.std.proofs.Common.{rules, refl, sym}
+use Rattle.cloak_model.specs.World.{Cloaked}
+use Rattle.cloak_model.specs.Exchange.{EmitsSome}
+use Rattle.cloak_model.specs.Joint.{cloak_outside}
+use Rattle.cloaked_side.specs.Holding.{SameSize, HoldsNoMore}
+use Rattle.cloaked_side.proofs.Sided.{within_self}
+use Rattle.cloaked_side.proofs.Telling.{size_back, no_more_back, some_back, sees_first, tells_ahead, view_is}
+use Rattle.cloaked_side.proofs.outside.outside_step.Goals as goal
+
+pub returns-clause-size : goal.returns-clause-size
+returns-clause-size g c =
+    let kept = c.kernel_step-ending.ensures.keeps _ (within_self g.E.Emit.gave _) in
+    let lent = sym kept.stays.same_memory in
+    size_back c.args.memory.now _ c.kernel_step-ending.new.m.memory.now (search rules) kept.stays.size
+
+pub returns-clause-no_more : goal.returns-clause-no_more
+returns-clause-no_more g c =
+    let kept = c.kernel_step-ending.ensures.keeps _ (within_self g.E.Emit.gave _) in
+    let lent = sym kept.stays.same_memory in
+    no_more_back c.args.memory.now.pager _ c.kernel_step-ending.new.m.memory.now.pager (search rules) kept.no_more
+
+pub returns-clause-emits_some : goal.returns-clause-emits_some
+returns-clause-emits_some g c =
+    let kept = c.kernel_step-ending.ensures.keeps _ (within_self g.E.Emit.gave _) in
+    let lent = sym kept.stays.same_emitter in
+    some_back g.E.Emit.gave c.args.e.now _ c.kernel_step-ending.new.m.emitter.now (search rules) kept.stays.emits_some
+
+pub returns-clause-tells : goal.returns-clause-tells
+returns-clause-tells g c m holds unclashed =
+    let kept = c.kernel_step-ending.ensures.keeps _ (within_self g.E.Emit.gave _) in
+    let h = c.args.h.now in
+    let disk = c.args.d.now in
+    let cloak = cloak_outside m h in
+    let v = c.view_of-view.ensures in
+    let sees = sees_first g.E.Emit.gave _ cloak holds refl refl (view_is _ _ _ _ _ v.satp v.sum v.mxr v.domain) in
+    let memory_lent = sym kept.stays.same_memory in
+    let emitter_lent = sym kept.stays.same_emitter in
+    tells_ahead g.E.Emit.gave _ c.kernel_step-ending.new.m _ h disk cloak _ _ (search rules) (search rules) unclashed
+    (c.kernel_step-ending.ensures.follows _ (Cloaked cloak) sees)

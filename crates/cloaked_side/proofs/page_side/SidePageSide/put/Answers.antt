@@ -1,0 +1,20 @@
+use Rattle.cloaked_side.proofs.Sided.{within_of, stays_on}
+use Rattle.cloaked_side.proofs.Serving.{asked_put, unused_still, served_same}
+use Rattle.cloaked_side.proofs.page_side.SidePageSide.put.Goals as goal
+
+pub returns-clause-follows : goal.returns-clause-follows
+returns-clause-follows g c first w sees unclashed =
+    asked_put g.E.Emit.gave first c.args.self.now _ c.args.va c.args.width c.args.v _ w sees unclashed (λ u. c.put_value.ensures.follows first w sees u)
+
+pub returns-clause-keeps : goal.returns-clause-keeps
+returns-clause-keeps g c first stays = stays_on g.E.Emit.gave first c.args.self.now _ c.put_value.ensures.keeps stays
+
+pub returns-clause-unused : goal.returns-clause-unused
+returns-clause-unused g c n unused =
+    let kept = within_of g.E.Emit.gave c.args.self.now c.put_value.new.self c.put_value.ensures.keeps in
+    unused_still c.args.self.now c.put_value.new.self n kept.stays.view kept.no_more unused
+
+pub returns-clause-same_domain : goal.returns-clause-same_domain
+returns-clause-same_domain g c =
+    let kept = within_of g.E.Emit.gave c.args.self.now c.put_value.new.self c.put_value.ensures.keeps in
+    served_same c.args.self.now c.put_value.new.self kept.stays.size kept.stays.view

@@ -1,0 +1,52 @@
+-- What a memory with cloaked pages stands for.
+use Rattle.std.specs.Prelude.{ℕ, ◌≡◌, ◌≢◌, Bool, false, List, Option, Some, None, length}
+use Rattle.cloak_base.specs.declared.names.PageId.{PageId}
+use Rattle.cloak_base.specs.Pages.{is_of}
+use Rattle.protect_meta.specs.Table.{domains_of}
+use Rattle.cloak_model.specs.Cloaking.{CloakedMemory, AfterSettling}
+use Rattle.cloak_model.specs.World.{cipher_items}
+use Rattle.cloak_model.specs.Exchange.{Piece, Emits, item_pieces}
+use Rattle.cloak_pager.specs.State.{PagerState, held_in, owed_at}
+use Rattle.cloak_pager.specs.Relation.{StandsForMemory}
+use Rattle.cloaked_side.specs.declared.memory.Memory.{Memory}
+
+-- The memory stands for these frames, pages and this ledger. The newest bytes of a page are lost only where a draw was
+-- missing.
+pub record Holds (memory : Memory) (m : CloakedMemory) : Type 0 where
+  pub wiped : PageId → Bool
+  pub pager : StandsForMemory memory.pager wiped m
+  pub whole : memory.missed ≡ false → (q : PageId) → wiped q ≡ false
+  pub stream : m.ledger.stream ≡ memory.stream
+  pub draws : memory.draws ≡ m.ledger.draws
+  pub missed : memory.missed ≡ m.ledger.missed
+
+-- how many frames and domains there are
+abbrev pub frames_of : Memory → ℕ
+frames_of memory = length memory.pager.frames
+
+abbrev pub domains_in : Memory → ℕ
+domains_in memory = domains_of memory.pager.table
+
+-- a call left as many frames and domains as there were
+pub record SameSize (old new : Memory) : Type 0 where
+  pub frames : frames_of new ≡ frames_of old
+  pub domains : domains_in new ≡ domains_in old
+
+-- No frame holds a page that it did not hold, nor is owed one that it was not owed.
+pub record HoldsNoMore (old new : PagerState) : Type 0 where
+  pub held : (k : ℕ) (q : PageId) → held_in new k ≡ Some q → held_in old k ≡ Some q
+  pub owed : (k : ℕ) (q : PageId) → owed_at new k ≡ Some q → owed_at old k ≡ Some q
+
+-- no frame holds a page but q that it did not hold
+abbrev pub HoldsNoOther : PageId → PagerState → PagerState → Type 0
+HoldsNoOther q old new = (k : ℕ) (p : PageId) → p ≢ q → held_in new k ≡ Some p → held_in old k ≡ Some p
+
+-- this is a page of a resource of a domain
+abbrev pub is_some_of : ℕ → ℕ → Option PageId → Bool
+is_some_of domain resource None = false
+is_some_of domain resource (Some q) = is_of domain resource q
+
+-- frame was settled so, and what the kernel is shown was emitted
+pub record Settles {E : Type 0} (gave : E → E → List Piece → Type 0) (e e' : E) (new : Memory) (s : AfterSettling) : Type 0 where
+  pub holds : Holds new s.memory
+  pub emits : Emits gave e e' (item_pieces (cipher_items s.ciphers))

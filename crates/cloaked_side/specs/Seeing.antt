@@ -1,0 +1,77 @@
+-- What a side stands for.
+use Rattle.std.specs.Prelude.{ℕ, ◌≡◌, ◌≢◌, ◌<◌, ◌^◌, nat_lt, false, Some, List, if◌then◌else◌}
+use Rattle.cloak_base.specs.declared.names.PageId.{PageId}
+use Rattle.cloak_pager.specs.State.{held_in, owed_at, IsNoneOwed, IsNoneHeld}
+use Rattle.cloak_model.specs.World.{World, Cloak, Flat, Cloaked, Alone}
+use Rattle.cloak_model.specs.Asking.{Asking, FollowsFrom}
+use Rattle.cloak_model.specs.Exchange.{Piece, Emits, EmitsSome, item_pieces}
+use Rattle.cloaked_side.specs.Holding.{Holds, SameSize, HoldsNoMore, domains_in}
+use Rattle.cloaked_side.specs.declared.side.Side.{Side}
+
+-- From an earlier state of the side on, in which the emitter was as a step had begun, this is what memory and step have
+-- come to.
+pub record SeesCloak {E : Type 0} (gave : E → E → List Piece → Type 0) (first now : Side E) (c : Cloak) : Type 0 where
+  pub holds : Holds now.memory.now c.memory
+  pub emits : Emits gave first.emitter.now now.emitter.now (item_pieces c.items)
+  pub violation : now.violation ≡ c.violation
+  pub view : now.view ≡ c.view
+
+abbrev pub Sees : {E : Type 0} → (E → E → List Piece → Type 0) → Side E → Side E → World → Type 0
+Sees gave first now (Flat ram) = ⊥
+Sees gave first now (Alone handed) = ⊥
+Sees gave first now (Cloaked c) = SeesCloak gave first now c
+
+-- From each world that the side stood for, it stands for the next one.
+abbrev pub Becomes : {E : Type 0} → (E → E → List Piece → Type 0) → Side E → Side E → (World → World) → Type 0
+Becomes gave old new next = (first : _) (w : World) → Sees gave first old w → Sees gave first new (next w)
+
+-- From each world that it stood for, the answer is that of the definition, and the side stands for the world after it.
+-- So it is of questions that compare no pages.
+abbrev pub FollowsAlways :
+    {E A : Type 0} → (E → E → List Piece → Type 0) → Side E → Side E → A → Asking A → Type 0
+FollowsAlways gave old new given ask =
+    (first : _) (w : World) → Sees gave first old w → FollowsFrom (Sees gave first) new given (ask w)
+
+-- What stays of a side, whatever it stands for. No frame holds a page of another domain that it did not hold.
+pub record Stays {E : Type 0} (gave : E → E → List Piece → Type 0) (first now : Side E) : Type 0 where
+  pub same_memory : now.memory.ghost_name ≡ first.memory.ghost_name
+  pub same_emitter : now.emitter.ghost_name ≡ first.emitter.ghost_name
+  pub emits_some : EmitsSome gave first.emitter.now now.emitter.now
+  pub size : SameSize first.memory.now now.memory.now
+  pub view : now.view ≡ first.view
+  pub others : (k : ℕ) (q : PageId) → q.domain ≢ first.view.domain →
+      held_in now.memory.now.pager k ≡ Some q → held_in first.memory.now.pager k ≡ Some q
+
+-- What stays of it where no page is offered: no frame holds a page at all that it did not hold.
+pub record StaysWithin {E : Type 0} (gave : E → E → List Piece → Type 0) (first now : Side E) : Type 0 where
+  pub stays : Stays gave first now
+  pub no_more : HoldsNoMore first.memory.now.pager now.memory.now.pager
+
+-- The number of the domain that a side serves. Where the memory has no such domain, it is the number of none.
+abbrev pub served : {E : Type 0} → Side E → ℕ
+served side = if nat_lt side.view.domain (domains_in side.memory.now) then side.view.domain else 2 ^ 32
+
+-- The page can be read: some frame holds it, and no draw is missing.
+pub record CanRead {E : Type 0} (side : Side E) (q : PageId) : Type 0 where
+  pub domain : q.domain < domains_in side.memory.now
+  pub resource : q.resource < 16
+  pub page : q.page < 1024
+  pub drawn : side.memory.now.missed ≡ false
+  pub held : (f : ℕ) × (held_in side.memory.now.pager f ≡ Some q)
+
+-- The page can be written: some frame is owed it, and no draw is missing.
+pub record CanWrite {E : Type 0} (side : Side E) (q : PageId) : Type 0 where
+  pub domain : q.domain < domains_in side.memory.now
+  pub resource : q.resource < 16
+  pub page : q.page < 1024
+  pub drawn : side.memory.now.missed ≡ false
+  pub owed : (f : ℕ) × (owed_at side.memory.now.pager f ≡ Some q)
+
+-- There is resource r, and no frame is owed a page of it.
+pub record IsCleared {E : Type 0} (side : Side E) (r : ℕ) : Type 0 where
+  pub resource : r < 16
+  pub none_owed : IsNoneOwed side.memory.now.pager side.view.domain r
+
+-- no frame holds a page of resource n
+abbrev pub IsUnused : {E : Type 0} → Side E → ℕ → Type 0
+IsUnused side n = IsNoneHeld side.memory.now.pager side.view.domain n

@@ -1,0 +1,271 @@
+//! The questions of a cloaked program.
+ghost use Rattle.std.specs.Prelude.{◌≡◌, ◌<◌, ◌%◌, ◌^◌, ◌*◌, ◌≤◌, false};
+ghost use Rattle.cloak_model.specs.AskPages as inside;
+ghost use Rattle.cloak_model.specs.Effect.{IsWidth};
+
+use crate::memory::{self, Offer};
+use crate::side::Side;
+use cloak_base::{Frame, Kind, Mode, PageId, Violation};
+use cloak_model::{Answer, Emit, Item};
+use host_calls::Ram;
+
+/// The lowest bytes of a value.
+fn low_bytes(width: u32, v: u32) -> u32
+    requires { IsWidth width }
+    ensures { result ≡ v % 2 ^ (8 * width) }
+{
+    match width {
+        1 => v % 0x100,
+        2 => v % 0x1_0000,
+        _ => v,
+    }
+}
+
+fn is_store(kind: Kind) -> bool
+    ensures { result ≡ inside.is_store kind }
+{
+    match kind {
+        Kind::Store => true,
+        _ => false,
+    }
+}
+
+/// The item of an answer to a domain.
+fn item_of(domain: u8, a: Answer) -> Item
+    ensures { result ≡ inside.answer_item domain a }
+{
+    match a {
+        Answer::Ok => Item::Ok { domain },
+        Answer::Absent(cause) => Item::Absent { domain, cause },
+        Answer::Word(value) => Item::Word { domain, value },
+        Answer::Stopped => Item::Stopped { domain },
+    }
+}
+
+impl<'m, 'e, E: Emit> Side<'m, 'e, E> {
+    ghost use Rattle.std.specs.Prelude.{IsTrue, IfOk};
+    ghost use Rattle.cloak_model.specs.declared.item.Item.TheVariants as item;
+    ghost use Rattle.cloak_model.specs.World.{written};
+    ghost use Rattle.cloak_model.specs.Asking.{Follows, Keeps};
+    ghost use Rattle.cloak_model.specs.Memory.{is_in_frames, frame_of};
+    ghost use Rattle.cloak_model.specs.AskPages.{replies, if_drawn, got, put_at, stored_inside, put_by_table, ask_offer};
+    ghost use Rattle.cloak_model.specs.AskPages.{reached, reach_by_table, get_by_table, ask_inside_address};
+    ghost use Rattle.cloak_pager.specs.State.{held_in, owed_at};
+    ghost use Rattle.cloaked_side.specs.Holding.{HoldsNoOther, frames_of, domains_in};
+    ghost use Rattle.cloaked_side.specs.Seeing.{Sees, Becomes, FollowsAlways, Stays, StaysWithin, CanRead, CanWrite};
+
+    /// Writes an item.
+    fn write_item(&mut self, i: &Item)
+        ensures sees { Becomes E.gave self.old self.new (written i.now) }
+        ensures keeps { Keeps (StaysWithin E.gave) self.old self.new }
+        ensures same { self.new.memory ≡ self.old.memory }
+        ensures view { self.new.view ≡ self.old.view }
+    {
+        self.emitter.item(i);
+    }
+
+    /// The address in RAM where an access of the domain leads, or its fault.
+    #[tactic(auto, unfolding(cloak_model::specs::AskPages::ask_inside_address))]
+    fn inside_address(&mut self, va: u32, kind: Kind) -> Result<u32, u32>
+        ensures follows { Follows (Sees E.gave) self.old self.new result (ask_inside_address va kind) }
+        ensures keeps { Keeps (StaysWithin E.gave) self.old self.new }
+        ensures inside { IfOk result (λ pa. IsTrue (is_in_frames (frames_of self.old.memory.now) pa)) }
+        ensures offset { IfOk result (λ pa. pa % 4096 ≡ va % 4096) }
+        ensures same_domains { domains_in self.new.memory.now ≡ domains_in self.old.memory.now }
+        ensures same_count { frames_of self.new.memory.now ≡ frames_of self.old.memory.now }
+    {
+        let view = self.view;
+        self.translate(view.satp, Mode::U, view.sum, view.mxr, va, kind)
+    }
+
+    /// Answers a question, and writes that.
+    pub(crate) fn answer(&mut self, a: Answer) -> Answer
+        ensures told { FollowsAlways E.gave self.old self.new result (replies a) }
+        ensures keeps { Keeps (StaysWithin E.gave) self.old self.new }
+        ensures same { self.new.memory ≡ self.old.memory }
+        ensures view { self.new.view ≡ self.old.view }
+        ensures value { result ≡ a }
+    {
+        let item = item_of(self.view.domain, a);
+        self.write_item(&item);
+        a
+    }
+
+    /// Answers with a value, unless a draw was missing.
+    fn answer_word(&mut self, value: u32) -> Answer
+        ensures told { FollowsAlways E.gave self.old self.new result (if_drawn (replies (Answer.Word value))) }
+        ensures keeps { Keeps (StaysWithin E.gave) self.old self.new }
+        ensures view { self.new.view ≡ self.old.view }
+    {
+        if self.memory.missed {
+            return self.answer(Answer::Stopped);
+        }
+        self.answer(Answer::Word(value))
+    }
+
+    /// The value where an address leads that is not cloaked.
+    fn got(&mut self, width: u32, to: Result<u32, u32>) -> Answer
+        requires inside { IfOk to (λ pa. IsTrue (is_in_frames (frames_of self.old.memory.now) pa)) }
+        requires width { IsWidth width }
+        requires aligned { IfOk to (λ pa. pa % width ≡ 0) }
+        ensures follows { Follows (Sees E.gave) self.old self.new result (got width to) }
+        ensures keeps { Keeps (StaysWithin E.gave) self.old self.new }
+    {
+        match to {
+            Err(cause) => self.answer(Answer::Absent(cause)),
+            Ok(pa) => {
+                let value = Ram::read(self, pa, width);
+                self.answer_word(low_bytes(width, value))
+            }
+        }
+    }
+
+    /// The value at an address that is not cloaked.
+    pub(crate) fn get_value(&mut self, va: u32, width: u32) -> Answer
+        requires width { IsWidth width }
+        requires aligned { va % width ≡ 0 }
+        ensures follows { Follows (Sees E.gave) self.old self.new result (get_by_table va width) }
+        ensures keeps { Keeps (StaysWithin E.gave) self.old self.new }
+    {
+        let to = self.inside_address(va, Kind::Load);
+        if self.memory.missed {
+            return self.answer(Answer::Stopped);
+        }
+        self.got(width, to)
+    }
+
+    /// Writes that a value was stored.
+    fn write_put(&mut self, pa: u32, width: u32, v: u32)
+        requires { IsWidth width }
+        ensures sees { Becomes E.gave self.old self.new (written (item.Put pa width (v % 2 ^ (8 * width)))) }
+        ensures keeps { Keeps (StaysWithin E.gave) self.old self.new }
+        ensures same { self.new.memory ≡ self.old.memory }
+        ensures view { self.new.view ≡ self.old.view }
+    {
+        let value = low_bytes(width, v);
+        self.write_item(&Item::Put {
+            address: pa,
+            width: width as u8,
+            value,
+        });
+    }
+
+    /// Stores a value at a settled address, and writes that, unless a draw was missing.
+    fn put_settled(&mut self, pa: u32, width: u32, v: u32) -> Answer
+        requires low { 0x80000000 ≤ pa }
+        requires inside { frame_of pa < frames_of self.old.memory.now }
+        requires outside { held_in self.old.memory.now.pager (frame_of pa) ≡ None }
+        requires width { IsWidth width }
+        requires aligned { pa % width ≡ 0 }
+        ensures told { FollowsAlways E.gave self.old self.new result (if_drawn (put_at pa width v)) }
+        ensures keeps { Keeps (StaysWithin E.gave) self.old self.new }
+    {
+        if self.memory.missed {
+            return self.answer(Answer::Stopped);
+        }
+        self.memory.pager.write_outside(
+            memory::frame_of(pa),
+            memory::place_of(pa) as u32,
+            width,
+            v,
+        );
+        self.write_put(pa, width, v);
+        self.answer(Answer::Ok)
+    }
+
+    /// Stores a value where an address leads that is not cloaked.
+    fn put_inside(&mut self, width: u32, v: u32, to: Result<u32, u32>) -> Answer
+        requires inside { IfOk to (λ pa. IsTrue (is_in_frames (frames_of self.old.memory.now) pa)) }
+        requires width { IsWidth width }
+        requires aligned { IfOk to (λ pa. pa % width ≡ 0) }
+        ensures told { FollowsAlways E.gave self.old self.new result (stored_inside width v to) }
+        ensures keeps { Keeps (StaysWithin E.gave) self.old self.new }
+    {
+        match to {
+            Err(cause) => self.answer(Answer::Absent(cause)),
+            Ok(pa) => {
+                self.settle(memory::frame_of(pa));
+                self.put_settled(pa, width, v)
+            }
+        }
+    }
+
+    /// Stores a value at an address that is not cloaked.
+    pub(crate) fn put_value(&mut self, va: u32, width: u32, v: u32) -> Answer
+        requires width { IsWidth width }
+        requires aligned { va % width ≡ 0 }
+        ensures follows { Follows (Sees E.gave) self.old self.new result (put_by_table va width v) }
+        ensures keeps { Keeps (StaysWithin E.gave) self.old self.new }
+    {
+        let to = self.inside_address(va, Kind::Store);
+        if self.memory.missed {
+            return self.answer(Answer::Stopped);
+        }
+        self.put_inside(width, v, to)
+    }
+
+    /// Offers a page in a frame, and answers whether the frame holds it.
+    fn offered(&mut self, q: PageId, g: Frame, write: bool) -> Answer
+        requires inside { g.0 < frames_of self.old.memory.now }
+        requires domain { q.domain < domains_in self.old.memory.now }
+        requires own { q.domain ≡ self.old.view.domain }
+        requires resource { q.resource < 16 }
+        requires page { q.page < 1024 }
+        requires drawn { self.old.memory.now.missed ≡ false }
+        ensures follows { Follows (Sees E.gave) self.old self.new result (ask_offer q g.0 write) }
+        ensures keeps { Keeps (Stays E.gave) self.old self.new }
+        ensures others { HoldsNoOther q self.old.memory.now.pager self.new.memory.now.pager }
+        ensures held { result ≡ Answer.Ok → held_in self.new.memory.now.pager g.0 ≡ Some q }
+        ensures owed { result ≡ Answer.Ok → IsTrue write → owed_at self.new.memory.now.pager g.0 ≡ Some q }
+        ensures drawn { result ≡ Answer.Ok → self.new.memory.now.missed ≡ false }
+        ensures same_domains { domains_in self.new.memory.now ≡ domains_in self.old.memory.now }
+    {
+        match self.memory.offer(q, g, write, self.emitter) {
+            Offer::Ready => self.answer(Answer::Ok),
+            Offer::Mismatch => {
+                self.violation = Some(Violation::Page { page: q, frame: g });
+                self.answer(Answer::Stopped)
+            }
+            Offer::Missed => self.answer(Answer::Stopped),
+        }
+    }
+
+    /// Brings a page to where its address leads.
+    fn reached(&mut self, q: PageId, kind: Kind, to: Result<u32, u32>) -> Answer
+        requires inside { IfOk to (λ pa. IsTrue (is_in_frames (frames_of self.old.memory.now) pa)) }
+        requires domain { q.domain < domains_in self.old.memory.now }
+        requires own { q.domain ≡ self.old.view.domain }
+        requires resource { q.resource < 16 }
+        requires page { q.page < 1024 }
+        requires drawn { self.old.memory.now.missed ≡ false }
+        ensures follows { Follows (Sees E.gave) self.old self.new result (reached q kind to) }
+        ensures keeps { Keeps (Stays E.gave) self.old self.new }
+        ensures others { HoldsNoOther q self.old.memory.now.pager self.new.memory.now.pager }
+        ensures readable { result ≡ Answer.Ok → CanRead self.new q }
+        ensures writable { result ≡ Answer.Ok → kind ≡ Kind.Store → CanWrite self.new q }
+    {
+        match to {
+            Err(cause) => self.answer(Answer::Absent(cause)),
+            Ok(pa) => self.offered(q, memory::frame_of(pa), is_store(kind)),
+        }
+    }
+
+    /// Brings the page to where the kernel's page table leads from this address.
+    pub(crate) fn reach_page(&mut self, q: PageId, va: u32, kind: Kind) -> Answer
+        requires domain { q.domain < domains_in self.old.memory.now }
+        requires own { q.domain ≡ self.old.view.domain }
+        requires resource { q.resource < 16 }
+        requires page { q.page < 1024 }
+        ensures follows { Follows (Sees E.gave) self.old self.new result (reach_by_table q va kind) }
+        ensures keeps { Keeps (Stays E.gave) self.old self.new }
+        ensures others { HoldsNoOther q self.old.memory.now.pager self.new.memory.now.pager }
+        ensures readable { result ≡ Answer.Ok → CanRead self.new q }
+        ensures writable { result ≡ Answer.Ok → kind ≡ Kind.Store → CanWrite self.new q }
+    {
+        let to = self.inside_address(va, kind);
+        if self.memory.missed {
+            return self.answer(Answer::Stopped);
+        }
+        self.reached(q, kind, to)
+    }
+}

@@ -1,0 +1,27 @@
+//! What the step of a hart reaches in a machine with cloaked programs: its memory over the pager, and the emitter.
+//!
+//! `Memory` settles frames and offers pages, and emits what the kernel is shown on the way. A `Side` is made of it for
+//! one step. It answers what the plain step asks (`Words` of `sv32_walk`, `Ram` of `host_calls`), each time settling
+//! the frame first, and what the step of a cloaked program asks (`PageSide` of `cloak_model`), and writes each answer.
+//! It holds no page and copies none. `outside_step` is the plain step over it.
+//!
+//! The layer above may rely on this: for every joint world that a side stands for (`specs/Seeing`), each call answers
+//! what the definition tells, the emitter was given exactly the items that the world has written since, and the side
+//! then stands for the next world; an offer unless two different pages with one digest were compared. Whatever it
+//! stands for, its memory and emitter are still the ones that it was made of, the counts of frames and domains stay,
+//! and no frame comes to hold a page of another domain than the one that is served.
+#![tactic(auto)]
+
+mod clearing;
+mod inside;
+mod memory;
+mod outside;
+mod page_side;
+mod side;
+
+pub use memory::{Memory, Offer};
+pub use outside::{outside_step, view_of};
+pub use side::Side;
+
+#[cfg(test)]
+mod tests;

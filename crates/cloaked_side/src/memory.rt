@@ -1,0 +1,188 @@
+ghost use Rattle.std.specs.Prelude.{◌≡◌, ◌≢◌, ◌^◌, IsTrue, ◌⊎◌, ℕ, false, not, ◌<◌, ◌≤◌, [], ◌∷◌};
+ghost use Rattle.cloak_model.specs.Memory as memory;
+ghost use Rattle.cloak_model.specs.Memory.{is_in_frames};
+ghost use Rattle.cloak_model.specs.declared.item.Item.TheVariants.{Cipher};
+
+use cloak_base::{Frame, PageId};
+use cloak_model::Emit;
+use cloak_pager::{Offered, Pager, Touched};
+use outside_io::Stream;
+
+/// Where RAM begins.
+const RAM_START: u32 = 0x8000_0000;
+
+/// The frame of an address in RAM.
+#[inline]
+pub fn frame_of(pa: u32) -> Frame
+    requires { 0x80000000 ≤ pa }
+    ensures { result.0 ≡ memory.frame_of pa }
+{
+    Frame((pa - RAM_START) / 4096)
+}
+
+/// The place of an address in its frame.
+#[inline]
+pub fn place_of(pa: u32) -> usize
+    requires { 0x80000000 ≤ pa }
+    ensures value { result ≡ memory.place_of pa }
+    ensures inside { result < 4096 }
+{
+    ((pa - RAM_START) % 4096) as usize
+}
+
+/// How an offer ended.
+#[derive(Clone, Copy)]
+pub enum Offer {
+    /// The frame holds the page.
+    Ready,
+    /// The frame's bytes are not those that were last shown of the page.
+    Mismatch,
+    /// A draw was missing.
+    Missed,
+}
+
+/// The frames of RAM with the cloaked pages in them, and the random stream.
+#[derive(Drop)]
+pub struct Memory {
+    pub pager: Pager,
+    pub stream: Stream,
+    /// The draws that were made for pages, up to the last count.
+    pub draws: u64,
+    /// A draw was missing.
+    pub missed: bool,
+}
+
+impl Memory {
+    ghost use Rattle.cloak_model.specs.Cloaking.{CloakedMemory, settle, offer};
+    ghost use Rattle.cloak_model.specs.Exchange.{Emits, EmitsSome, item_pieces};
+    ghost use Rattle.cloak_pager.specs.State.{held_in, owed_at, bytes_in};
+    ghost use Rattle.cloak_pager.specs.Turns.{IsReadOnce, StaysBut};
+    ghost use Rattle.cloaked_side.specs.Offering.{Rooms, Offers};
+    ghost use Rattle.cloaked_side.specs.Holding.{Holds, Settles, SameSize, HoldsNoMore, HoldsNoOther};
+    ghost use Rattle.cloaked_side.specs.Holding.{frames_of, domains_in};
+
+    /// Settles a frame, and emits what the kernel is shown of it.
+    pub fn settle<E: Emit>(&mut self, f: Frame, e: &mut E)
+        requires { f.0 < frames_of self.old }
+        ensures outside { held_in self.new.pager f.0 ≡ None }
+        ensures same { SameSize self.old self.new }
+        ensures stays { StaysBut f.0 self.old.pager self.new.pager }
+        ensures emits_some { EmitsSome E.gave e.old e.new }
+        ensures settles { (m : CloakedMemory) → Holds self.old m → Settles E.gave e.old e.new self.new (settle f.0 m) }
+    {
+        match self.pager.touch(f, &mut self.stream) {
+            Touched::Quiet => {}
+            Touched::Resealed => {}
+            Touched::Sealed => {
+                self.draws = self.draws.saturating_add(1);
+                self.emit_frame(f, e);
+            }
+            Touched::Wiped => {
+                self.missed = true;
+                self.emit_frame(f, e);
+            }
+        }
+    }
+
+    /// Whether the frame holds the page.
+    fn is_held(&self, q: PageId, g: Frame) -> bool
+        requires { g.0 < frames_of self.now }
+        ensures held { IsTrue result → held_in self.now.pager g.0 ≡ Some q }
+        ensures not_held { result ≡ false → held_in self.now.pager g.0 ≢ Some q }
+    {
+        self.pager.holds(g) == Some(q)
+    }
+
+    /// The page whose newest bytes a frame has yet to show.
+    pub fn owed_page(&self, f: Frame) -> Option<PageId>
+        requires { f.0 < frames_of self.now }
+        ensures { result ≡ owed_at self.now.pager f.0 }
+    {
+        if self.pager.owed(f) {
+            self.pager.holds(f)
+        } else {
+            None
+        }
+    }
+
+    /// Settles what is to be before this page comes into this frame: the frame, unless it holds the page, and the frame
+    /// that holds the page. Whether no draw was missing.
+    fn make_room<E: Emit>(&mut self, q: PageId, g: Frame, e: &mut E) -> bool
+        requires inside { g.0 < frames_of self.old }
+        requires domain { q.domain < domains_in self.old }
+        requires resource { q.resource < 16 }
+        requires page { q.page < 1024 }
+        requires drawn { self.old.missed ≡ false }
+        ensures same { SameSize self.old self.new }
+        ensures emits_some { EmitsSome E.gave e.old e.new }
+        ensures missed { result ≡ not self.new.missed }
+        ensures room { IsTrue result → (held_in self.new.pager g.0 ≡ None) ⊎ (held_in self.new.pager g.0 ≡ Some q) }
+        ensures alone { IsTrue result → (k : ℕ) → held_in self.new.pager k ≡ Some q → k ≡ g.0 }
+        ensures no_more { HoldsNoMore self.old.pager self.new.pager }
+        ensures rooms { (m : CloakedMemory) → Holds self.old m → Rooms E.gave e.old e.new self.new result q g.0 m }
+    {
+        self.pager.whole();
+        if self.is_held(q, g) {
+            return true;
+        }
+        self.settle(g, e);
+        if self.missed {
+            return false;
+        }
+        let Some(home) = self.pager.home(q) else {
+            return true;
+        };
+        self.pager.whole();
+        self.settle(home, e);
+        !self.missed
+    }
+
+    /// Offers a page in a frame, for reading or for writing.
+    pub fn offer<E: Emit>(&mut self, q: PageId, g: Frame, write: bool, e: &mut E) -> Offer
+        requires inside { g.0 < frames_of self.old }
+        requires domain { q.domain < domains_in self.old }
+        requires resource { q.resource < 16 }
+        requires page { q.page < 1024 }
+        requires drawn { self.old.missed ≡ false }
+        ensures same { SameSize self.old self.new }
+        ensures emits_some { EmitsSome E.gave e.old e.new }
+        ensures offers { (m : CloakedMemory) → Holds self.old m →
+            (offer q g.0 write m).memory.ledger.clashed ≡ false →
+            Offers E.gave e.old e.new self.new result (offer q g.0 write m) }
+        ensures held { result ≡ Offer.Ready → held_in self.new.pager g.0 ≡ Some q }
+        ensures others { HoldsNoOther q self.old.pager self.new.pager }
+        ensures owed { result ≡ Offer.Ready → IsTrue write → owed_at self.new.pager g.0 ≡ Some q }
+        ensures drawn { result ≡ Offer.Ready → self.new.missed ≡ false }
+    {
+        if !self.make_room(q, g, e) {
+            return Offer::Missed;
+        }
+        match self.pager.offer(q, g, write) {
+            Offered::Ready => Offer::Ready,
+            Offered::Mismatch => Offer::Mismatch,
+        }
+    }
+
+    /// The address lies in RAM.
+    #[inline]
+    pub fn is_inside(&self, pa: u64) -> bool
+        ensures value { result ≡ is_in_frames (frames_of self.now) pa }
+        ensures low { IsTrue result → pa < 2 ^ 32 }
+        ensures high { IsTrue result → 0x80000000 ≤ pa }
+    {
+        pa >= RAM_START as u64 && (pa - RAM_START as u64) / 4096 < self.pager.count() as u64
+    }
+
+    /// Emits what the kernel is shown of an outside frame.
+    fn emit_frame<E: Emit>(&mut self, f: Frame, e: &mut E)
+        requires inside { f.0 < frames_of self.old }
+        requires outside { held_in self.old.pager f.0 ≡ None }
+        ensures read { IsReadOnce self.old.pager self.new.pager }
+        ensures stream { self.new.stream ≡ self.old.stream }
+        ensures draws { self.new.draws ≡ self.old.draws }
+        ensures missed { self.new.missed ≡ self.old.missed }
+        ensures emits { Emits E.gave e.old e.new (item_pieces (Cipher f.0 (bytes_in self.old.pager f.0) ∷ [])) }
+    {
+        e.cipher(f.0, self.pager.read_outside(f));
+    }
+}

@@ -1,0 +1,58 @@
+//! The step of a hart outside.
+ghost use Rattle.std.specs.Prelude.{◌≡◌, false};
+ghost use Rattle.cloak_model.specs.Csr as spec;
+ghost use Rattle.cloak_model.specs.Cloaking.{CloakedMemory};
+ghost use Rattle.cloak_model.specs.Ahead.{settled_step};
+ghost use Rattle.cloak_model.specs.Joint.{cloak_outside};
+ghost use Rattle.cloak_model.specs.Exchange.{EmitsSome};
+ghost use Rattle.cloaked_side.specs.Holding.{Holds, HoldsNoMore, SameSize};
+ghost use Rattle.cloaked_side.specs.Telling.{Tells};
+
+use crate::memory::Memory;
+use crate::side::Side;
+use cloak_model::{Emit, View};
+use host_calls::{Disk, Hart, Kernel, kernel_step};
+
+/// How a hart that runs a context of this domain sees memory.
+pub fn view_of(h: &Hart, domain: u8) -> View
+    ensures satp { result.satp ≡ spec.satp_of h.now.csrs }
+    ensures sum { result.sum ≡ spec.sum_of h.now.csrs }
+    ensures mxr { result.mxr ≡ spec.mxr_of h.now.csrs }
+    ensures domain { result.domain ≡ domain }
+{
+    View {
+        satp: h.csrs.satp(),
+        sum: h.csrs.sum(),
+        mxr: h.csrs.mxr(),
+        domain,
+    }
+}
+
+/// Makes the plain step of a hart outside. Each frame that it reaches is settled at the access, which comes to the same
+/// as settling all that it touches ahead of the step.
+pub fn outside_step<E: Emit>(h: &mut Hart, d: &mut Disk, memory: &mut Memory, e: &mut E) -> Kernel
+    ensures size { SameSize memory.old memory.new }
+    ensures no_more { HoldsNoMore memory.old.pager memory.new.pager }
+    ensures emits_some { EmitsSome E.gave e.old e.new }
+    ensures tells { (m : CloakedMemory) → Holds memory.old m → m.ledger.clashed ≡ false →
+        Tells E.gave e.old e.new memory.new (record { hart = h.new; disk = d.new; ending = result })
+        (settled_step h.old d.old (cloak_outside m h.old)) }
+{
+    let view = view_of(h, 0);
+    let mut side = Side {
+        memory,
+        emitter: e,
+        violation: None,
+        view,
+    };
+    let ending = kernel_step(h, d, &mut side);
+    // No effect at run time. The proof reads what was lent from these uses.
+    let Side {
+        memory,
+        emitter,
+        ..
+    } = side;
+    let _ = &*memory;
+    let _ = &*emitter;
+    ending
+}
