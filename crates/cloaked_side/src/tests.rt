@@ -1,11 +1,10 @@
 //! A step of a program of one domain without paging, through every question.
-ghost use Rattle.std.specs.Prelude.{◌≡◌, ◌<◌, ℕ, None, IfOk};
-ghost use Rattle.cloak_model.specs.Exchange.{Piece};
+ghost use Rattle.std.specs.Prelude.{◌≡◌, ◌%◌, ℕ, IfOk};
 ghost use Rattle.cloak_pager.specs.State.{held_in};
 ghost use Rattle.cloaked_side.specs.Holding.{domains_in};
 
 use super::*;
-use cloak_base::{Kind, NoMemory, PageId};
+use cloak_base::{Kind, Mode, NoMemory, PageId};
 use cloak_model::{Answer, Emit, Item, PageSide, View};
 use cloak_pager::Pager;
 use host_calls::Ram;
@@ -93,6 +92,14 @@ fn ask_each<M: PageSide>(m: &mut M) -> Option<(Answer, u32)>
     Some((got, m.read(Q1, 8, 4)))
 }
 
+/// The word at an address that is a multiple of 4, as the kernel reads it without paging.
+fn load<M: Ram>(m: &mut M, va: u32) -> Option<u32>
+    requires { va % 4 ≡ 0 }
+{
+    let pa = m.translate(0, Mode::S, false, false, va, Kind::Load).ok()?;
+    Some(m.read(pa, 4))
+}
+
 /// The page is sealed once. The kernel reads other bytes, and the frame is then as it was shown before.
 #[test]
 fn answers_each_question(rt: HostRuntime) -> Result<(), Fail> {
@@ -113,8 +120,8 @@ fn answers_each_question(rt: HostRuntime) -> Result<(), Fail> {
         },
     };
     assert_eq!(rt; ask_each(&mut side), Some((Answer::Word(0x3344), 77)));
-    assert!(rt; Ram::read(&mut side, CLOAKED, 4) != 77);
-    assert_eq!(rt; Ram::read(&mut side, PLAIN, 4), 0x1122_3344);
+    assert!(rt; load(&mut side, CLOAKED) != Some(77));
+    assert_eq!(rt; load(&mut side, PLAIN), Some(0x1122_3344));
     assert_eq!(rt; (memory.draws, memory.missed), (1, false));
     assert_eq!(rt; (e.ciphers, e.others), (1, 6));
     Ok(())
