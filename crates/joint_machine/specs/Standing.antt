@@ -1,0 +1,93 @@
+-- What a joint machine stands for, and what its calls make of it.
+use Rattle.std.specs.Prelude.{ℕ, ◌≡◌, ◌<◌, List, [], ◌∷◌, length, slice_get, Option, Some, None, Result, Ok, Err}
+use Rattle.std.specs.Option.{ForSome}
+use Rattle.cloak_base.specs.Random.{Random}
+use Rattle.cloak_base.specs.declared.causes.Stop.{Stop}
+use Rattle.cloak_base.specs.declared.names.SpaceId.{SpaceId}
+use Rattle.cloak_model.specs.declared.image.Bundle.{Bundle}
+use Rattle.cloak_model.specs.Exchange.{Piece, Emits, item_pieces}
+use Rattle.cloak_model.specs.Resources.{resource_at}
+use Rattle.cloak_model.specs.DomainState as model
+use Rattle.cloak_model.specs.Parts as model
+use Rattle.cloak_model.specs.Joint.{Turn, hart_in, turn_of, stop_of}
+use Rattle.cloak_model.specs.Opening.{Opened, NoKey, NoPageDraw, opening}
+use Rattle.thread_context.specs.Recorded.{root_at}
+use Rattle.cloak_pager.specs.State.{PagerState, IsNoneHeld, held_in}
+use Rattle.cloaked_side.specs.Holding.{Holds}
+use Rattle.hypercalls.specs.declared.domain.Domain.{Domain}
+use Rattle.hypercalls.specs.Standing.{StandsFor, control_of, number_of}
+use Rattle.joint_machine.specs.declared.joint.Joint.{Joint}
+use Rattle.joint_machine.specs.declared.turned.Turned.{Turned}
+use Rattle.joint_machine.specs.declared.opened.OpenFault.{OpenFault}
+use Rattle.joint_machine.specs.declared.opened.OpenFault.TheVariants as fault
+
+-- how many harts there are
+abbrev pub harts_of : Joint → ℕ
+harts_of joint = length joint.harts.items
+
+-- these are the programs, in order
+abbrev pub AreDomains : List Domain → List model.Domain → Type 0
+AreDomains [] [] = Unit {0}
+AreDomains [] (d ∷ ds) = ⊥
+AreDomains (x ∷ xs) [] = ⊥
+AreDomains (x ∷ xs) (d ∷ ds) = StandsFor x d × AreDomains xs ds
+
+-- The machine is that of this state, whatever the console was shown.
+pub record StandsForJoint (joint : Joint) (j : model.Joint) : Type 0 where
+  pub harts : joint.harts.items ≡ j.harts
+  pub disk : joint.disk ≡ j.disk
+  pub memory : Holds joint.memory j.memory
+  pub domains : AreDomains joint.domains.items j.domains
+  pub roots : (s : SpaceId) → root_at joint.roots s ≡ j.memory.ledger.root s
+
+-- What holds of the programs at every moment.
+
+-- each has its place for its number
+abbrev pub AreNumbered : List Domain → Type 0
+AreNumbered domains = (d : ℕ) → ForSome (slice_get domains d) (λ domain. number_of domain ≡ d)
+
+-- no frame holds a page of a resource whose number is free
+abbrev pub AreFreeUnused : List Domain → PagerState → Type 0
+AreFreeUnused domains pager = (d n : ℕ) → n < 16 →
+    ForSome (slice_get domains d) (λ domain. resource_at (control_of domain).resources n ≡ None → IsNoneHeld pager d n)
+
+-- A step.
+
+-- the next step of a hart
+abbrev pub turn_in : model.Joint → ℕ → Turn
+turn_in j number = let h = hart_in j number in turn_of j number h h.inside
+
+-- the bytes of the console that were shown
+abbrev pub shown_byte : Option ℕ → List ℕ
+shown_byte None = []
+shown_byte (Some b) = b ∷ []
+
+-- The step was this one: what was emitted, what it answers, and what the machine then stands for.
+pub record TakesTurn {E : Type 0} (gave : E → E → List Piece → Type 0) (e e' : E) (joint : Joint) (given : Turned) (t : Turn) : Type 0 where
+  pub emits : Emits gave e e' (item_pieces t.items)
+  pub console : shown_byte given.console ≡ t.console
+  pub stop : given.stop ≡ stop_of t
+  pub stands : StandsForJoint joint t.joint
+
+-- Opening and closing.
+
+-- the machine is that of a run's opening, or what the opening lacks
+pub record OpensJoint (b : Bundle) (stream : Random) (joint : Joint) : Type 0 where
+  pub opened : Opened
+  pub opens : opening b stream ≡ Ok opened
+  pub stands : StandsForJoint joint opened.joint
+
+abbrev pub OpensAs : Bundle → Random → Result Joint OpenFault → Type 0
+OpensAs b stream (Ok joint) = OpensJoint b stream joint
+OpensAs b stream (Err fault.NoKey) = opening b stream ≡ Err NoKey
+OpensAs b stream (Err fault.NoRandom) = opening b stream ≡ Err NoPageDraw
+OpensAs b stream (Err fault.NoMemory) = Unit {0}
+
+-- what was shown, and what the machine then stands for
+pub record ShowsAs {E : Type 0} (gave : E → E → List Piece → Type 0) (e e' : E) (joint : Joint) (o : Opened) : Type 0 where
+  pub emits : Emits gave e e' (item_pieces o.items)
+  pub stands : StandsForJoint joint o.joint
+
+-- every frame is as the kernel sees it
+abbrev pub AllOutside : Joint → Type 0
+AllOutside joint = (k : ℕ) → held_in joint.memory.pager k ≡ None

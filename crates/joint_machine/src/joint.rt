@@ -1,0 +1,24 @@
+ghost use Rattle.std.specs.Prelude.{◌≡◌, ◌≤◌, ◌<◌, length};
+
+use cloaked_side::Memory;
+use host_calls::{Disk, Hart};
+use hypercalls::Domain;
+use thread_context::Roots;
+
+/// The joint machine.
+#[derive(Drop)]
+pub struct Joint {
+    pub(crate) harts: Vec<Hart>,
+    pub(crate) memory: Memory,
+    /// Each program in the place of its number.
+    pub(crate) domains: Vec<Domain>,
+    /// The page table that each space was first resumed with.
+    pub(crate) roots: Roots,
+    pub(crate) disk: Disk,
+    ghost use Rattle.cloaked_side.specs.Holding.{domains_in};
+    ghost use Rattle.joint_machine.specs.Standing.{AreNumbered, AreFreeUnused};
+    ghost few: { length domains.items ≤ 4 },
+    ghost served: { length domains.items ≡ domains_in memory },
+    ghost numbered: { AreNumbered domains.items },
+    ghost unused: { AreFreeUnused domains.items memory.pager },
+}
