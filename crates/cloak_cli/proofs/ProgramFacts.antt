@@ -1,5 +1,5 @@
 -- What the program answers as it ends.
-use Rattle.std.proofs.Common.{◌≡◌, ◌∙◌, ◌⊎◌, ℕ, Bool, true, false, refl, sym, inl, inr, Result, is_err}
+use Rattle.std.proofs.Common.{◌≡◌, ◌∙◌, ◌⊎◌, Bool, true, false, refl, sym, inl, inr, Result, is_err}
 use Rattle.cloak_base.specs.declared.causes.Failed.{Failed}
 use Rattle.outside_io.specs.Told.{Counts, SameFiles}
 use Rattle.cloak_cli.specs.declared.status.Status.{Status}

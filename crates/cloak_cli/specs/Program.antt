@@ -1,5 +1,5 @@
 -- What the program answers as it ends.
-use Rattle.std.specs.Prelude.{ℕ, ◌≡◌, ◌⊎◌, List, map, codes, string_bytes}
+use Rattle.std.specs.Prelude.{◌≡◌, ◌⊎◌, map, codes, string_bytes}
 use Rattle.outside_io.specs.Told.{Rose, SameFiles}
 use Rattle.cloak_model.specs.declared.outcome.UsageFault.TheVariants.{WrongWords}
 use Rattle.cloak_model.specs.Command as spec

@@ -1,6 +1,6 @@
 -- A file is read from left to right, each field tested as soon as it is read whole.
-use Rattle.std.specs.Prelude.{ℕ, zero, suc, ◌+◌, ◌*◌, ◌%◌, ◌^◌, ◌-◌, ◌==◌, Bool, List, [], ◌∷◌, length, slice_index}
-use Rattle.std.specs.Prelude.{codes, Result, Ok, Err, nat_lt, nat_le, if◌then◌else◌, ◌&&◌}
+use Rattle.std.specs.Prelude.{ℕ, zero, suc, ◌+◌, ◌-◌, ◌==◌, List, [], ◌∷◌, length, slice_index}
+use Rattle.std.specs.Prelude.{codes, Result, Ok, Err, nat_lt, nat_le, if◌then◌else◌}
 use Rattle.std.specs.Str.{bytes_eq}
 use Rattle.cloak_model.specs.Bundle.{largest_bundle}
 use Rattle.cloak_model.specs.declared.image.Segment.{Segment}

@@ -1,7 +1,7 @@
 ghost use Rattle.std.specs.Prelude.{◌≡◌, ◌⊎◌, ◌↔◌, [], None, length, IfOk, IsErr, OnOk, IsTrue, false};
 ghost use Rattle.outside_io.specs.Told.{Counts};
 ghost use Rattle.outside_io.specs.Files.{IsOpen, SameCounts, SameFile, TakesPiece};
-ghost use Rattle.outside_io.specs.Pieces.{MovesFront, Takes};
+ghost use Rattle.outside_io.specs.Pieces.{MovesFront, Takes, TakesFront};
 
 use crate::Shelf;
 use crate::gathered::Gathered;
@@ -89,6 +89,7 @@ impl<R: Files + Drop> FileShelf<R> {
     fn write(&mut self, bytes: &[u8]) -> bool
         ensures whole { IsTrue result →
             Takes (length bytes.now) bytes.now self.old.gathered self.new.gathered self.old.written self.new.written }
+        ensures front { TakesFront bytes.now self.old.gathered self.new.gathered self.old.written self.new.written }
         ensures file { SameFile self.old self.new }
         ensures counts { SameCounts self.old self.new }
     {
@@ -214,6 +215,8 @@ impl<R: Files + Drop> Shelf for FileShelf<R> {
 
     fn append(&mut self, name: &str, bytes: &[u8]) -> Result<(), Failed>
         ensures taken { OnOk result (TakesPiece name.now bytes.now self.old self.new) }
+        ensures kept { IsOpen name.now self.old →
+            TakesFront bytes.now self.old.gathered self.new.gathered self.old.written self.new.written }
         ensures writing { Counts self.old.writing self.new.writing result }
         ensures reading { self.new.reading ≡ self.old.reading }
     {

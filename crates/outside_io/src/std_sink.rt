@@ -1,4 +1,4 @@
-ghost use Rattle.std.specs.Prelude.{◌≡◌, ◌<◌, ◌≤◌, [], None, length, IfOk, OnOk, IsErr, IsTrue};
+ghost use Rattle.std.specs.Prelude.{◌≡◌, ◌<◌, ◌≤◌, [], None, length, IfOk, OnOk, OnErr, IsErr, IsTrue};
 ghost use Rattle.outside_io.specs.Told.{Counts};
 ghost use Rattle.outside_io.specs.Pieces.{MovesFront, Takes};
 
@@ -77,6 +77,7 @@ impl<P: Print + Drop> Sink for StdSink<P> {
         ensures count { IfOk result (λ n. n ≤ length bytes.now) }
         ensures progress { IfOk result (λ n. 0 < length bytes.now → 0 < n) }
         ensures taken { IfOk result (λ n. Takes n bytes.now self.old.gathered self.new.gathered None None) }
+        ensures err { OnErr result (MovesFront self.old.gathered self.new.gathered None None) }
         ensures faults { Counts self.old.faults self.new.faults result }
     {
         if self.is_fault_owed {

@@ -1,4 +1,4 @@
-use Rattle.std.proofs.Common.{IsOk, List, ℕ, length, ap, arith, rules}
+use Rattle.std.proofs.Common.{IsOk, List, ℕ, length, ap, arith}
 use Rattle.outside_io.proofs.memory_sink.MemorySinkSink.put.Goals.{then-is_next_to_fail-via-then-is_next_to_fail}
 use Rattle.outside_io.proofs.memory_sink.MemorySinkSink.put.Goals.{then-is_next_to_fail-via-else-is_next_to_fail+then-is_err}
 use Rattle.outside_io.proofs.memory_sink.MemorySinkSink.put.Goals as goal
