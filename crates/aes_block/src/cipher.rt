@@ -47,7 +47,8 @@ impl Schedule {
     #[inline(always)]
     pub fn encrypt_words(&self, s: &mut [u32; 4])
         ensures enciphered { block_of_words s.new ≡ encrypted self.now (block_of_words s.old) }
-        ensures only_one { (p : List ℕ) → IsBytes 16 p → encrypted self.now p ≡ block_of_words s.new → p ≡ block_of_words s.old }
+        ensures only_one { (p : List ℕ) → IsBytes 16 p →
+            encrypted self.now p ≡ block_of_words s.new → p ≡ block_of_words s.old }
     {
         add_words(s, &self.keys[0]);
         for j in 0..9 {
@@ -71,7 +72,8 @@ impl Schedule {
     #[inline(always)]
     pub fn decrypt_words(&self, s: &mut [u32; 4])
         ensures enciphers_back { encrypted self.now (block_of_words s.new) ≡ block_of_words s.old }
-        ensures only_one { (p : List ℕ) → IsBytes 16 p → encrypted self.now p ≡ block_of_words s.old → block_of_words s.new ≡ p }
+        ensures only_one { (p : List ℕ) → IsBytes 16 p →
+            encrypted self.now p ≡ block_of_words s.old → block_of_words s.new ≡ p }
     {
         add_words(s, &self.keys[10]);
         inverse_round(s, &self.inverse_keys[0]);
