@@ -1,6 +1,6 @@
-pub mod Loading
-pub mod Placing
-pub mod Starting
+pub mod Stored
+pub mod Placed
+pub mod Started
 pub mod Showing
-pub mod Opening
-pub mod Closing
+pub mod Opens
+pub mod Closed

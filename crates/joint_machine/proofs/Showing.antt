@@ -27,24 +27,24 @@ use Rattle.joint_machine.specs.Starting.{IsReadOnly, frame_item, placed_among}
 
 pub placed_one : (programs : List Program) (frames : List (List ℕ)) (f : ℕ) → is_placed programs f ≡ true →
     placed_among programs frames (f ∷ []) ≡ frame_item frames f ∷ []
-placed_one programs frames f yes = ap (λ (b : Bool). map (frame_item frames) (cond b (f ∷ []) [])) yes
+placed_one programs frames f there = ap (λ (b : Bool). map (frame_item frames) (cond b (f ∷ []) [])) there
 
 pub placed_not : (programs : List Program) (frames : List (List ℕ)) (f : ℕ) → is_placed programs f ≡ false →
     placed_among programs frames (f ∷ []) ≡ []
-placed_not programs frames f no = ap (λ (b : Bool). map (frame_item frames) (cond b (f ∷ []) [])) no
+placed_not programs frames f away = ap (λ (b : Bool). map (frame_item frames) (cond b (f ∷ []) [])) away
 
 pub emits_placed : {E : Type 0} (gave : E → E → List Piece → Type 0) (e e' : E) (programs : List Program)
     (frames : List (List ℕ)) (f : ℕ) → is_placed programs f ≡ true →
     Emits gave e e' (item_pieces (frame_item frames f ∷ [])) →
     Emits gave e e' (item_pieces (placed_among programs frames (f ∷ [])))
-emits_placed gave e e' programs frames f yes emits =
-    subst (λ (items : List Item). Emits gave e e' (item_pieces items)) (sym (placed_one programs frames f yes)) emits
+emits_placed gave e e' programs frames f there emits =
+    subst (λ (items : List Item). Emits gave e e' (item_pieces items)) (sym (placed_one programs frames f there)) emits
 
 pub emits_not_placed : {E : Type 0} (gave : E → E → List Piece → Type 0) (e : E) (programs : List Program)
     (frames : List (List ℕ)) (f : ℕ) → is_placed programs f ≡ false →
     Emits gave e e (item_pieces (placed_among programs frames (f ∷ [])))
-emits_not_placed gave e programs frames f no =
-    subst (λ (items : List Item). Emits gave e e (item_pieces items)) (sym (placed_not programs frames f no))
+emits_not_placed gave e programs frames f away =
+    subst (λ (items : List Item). Emits gave e e (item_pieces items)) (sym (placed_not programs frames f away))
     (emits_none gave e)
 
 -- Frames one after another.

@@ -2,7 +2,8 @@
 ghost use Rattle.std.specs.Prelude.{◌≡◌, ◌≤◌, ◌%◌, ℕ, length, All, IfOk};
 ghost use Rattle.cloak_model.specs.Bundle.{IsProgramIn};
 ghost use Rattle.cloak_model.specs.Opening.{started_domains, started_harts};
-ghost use Rattle.joint_machine.specs.Standing.{AreDomains, AreNumbered};
+ghost use Rattle.joint_machine.specs.Programs.{AreNumbered};
+ghost use Rattle.joint_machine.specs.Standing.{AreDomains};
 
 use cloak_base::NoMemory;
 use cloak_model::Program;

@@ -1,4 +1,4 @@
-use Rattle.joint_machine.proofs.Loading.{LoadsFrom}
+use Rattle.joint_machine.proofs.Stored.{LoadsFrom}
 use Rattle.joint_machine.proofs.loading.load.Given as goal
 
 abbrev pub invariant-loop-segment : goal.invariant-loop-segment

@@ -1,7 +1,7 @@
 use Rattle.cloak_model.specs.Cloaking.{CloakedMemory}
 use Rattle.cloaked_side.specs.Holding.{Holds, SameSize}
 use Rattle.joint_machine.specs.Starting.{IsReady}
-use Rattle.joint_machine.proofs.Placing.{PlacesFrom}
+use Rattle.joint_machine.proofs.Placed.{PlacesFrom}
 use Rattle.joint_machine.proofs.placing.place_programs.Given as goal
 
 abbrev pub invariant-loop-domain : goal.invariant-loop-domain

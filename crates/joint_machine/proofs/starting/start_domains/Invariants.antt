@@ -1,6 +1,7 @@
 use Rattle.std.proofs.Common.{◌≡◌, length, take}
 use Rattle.cloak_model.specs.Opening.{started_domains}
-use Rattle.joint_machine.specs.Standing.{AreDomains, AreNumbered}
+use Rattle.joint_machine.specs.Programs.{AreNumbered}
+use Rattle.joint_machine.specs.Standing.{AreDomains}
 use Rattle.joint_machine.proofs.starting.start_domains.Given as goal
 
 -- the programs so far

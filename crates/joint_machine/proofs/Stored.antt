@@ -1,5 +1,5 @@
 -- RAM as a run begins, over plain variables.
-use Rattle.std.proofs.Common.{◌≡◌, ◌<◌, ◌≤◌, ◌+◌, ◌-◌, ◌*◌, ◌/◌, ◌%◌, ℕ, false, List, [], ◌∷◌, ◌++◌, length, drop, take, slice_index_or, slice_set, replicate, All, refl, ap, sym, ◌∙◌, subst, arith, add-one, None, Option, map}
+use Rattle.std.proofs.Common.{◌≡◌, ◌<◌, ◌≤◌, ◌+◌, ◌-◌, ◌*◌, ◌/◌, ◌%◌, ℕ, false, List, [], ◌∷◌, ◌++◌, length, drop, take, slice_index_or, slice_set, replicate, All, refl, ap, sym, ◌∙◌, subst, arith, add-one, None, Some, Option, map}
 use Rattle.std.proofs.lemmas.List.{set_split, length-set, length-replicate, at_drop_more, at_drop_all}
 use Rattle.std.proofs.lemmas.List.Elements.{All-set, All-replicate}
 use Rattle.cloak_base.specs.Pages.{zero_page}
@@ -184,7 +184,7 @@ loads_more old p p' i s segments so_far more read high fits has =
     ∙ ap (λ (x : Segment). with_segments (with_bytes p.frames x.address x.bytes) (drop (i + 1) segments)) (sym read) in
     record {
       stays = frames_are old p' _ p'.frames (sym has.frames_are) (frames_then old p p' p.frames _ so_far.stays has);
-      count = ap (λ (x : List (List ℕ)). length x) has.frames_are ∙ (length-with_bytes p.frames _ _ ∙ count);
+      count = ap (λ (x : List (List ℕ)). length x) has.frames_are ∙ (length-with_bytes p.frames s.address s.bytes ∙ count);
       pages = subst ArePages (sym has.frames_are) (pages_with_bytes p.frames s.address s.bytes high room so_far.pages);
       stored =
           ap (λ (x : List (List ℕ)). with_segments x (drop (i + 1) segments)) has.frames_are
@@ -247,6 +247,13 @@ stands_blank p k key stream blank = blank (blank_memory k key stream) (record {
   plain = λ q. refl;
 })
 
+-- what is so of a page has nothing to do with the frames
+page_still : (m : CloakedMemory) (ram : List (List ℕ)) (q : PageId) (t : Option Meta) → PageStands false m q t →
+    PageStands false (record m { ram = ram }) q t
+page_still m ram q None stands = stands
+page_still m ram q (Some t) stands =
+    record { bytes = stands.bytes; is = stands.is; digest = stands.digest; sealed = stands.sealed }
+
 pub loaded_stands : (old p : PagerState) (k : KernelImage) (domains : ℕ) (key : List ℕ) (stream : Random) →
     IsLoaded old p k domains key → StandsForMemory p none_wiped (started_memory k key stream)
 unfolding blank_memory started_memory started_kernel started_ledger
@@ -264,7 +271,9 @@ loaded_stands old p k domains key stream is =
           (sym (ap (λ (rights : List Held). slice_index_or rights f Spent) has.rights_are ∙ is.new.outside f below))
           (ap (λ (x : List (List ℕ)). slice_index_or x f []) has.frames_are);
       owed = s.owed ∙ ap (λ (rights : List Held). map owed_under rights) (sym has.rights_are);
-      pages = λ q. subst (λ (x : Option Meta). PageStands false m q x) (sym (has.metas_are q)) (s.pages q);
+      pages = λ q.
+          subst (λ (x : Option Meta). PageStands false m q x) (sym (has.metas_are q))
+          (page_still (blank_memory k key stream) m.ram q (meta_at old.table q) (s.pages q));
       plain = s.plain;
       drained = s.drained;
     }

@@ -142,7 +142,7 @@ missed_on new next (Some x) missed = absurd missed
 pub pages_missed : (new : Memory) (d : ℕ) (p : Program) (m : CloakedMemory) (n i : ℕ) → i ≤ n →
     PlacesTo new false (place_pages d p i m) → PlacesTo new false (place_pages d p n m)
 pages_missed new d p m zero i before missed =
-    subst (λ (k : ℕ). PlacesTo new false (place_pages d p k m)) (omega (arith, before)) missed
+    subst (λ (k : ℕ). PlacesTo new false (place_pages d p k m)) (let e : i ≡ zero = omega (arith, before) in e) missed
 pages_missed new d p m (suc n) i before missed = elim (cases_lt i (suc n)) [
   | inl lt ↦
       missed_on new (place (first_page d n) (p.place + n) (program_page p.bytes n)) (place_pages d p n m)

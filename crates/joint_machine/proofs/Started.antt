@@ -7,7 +7,8 @@ use Rattle.cloak_model.specs.DomainState.{started_domain}
 use Rattle.cloak_model.specs.Opening.{started_domains}
 use Rattle.hypercalls.specs.declared.domain.Domain.{Domain}
 use Rattle.hypercalls.specs.Standing.{StandsFor, number_of}
-use Rattle.joint_machine.specs.Standing.{AreDomains, AreNumbered}
+use Rattle.joint_machine.specs.Programs.{AreNumbered}
+use Rattle.joint_machine.specs.Standing.{AreDomains}
 
 domains_more : (xs : List Domain) (ds : List model.Domain) (x : Domain) (d : model.Domain) → AreDomains xs ds →
     StandsFor x d → AreDomains (xs ++ x ∷ []) (ds ++ d ∷ [])

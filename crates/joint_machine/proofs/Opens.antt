@@ -14,9 +14,10 @@ use Rattle.cloaked_side.specs.Holding.{Holds, domains_in}
 use Rattle.cloaked_side.specs.declared.memory.Memory.{Memory}
 use Rattle.hypercalls.specs.declared.domain.Domain.{Domain}
 use Rattle.joint_machine.specs.declared.joint.Joint.{Joint}
-use Rattle.joint_machine.specs.Standing.{AreDomains, AreFreeUnused, OpensJoint, StandsForJoint}
+use Rattle.joint_machine.specs.Standing.{AreDomains, OpensJoint, StandsForJoint}
+use Rattle.joint_machine.specs.Programs.{AreFreeUnused}
 use Rattle.joint_machine.specs.Starting.{PlacesTo}
-use Rattle.joint_machine.proofs.Placing.{KeepsRoots, programs_roots}
+use Rattle.joint_machine.proofs.Placed.{KeepsRoots, programs_roots}
 
 pub length-started_harts : (entry n : ℕ) → length (started_harts entry n) ≡ n
 length-started_harts entry zero = refl
