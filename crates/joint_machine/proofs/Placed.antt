@@ -108,13 +108,14 @@ places_by old new true w m (Some m') answer stands stream keeps whole missed dra
 }
 
 -- a page was placed in the memory's pager, or not
-pub page_placed : (old new : Memory) (given : Bool) (q : PageId) (f : ℕ) (bytes : List ℕ) →
-    Meets old.pager old.stream new.pager new.stream given (after_place q f bytes) → new.missed ≡ old.missed →
+pub page_placed : (old new : Memory) (given : Bool) (q : PageId) (f : ℕ) (there bytes : List ℕ) → there ≡ bytes →
+    Meets old.pager old.stream new.pager new.stream given (after_place q f there) → new.missed ≡ old.missed →
     new.draws ≡ draws_if given old.draws → (m : CloakedMemory) → Holds old m → PlacesTo new given (place q f bytes m)
-page_placed old new given q f bytes meets missed draws m h =
+page_placed old new given q f there bytes same meets missed draws m h =
     let v = meets h.wiped m h.pager h.stream in
-    places_by old new given h.wiped m (place q f bytes m) v.answered v.stands v.drawn (keeps_ledger q f bytes m)
-    (λ none. h.whole (sym missed ∙ none)) missed draws h.draws h.missed
+    subst (λ (x : List ℕ). PlacesTo new given (place q f x m)) same
+    (places_by old new given h.wiped m (place q f there m) v.answered v.stands v.drawn (keeps_ledger q f there m)
+    (λ none. h.whole (sym missed ∙ none)) missed draws h.draws h.missed)
 
 -- Pages one after another.
 

@@ -1,6 +1,6 @@
 -- The programs as a run begins, over plain variables.
 use Rattle.std.proofs.Common.{◌≡◌, ◌<◌, ◌+◌, ℕ, zero, suc, List, [], ◌∷◌, ◌++◌, length, take, slice_index_or, slice_get, Option, None, Some, ◌⊎◌, inl, inr, refl, ap, sym, ◌∙◌, subst, arith}
-use Rattle.std.proofs.lemmas.List.{take_more, length-take}
+use Rattle.std.proofs.lemmas.List.{take_more, length-take, length_push}
 use Rattle.cloak_model.specs.declared.image.Program.{Program}
 use Rattle.cloak_model.specs.DomainState as model
 use Rattle.cloak_model.specs.DomainState.{started_domain}
@@ -28,7 +28,7 @@ started_last n (q ∷ programs) p =
     (let e : n + 1 + length programs ≡ n + suc (length programs) = omega arith in e))
 
 -- one program more
-pub domains_next : (xs : List Domain) (x : Domain) (i : ℕ) (p : Program) (programs : List Program) →
+domains_next : (xs : List Domain) (x : Domain) (i : ℕ) (p : Program) (programs : List Program) →
     AreDomains xs (started_domains 0 (take i programs)) → StandsFor x (started_domain i p.start) →
     i < length programs → p ≡ slice_index_or programs i p →
     AreDomains (xs ++ x ∷ []) (started_domains 0 (take (i + 1) programs))
@@ -50,12 +50,32 @@ get_pushed (z ∷ xs) x zero y at = inl at
 get_pushed (z ∷ xs) x (suc d) y at =
     elim (get_pushed xs x d y at) [ inl h ↦ inl h | inr h ↦ inr (ap suc h.0, h.1) ]
 
-pub numbered_next : (xs : List Domain) (x : Domain) → AreNumbered xs → number_of x ≡ length xs →
+numbered_next : (xs : List Domain) (x : Domain) → AreNumbered xs → number_of x ≡ length xs →
     AreNumbered (xs ++ x ∷ [])
 numbered_next xs x numbered number d y at = elim (get_pushed xs x d y at) [
   | inl h ↦ numbered d y h
   | inr h ↦ ap number_of (sym h.1) ∙ (number ∙ sym h.0)
 ]
 
-pub numbered_none : AreNumbered []
-numbered_none d y at = absurd (let no : None ≡ Some y = at in cc)
+-- the domains of the first i programs
+pub record AreStarted (xs : List Domain) (i : ℕ) (programs : List Program) : Type 0 where
+  pub stand : AreDomains xs (started_domains 0 (take i programs))
+  pub numbered : AreNumbered xs
+  pub count : length xs ≡ i
+
+pub started_next : (xs ys : List Domain) (x : Domain) (i : ℕ) (p : Program) (programs : List Program) →
+    AreStarted xs i programs → ys ≡ xs ++ x ∷ [] → StandsFor x (started_domain i p.start) → number_of x ≡ i →
+    i < length programs → p ≡ slice_index_or programs i p → AreStarted ys (i + 1) programs
+started_next xs ys x i p programs so_far pushed stands number more read =
+    subst (λ (zs : List Domain). AreStarted zs (i + 1) programs) (sym pushed) (record {
+      stand = domains_next xs x i p programs so_far.stand stands more read;
+      numbered = numbered_next xs x so_far.numbered (number ∙ sym so_far.count);
+      count = length_push xs x ∙ ap (λ n. n + 1) so_far.count;
+    })
+
+pub started_none : (programs : List Program) → AreStarted [] 0 programs
+started_none programs = record {
+  stand = tt;
+  numbered = λ d y at. absurd (let no : None ≡ Some y = at in cc);
+  count = refl;
+}

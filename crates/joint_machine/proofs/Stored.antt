@@ -7,6 +7,7 @@ use Rattle.cloak_base.specs.Random.{Random}
 use Rattle.cloak_base.specs.declared.names.PageId.{PageId}
 use Rattle.cloak_model.specs.declared.image.Segment.{Segment}
 use Rattle.cloak_model.specs.declared.image.KernelImage.{KernelImage}
+use Rattle.cloak_model.specs.Bundle.{IsSegmentIn}
 use Rattle.cloak_model.specs.Cloaking.{CloakedMemory}
 use Rattle.cloak_model.specs.Memory.{frame_of, place_of, with_byte, with_bytes, with_value_in, zero_ram}
 use Rattle.cloak_model.specs.Opening.{with_segments, started_kernel, started_ledger, started_memory}
@@ -18,8 +19,8 @@ use Rattle.cloak_pager.specs.Relation.{StandsForMemory, FrameStands, PageStands}
 use Rattle.cloak_pager.specs.AfterCall.{none_wiped, StandsBlank}
 use Rattle.cloak_pager.specs.declared.held.Held.{Held}
 use Rattle.cloak_pager.specs.declared.held.Held.TheVariants.{Spent}
-use Rattle.cloak_pager.proofs.Opening.{nobody}
-use Rattle.joint_machine.specs.Starting.{ArePages, HasFrames, IsReady}
+use Rattle.cloaked_side.specs.Holding.{Holds}
+use Rattle.joint_machine.specs.Starting.{ArePages, HasFrames}
 
 -- One byte.
 
@@ -73,11 +74,6 @@ frames_then a b c frames frames' first second = record {
 frames_are : (a b : PagerState) (frames frames' : List (List ℕ)) → frames ≡ frames' → HasFrames a b frames →
     HasFrames a b frames'
 frames_are a b frames frames' same has = subst (λ (x : List (List ℕ)). HasFrames a b x) same has
-
-pub still_outside : (a b : PagerState) (frames : List (List ℕ)) → HasFrames a b frames →
-    ((k : ℕ) → held_in a k ≡ None) → (k : ℕ) → held_in b k ≡ None
-still_outside a b frames has none k =
-    ap (λ (rights : List Held). page_of (slice_index_or rights k Spent)) has.rights_are ∙ none k
 
 -- Bytes one after another.
 
@@ -172,7 +168,7 @@ loads_none n domains key p segments new = record {
   stored = refl;
 }
 
-pub loads_more : (old p p' : PagerState) (i : ℕ) (s : Segment) (segments : List Segment) → LoadsFrom old p i segments →
+loads_more : (old p p' : PagerState) (i : ℕ) (s : Segment) (segments : List Segment) → LoadsFrom old p i segments →
     i < length segments → s ≡ slice_index_or segments i s → 0x80000000 ≤ s.address →
     s.address + length s.bytes ≤ 0x80000000 + 4096 * length old.frames →
     HasFrames p p' (with_bytes p.frames s.address s.bytes) → LoadsFrom old p' (i + 1) segments
@@ -191,6 +187,19 @@ loads_more old p p' i s segments so_far more read high fits has =
           ∙ (sym here ∙ so_far.stored);
     }
 
+-- a segment that the image has
+pub loads_next : (n domains : ℕ) (key : List ℕ) (old p p' : PagerState) (i : ℕ) (s : Segment) (bytes : List ℕ)
+    (segments : List Segment) → IsNewPager n domains key old → All (IsSegmentIn n) segments →
+    LoadsFrom old p i segments → i < length segments → s ≡ slice_index_or segments i s → bytes ≡ s.bytes →
+    HasFrames p p' (with_bytes p.frames s.address bytes) → LoadsFrom old p' (i + 1) segments
+loads_next n domains key old p p' i s bytes segments new fit so_far more read same has =
+    let fits : IsSegmentIn n s = subst (IsSegmentIn n) (sym read) (fit i s more) in
+    let count : length old.frames ≡ n =
+    ap (λ (x : List (List ℕ)). length x) new.zeros ∙ length-replicate n zero_page in
+    loads_more old p p' i s segments so_far more read fits.from_start
+    (let room = fits.to_end in omega (arith, room, count))
+    (subst (λ (x : List ℕ). HasFrames p p' (with_bytes p.frames s.address x)) same has)
+
 -- What is loaded.
 
 -- the pager is new but for its frames, which are RAM with the segments
@@ -200,33 +209,27 @@ pub record IsLoaded (old p : PagerState) (k : KernelImage) (domains : ℕ) (key 
   pub whole : IsWholePager p
   pub stays : HasFrames old p (with_segments (zero_ram k.frames) k.segments)
 
-pub loaded : (old p : PagerState) (k : KernelImage) (domains i : ℕ) (key : List ℕ) →
-    IsNewPager k.frames domains key old → StandsBlank k.frames key old → LoadsFrom old p i k.segments →
-    length k.segments ≤ i → IsWholePager p → IsLoaded old p k domains key
-loaded old p k domains i key new blank so_far end whole = record {
+pub loaded : (old p : PagerState) (k : KernelImage) (domains i : ℕ) (key : List ℕ) (segments : List Segment) →
+    segments ≡ k.segments → IsNewPager k.frames domains key old → StandsBlank k.frames key old →
+    LoadsFrom old p i segments → length segments ≤ i → IsWholePager p → IsLoaded old p k domains key
+loaded old p k domains i key segments same new blank so_far end whole = record {
   new = new;
   blank = blank;
   whole = whole;
   stays =
       frames_are old p p.frames _
-      (sym (at_drop_all (with_segments p.frames) k.segments i end)
-      ∙ (so_far.stored ∙ ap (λ (x : List (List ℕ)). with_segments x k.segments) new.zeros))
+      (sym (at_drop_all (with_segments p.frames) segments i end)
+      ∙ (so_far.stored
+      ∙ (ap (λ (x : List (List ℕ)). with_segments x segments) new.zeros
+      ∙ ap (with_segments (zero_ram k.frames)) same)))
       so_far.stays;
 }
 
-pub loaded_count : (old p : PagerState) (k : KernelImage) (domains : ℕ) (key : List ℕ) → IsLoaded old p k domains key →
+loaded_count : (old p : PagerState) (k : KernelImage) (domains : ℕ) (key : List ℕ) → IsLoaded old p k domains key →
     length p.frames ≡ k.frames
 loaded_count old p k domains key is =
     ap (λ (x : List (List ℕ)). length x) is.stays.frames_are
     ∙ (length-with_segments (zero_ram k.frames) k.segments ∙ length-replicate k.frames zero_page)
-
-pub loaded_ready : (old p : PagerState) (k : KernelImage) (domains : ℕ) (key : List ℕ) → IsLoaded old p k domains key →
-    IsReady p 0 0
-loaded_ready old p k domains key is = record {
-  outside = still_outside old p _ is.stays (λ k'. (nobody k.frames domains key old is.new k').0);
-  rest = λ q d n. is.stays.metas_are q ∙ is.new.no_metas q;
-  later = λ q d. is.stays.metas_are q ∙ is.new.no_metas q;
-}
 
 -- memory of zeros
 blank_memory : KernelImage → List ℕ → Random → CloakedMemory
@@ -254,7 +257,7 @@ page_still m ram q None stands = stands
 page_still m ram q (Some t) stands =
     record { bytes = stands.bytes; is = stands.is; digest = stands.digest; sealed = stands.sealed }
 
-pub loaded_stands : (old p : PagerState) (k : KernelImage) (domains : ℕ) (key : List ℕ) (stream : Random) →
+loaded_stands : (old p : PagerState) (k : KernelImage) (domains : ℕ) (key : List ℕ) (stream : Random) →
     IsLoaded old p k domains key → StandsForMemory p none_wiped (started_memory k key stream)
 unfolding blank_memory started_memory started_kernel started_ledger
 loaded_stands old p k domains key stream is =
@@ -277,3 +280,16 @@ loaded_stands old p k domains key stream is =
       plain = s.plain;
       drained = s.drained;
     }
+
+pub loaded_holds : (old p : PagerState) (k : KernelImage) (domains : ℕ) (key : List ℕ) (stream : Random) →
+    IsLoaded old p k domains key →
+    Holds (record { pager = p; stream = stream; draws = 0; missed = false }) (started_memory k key stream)
+unfolding started_memory started_ledger
+loaded_holds old p k domains key stream is = record {
+  wiped = none_wiped;
+  pager = loaded_stands old p k domains key stream is;
+  whole = λ drawn q. refl;
+  stream = refl;
+  draws = refl;
+  missed = refl;
+}

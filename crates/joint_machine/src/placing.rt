@@ -37,13 +37,17 @@ fn place_page(memory: &mut Memory, domain: u32, p: &Program, page: u32) -> bool
         (place (record { domain = domain; resource = 0; page = page }) (p.now.place + page)
         (program_page p.now.bytes page) m) }
 {
+    memory.pager.whole();
     let q = PageId {
         domain,
         resource: 0,
         page,
     };
     let f = Frame(p.place + page);
-    if !memory.pager.place(q, f, page_bytes(p, page), &mut memory.stream) {
+    if !memory
+        .pager
+        .place(q, f, page_bytes(p, page), &mut memory.stream)
+    {
         return false;
     }
     memory.draws = memory.draws.saturating_add(1);
