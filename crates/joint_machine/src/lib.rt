@@ -11,12 +11,12 @@
 #![tactic(auto)]
 
 mod closing;
-mod inside;
 mod joint;
+mod loading;
 mod opened;
 mod opening;
-mod outside;
-mod resuming;
+mod placing;
+mod starting;
 mod turned;
 
 pub use joint::Joint;

@@ -1,0 +1,100 @@
+-- The opening of a joint run, over plain variables.
+use Rattle.std.proofs.Common.{◌≡◌, ◌<◌, ◌+◌, ℕ, zero, suc, Bool, true, false, List, [], ◌∷◌, length, slice_index_or, Option, None, Some, Result, Ok, Err, refl, ap, sym, ◌∙◌, subst, arith}
+use Rattle.std.proofs.lemmas.List.{length-append}
+use Rattle.cloak_base.specs.declared.names.PageId.{PageId}
+use Rattle.cloak_base.specs.declared.names.SpaceId.{SpaceId}
+use Rattle.cloak_base.specs.Random.{Random, next_draw}
+use Rattle.cloak_model.specs.declared.image.Bundle.{Bundle}
+use Rattle.cloak_model.specs.Cloaking.{CloakedMemory}
+use Rattle.cloak_model.specs.Hart.{started}
+use Rattle.cloak_model.specs.Opening.{Opened, Lack, NoKey, NoPageDraw, opening, opened_by, opened_with, opening_items, started_domains, started_harts, started_joint, started_kernel, started_ledger, started_memory, place_programs}
+use Rattle.thread_context.specs.Recorded.{root_at}
+use Rattle.cloak_pager.specs.State.{PagerState, IsNoneHeld, held_in}
+use Rattle.cloaked_side.specs.Holding.{Holds, domains_in}
+use Rattle.cloaked_side.specs.declared.memory.Memory.{Memory}
+use Rattle.hypercalls.specs.declared.domain.Domain.{Domain}
+use Rattle.joint_machine.specs.declared.joint.Joint.{Joint}
+use Rattle.joint_machine.specs.Standing.{AreDomains, OpensJoint, StandsForJoint}
+use Rattle.joint_machine.specs.Programs.{AreFreeUnused}
+use Rattle.joint_machine.specs.Starting.{PlacesTo}
+use Rattle.joint_machine.proofs.Placed.{KeepsRoots, programs_roots}
+
+pub length-started_harts : (entry n : ℕ) → length (started_harts entry n) ≡ n
+length-started_harts entry zero = refl
+length-started_harts entry (suc n) =
+    let before = length-started_harts entry n in
+    let more = length-append (started_harts entry n) (started entry n ∷ []) in
+    omega (arith, before, more)
+
+-- where no frame holds a page, none holds one of a free number
+pub free_unused : (domains : List Domain) (p : PagerState) → ((k : ℕ) → held_in p k ≡ None) → AreFreeUnused domains p
+free_unused domains p none d n low domain at free = λ k q held. absurd (let no : None ≡ Some q = sym (none k) ∙ held in cc)
+
+-- What is missing.
+
+pub no_key : (b : Bundle) (s : Random) → next_draw s ≡ None → opening b s ≡ Err NoKey
+unfolding opened_by
+no_key b s none = rw none refl
+
+opening_with : (b : Bundle) (s rest : Random) (key : List ℕ) (o : Option CloakedMemory) → next_draw s ≡ Some (key, rest) →
+    place_programs 0 b.programs (started_memory b.kernel key rest) ≡ o → opening b s ≡ opened_with b o
+unfolding opened_by
+opening_with b s rest key o some places = rw some (ap (opened_with b) places)
+
+missing : (b : Bundle) (memory : Memory) (o : Option CloakedMemory) → PlacesTo memory false o →
+    opened_with b o ≡ Err NoPageDraw
+unfolding opened_with
+missing b memory None places = refl
+missing b memory (Some m) places = absurd places
+
+pub no_page_draw : (b : Bundle) (s rest : Random) (key : List ℕ) (memory : Memory) → next_draw s ≡ Some (key, rest) →
+    PlacesTo memory false (place_programs 0 b.programs (started_memory b.kernel key rest)) →
+    opening b s ≡ Err NoPageDraw
+no_page_draw b s rest key memory some places =
+    opening_with b s rest key _ some refl ∙ missing b memory _ places
+
+-- What is opened.
+
+-- a joint machine of these parts
+pub record HasParts (joint : Joint) (b : Bundle) (key : List ℕ) (rest : Random) : Type 0 where
+  pub harts : joint.harts.items ≡ started_harts b.kernel.entry b.kernel.harts
+  pub disk : joint.disk ≡ b.kernel.disk
+  pub domains : AreDomains joint.domains.items (started_domains 0 b.programs)
+  pub roots : (s : SpaceId) → root_at joint.roots s ≡ None
+  pub memory : PlacesTo joint.memory true (place_programs 0 b.programs (started_memory b.kernel key rest))
+
+no_roots : (b : Bundle) (key : List ℕ) (rest : Random) (s : SpaceId) →
+    (started_memory b.kernel key rest).ledger.root s ≡ None
+unfolding started_memory started_ledger
+no_roots b key rest s = refl
+
+stands_with : (joint : Joint) (b : Bundle) (key : List ℕ) (rest : Random) (m : CloakedMemory) →
+    HasParts joint b key rest → Holds joint.memory m →
+    ((s : SpaceId) → m.ledger.root s ≡ (started_memory b.kernel key rest).ledger.root s) →
+    StandsForJoint joint (started_joint b m)
+unfolding started_joint started_kernel
+stands_with joint b key rest m parts holds roots = record {
+  harts = parts.harts;
+  disk = parts.disk;
+  memory = holds;
+  domains = parts.domains;
+  roots = λ s. parts.roots s ∙ sym (roots s ∙ no_roots b key rest s);
+}
+
+opened_as : (joint : Joint) (b : Bundle) (s rest : Random) (key : List ℕ) (o : Option CloakedMemory) →
+    opening b s ≡ opened_with b o → HasParts joint b key rest → PlacesTo joint.memory true o →
+    KeepsRoots (started_memory b.kernel key rest) o → OpensJoint b s joint
+unfolding opened_with
+opened_as joint b s rest key None opens parts places roots = absurd places
+opened_as joint b s rest key (Some m) opens parts places roots = record {
+  opened = record { joint = started_joint b m; items = opening_items b.programs m.ram };
+  opens = opens;
+  stands = stands_with joint b key rest m parts places roots;
+}
+
+pub opens_joint : (joint : Joint) (b : Bundle) (s rest : Random) (key : List ℕ) → next_draw s ≡ Some (key, rest) →
+    HasParts joint b key rest → OpensJoint b s joint
+opens_joint joint b s rest key some parts =
+    let m = started_memory b.kernel key rest in
+    opened_as joint b s rest key (place_programs 0 b.programs m) (opening_with b s rest key _ some refl) parts parts.memory
+    (programs_roots 0 b.programs m)

@@ -1,0 +1,241 @@
+-- The pages of programs as a run begins, over plain variables.
+use Rattle.std.proofs.Common.{◌≡◌, ◌≢◌, ◌<◌, ◌≤◌, ◌+◌, ◌-◌, ◌*◌, ◌^◌, ℕ, zero, suc, Bool, true, false, List, [], ◌∷◌, length, drop, take, slice_index_or, Option, None, Some, is_some, unwrap_or, min, refl, ap, sym, ◌∙◌, subst, arith, add-one, inl, inr}
+use Rattle.std.specs.Prelude.{option_and_then}
+use Rattle.std.proofs.lemmas.List.{at_drop_more, at_drop_all}
+use Rattle.std.proofs.lemmas.Bool.{cases_lt}
+use Rattle.cloak_base.specs.declared.names.PageId.{PageId}
+use Rattle.cloak_base.specs.declared.names.SpaceId.{SpaceId}
+use Rattle.cloak_base.specs.Random.{Random}
+use Rattle.cloak_model.specs.declared.image.Program.{Program}
+use Rattle.cloak_model.specs.Cloaking.{CloakedMemory}
+use Rattle.cloak_model.specs.Ledger.{vector_of}
+use Rattle.cloak_model.specs.Opening.{place_pages, place_programs, program_page}
+use Rattle.cloak_model.specs.PageMoves.{place, place_with}
+use Rattle.protect_meta.specs.declared.meta.Meta.{Meta}
+use Rattle.protect_meta.specs.Table.{meta_at}
+use Rattle.cloak_pager.specs.State.{PagerState, IsFresh, page_of, held_in}
+use Rattle.cloak_pager.specs.Turns.{PlaceTurns}
+use Rattle.cloak_pager.specs.Relation.{StandsForMemory}
+use Rattle.cloak_pager.specs.AfterCall.{Meets, after_place}
+use Rattle.cloak_pager.specs.declared.held.Held.{Held}
+use Rattle.cloak_pager.specs.declared.held.Held.TheVariants.{Spent}
+use Rattle.cloak_pager.proofs.Pages.{with_page-other}
+use Rattle.cloaked_side.specs.Holding.{Holds}
+use Rattle.cloaked_side.specs.declared.memory.Memory.{Memory}
+use Rattle.joint_machine.specs.Starting.{IsReady, PlacesTo}
+
+-- One page.
+
+-- a page of the resource that holds a program
+abbrev pub first_page : ℕ → ℕ → PageId
+first_page d n = record { domain = d; resource = 0; page = n }
+
+never : (o : Option PageId) (q : PageId) → o ≡ None → o ≢ Some q
+never o q none some = let e : None ≡ Some q = sym none ∙ some in cc
+
+pub fresh_next : (p : PagerState) (d n : ℕ) → IsReady p d n → IsFresh p (first_page d n)
+fresh_next p d n ready =
+    (ready.rest (first_page d n) refl (omega arith), λ k. never (held_in p k) (first_page d n) (ready.outside k))
+
+-- other pages have what metadata they had
+metas_kept : (draw : Option (List ℕ × Random)) (stream left : Random) (old new : PagerState) (q : PageId) (f : ℕ)
+    (bytes : List ℕ) → PlaceTurns draw stream old new left q f bytes → (o : PageId) → o ≢ q →
+    meta_at new.table o ≡ meta_at old.table o
+metas_kept None stream left old new q f bytes turns o n = ap (λ (p : PagerState). meta_at p.table o) turns.0
+metas_kept (Some draw) stream left old new q f bytes turns o n =
+    turns.0.metas_are o ∙ with_page-other (meta_at old.table) q _ o n
+
+pub ready_next : (draw : Option (List ℕ × Random)) (stream left : Random) (old new : PagerState) (d n f : ℕ)
+    (bytes : List ℕ) → PlaceTurns draw stream old new left (first_page d n) f bytes → new.rights ≡ old.rights →
+    IsReady old d n → IsReady new d (n + 1)
+ready_next draw stream left old new d n f bytes turns rights ready = record {
+  outside = λ k. ap (λ (hs : List Held). page_of (slice_index_or hs k Spent)) rights ∙ ready.outside k;
+  rest = λ q here past.
+      metas_kept draw stream left old new (first_page d n) f bytes turns q (λ same. absurd (let at : q.page ≡ n = ap (λ (x : PageId). x.page) same in omega (arith, at, past)))
+      ∙ ready.rest q here (omega (arith, past));
+  later = λ q past.
+      metas_kept draw stream left old new (first_page d n) f bytes turns q (λ same. absurd (let at : q.domain ≡ d = ap (λ (x : PageId). x.domain) same in omega (arith, at, past)))
+      ∙ ready.later q past;
+}
+
+pub ready_domain : (p : PagerState) (d n : ℕ) → IsReady p d n → IsReady p (d + 1) 0
+ready_domain p d n ready = record {
+  outside = ready.outside;
+  rest = λ q here past. ready.later q (omega (arith, here));
+  later = λ q past. ready.later q (omega (arith, past));
+}
+
+-- What a placing leaves of the ledger, beside stream and records.
+pub record KeepsLedger (m m' : CloakedMemory) : Type 0 where
+  pub draws : m'.ledger.draws ≡ min (m.ledger.draws + 1) (2 ^ 64 - 1)
+  pub missed : m'.ledger.missed ≡ m.ledger.missed
+  pub root : (s : SpaceId) → m'.ledger.root s ≡ m.ledger.root s
+
+abbrev pub KeepsLedgerIf : CloakedMemory → Option CloakedMemory → Type 0
+KeepsLedgerIf m None = Unit {0}
+KeepsLedgerIf m (Some m') = KeepsLedger m m'
+
+keeps_with : (q : PageId) (f : ℕ) (bytes : List ℕ) (draw : Option (List ℕ × Random)) (m : CloakedMemory) →
+    KeepsLedgerIf m (place_with q f bytes draw m)
+unfolding place_with
+keeps_with q f bytes None m = tt
+keeps_with q f bytes (Some draw) m = record { draws = refl; missed = refl; root = λ s. refl }
+
+pub keeps_ledger : (q : PageId) (f : ℕ) (bytes : List ℕ) (m : CloakedMemory) → KeepsLedgerIf m (place q f bytes m)
+unfolding place
+keeps_ledger q f bytes m = keeps_with q f bytes (vector_of m.ledger q) m
+
+-- the draws behind a placing
+abbrev pub draws_if : Bool → ℕ → ℕ
+draws_if true n = min (n + 1) (2 ^ 64 - 1)
+draws_if false n = n
+
+places_by : (old new : Memory) (given : Bool) (w : PageId → Bool) (m : CloakedMemory) (o : Option CloakedMemory) →
+    given ≡ is_some o → StandsForMemory new.pager w (unwrap_or o m) → (unwrap_or o m).ledger.stream ≡ new.stream →
+    KeepsLedgerIf m o → (new.missed ≡ false → (q : PageId) → w q ≡ false) → new.missed ≡ old.missed →
+    new.draws ≡ draws_if given old.draws → old.draws ≡ m.ledger.draws → old.missed ≡ m.ledger.missed →
+    PlacesTo new given o
+places_by old new true w m None answer stands stream keeps whole missed draws counted marked = absurd (cc)
+places_by old new false w m None answer stands stream keeps whole missed draws counted marked = tt
+places_by old new false w m (Some m') answer stands stream keeps whole missed draws counted marked = absurd (cc)
+places_by old new true w m (Some m') answer stands stream keeps whole missed draws counted marked = record {
+  wiped = w;
+  pager = stands;
+  whole = whole;
+  stream = stream;
+  draws = draws ∙ (ap (λ n. min (n + 1) (2 ^ 64 - 1)) counted ∙ sym keeps.draws);
+  missed = missed ∙ (marked ∙ sym keeps.missed);
+}
+
+-- a page was placed in the memory's pager, or not
+pub page_placed : (old new : Memory) (given : Bool) (q : PageId) (f : ℕ) (there bytes : List ℕ) → there ≡ bytes →
+    Meets old.pager old.stream new.pager new.stream given (after_place q f there) → new.missed ≡ old.missed →
+    new.draws ≡ draws_if given old.draws → (m : CloakedMemory) → Holds old m → PlacesTo new given (place q f bytes m)
+page_placed old new given q f there bytes same meets missed draws m h =
+    let v = meets h.wiped m h.pager h.stream in
+    subst (λ (x : List ℕ). PlacesTo new given (place q f x m)) same
+    (places_by old new given h.wiped m (place q f there m) v.answered v.stands v.drawn (keeps_ledger q f there m)
+    (λ none. h.whole (sym missed ∙ none)) missed draws h.draws h.missed)
+
+-- Pages one after another.
+
+then_places : (old new : Memory) (given : Bool) (next : CloakedMemory → Option CloakedMemory) (o : Option CloakedMemory) →
+    PlacesTo old true o → ((x : CloakedMemory) → Holds old x → PlacesTo new given (next x)) →
+    PlacesTo new given (option_and_then next o)
+then_places old new given next None so_far more = absurd so_far
+then_places old new given next (Some x) so_far more = more x so_far
+
+pub pages_next : (old new : Memory) (given : Bool) (d i : ℕ) (p : Program) (m : CloakedMemory) →
+    PlacesTo old true (place_pages d p i m) →
+    ((x : CloakedMemory) → Holds old x →
+    PlacesTo new given (place (first_page d i) (p.place + i) (program_page p.bytes i) x)) →
+    PlacesTo new given (place_pages d p (i + 1) m)
+pages_next old new given d i p m so_far more =
+    subst (λ (n : ℕ). PlacesTo new given (place_pages d p n m)) (sym (add-one i))
+    (then_places old new given (place (first_page d i) (p.place + i) (program_page p.bytes i)) (place_pages d p i m) so_far more)
+
+missed_on : (new : Memory) (next : CloakedMemory → Option CloakedMemory) (o : Option CloakedMemory) →
+    PlacesTo new false o → PlacesTo new false (option_and_then next o)
+missed_on new next None missed = tt
+missed_on new next (Some x) missed = absurd missed
+
+-- where a draw was missing before, it is missing
+pub pages_missed : (new : Memory) (d : ℕ) (p : Program) (m : CloakedMemory) (n i : ℕ) → i ≤ n →
+    PlacesTo new false (place_pages d p i m) → PlacesTo new false (place_pages d p n m)
+pages_missed new d p m zero i before missed =
+    subst (λ (k : ℕ). PlacesTo new false (place_pages d p k m)) (let e : i ≡ zero = omega (arith, before) in e) missed
+pages_missed new d p m (suc n) i before missed = elim (cases_lt i (suc n)) [
+  | inl lt ↦
+      missed_on new (place (first_page d n) (p.place + n) (program_page p.bytes n)) (place_pages d p n m)
+      (pages_missed new d p m n i (omega (arith, lt)) missed)
+  | inr ge ↦
+      subst (λ (k : ℕ). PlacesTo new false (place_pages d p k m))
+      (let e : i ≡ suc n = omega (arith, ge, before) in e) missed
+]
+
+-- Programs one after another.
+
+-- of these programs the first i are placed: what is left is placed in this memory
+pub record PlacesFrom (memory : Memory) (i : ℕ) (programs : List Program) (m : CloakedMemory) : Type 0 where
+  pub so_far : CloakedMemory
+  pub holds : Holds memory so_far
+  pub rest : place_programs i (drop i programs) so_far ≡ place_programs 0 programs m
+
+pub programs_none : (memory : Memory) (programs : List Program) (m : CloakedMemory) → Holds memory m →
+    PlacesFrom memory 0 programs m
+programs_none memory programs m holds = record { so_far = m; holds = holds; rest = refl }
+
+-- the next program, and what is left behind it
+rest_is : (i : ℕ) (p : Program) (programs : List Program) (m : CloakedMemory) → i < length programs →
+    p ≡ slice_index_or programs i p →
+    place_programs i (drop i programs) m
+    ≡ option_and_then (place_programs (i + 1) (drop (i + 1) programs)) (place_pages i p p.start.pages m)
+rest_is i p programs m more read =
+    at_drop_more (λ (rest : List Program). place_programs i rest m) programs i p more
+    ∙ ap (λ (x : Program). option_and_then (place_programs (i + 1) (drop (i + 1) programs)) (place_pages i x x.start.pages m))
+    (sym read)
+
+next_is : (new : Memory) (i : ℕ) (programs : List Program) (m : CloakedMemory) (o : Option CloakedMemory) →
+    option_and_then (place_programs (i + 1) (drop (i + 1) programs)) o ≡ place_programs 0 programs m →
+    PlacesTo new true o → PlacesFrom new (i + 1) programs m
+next_is new i programs m None rest places = absurd places
+next_is new i programs m (Some x) rest places = record { so_far = x; holds = places; rest = rest }
+
+pub programs_next : (old new : Memory) (i : ℕ) (p : Program) (programs : List Program) (m : CloakedMemory) →
+    PlacesFrom old i programs m → i < length programs → p ≡ slice_index_or programs i p →
+    ((x : CloakedMemory) → Holds old x → PlacesTo new true (place_pages i p p.start.pages x)) →
+    PlacesFrom new (i + 1) programs m
+programs_next old new i p programs m from more read places =
+    next_is new i programs m (place_pages i p p.start.pages from.so_far)
+    (sym (rest_is i p programs from.so_far more read) ∙ from.rest)
+    (places from.so_far from.holds)
+
+pub programs_missed : (old new : Memory) (i : ℕ) (p : Program) (programs : List Program) (m : CloakedMemory) →
+    PlacesFrom old i programs m → i < length programs → p ≡ slice_index_or programs i p →
+    ((x : CloakedMemory) → Holds old x → PlacesTo new false (place_pages i p p.start.pages x)) →
+    PlacesTo new false (place_programs 0 programs m)
+programs_missed old new i p programs m from more read places =
+    subst (λ (o : Option CloakedMemory). PlacesTo new false o)
+    (sym (rest_is i p programs from.so_far more read) ∙ from.rest)
+    (missed_on new (place_programs (i + 1) (drop (i + 1) programs)) (place_pages i p p.start.pages from.so_far)
+    (places from.so_far from.holds))
+
+pub programs_all : (memory : Memory) (i : ℕ) (programs : List Program) (m : CloakedMemory) →
+    PlacesFrom memory i programs m → length programs ≤ i → PlacesTo memory true (place_programs 0 programs m)
+programs_all memory i programs m from end =
+    subst (λ (o : Option CloakedMemory). PlacesTo memory true o)
+    (sym (at_drop_all (λ (rest : List Program). place_programs i rest from.so_far) programs i end) ∙ from.rest)
+    from.holds
+
+-- Roots.
+
+-- the page tables that are recorded stay
+abbrev pub KeepsRoots : CloakedMemory → Option CloakedMemory → Type 0
+KeepsRoots m None = Unit {0}
+KeepsRoots m (Some m') = (s : SpaceId) → m'.ledger.root s ≡ m.ledger.root s
+
+roots_of : (m : CloakedMemory) (o : Option CloakedMemory) → KeepsLedgerIf m o → KeepsRoots m o
+roots_of m None keeps = tt
+roots_of m (Some m') keeps = keeps.root
+
+roots_before : (m x : CloakedMemory) (o : Option CloakedMemory) → ((s : SpaceId) → x.ledger.root s ≡ m.ledger.root s) →
+    KeepsRoots x o → KeepsRoots m o
+roots_before m x None first keeps = tt
+roots_before m x (Some m') first keeps = λ s. keeps s ∙ first s
+
+roots_then : (m : CloakedMemory) (next : CloakedMemory → Option CloakedMemory) (o : Option CloakedMemory) →
+    KeepsRoots m o → ((x : CloakedMemory) → KeepsRoots x (next x)) → KeepsRoots m (option_and_then next o)
+roots_then m next None keeps more = tt
+roots_then m next (Some x) keeps more = roots_before m x (next x) keeps (more x)
+
+pages_roots : (d : ℕ) (p : Program) (n : ℕ) (m : CloakedMemory) → KeepsRoots m (place_pages d p n m)
+pages_roots d p zero m = λ s. refl
+pages_roots d p (suc n) m =
+    roots_then m (place (first_page d n) (p.place + n) (program_page p.bytes n)) (place_pages d p n m) (pages_roots d p n m)
+    (λ x. roots_of x _ (keeps_ledger (first_page d n) (p.place + n) (program_page p.bytes n) x))
+
+pub programs_roots : (d : ℕ) (programs : List Program) (m : CloakedMemory) → KeepsRoots m (place_programs d programs m)
+programs_roots d [] m = λ s. refl
+programs_roots d (p ∷ programs) m =
+    roots_then m (place_programs (d + 1) programs) (place_pages d p p.start.pages m) (pages_roots d p p.start.pages m)
+    (λ x. programs_roots (d + 1) programs x)

@@ -1,0 +1,151 @@
+-- What is shown as a run begins, over plain variables.
+use Rattle.std.proofs.Common.{◌≡◌, ◌<◌, ◌≤◌, ◌+◌, ℕ, Bool, true, false, cond, List, [], ◌∷◌, ◌++◌, length, slice_index_or, refl, ap, sym, ◌∙◌, subst, arith, add-one, inl, inr, Result, Ok, Err, Option, None, Some}
+use Rattle.std.specs.Prelude.{map, filter}
+use Rattle.std.proofs.lemmas.List.{map-append, ext_get_or}
+use Rattle.std.proofs.lemmas.List.Elements.{filter-append}
+use Rattle.cloak_base.specs.declared.names.PageId.{PageId}
+use Rattle.cloak_base.specs.Random.{Random, next_draw}
+use Rattle.cloak_model.specs.declared.image.Program.{Program}
+use Rattle.cloak_model.specs.declared.image.Bundle.{Bundle}
+use Rattle.cloak_model.specs.declared.item.Item.{Item}
+use Rattle.cloak_model.specs.Cloaking.{CloakedMemory}
+use Rattle.cloak_model.specs.Exchange.{Piece, Emits, item_pieces}
+use Rattle.cloak_model.specs.Opening.{is_placed, numbers_below, opening_items, Opened, Lack, opening, opened_by, opened_with, started_joint, started_memory, place_programs}
+use Rattle.cloak_pager.specs.State.{PagerState, bytes_in, page_of, right_at, held_in}
+use Rattle.cloak_pager.specs.Turns.{IsReadOnce}
+use Rattle.cloak_pager.specs.Relation.{StandsForMemory, FrameStands}
+use Rattle.cloak_pager.specs.declared.held.Held.{Held}
+use Rattle.cloak_pager.specs.declared.held.Held.TheVariants.{Outside, Clean, Changed, Spent}
+use Rattle.protect_meta.specs.Table.{domains_of}
+use Rattle.cloak_pager.proofs.Calls.{stands_read}
+use Rattle.cloaked_side.specs.Holding.{Holds, frames_of}
+use Rattle.cloaked_side.specs.declared.memory.Memory.{Memory}
+use Rattle.cloaked_side.proofs.Emitting.{emits_none, emits_items}
+use Rattle.joint_machine.specs.Starting.{IsReadOnly, frame_item, placed_among}
+
+-- One frame.
+
+pub placed_one : (programs : List Program) (frames : List (List ℕ)) (f : ℕ) → is_placed programs f ≡ true →
+    placed_among programs frames (f ∷ []) ≡ frame_item frames f ∷ []
+placed_one programs frames f there = ap (λ (b : Bool). map (frame_item frames) (cond b (f ∷ []) [])) there
+
+pub placed_not : (programs : List Program) (frames : List (List ℕ)) (f : ℕ) → is_placed programs f ≡ false →
+    placed_among programs frames (f ∷ []) ≡ []
+placed_not programs frames f away = ap (λ (b : Bool). map (frame_item frames) (cond b (f ∷ []) [])) away
+
+pub emits_placed : {E : Type 0} (gave : E → E → List Piece → Type 0) (e e' : E) (programs : List Program)
+    (frames : List (List ℕ)) (f : ℕ) → is_placed programs f ≡ true →
+    Emits gave e e' (item_pieces (frame_item frames f ∷ [])) →
+    Emits gave e e' (item_pieces (placed_among programs frames (f ∷ [])))
+emits_placed gave e e' programs frames f there emits =
+    subst (λ (items : List Item). Emits gave e e' (item_pieces items)) (sym (placed_one programs frames f there)) emits
+
+pub emits_not_placed : {E : Type 0} (gave : E → E → List Piece → Type 0) (e : E) (programs : List Program)
+    (frames : List (List ℕ)) (f : ℕ) → is_placed programs f ≡ false →
+    Emits gave e e (item_pieces (placed_among programs frames (f ∷ [])))
+emits_not_placed gave e programs frames f away =
+    subst (λ (items : List Item). Emits gave e e (item_pieces items)) (sym (placed_not programs frames f away))
+    (emits_none gave e)
+
+-- Frames one after another.
+
+pub placed_more : (programs : List Program) (frames : List (List ℕ)) (n : ℕ) →
+    placed_among programs frames (numbers_below (n + 1))
+    ≡ placed_among programs frames (numbers_below n) ++ placed_among programs frames (n ∷ [])
+placed_more programs frames n =
+    ap (λ (k : ℕ). placed_among programs frames (numbers_below k)) (add-one n)
+    ∙ (ap (map (frame_item frames)) (filter-append (is_placed programs) (numbers_below n) (n ∷ []))
+    ∙ map-append (frame_item frames) (filter (is_placed programs) (numbers_below n)) (filter (is_placed programs) (n ∷ [])))
+
+pub emits_more : {E : Type 0} (gave : E → E → List Piece → Type 0) (e f h : E) (programs : List Program)
+    (frames frames' : List (List ℕ)) (n : ℕ) → frames' ≡ frames →
+    Emits gave e f (item_pieces (placed_among programs frames (numbers_below n))) →
+    Emits gave f h (item_pieces (placed_among programs frames' (n ∷ []))) →
+    Emits gave e h (item_pieces (placed_among programs frames (numbers_below (n + 1))))
+emits_more gave e f h programs frames frames' n same first second =
+    subst (λ (items : List Item). Emits gave e h (item_pieces items)) (sym (placed_more programs frames n))
+    (emits_items (placed_among programs frames (numbers_below n)) (placed_among programs frames (n ∷ [])) first
+    (subst (λ (x : List (List ℕ)). Emits gave f h (item_pieces (placed_among programs x (n ∷ [])))) same second))
+
+-- Reads.
+
+pub read_none : (memory : Memory) → IsReadOnly memory memory
+read_none memory = record { frames = refl; rights = refl; domains = refl; holds = λ m h. h }
+
+pub read_then : (a b c : Memory) → IsReadOnly a b → IsReadOnly b c → IsReadOnly a c
+read_then a b c first second = record {
+  frames = second.frames ∙ first.frames;
+  rights = second.rights ∙ first.rights;
+  domains = second.domains ∙ first.domains;
+  holds = λ m h. second.holds m (first.holds m h);
+}
+
+pub read_once : (a b : Memory) → IsReadOnce a.pager b.pager → b.stream ≡ a.stream → b.draws ≡ a.draws →
+    b.missed ≡ a.missed → IsReadOnly a b
+read_once a b once stream draws missed = record {
+  frames = ap (λ (p : PagerState). p.frames) once;
+  rights = ap (λ (p : PagerState). p.rights) once;
+  domains = ap (λ (p : PagerState). domains_of p.table) once;
+  holds = λ m h. record {
+    wiped = h.wiped;
+    pager = stands_read a.pager b.pager once h.wiped m h.pager;
+    whole = λ none. h.whole (sym missed ∙ none);
+    stream = h.stream ∙ sym stream;
+    draws = draws ∙ h.draws;
+    missed = missed ∙ h.missed;
+  };
+}
+
+pub read_outside : (a b : Memory) → IsReadOnly a b → (k : ℕ) → held_in b.pager k ≡ held_in a.pager k
+read_outside a b read k = ap (λ (hs : List Held). page_of (slice_index_or hs k Spent)) read.rights
+
+-- The frames that are shown are those of RAM.
+
+-- a frame that holds nothing is as the kernel sees it
+outside_shows : (p : PagerState) (w : PageId → Bool) (m : CloakedMemory) (f : ℕ) (h : Held) → page_of h ≡ None →
+    FrameStands p w m f h → bytes_in p f ≡ slice_index_or m.ram f []
+outside_shows p w m f (Outside r) none stands = stands
+outside_shows p w m f (Clean r) none stands = absurd (cc)
+outside_shows p w m f (Changed r) none stands = absurd (cc)
+outside_shows p w m f Spent none stands = absurd stands
+
+pub frames_shown : (p : PagerState) (w : PageId → Bool) (m : CloakedMemory) → StandsForMemory p w m →
+    ((k : ℕ) → held_in p k ≡ None) → p.frames ≡ m.ram
+frames_shown p w m s none =
+    ext_get_or [] p.frames m.ram (sym s.count)
+    (λ f inside. outside_shows p w m f (right_at p f) (none f) (s.frames f inside))
+
+-- What a run's opening shows.
+
+-- the items of an opening are those of its memory
+abbrev pub ShowsMemory : Bundle → Result Opened Lack → Type 0
+ShowsMemory b (Ok o) = o.items ≡ opening_items b.programs o.joint.memory.ram
+ShowsMemory b (Err lack) = Unit {0}
+
+shows_with : (b : Bundle) (m : Option CloakedMemory) → ShowsMemory b (opened_with b m)
+unfolding opened_with started_joint
+shows_with b None = tt
+shows_with b (Some m) = refl
+
+shows_by : (b : Bundle) (draw : Option (List ℕ × Random)) → ShowsMemory b (opened_by b draw)
+unfolding opened_by
+shows_by b None = tt
+shows_by b (Some draw) = shows_with b (place_programs 0 b.programs (started_memory b.kernel draw.0 draw.1))
+
+pub opening_shows : (b : Bundle) (s : Random) (o : Opened) → opening b s ≡ Ok o →
+    o.items ≡ opening_items b.programs o.joint.memory.ram
+opening_shows b s o opens = subst (λ (r : Result Opened Lack). ShowsMemory b r) opens (shows_by b (next_draw s))
+
+-- the frames of a memory in which nothing is held are those that its opening shows
+pub opening_emits : {E : Type 0} (gave : E → E → List Piece → Type 0) (e e' : E) (memory : Memory) (programs : List Program)
+    (b : Bundle) (s : Random) (o : Opened) → opening b s ≡ Ok o → b.programs ≡ programs → Holds memory o.joint.memory →
+    ((k : ℕ) → held_in memory.pager k ≡ None) →
+    Emits gave e e' (item_pieces (placed_among programs memory.pager.frames (numbers_below (frames_of memory)))) →
+    Emits gave e e' (item_pieces o.items)
+opening_emits {E} gave e e' memory programs b s o opens same holds none emits =
+    let is : o.items ≡ placed_among programs memory.pager.frames (numbers_below (frames_of memory)) =
+    opening_shows b s o opens
+    ∙ (ap (λ (ps : List Program). opening_items ps o.joint.memory.ram) same
+    ∙ ap (λ (ram : List (List ℕ)). opening_items programs ram)
+    (sym (frames_shown memory.pager holds.wiped o.joint.memory holds.pager none))) in
+    subst (λ (items : List Item). Emits gave e e' (item_pieces items)) (sym is) emits

@@ -1,0 +1,295 @@
+-- RAM as a run begins, over plain variables.
+use Rattle.std.proofs.Common.{◌≡◌, ◌<◌, ◌≤◌, ◌+◌, ◌-◌, ◌*◌, ◌/◌, ◌%◌, ℕ, false, List, [], ◌∷◌, ◌++◌, length, drop, take, slice_index_or, slice_set, replicate, All, refl, ap, sym, ◌∙◌, subst, arith, add-one, None, Some, Option, map}
+use Rattle.std.proofs.lemmas.List.{set_split, length-set, length-replicate, at_drop_more, at_drop_all}
+use Rattle.std.proofs.lemmas.List.Elements.{All-set, All-replicate}
+use Rattle.cloak_base.specs.Pages.{zero_page}
+use Rattle.cloak_base.specs.Random.{Random}
+use Rattle.cloak_base.specs.declared.names.PageId.{PageId}
+use Rattle.cloak_model.specs.declared.image.Segment.{Segment}
+use Rattle.cloak_model.specs.declared.image.KernelImage.{KernelImage}
+use Rattle.cloak_model.specs.Bundle.{IsSegmentIn}
+use Rattle.cloak_model.specs.Cloaking.{CloakedMemory}
+use Rattle.cloak_model.specs.Memory.{frame_of, place_of, with_byte, with_bytes, with_value_in, zero_ram}
+use Rattle.cloak_model.specs.Opening.{with_segments, started_kernel, started_ledger, started_memory}
+use Rattle.protect_meta.specs.declared.meta.Meta.{Meta}
+use Rattle.protect_meta.specs.Table.{meta_at, domains_of}
+use Rattle.cloak_pager.specs.State.{PagerState, IsWholePager, page_of, owed_under, right_at, held_in}
+use Rattle.cloak_pager.specs.Turns.{IsNewPager, HasBytes}
+use Rattle.cloak_pager.specs.Relation.{StandsForMemory, FrameStands, PageStands}
+use Rattle.cloak_pager.specs.AfterCall.{none_wiped, StandsBlank}
+use Rattle.cloak_pager.specs.declared.held.Held.{Held}
+use Rattle.cloak_pager.specs.declared.held.Held.TheVariants.{Spent}
+use Rattle.cloaked_side.specs.Holding.{Holds}
+use Rattle.joint_machine.specs.Starting.{ArePages, HasFrames}
+
+-- One byte.
+
+one_byte : (page : List ℕ) (at b : ℕ) → at < length page → b < 256 → with_value_in page at 1 b ≡ slice_set page at b
+one_byte page at b inside low =
+    let byte : b % 256 ≡ b = omega (arith, low) in
+    ap (λ (x : ℕ). take at page ++ (x ∷ drop (at + 1) page)) byte
+    ∙ (ap (λ (n : ℕ). take at page ++ (b ∷ drop n page)) (add-one at) ∙ sym (set_split page at b inside))
+
+-- a byte that is stored at a place of RAM
+stored_byte : (frames : List (List ℕ)) (pa place b : ℕ) → pa - 0x80000000 ≡ place → ArePages frames →
+    place / 4096 < length frames → b < 256 →
+    slice_set frames (place / 4096) (with_value_in (slice_index_or frames (place / 4096) []) (place % 4096) 1 b)
+    ≡ with_byte frames pa b
+stored_byte frames pa place b is pages inside low =
+    let long : length (slice_index_or frames (place / 4096) []) ≡ 4096 = pages (place / 4096) [] inside in
+    let within : place % 4096 < length (slice_index_or frames (place / 4096) []) = omega (arith, long) in
+    ap (λ (page : List ℕ). slice_set frames (place / 4096) page)
+    (one_byte (slice_index_or frames (place / 4096) []) (place % 4096) b within low)
+    ∙ ap (λ (n : ℕ). slice_set frames (n / 4096) (slice_set (slice_index_or frames (n / 4096) []) (n % 4096) b)) (sym is)
+
+pages_with_byte : (frames : List (List ℕ)) (pa b : ℕ) → ArePages frames → frame_of pa < length frames →
+    ArePages (with_byte frames pa b)
+pages_with_byte frames pa b pages inside =
+    All-set (λ (page : List ℕ). length page ≡ 4096) frames (frame_of pa) _
+    (length-set (slice_index_or frames (frame_of pa) []) (place_of pa) b ∙ pages (frame_of pa) [] inside) pages
+
+-- Pagers whose frames alone changed.
+
+frames_same : (p : PagerState) → HasFrames p p p.frames
+frames_same p = record {
+  frames_are = refl;
+  rights_are = refl;
+  metas_are = λ o. refl;
+  domains_stay = refl;
+  key_stays = refl;
+  reads_stay = refl;
+}
+
+frames_then : (a b c : PagerState) (frames frames' : List (List ℕ)) → HasFrames a b frames → HasFrames b c frames' →
+    HasFrames a c frames'
+frames_then a b c frames frames' first second = record {
+  frames_are = second.frames_are;
+  rights_are = second.rights_are ∙ first.rights_are;
+  metas_are = λ o. second.metas_are o ∙ first.metas_are o;
+  domains_stay = second.domains_stay ∙ first.domains_stay;
+  key_stays = second.key_stays ∙ first.key_stays;
+  reads_stay = second.reads_stay ∙ first.reads_stay;
+}
+
+frames_are : (a b : PagerState) (frames frames' : List (List ℕ)) → frames ≡ frames' → HasFrames a b frames →
+    HasFrames a b frames'
+frames_are a b frames frames' same has = subst (λ (x : List (List ℕ)). HasFrames a b x) same has
+
+-- Bytes one after another.
+
+-- of these bytes the first i are stored: what is left, stored behind them, is all
+pub record StoresFrom (old p : PagerState) (address i : ℕ) (bytes : List ℕ) : Type 0 where
+  pub stays : HasFrames old p p.frames
+  pub count : length p.frames ≡ length old.frames
+  pub pages : ArePages p.frames
+  pub stored : with_bytes p.frames (address + i) (drop i bytes) ≡ with_bytes old.frames address bytes
+
+pub stores_none : (p : PagerState) (address : ℕ) (bytes : List ℕ) → ArePages p.frames → StoresFrom p p address 0 bytes
+stores_none p address bytes pages = record {
+  stays = frames_same p;
+  count = refl;
+  pages = pages;
+  stored =
+      ap (λ (n : ℕ). with_bytes p.frames n bytes) (let e : address + 0 ≡ address = omega arith in e);
+}
+
+pub stores_more : (old p p' : PagerState) (address i place b : ℕ) (bytes : List ℕ) → 0x80000000 ≤ address →
+    StoresFrom old p address i bytes → place ≡ address - 0x80000000 + i → i < length bytes →
+    address + length bytes ≤ 0x80000000 + 4096 * length old.frames →
+    b ≡ slice_index_or bytes i b → b < 256 →
+    HasBytes p p' (place / 4096)
+    (with_value_in (slice_index_or p.frames (place / 4096) []) (place % 4096) 1 b) →
+    StoresFrom old p' address (i + 1) bytes
+stores_more old p p' address i place b bytes high so_far is more fits read low has =
+    let at : address + i - 0x80000000 ≡ place = omega (arith, high, is) in
+    let room : place / 4096 < length p.frames =
+    (let count = so_far.count in omega (arith, high, is, more, fits, count)) in
+    let inside : frame_of (address + i) < length p.frames = rw at room in
+    let new : p'.frames ≡ with_byte p.frames (address + i) b =
+    has.frames_are ∙ stored_byte p.frames (address + i) place b at so_far.pages room low in
+    let here : with_bytes p.frames (address + i) (drop i bytes) ≡ with_bytes (with_byte p.frames (address + i) b) (address + i + 1) (drop (i + 1) bytes) =
+    at_drop_more (λ (rest : List ℕ). with_bytes p.frames (address + i) rest) bytes i b more
+    ∙ ap (λ (x : ℕ). with_bytes (with_byte p.frames (address + i) x) (address + i + 1) (drop (i + 1) bytes)) (sym read) in
+    record {
+      stays = frames_are old p' _ p'.frames (sym has.frames_are) (frames_then old p p' p.frames _ so_far.stays has);
+      count = ap (λ (x : List (List ℕ)). length x) new ∙ (length-set p.frames _ _ ∙ so_far.count);
+      pages = subst ArePages (sym new) (pages_with_byte p.frames (address + i) b so_far.pages inside);
+      stored =
+          ap (λ (x : List (List ℕ)). with_bytes x (address + (i + 1)) (drop (i + 1) bytes)) new
+          ∙ (ap (λ (n : ℕ). with_bytes (with_byte p.frames (address + i) b) n (drop (i + 1) bytes))
+          (let e : address + (i + 1) ≡ address + i + 1 = omega arith in e)
+          ∙ (sym here ∙ so_far.stored));
+    }
+
+pub stores_all : (old p : PagerState) (address i : ℕ) (bytes : List ℕ) → StoresFrom old p address i bytes →
+    length bytes ≤ i → HasFrames old p (with_bytes old.frames address bytes)
+stores_all old p address i bytes so_far end =
+    frames_are old p p.frames _
+    (sym (at_drop_all (λ (rest : List ℕ). with_bytes p.frames (address + i) rest) bytes i end) ∙ so_far.stored)
+    so_far.stays
+
+-- Segments one after another.
+
+length-with_bytes : (ram : List (List ℕ)) (pa : ℕ) (bytes : List ℕ) → length (with_bytes ram pa bytes) ≡ length ram
+length-with_bytes ram pa [] = refl
+length-with_bytes ram pa (b ∷ bytes) = length-with_bytes (with_byte ram pa b) (pa + 1) bytes ∙ length-set ram _ _
+
+length-with_segments : (ram : List (List ℕ)) (segments : List Segment) →
+    length (with_segments ram segments) ≡ length ram
+length-with_segments ram [] = refl
+length-with_segments ram (s ∷ segments) =
+    length-with_segments (with_bytes ram s.address s.bytes) segments ∙ length-with_bytes ram s.address s.bytes
+
+pages_with_bytes : (ram : List (List ℕ)) (pa : ℕ) (bytes : List ℕ) → 0x80000000 ≤ pa →
+    pa + length bytes ≤ 0x80000000 + 4096 * length ram → ArePages ram → ArePages (with_bytes ram pa bytes)
+pages_with_bytes ram pa [] high fits pages = pages
+pages_with_bytes ram pa (b ∷ bytes) high fits pages =
+    let inside : frame_of pa < length ram = omega (arith, high, fits) in
+    let same : length (with_byte ram pa b) ≡ length ram = length-set ram _ _ in
+    pages_with_bytes (with_byte ram pa b) (pa + 1) bytes (omega arith) (rw same (omega (arith, fits)))
+    (pages_with_byte ram pa b pages inside)
+
+-- of these segments the first i are stored
+pub record LoadsFrom (old p : PagerState) (i : ℕ) (segments : List Segment) : Type 0 where
+  pub stays : HasFrames old p p.frames
+  pub count : length p.frames ≡ length old.frames
+  pub pages : ArePages p.frames
+  pub stored : with_segments p.frames (drop i segments) ≡ with_segments old.frames segments
+
+pub loads_none : (n domains : ℕ) (key : List ℕ) (p : PagerState) (segments : List Segment) →
+    IsNewPager n domains key p → LoadsFrom p p 0 segments
+unfolding zero_page
+loads_none n domains key p segments new = record {
+  stays = frames_same p;
+  count = refl;
+  pages =
+      subst ArePages (sym new.zeros)
+      (All-replicate (λ (page : List ℕ). length page ≡ 4096) n zero_page (length-replicate {A = ℕ} 4096 0));
+  stored = refl;
+}
+
+loads_more : (old p p' : PagerState) (i : ℕ) (s : Segment) (segments : List Segment) → LoadsFrom old p i segments →
+    i < length segments → s ≡ slice_index_or segments i s → 0x80000000 ≤ s.address →
+    s.address + length s.bytes ≤ 0x80000000 + 4096 * length old.frames →
+    HasFrames p p' (with_bytes p.frames s.address s.bytes) → LoadsFrom old p' (i + 1) segments
+loads_more old p p' i s segments so_far more read high fits has =
+    let count = so_far.count in
+    let room : s.address + length s.bytes ≤ 0x80000000 + 4096 * length p.frames = omega (arith, fits, count) in
+    let here : with_segments p.frames (drop i segments) ≡ with_segments (with_bytes p.frames s.address s.bytes) (drop (i + 1) segments) =
+    at_drop_more (with_segments p.frames) segments i s more
+    ∙ ap (λ (x : Segment). with_segments (with_bytes p.frames x.address x.bytes) (drop (i + 1) segments)) (sym read) in
+    record {
+      stays = frames_are old p' _ p'.frames (sym has.frames_are) (frames_then old p p' p.frames _ so_far.stays has);
+      count = ap (λ (x : List (List ℕ)). length x) has.frames_are ∙ (length-with_bytes p.frames s.address s.bytes ∙ count);
+      pages = subst ArePages (sym has.frames_are) (pages_with_bytes p.frames s.address s.bytes high room so_far.pages);
+      stored =
+          ap (λ (x : List (List ℕ)). with_segments x (drop (i + 1) segments)) has.frames_are
+          ∙ (sym here ∙ so_far.stored);
+    }
+
+-- a segment that the image has
+pub loads_next : (n domains : ℕ) (key : List ℕ) (old p p' : PagerState) (i : ℕ) (s : Segment) (bytes : List ℕ)
+    (segments : List Segment) → IsNewPager n domains key old → All (IsSegmentIn n) segments →
+    LoadsFrom old p i segments → i < length segments → s ≡ slice_index_or segments i s → bytes ≡ s.bytes →
+    HasFrames p p' (with_bytes p.frames s.address bytes) → LoadsFrom old p' (i + 1) segments
+loads_next n domains key old p p' i s bytes segments new fit so_far more read same has =
+    let fits : IsSegmentIn n s = subst (IsSegmentIn n) (sym read) (fit i s more) in
+    let count : length old.frames ≡ n =
+    ap (λ (x : List (List ℕ)). length x) new.zeros ∙ length-replicate n zero_page in
+    loads_more old p p' i s segments so_far more read fits.from_start
+    (let room = fits.to_end in omega (arith, room, count))
+    (subst (λ (x : List ℕ). HasFrames p p' (with_bytes p.frames s.address x)) same has)
+
+-- What is loaded.
+
+-- the pager is new but for its frames, which are RAM with the segments
+pub record IsLoaded (old p : PagerState) (k : KernelImage) (domains : ℕ) (key : List ℕ) : Type 0 where
+  pub new : IsNewPager k.frames domains key old
+  pub blank : StandsBlank k.frames key old
+  pub whole : IsWholePager p
+  pub stays : HasFrames old p (with_segments (zero_ram k.frames) k.segments)
+
+pub loaded : (old p : PagerState) (k : KernelImage) (domains i : ℕ) (key : List ℕ) (segments : List Segment) →
+    segments ≡ k.segments → IsNewPager k.frames domains key old → StandsBlank k.frames key old →
+    LoadsFrom old p i segments → length segments ≤ i → IsWholePager p → IsLoaded old p k domains key
+loaded old p k domains i key segments same new blank so_far end whole = record {
+  new = new;
+  blank = blank;
+  whole = whole;
+  stays =
+      frames_are old p p.frames _
+      (sym (at_drop_all (with_segments p.frames) segments i end)
+      ∙ (so_far.stored
+      ∙ (ap (λ (x : List (List ℕ)). with_segments x segments) new.zeros
+      ∙ ap (with_segments (zero_ram k.frames)) same)))
+      so_far.stays;
+}
+
+loaded_count : (old p : PagerState) (k : KernelImage) (domains : ℕ) (key : List ℕ) → IsLoaded old p k domains key →
+    length p.frames ≡ k.frames
+loaded_count old p k domains key is =
+    ap (λ (x : List (List ℕ)). length x) is.stays.frames_are
+    ∙ (length-with_segments (zero_ram k.frames) k.segments ∙ length-replicate k.frames zero_page)
+
+-- memory of zeros
+blank_memory : KernelImage → List ℕ → Random → CloakedMemory
+blank_memory k key stream = record {
+  ram = zero_ram k.frames;
+  plain = λ page. zero_page;
+  ledger = started_ledger k.frames key stream;
+}
+
+stands_blank : (p : PagerState) (k : KernelImage) (key : List ℕ) (stream : Random) → StandsBlank k.frames key p →
+    StandsForMemory p none_wiped (blank_memory k key stream)
+unfolding blank_memory started_ledger
+stands_blank p k key stream blank = blank (blank_memory k key stream) (record {
+  key_is = refl;
+  ram = refl;
+  owed = refl;
+  recorded = λ q. refl;
+  plain = λ q. refl;
+})
+
+-- what is so of a page has nothing to do with the frames
+page_still : (m : CloakedMemory) (ram : List (List ℕ)) (q : PageId) (t : Option Meta) → PageStands false m q t →
+    PageStands false (record m { ram = ram }) q t
+page_still m ram q None stands = stands
+page_still m ram q (Some t) stands =
+    record { bytes = stands.bytes; is = stands.is; digest = stands.digest; sealed = stands.sealed }
+
+loaded_stands : (old p : PagerState) (k : KernelImage) (domains : ℕ) (key : List ℕ) (stream : Random) →
+    IsLoaded old p k domains key → StandsForMemory p none_wiped (started_memory k key stream)
+unfolding blank_memory started_memory started_kernel started_ledger
+loaded_stands old p k domains key stream is =
+    let m : CloakedMemory = started_memory k key stream in
+    let s = stands_blank old k key stream is.blank in
+    let has = is.stays in
+    record {
+      whole = is.whole;
+      key = s.key ∙ sym has.key_stays;
+      count = ap (λ (x : List (List ℕ)). length x) (sym has.frames_are);
+      frames = λ f inside.
+          let below : f < k.frames = rw (← loaded_count old p k domains key is) inside in
+          subst (λ (h : Held). FrameStands p none_wiped m f h)
+          (sym (ap (λ (rights : List Held). slice_index_or rights f Spent) has.rights_are ∙ is.new.outside f below))
+          (ap (λ (x : List (List ℕ)). slice_index_or x f []) has.frames_are);
+      owed = s.owed ∙ ap (λ (rights : List Held). map owed_under rights) (sym has.rights_are);
+      pages = λ q.
+          subst (λ (x : Option Meta). PageStands false m q x) (sym (has.metas_are q))
+          (page_still (blank_memory k key stream) m.ram q (meta_at old.table q) (s.pages q));
+      plain = s.plain;
+      drained = s.drained;
+    }
+
+pub loaded_holds : (old p : PagerState) (k : KernelImage) (domains : ℕ) (key : List ℕ) (stream : Random) →
+    IsLoaded old p k domains key →
+    Holds (record { pager = p; stream = stream; draws = 0; missed = false }) (started_memory k key stream)
+unfolding started_memory started_ledger
+loaded_holds old p k domains key stream is = record {
+  wiped = none_wiped;
+  pager = loaded_stands old p k domains key stream is;
+  whole = λ drawn q. refl;
+  stream = refl;
+  draws = refl;
+  missed = refl;
+}

@@ -1,0 +1,17 @@
+use Rattle.std.proofs.Common.{refl}
+use Rattle.joint_machine.proofs.Showing.{opening_emits}
+use Rattle.joint_machine.proofs.joint.Joint.show_opening.Goals as goal
+
+pub returns-clause-shows : goal.returns-clause-shows
+returns-clause-shows g c b s o opens same stands = record {
+  emits =
+      opening_emits g.E.Emit.gave c.args.e.now c.show_placed.new.e c.args.self.now.memory c.args.programs.now b s o opens same
+      stands.memory c.requires.outside c.show_placed.ensures.emits;
+  stands = record {
+    harts = stands.harts;
+    disk = stands.disk;
+    memory = c.show_placed.ensures.read.holds o.joint.memory stands.memory;
+    domains = stands.domains;
+    roots = stands.roots;
+  };
+}

@@ -1,0 +1,21 @@
+use Rattle.std.proofs.Common.{refl, arith, true, false}
+use Rattle.joint_machine.proofs.Placed.{first_page, ready_next, page_placed}
+use Rattle.joint_machine.proofs.placing.place_page.Goals as goal
+
+pub overflow_add-f : goal.overflow_add-f
+overflow_add-f c = omega (arith, c.requires.program.place, c.requires.page, c.whole.ensures.few)
+
+pub returns-then-not-place-clause-places : goal.returns-then-not-place-clause-places
+returns-then-not-place-clause-places c m holds =
+    page_placed c.args.memory.now _ false (first_page c.args.domain c.args.page) _ c.page_bytes.result.now _
+    c.page_bytes.ensures c.if-not-place.ensures.model refl refl m holds
+
+pub returns-clause-ready : goal.returns-clause-ready
+returns-clause-ready c =
+    ready_next _ c.args.memory.now.stream c.place.new.s c.args.memory.now.pager c.place.new.self c.args.domain
+    c.args.page _ c.page_bytes.result.now c.place.ensures.state c.place.ensures.rights c.requires.ready
+
+pub returns-clause-places : goal.returns-clause-places
+returns-clause-places c m holds =
+    page_placed c.args.memory.now _ true (first_page c.args.domain c.args.page) _ c.page_bytes.result.now _
+    c.page_bytes.ensures c.if-not-place.ensures.model refl c.saturating_add-memory.ensures m holds

@@ -1,0 +1,107 @@
+//! The opening of a joint run.
+ghost use Rattle.std.specs.Prelude.{◌≡◌, ◌<◌, ℕ, [], ◌∷◌, Ok, IfOk};
+ghost use Rattle.cloak_base.specs.Random.{Random};
+ghost use Rattle.cloak_model.specs.declared.image.Bundle.{Bundle as AnyBundle};
+ghost use Rattle.cloak_model.specs.Bundle.{IsInGrammar};
+ghost use Rattle.cloak_model.specs.Exchange.{EmitsSome, Emits, item_pieces};
+ghost use Rattle.cloak_model.specs.Opening as spec;
+ghost use Rattle.cloak_model.specs.Opening.{Opened, numbers_below, opening};
+ghost use Rattle.cloak_pager.specs.State.{held_in};
+ghost use Rattle.cloaked_side.specs.Holding.{frames_of};
+ghost use Rattle.joint_machine.specs.Starting.{IsReadOnly, placed_among};
+
+use crate::joint::Joint;
+use crate::loading::load;
+use crate::opened::OpenFault;
+use crate::placing::place_programs;
+use crate::starting::{start_domains, start_harts};
+use cloak_base::Frame;
+use cloak_model::{Bundle, Emit, Program};
+use cloaked_side::Memory;
+use host_calls::Disk;
+use outside_io::Stream;
+use std::alloc::Global;
+use thread_context::Roots;
+
+/// A page of one of the programs is placed in the frame.
+fn is_placed(programs: &[Program], f: u32) -> bool
+    ensures { result ≡ spec.is_placed programs.now f }
+{
+    for p in programs {
+        if p.place <= f && f - p.place < p.start.pages {
+            return true;
+        }
+    }
+    false
+}
+
+/// Emits a frame where a page of a program is placed in it.
+fn show_frame<E: Emit>(memory: &mut Memory, programs: &[Program], f: Frame, e: &mut E)
+    requires inside { f.0 < frames_of memory.old }
+    requires outside { held_in memory.old.pager f.0 ≡ None }
+    ensures read { IsReadOnly memory.old memory.new }
+    ensures emits { Emits E.gave e.old e.new
+        (item_pieces (placed_among programs.now memory.old.pager.frames (f.0 ∷ []))) }
+{
+    if is_placed(programs, f.0) {
+        e.cipher(f.0, memory.pager.read_outside(f));
+    }
+}
+
+/// Emits each frame in which a page of a program is placed, by rising number.
+fn show_placed<E: Emit>(memory: &mut Memory, programs: &[Program], e: &mut E)
+    requires outside { (k : ℕ) → held_in memory.old.pager k ≡ None }
+    ensures read { IsReadOnly memory.old memory.new }
+    ensures emits { Emits E.gave e.old e.new (item_pieces
+        (placed_among programs.now memory.old.pager.frames (numbers_below (frames_of memory.old)))) }
+{
+    let count = memory.pager.count();
+    for f in 0..count {
+        show_frame(memory, programs, Frame(f), e);
+    }
+}
+
+impl Joint {
+    ghost use Rattle.joint_machine.specs.Standing.{harts_of, AllOutside, OpensAs, ShowsAs, StandsForJoint};
+
+    /// The joint machine of a guest image as its run begins. Its key is the first draw of the stream, and each page of
+    /// a program takes the next one.
+    pub fn open(alloc: Global, b: &Bundle, s: Stream) -> Result<Joint, OpenFault>
+        requires { IsInGrammar b.now }
+        ensures opens { OpensAs b.now s result }
+        ensures harts { IfOk result (λ joint. harts_of joint ≡ b.now.kernel.harts) }
+        ensures outside { IfOk result (λ joint. AllOutside joint) }
+    {
+        let mut stream = s;
+        let Some(key) = stream.draw() else {
+            return Err(OpenFault::NoKey);
+        };
+        let k = &b.kernel;
+        let programs = b.programs.as_slice();
+        let harts = start_harts(alloc, k.entry, k.harts)?;
+        let mut memory = load(alloc, k, programs.len() as u32, key, stream)?;
+        let disk = Disk::open(alloc, k.disk.as_slice())?;
+        let domains = start_domains(alloc, programs)?;
+        if !place_programs(&mut memory, programs) {
+            return Err(OpenFault::NoRandom);
+        }
+        Ok(Joint {
+            harts,
+            memory,
+            domains,
+            roots: Roots::open(),
+            disk,
+        })
+    }
+
+    /// Emits what the kernel is shown as the run begins: each frame that holds a page of a program.
+    pub fn show_opening<E: Emit>(&mut self, programs: &[Program], e: &mut E)
+        requires outside { AllOutside self.old }
+        ensures harts { harts_of self.new ≡ harts_of self.old }
+        ensures emits_some { EmitsSome E.gave e.old e.new }
+        ensures shows { (b : AnyBundle) (s : Random) (o : Opened) → opening b s ≡ Ok o → b.programs ≡ programs.now →
+            StandsForJoint self.old o.joint → ShowsAs E.gave e.old e.new self.new o }
+    {
+        show_placed(&mut self.memory, programs, e);
+    }
+}
