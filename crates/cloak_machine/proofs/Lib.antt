@@ -1,5 +1,1 @@
-mod Closing
-mod MemoryFacts
-pub mod Opening
 pub mod PutFacts
-mod StepFacts

@@ -1,9 +1,16 @@
 -- What the end of a run reports.
-use Rattle.std.specs.Prelude.{ℕ, List, ◌++◌, codes, decimal}
+use Rattle.std.specs.Prelude.{ℕ, Bool, List, ◌++◌, codes, decimal, if◌then◌else◌}
 use Rattle.hex.specs.Hex.{encode_lower}
+use Rattle.cloak_base.specs.declared.causes.Stop.{Stop}
+use Rattle.cloak_base.specs.declared.causes.Stop.TheVariants as stop
 use Rattle.cloak_model.specs.Report.{stop_line, number_line, harts_lines}
+use Rattle.cloak_machine.specs.Lines.{lines_text}
 use Rattle.cloak_machine.specs.declared.end.KernelLines.{KernelLines}
 use Rattle.cloak_machine.specs.declared.end.End.{End}
+
+-- why a run stopped that this stopped, where a draw may be missing as it closes
+abbrev pub stop_with : Bool → Stop → Stop
+stop_with missed stopped = if missed then stop.NoRandom else stopped
 
 -- a line of a name and a digest
 abbrev pub digest_text : List ℕ → List ℕ → List ℕ
@@ -23,4 +30,4 @@ kernel_text lines =
 abbrev pub end_report : End → List ℕ
 end_report e =
     stop_line e.stop ++ (number_line (codes "steps ") e.steps ++ (number_line (codes "draws ") e.draws
-    ++ kernel_text e.lines))
+    ++ (kernel_text e.lines ++ lines_text e.domains)))

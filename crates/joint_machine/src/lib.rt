@@ -10,15 +10,13 @@
 //! stands for the state after it; a step unless two different pages with one digest were compared.
 #![tactic(auto)]
 
-mod closing;
-mod inside;
 mod joint;
 mod opened;
-mod opening;
-mod outside;
-mod resuming;
+mod reading;
+mod stub;
 mod turned;
 
 pub use joint::Joint;
 pub use opened::OpenFault;
+pub use reading::JointParts;
 pub use turned::Turned;
