@@ -3,8 +3,8 @@ ghost use Rattle.std.specs.List.{flat_map};
 ghost use Rattle.cloak_model.specs.DomainState as model;
 ghost use Rattle.cloak_model.specs.DomainState.{domain_line};
 ghost use Rattle.hypercalls.specs.Standing.{StandsFor};
+ghost use Rattle.hypercalls.specs.Writing.{Appends};
 ghost use Rattle.joint_machine.specs.Standing.{AreDomains};
-ghost use Rattle.cloak_machine.specs.Lines.{lines_text};
 
 use hypercalls::Domain;
 
@@ -17,7 +17,19 @@ pub struct DomainLines {
     ghost fits: { end ≤ 1024 },
 }
 
+/// Writes a text at a place, and answers the place behind it.
+fn append(into: &mut [u8; 1024], at: usize, text: &[u8]) -> usize
+    requires { at + length text.now ≤ 1024 }
+    ensures { Appends into.old into.new at result text.now }
+{
+    let end = at + text.len();
+    into[at..end].copy_from_slice(text);
+    end
+}
+
 impl DomainLines {
+    ghost use Rattle.cloak_machine.specs.Lines.{lines_text};
+
     fn new() -> DomainLines
         ensures none { lines_text result ≡ [] }
         ensures end { result.end ≡ 0 }
@@ -44,21 +56,19 @@ impl DomainLines {
     {
         let mut line = [0; 256];
         let count = domain.line(&mut line);
-        let end = self.end + count;
-        self.text[self.end..end].copy_from_slice(&line[..count]);
-        self.end = end;
+        self.end = append(&mut self.text, self.end, &line[..count]);
     }
-}
 
-/// Ends the programs. Their lines stand in the order of their numbers.
-pub fn lines_of(domains: Vec<Domain>) -> DomainLines
-    requires { length domains.items ≤ 4 }
-    ensures { (ds : List model.Domain) → AreDomains domains.items ds → All (λ d. length d.loads < 2 ^ 64) ds →
-        lines_text result ≡ flat_map domain_line ds }
-{
-    let mut lines = DomainLines::new();
-    for domain in domains {
-        lines.add(domain);
+    /// Ends the programs. Their lines stand in the order of their numbers.
+    pub fn of(domains: Vec<Domain>) -> DomainLines
+        requires { length domains.items ≤ 4 }
+        ensures { (ds : List model.Domain) → AreDomains domains.items ds → All (λ d. length d.loads < 2 ^ 64) ds →
+            lines_text result ≡ flat_map domain_line ds }
+    {
+        let mut lines = DomainLines::new();
+        for domain in domains {
+            lines.add(domain);
+        }
+        lines
     }
-    lines
 }

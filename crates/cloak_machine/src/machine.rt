@@ -12,7 +12,7 @@ ghost use Rattle.cloak_machine.specs.Console.{ConsoleShows};
 ghost use Rattle.cloak_machine.specs.Ending.{stop_with};
 
 use crate::console::Console;
-use crate::domains::lines_of;
+use crate::domains::DomainLines;
 use crate::end::{End, KernelLines};
 use crate::schedule::Schedule;
 use cloak_base::Stop;
@@ -144,7 +144,7 @@ impl Machine {
             steps,
             draws: memory.draws,
             lines: KernelLines::new(console, &mut memory, disk.bytes(), harts),
-            domains: lines_of(domains),
+            domains: DomainLines::of(domains),
         }
     }
 }
