@@ -1,3 +1,4 @@
+pub mod DomainOrder
 pub mod Opening
 pub mod PutFacts
 pub mod ShownFrames

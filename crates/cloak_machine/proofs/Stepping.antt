@@ -166,7 +166,7 @@ pub ends_as : {E : Type 0} {gave : E → E → List Piece → Type 0} {e f g h :
     lines_text end.domains ≡ flat_map domain_line (closing m.joint).joint.domains →
     EndsAs gave e h end stopped m (closing m.joint)
 ends_as {E} {gave} {e} {f} {g} {h} {joint} {machine} {end} {stopped} m missed stands close shows last miss stop steps
-draws said lines =
+    draws said lines =
     let o = closing m.joint in
     let first : Emits gave e f (item_pieces (item.Close m.steps ∷ [])) =
         subst (λ n. Emits gave e f (item_pieces (item.Close n ∷ []))) (sym stands.steps) close in
