@@ -1,6 +1,7 @@
 -- The lines of programs in their order.
-use Rattle.std.proofs.Common.{◌≡◌, ◌<◌, ◌∙◌, ℕ, ◌^◌, List, [], ◌∷◌, ◌++◌, length, All, refl, sym, ap, append_assoc}
-use Rattle.std.proofs.lemmas.List.{append-nil}
+use Rattle.std.proofs.Common.{◌≡◌, ◌<◌, ◌∙◌, ℕ, ◌^◌, List, [], ◌∷◌, ◌++◌, length, All, refl, sym, ap, subst, append_assoc, arith, length-append}
+use Rattle.std.proofs.lemmas.List.{append-nil, get_or_append_left}
+use Rattle.std.proofs.Math.Seq.{get_or-append_seam}
 use Rattle.std.specs.List.{flat_map}
 use Rattle.cloak_model.specs.DomainState as model
 use Rattle.cloak_model.specs.DomainState.{domain_line}
@@ -36,3 +37,17 @@ lines_last [] last = append-nil (domain_line last)
 lines_last (d ∷ front) last =
     ap (λ (l : List ℕ). domain_line d ++ l) (lines_last front last)
     ∙ sym (append_assoc (domain_line d) (flat_map domain_line front) (domain_line last))
+
+-- what holds of all holds of the last, and of those before it
+
+pub of_last : (P : model.Domain → Type 0) (front : List model.Domain) (last : model.Domain) →
+    All P (front ++ last ∷ []) → P last
+of_last P front last all =
+    subst P (get_or-append_seam front last [] last)
+    (all (length front) last (let long = length-append front (last ∷ []) in omega (arith, long)))
+
+pub of_front : (P : model.Domain → Type 0) (front : List model.Domain) (last : model.Domain) →
+    All P (front ++ last ∷ []) → All P front
+of_front P front last all k d low =
+    subst P (get_or_append_left front (last ∷ []) d k low)
+    (all k d (let long = length-append front (last ∷ []) in omega (arith, long, low)))

@@ -1,4 +1,4 @@
-use Rattle.std.proofs.Common.{◌≡◌, ◌∙◌, ℕ, List, ◌++◌, [], sym, ap, subst, take, arith}
+use Rattle.std.proofs.Common.{◌≡◌, ◌∙◌, ℕ, List, ◌++◌, [], ◌<◌, length, slice_index_or, sym, ap, subst, take, arith}
 use Rattle.std.specs.List.{concat}
 use Rattle.std.proofs.lemmas.List.{take_all}
 use Rattle.sha2.specs.Hashers.{Holds256}
@@ -9,7 +9,19 @@ use Rattle.cloak_machine.proofs.ShownFrames.{frames_seen}
 use Rattle.cloak_machine.proofs.frames.digest_of.Goals as goal
 
 pub loop-f-preserved : goal.loop-f-preserved
-loop-f-preserved c = ?
+loop-f-preserved c =
+    let frames = c.args.memory.now.pager.frames in
+    let at = c.loop-f in
+    let read = c.hash_frame.ensures.read in
+    let low : at.f < length frames = omega (arith, at.invariant.count) in record {
+      frames = ap (λ (p : PagerState). p.frames) read ∙ at.invariant.frames;
+      rights = ap (λ (p : PagerState). p.rights) read ∙ at.invariant.rights;
+      count = at.invariant.count;
+      hashed = subst (λ (m : List ℕ). Holds256 c.hash_frame.new.hasher m)
+          (ap (λ (l : List (List ℕ)). concat (take at.f frames) ++ slice_index_or l at.f []) at.invariant.frames
+          ∙ sym (concat-take_more frames at.f [] low))
+          (c.hash_frame.ensures.hashed _ at.invariant.hashed);
+    }
 
 pub returns : goal.returns
 returns c m holds =

@@ -4,8 +4,12 @@ use Rattle.std.specs.Vec.Iter.{into_iter_items}
 use Rattle.std.proofs.lemmas.List.{length_push}
 use Rattle.cloak_model.specs.DomainState as model
 use Rattle.cloak_model.specs.DomainState.{domain_line}
-use Rattle.cloak_machine.proofs.DomainOrder.{ends_in, lines_last}
+use Rattle.cloak_machine.proofs.DomainOrder.{ends_in, lines_last, of_last, of_front}
 use Rattle.cloak_machine.proofs.domains.DomainLines.of.Goals as goal
+
+-- the count of its loads is told
+abbrev IsShort : model.Domain → Type 0
+IsShort d = length d.loads < 2 ^ 64
 
 pub loop-domain-preserved : goal.loop-domain-preserved
 loop-domain-preserved c =
@@ -21,5 +25,11 @@ loop-domain-preserved c =
           let was = at.invariant.room in
           let added = c.add.ensures.end in
           omega (arith, more, was, added));
-      text = λ ds are few. ?;
+      text = λ ds are few.
+          let e = ends_in at.yielded x ds are in
+          let all : All IsShort (e.front ++ e.last ∷ []) = subst (λ (l : List model.Domain). All IsShort l) e.is few in
+          c.add.ensures.line e.last e.stands (of_last IsShort e.front e.last all)
+          ∙ ap (λ (l : List ℕ). l ++ domain_line e.last)
+          (at.invariant.text e.front e.are (of_front IsShort e.front e.last all))
+          ∙ sym (lines_last e.front e.last) ∙ ap (λ (l : List model.Domain). flat_map domain_line l) (sym e.is);
     }
