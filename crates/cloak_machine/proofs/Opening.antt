@@ -1,13 +1,13 @@
 -- What a run has as it opens.
-use Rattle.std.proofs.Common.{◌≡◌, ◌≤◌, ◌<◌, ℕ, zero, suc, ◌+◌, List, [], ◌∷◌, length, Option, Some, None, Result, Ok, Err}
+use Rattle.std.proofs.Common.{◌≡◌, ℕ, zero, suc, ◌+◌, List, [], ◌∷◌, Option, Some, None, Ok}
 use Rattle.std.proofs.Common.{refl, arith, subst}
 use Rattle.cloak_base.specs.Random.{Random, next_draw}
 use Rattle.cloak_model.specs.declared.image.Bundle.{Bundle}
 use Rattle.cloak_model.specs.declared.image.Program.{Program}
 use Rattle.cloak_model.specs.Cloaking.{CloakedMemory}
-use Rattle.cloak_model.specs.DomainState.{Domain, started_domain}
-use Rattle.cloak_model.specs.Opening.{Opened, Lack, opening, opened_by, opened_with, opening_items, place_programs}
-use Rattle.cloak_model.specs.Opening.{started_domains, started_joint, started_kernel, started_memory}
+use Rattle.cloak_model.specs.DomainState.{started_domain}
+use Rattle.cloak_model.specs.Opening.{Opened, opening, opened_by, opened_with, opening_items}
+use Rattle.cloak_model.specs.Opening.{started_domains, started_joint, started_kernel}
 use Rattle.cloak_machine.specs.Standing.{HaveFewLoads}
 
 -- No load was completed, and the console was shown nothing.

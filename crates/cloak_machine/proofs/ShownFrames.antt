@@ -1,5 +1,5 @@
 -- The frames of a memory in which each is as the kernel sees it.
-use Rattle.std.proofs.Common.{◌≡◌, ◌<◌, ◌∙◌, ℕ, Bool, List, [], Option, Some, None, length, slice_index_or, sym, ap, subst, arith}
+use Rattle.std.proofs.Common.{◌≡◌, ℕ, Bool, [], None, slice_index_or, sym}
 use Rattle.std.proofs.lemmas.List.{ext_get_or}
 use Rattle.cloak_base.specs.declared.names.PageId.{PageId}
 use Rattle.cloak_model.specs.Cloaking.{CloakedMemory}

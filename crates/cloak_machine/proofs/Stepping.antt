@@ -1,16 +1,17 @@
 -- A step of the machine, its opening and its closing, out of what the joint machine says of them.
-use Rattle.std.proofs.Common.{◌≡◌, ◌≤◌, ◌<◌, ◌∙◌, ℕ, ◌+◌, ◌%◌, ◌^◌, Bool, false, List, [], ◌∷◌, ◌++◌, length, Option, Some, None}
-use Rattle.std.proofs.Common.{All, Result, Ok, refl, sym, ap, subst, slice_index, arith, codes, decimal, cond}
+use Rattle.std.proofs.Common.{◌≡◌, ◌<◌, ◌∙◌, ℕ, ◌+◌, ◌%◌, ◌^◌, Bool, List, [], ◌∷◌, ◌++◌, length}
+use Rattle.std.proofs.Common.{All, Ok, refl, sym, ap, subst, slice_index, arith, codes, decimal}
 use Rattle.std.specs.List.{concat, flat_map}
 use Rattle.sha2.specs.Sha256.{sha256}
 use Rattle.cloak_base.specs.Random.{Random}
 use Rattle.cloak_base.specs.declared.causes.Stop.{Stop}
+use Rattle.cloak_base.specs.declared.causes.Stop.TheVariants as stop
 use Rattle.cloak_model.specs.declared.image.Bundle.{Bundle}
 use Rattle.cloak_model.specs.declared.item.Item.TheVariants as item
 use Rattle.cloak_model.specs.DomainState.{Domain, domain_line}
 use Rattle.cloak_model.specs.Exchange.{Piece, Emits, item_pieces, shown_each}
 use Rattle.cloak_model.specs.Hart.{Hart}
-use Rattle.cloak_model.specs.Joint.{Moment, Turn, joint_step, next_hart, stop_of}
+use Rattle.cloak_model.specs.Joint.{Moment, Turn, joint_step}
 use Rattle.cloak_model.specs.Opening.{Opened, opening}
 use Rattle.cloak_model.specs.Parts.{Joint, KernelPart, kernel_part}
 use Rattle.cloak_model.specs.Report.{stop_line, number_line, kernel_lines, harts_lines, report}
@@ -20,9 +21,9 @@ use Rattle.joint_machine.specs.declared.joint.Joint.{Joint as Machines}
 use Rattle.joint_machine.specs.declared.turned.Turned.{Turned}
 use Rattle.cloaked_side.proofs.Emitting.{emits_then, emits_items}
 use Rattle.cloak_machine.specs.Console.{ConsoleShows}
-use Rattle.cloak_machine.specs.Ending.{kernel_text, digest_text, stop_with}
+use Rattle.cloak_machine.specs.Ending.{kernel_text, digest_text}
 use Rattle.cloak_machine.specs.Lines.{lines_text}
-use Rattle.cloak_machine.specs.Standing.{StandsForMoment, OpensAs, ShowsOpening, MakesTurn, EndsAs, HaveFewLoads}
+use Rattle.cloak_machine.specs.Standing.{StandsForMoment, MakesTurn, EndsAs, HaveFewLoads}
 use Rattle.cloak_machine.specs.Turns.{IsAt}
 use Rattle.cloak_machine.specs.declared.console.Console.{Console}
 use Rattle.cloak_machine.specs.declared.end.End.{End}
@@ -109,9 +110,9 @@ pub step_made : {E : Type 0} {gave : E → E → List Piece → Type 0} {e f g h
 step_made {E} {gave} {e} {f} {g} {h} old new m number given stands next marker takes shows turns place steps console =
     let t = turn_in m.joint number in
     let first : Emits gave e f (item_pieces (item.Step (m.steps + 1) ∷ [])) =
-        subst (λ n. Emits gave e f (item_pieces (item.Step (n + 1) ∷ []))) (sym stands.steps) marker in
+    subst (λ n. Emits gave e f (item_pieces (item.Step (n + 1) ∷ []))) (sym stands.steps) marker in
     let last : Emits gave g h (shown_each t.console) =
-        subst (λ (bytes : List ℕ). Emits gave g h (shown_each bytes)) takes.console shows in
+    subst (λ (bytes : List ℕ). Emits gave g h (shown_each bytes)) takes.console shows in
     subst (λ (x : Turn). MakesTurn gave e h new given.stop m x) next (record {
       emits = emits_then (emits_items (item.Step (m.steps + 1) ∷ []) t.items first takes.emits) last;
       answer = takes.stop;
@@ -160,7 +161,7 @@ pub ends_as : {E : Type 0} {gave : E → E → List Piece → Type 0} {e f g h :
     {end : End} {stopped : Stop} (m : Moment) (missed : Bool) → StandsForMoment machine m →
     Emits gave e f (item_pieces (item.Close machine.steps ∷ [])) → ShowsAs gave f g joint (closing m.joint) →
     Emits gave g h (item_pieces (item.End ∷ [])) → missed ≡ (closing m.joint).joint.memory.ledger.missed →
-    end.stop ≡ stop_with missed stopped → end.steps ≡ machine.steps →
+    end.stop ≡ (if missed then stop.NoRandom else stopped) → end.steps ≡ machine.steps →
     end.draws ≡ (closing m.joint).joint.memory.ledger.draws →
     IsSaid end.lines (kernel_part (closing m.joint).joint) →
     lines_text end.domains ≡ flat_map domain_line (closing m.joint).joint.domains →
@@ -169,7 +170,7 @@ ends_as {E} {gave} {e} {f} {g} {h} {joint} {machine} {end} {stopped} m missed st
     draws said lines =
     let o = closing m.joint in
     let first : Emits gave e f (item_pieces (item.Close m.steps ∷ [])) =
-        subst (λ n. Emits gave e f (item_pieces (item.Close n ∷ []))) (sym stands.steps) close in
+    subst (λ n. Emits gave e f (item_pieces (item.Close n ∷ []))) (sym stands.steps) close in
     let same : end.steps ≡ m.steps = steps ∙ sym stands.steps in
     let kernel : kernel_text end.lines ≡ kernel_lines (kernel_part o.joint) = kernel_text-is end.lines _ said in
     record {
@@ -177,7 +178,7 @@ ends_as {E} {gave} {e} {f} {g} {h} {joint} {machine} {end} {stopped} m missed st
           (emits_items o.items (item.End ∷ []) shows.emits last);
       steps = same;
       draws = draws;
-      stop = stop ∙ ap (λ (b : Bool). stop_with b stopped) miss;
+      stop = stop ∙ ap (λ (b : Bool). if b then stop.NoRandom else stopped) miss;
       report = λ i. stop_line end.stop ++
           (number_line (codes "steps ") (same i) ++ (number_line (codes "draws ") (draws i)
           ++ (kernel i ++ lines i)));

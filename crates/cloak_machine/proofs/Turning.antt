@@ -1,11 +1,11 @@
 -- What a step makes of the console, and of the loads of each program.
-use Rattle.std.proofs.Common.{◌≡◌, ◌≤◌, ◌<◌, ◌∙◌, ℕ, ◌+◌, Bool, true, false, List, [], ◌∷◌, ◌++◌, length, Option, Some, None}
-use Rattle.std.proofs.Common.{Result, Ok, Err, All, refl, sym, ap, subst, slice_set, get_or, arith, length-append}
+use Rattle.std.proofs.Common.{◌≡◌, ◌≤◌, ◌∙◌, ℕ, ◌+◌, Bool, true, false, List, [], ◌∷◌, ◌++◌, length, Option, Some}
+use Rattle.std.proofs.Common.{None}
+use Rattle.std.proofs.Common.{Result, Ok, Err, refl, sym, subst, slice_set, arith, length-append}
 use Rattle.std.specs.List.{slice_get}
 use Rattle.std.proofs.lemmas.List.{append-nil}
 use Rattle.std.proofs.lemmas.List.Elements.{All-set}
 use Rattle.std.proofs.lemmas.Option.{slice_get_within, get_or_from_slice_get}
-use Rattle.cloak_base.specs.declared.causes.Shown.{Shown}
 use Rattle.cloak_model.specs.declared.context.Phase.{Phase}
 use Rattle.cloak_model.specs.declared.context.Phase.TheVariants.{Plain, CopyIn, Waiting, CopyOut}
 use Rattle.cloak_model.specs.declared.context.ResumeFault.{ResumeFault}
@@ -20,17 +20,15 @@ use Rattle.cloak_model.specs.declared.outcome.Kernel.{Kernel}
 use Rattle.cloak_model.specs.declared.outcome.Kernel.TheVariants.{Stay, Put, Halt, Resume}
 use Rattle.cloak_model.specs.Asking.{Told}
 use Rattle.cloak_model.specs.Ahead.{settled_step}
-use Rattle.cloak_model.specs.Contexts.{Context, Admitted, admit, context_at, domain_of, slot_of}
-use Rattle.cloak_model.specs.Csr.{satp_of, interrupt_due}
+use Rattle.cloak_model.specs.Contexts.{Context, Admitted, domain_of, slot_of}
+use Rattle.cloak_model.specs.Csr.{satp_of}
 use Rattle.cloak_model.specs.DomainState.{Control, Domain}
-use Rattle.cloak_model.specs.DomainStep.{DomainStepped, domain_step, step_if, phase_step, instruction_ended, copy_ended}
-use Rattle.cloak_model.specs.DomainStep.{interrupt, resume_slot}
+use Rattle.cloak_model.specs.DomainStep.{DomainStepped, domain_step, step_if, phase_step, instruction_ended}
+use Rattle.cloak_model.specs.DomainStep.{copy_ended}
 use Rattle.cloak_model.specs.Hart.{Hart}
 use Rattle.cloak_model.specs.HostCalls.{After}
-use Rattle.cloak_model.specs.Hypercalls.{Stepped}
 use Rattle.cloak_model.specs.Joint.{Turn, hart_in, turn_of, outside_step, after_outside, outside_ended, inside_step}
 use Rattle.cloak_model.specs.Joint.{by_interrupt, after_interrupt, interrupt_ended, after_domain_step, domain_ended}
-use Rattle.cloak_model.specs.Joint.{with_domain}
 use Rattle.cloak_model.specs.KernelStep.{ticked}
 use Rattle.cloak_model.specs.Parts.{Joint}
 use Rattle.cloak_model.specs.Resuming.{resume, by_domain, by_context, by_root, AfterResume}
@@ -187,7 +185,8 @@ goes_domain_step : (j : Joint) (number : ℕ) (h : Hart) (d : ℕ) (was : Domain
     slice_get j.domains d ≡ Some was → LoadsOnce was told.answer → Goes j (after_domain_step j number h d told)
 unfolding after_domain_step
 goes_domain_step j number h d was told there once =
-    goes_domain j _ number h d told.world told.answer.went refl (load_set d j.domains was told.answer.domain there once)
+    goes_domain j _ number h d told.world told.answer.went refl
+    (load_set d j.domains was told.answer.domain there once)
 
 goes_interrupt : (j j' : Joint) (number : ℕ) (h : Hart) (items : List Item) (how : Went) → j'.console ≡ j.console →
     LoadOnce j.domains j'.domains → Goes j (interrupt_ended j' number h items how)

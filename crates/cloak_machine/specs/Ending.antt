@@ -1,16 +1,10 @@
 -- What the end of a run reports.
-use Rattle.std.specs.Prelude.{ℕ, Bool, List, ◌++◌, codes, decimal, if◌then◌else◌}
+use Rattle.std.specs.Prelude.{ℕ, List, ◌++◌, codes, decimal}
 use Rattle.hex.specs.Hex.{encode_lower}
-use Rattle.cloak_base.specs.declared.causes.Stop.{Stop}
-use Rattle.cloak_base.specs.declared.causes.Stop.TheVariants as stop
 use Rattle.cloak_model.specs.Report.{stop_line, number_line, harts_lines}
 use Rattle.cloak_machine.specs.Lines.{lines_text}
 use Rattle.cloak_machine.specs.declared.end.KernelLines.{KernelLines}
 use Rattle.cloak_machine.specs.declared.end.End.{End}
-
--- why a run stopped that this stopped, where a draw may be missing as it closes
-abbrev pub stop_with : Bool → Stop → Stop
-stop_with missed stopped = if missed then stop.NoRandom else stopped
 
 -- a line of a name and a digest
 abbrev pub digest_text : List ℕ → List ℕ → List ℕ

@@ -1,4 +1,4 @@
-ghost use Rattle.std.specs.Prelude.{◌≡◌, ◌+◌, ◌<◌, ◌≤◌, ◌^◌, List, ℕ, None, ◌++◌, length};
+ghost use Rattle.std.specs.Prelude.{◌≡◌, ◌<◌, List, ℕ, None};
 ghost use Rattle.std.specs.List.{concat};
 ghost use Rattle.sha2.specs.Sha256.{sha256};
 ghost use Rattle.outside_io.specs.Told.{Puts};
@@ -45,12 +45,7 @@ pub struct End {
 impl KernelLines {
     /// What is said of this console, this memory, in which each frame is as the kernel sees it, this disk and these
     /// harts.
-    pub fn new(
-        console: Console,
-        memory: &mut Memory,
-        disk: &[u8],
-        harts: Vec<Hart>,
-    ) -> KernelLines
+    pub fn new(console: Console, memory: &mut Memory, disk: &[u8], harts: Vec<Hart>) -> KernelLines
         requires { (k : ℕ) → held_in memory.old.pager k ≡ None }
         ensures count { result.console_length ≡ console.count }
         ensures console { (bytes : List ℕ) → ConsoleShows console bytes → result.console ≡ sha256 bytes }

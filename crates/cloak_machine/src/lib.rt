@@ -1,9 +1,9 @@
 //! The machine as it runs: the joint machine, its schedule, and the console.
 //!
-//! `Machine::open` and `opening` stand for the opening of the joint run, `step` for its next step, and `finish` for its
-//! closing, whose `End` writes the report: for every moment that the machine stood for, what is emitted and answered is
-//! what the definitions say, and afterwards the machine stands for the next moment; a step unless two different pages
-//! with one digest were compared. After the opening no call takes memory.
+//! `Machine::open` and `opening` stand for the opening of the joint run, `step` for its next step, and `finish` for
+//! its closing, whose `End` writes the report: for every moment that the machine stood for, what is emitted and
+//! answered is what the definitions say, and afterwards the machine stands for the next moment; a step unless two
+//! different pages with one digest were compared. After the opening no call takes memory.
 #![tactic(auto)]
 
 mod console;

@@ -1,4 +1,4 @@
-ghost use Rattle.std.specs.Prelude.{◌≡◌, ◌+◌, ◌<◌, ◌≤◌, ◌^◌, ◌++◌, ℕ, List, Ok, length, All, IfOk, false};
+ghost use Rattle.std.specs.Prelude.{◌≡◌, ◌+◌, ◌<◌, ◌≤◌, ◌^◌, ◌++◌, ℕ, List, Ok, All, IfOk, false, if◌then◌else◌};
 ghost use Rattle.cloak_base.specs.Random.{Random};
 ghost use Rattle.cloak_model.specs.declared.image.Bundle.{Bundle};
 ghost use Rattle.cloak_model.specs.Bundle.{IsInGrammar};
@@ -9,7 +9,6 @@ ghost use Rattle.cloak_model.specs.Opening.{Opened, opening};
 ghost use Rattle.cloak_model.specs.Run.{closing, first_moment};
 ghost use Rattle.joint_machine.specs.Standing.{harts_of, shown_byte};
 ghost use Rattle.cloak_machine.specs.Console.{ConsoleShows};
-ghost use Rattle.cloak_machine.specs.Ending.{stop_with};
 
 use crate::console::Console;
 use crate::domains::DomainLines;
@@ -60,16 +59,17 @@ fn show<E: Emit>(console: &mut Console, byte: Option<u8>, e: &mut E)
 
 /// Why a run stopped, where a draw may be missing as it closes.
 fn stop_of(missed: bool, stop: Stop) -> Stop
-    ensures { result ≡ stop_with missed stop }
+    ensures { result ≡ (if missed then Stop.NoRandom else stop) }
 {
     if missed { Stop::NoRandom } else { stop }
 }
 
 impl Machine {
-    ghost use Rattle.cloak_machine.specs.Standing.{EndsAs, MakesTurn, Opens, ShowsOpening, StandsForMoment, steps_made};
+    ghost use Rattle.cloak_machine.specs.Standing.{EndsAs, MakesTurn, Opens, ShowsOpening};
+    ghost use Rattle.cloak_machine.specs.Standing.{StandsForMoment, steps_made};
 
-    /// The machine of a guest image, before its first step. Its key is the first draw of the stream, and each page of a
-    /// program takes the next one.
+    /// The machine of a guest image, before its first step. Its key is the first draw of the stream, and each page of
+    /// a program takes the next one.
     pub fn open(alloc: Global, b: &Bundle, s: Stream) -> Result<Machine, OpenFault>
         requires { IsInGrammar b.now }
         ensures opens { Opens b.now s result }

@@ -1,4 +1,4 @@
-use Rattle.std.proofs.Common.{◌≡◌, ◌∙◌, ℕ, List, ◌++◌, [], ◌<◌, length, slice_index_or, sym, ap, subst, take, arith}
+use Rattle.std.proofs.Common.{◌∙◌, ℕ, List, ◌++◌, [], ◌<◌, length, slice_index_or, sym, ap, subst, take, arith}
 use Rattle.std.specs.List.{concat}
 use Rattle.std.proofs.lemmas.List.{take_all}
 use Rattle.sha2.specs.Hashers.{Holds256}
@@ -27,4 +27,5 @@ pub returns : goal.returns
 returns c m holds =
     let frames = c.args.memory.now.pager.frames in
     c.finalize.ensures _ c.loop-f.invariant.hashed ∙ ap (λ (l : List (List ℕ)). sha256 (concat l))
-    (take_all c.loop-f.f frames (omega (arith, c.count-f-end.ensures.value)) ∙ frames_seen _ holds.wiped m holds.pager c.requires)
+    (take_all c.loop-f.f frames (omega (arith, c.count-f-end.ensures.value))
+    ∙ frames_seen _ holds.wiped m holds.pager c.requires)

@@ -1,4 +1,5 @@
-use Rattle.std.proofs.Common.{◌≡◌, ◌∷◌, [], ◌++◌, ◌<◌, ◌^◌, ℕ, List, length, refl, sym, ap, subst, ◌∙◌, append_assoc, arith, All}
+use Rattle.std.proofs.Common.{◌≡◌, ◌∷◌, [], ◌++◌, ◌<◌, ◌^◌, ℕ, List, length, sym, ap, subst, ◌∙◌, append_assoc}
+use Rattle.std.proofs.Common.{arith, All}
 use Rattle.std.specs.List.{flat_map}
 use Rattle.std.specs.Vec.Iter.{into_iter_items}
 use Rattle.std.proofs.lemmas.List.{length_push}
@@ -15,7 +16,8 @@ pub loop-domain-preserved : goal.loop-domain-preserved
 loop-domain-preserved c =
     let at = c.loop-domain in
     let x = c.in-Some.domain in
-    let steps : into_iter_items at.domain-iterator ≡ x ∷ into_iter_items c.next.new.self = c.in-Some.ensures.steps.0 in record {
+    let steps : into_iter_items at.domain-iterator ≡ x ∷ into_iter_items c.next.new.self =
+    c.in-Some.ensures.steps.0 in record {
       rest = append_assoc at.yielded (x ∷ []) _ ∙ rw (← steps) at.invariant.rest;
       counted = (let was = at.invariant.counted in
           let gone = c.in-Some.ensures.steps.1 in

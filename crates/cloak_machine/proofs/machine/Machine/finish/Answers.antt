@@ -1,6 +1,5 @@
-use Rattle.std.proofs.Common.{◌≡◌, ◌<◌, ◌^◌, ◌∙◌, ℕ, List, length, refl, sym, ap, subst, arith}
+use Rattle.std.proofs.Common.{◌<◌, ◌^◌, ◌∙◌, ℕ, List, length, refl, sym, ap, subst, arith}
 use Rattle.sha2.specs.Sha256.{sha256}
-use Rattle.hypercalls.specs.declared.domain.Domain.{Domain}
 use Rattle.cloak_model.specs.Run.{closing}
 use Rattle.cloaked_side.specs.Holding.{Holds}
 use Rattle.cloaked_side.specs.declared.memory.Memory.{Memory}
@@ -20,11 +19,12 @@ returns-clause-ends g c m stands =
     let parts = c.into_parts-harts in
     let closed = (closing m.joint).joint in
     let holds : Holds parts.result.memory closed.memory =
-        subst (λ (x : Memory). Holds x closed.memory) (sym parts.ensures.memory) shows.stands.memory in
+    subst (λ (x : Memory). Holds x closed.memory) (sym parts.ensures.memory) shows.stands.memory in
     let low : m.steps < 2 ^ 32 = omega (arith, stands.steps) in
-    ends_as m parts.result.memory.missed stands c.item.ensures shows c.item-2.ensures holds.missed c.stop_of.ensures refl
-    holds.draws (record {
-      count = c.new.ensures.count ∙ stands.console.count ∙ ap (λ (l : List ℕ). length l) (sym (closed_console m.joint));
+    ends_as m parts.result.memory.missed stands c.item.ensures shows c.item-2.ensures holds.missed c.stop_of.ensures
+    refl holds.draws (record {
+      count = c.new.ensures.count ∙ stands.console.count
+          ∙ ap (λ (l : List ℕ). length l) (sym (closed_console m.joint));
       console = c.new.ensures.console m.joint.console stands.console ∙ ap sha256 (sym (closed_console m.joint));
       ram = c.new.ensures.ram closed.memory holds;
       disk = c.new.ensures.disk ∙ ap sha256 (c.bytes.ensures ∙ parts.ensures.disk ∙ shows.stands.disk);

@@ -17,7 +17,7 @@ returns-clause-makes g c m stands unclashed =
     let number = c.next-number.result in
     let next = next_turn old m number stands c.next-number.ensures.turn in
     let takes = c.turn-turned.ensures.turns m.joint stands.joint
-        (subst (λ (t : Turn). t.joint.memory.ledger.clashed ≡ false) (sym next) unclashed) in
+    (subst (λ (t : Turn). t.joint.memory.ledger.clashed ≡ false) (sym next) unclashed) in
     step_made old _ m number c.turn-turned.result stands next
     (subst (λ (x : Item). Emits g.E.Emit.gave c.args.e.now c.item.new.self (item_pieces (x ∷ [])))
     c.set_number.ensures c.item.ensures)
