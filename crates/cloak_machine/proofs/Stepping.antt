@@ -1,11 +1,11 @@
 -- A step of the machine, its opening and its closing, out of what the joint machine says of them.
 use Rattle.std.proofs.Common.{◌≡◌, ◌<◌, ◌∙◌, ℕ, ◌+◌, ◌%◌, ◌^◌, Bool, List, [], ◌∷◌, ◌++◌, length}
-use Rattle.std.proofs.Common.{All, Ok, refl, sym, ap, subst, slice_index, arith, codes, decimal}
+use Rattle.std.proofs.Common.{All, Ok, refl, sym, ap, subst, slice_index, arith, codes, decimal, if◌then◌else◌}
 use Rattle.std.specs.List.{concat, flat_map}
 use Rattle.sha2.specs.Sha256.{sha256}
 use Rattle.cloak_base.specs.Random.{Random}
 use Rattle.cloak_base.specs.declared.causes.Stop.{Stop}
-use Rattle.cloak_base.specs.declared.causes.Stop.TheVariants as stop
+use Rattle.cloak_base.specs.declared.causes.Stop.TheVariants as cause
 use Rattle.cloak_model.specs.declared.image.Bundle.{Bundle}
 use Rattle.cloak_model.specs.declared.item.Item.TheVariants as item
 use Rattle.cloak_model.specs.DomainState.{Domain, domain_line}
@@ -161,7 +161,7 @@ pub ends_as : {E : Type 0} {gave : E → E → List Piece → Type 0} {e f g h :
     {end : End} {stopped : Stop} (m : Moment) (missed : Bool) → StandsForMoment machine m →
     Emits gave e f (item_pieces (item.Close machine.steps ∷ [])) → ShowsAs gave f g joint (closing m.joint) →
     Emits gave g h (item_pieces (item.End ∷ [])) → missed ≡ (closing m.joint).joint.memory.ledger.missed →
-    end.stop ≡ (if missed then stop.NoRandom else stopped) → end.steps ≡ machine.steps →
+    end.stop ≡ (if missed then cause.NoRandom else stopped) → end.steps ≡ machine.steps →
     end.draws ≡ (closing m.joint).joint.memory.ledger.draws →
     IsSaid end.lines (kernel_part (closing m.joint).joint) →
     lines_text end.domains ≡ flat_map domain_line (closing m.joint).joint.domains →
@@ -178,7 +178,7 @@ ends_as {E} {gave} {e} {f} {g} {h} {joint} {machine} {end} {stopped} m missed st
           (emits_items o.items (item.End ∷ []) shows.emits last);
       steps = same;
       draws = draws;
-      stop = stop ∙ ap (λ (b : Bool). if b then stop.NoRandom else stopped) miss;
+      stop = stop ∙ ap (λ (b : Bool). if b then cause.NoRandom else stopped) miss;
       report = λ i. stop_line end.stop ++
           (number_line (codes "steps ") (same i) ++ (number_line (codes "draws ") (draws i)
           ++ (kernel i ++ lines i)));
