@@ -1,5 +1,6 @@
-mod Closing
-mod MemoryFacts
+pub mod DomainOrder
 pub mod Opening
 pub mod PutFacts
-mod StepFacts
+pub mod ShownFrames
+pub mod Stepping
+pub mod Turning

@@ -1,6 +1,7 @@
 -- Texts that are put one after another.
 use Rattle.std.proofs.Common.{◌≡◌, ℕ, suc, ◌+◌, ◌<◌, List, [], ◌∷◌, ◌++◌, length, take, get_or, codes, ◌∙◌, ap, sym}
-use Rattle.std.proofs.Common.{subst, append_assoc, arith, length-take, length-drop, drop, refl, Option, Result, Ok, Err}
+use Rattle.std.proofs.Common.{subst, append_assoc, arith, length-take, length-drop, drop, refl, Option, Result, Ok}
+use Rattle.std.proofs.Common.{Err}
 use Rattle.std.proofs.Common.{OnOk, OnErr}
 use Rattle.std.proofs.lemmas.List.{append-nil, take_more, take_all}
 use Rattle.std.specs.List.{concat}
@@ -8,7 +9,8 @@ use Rattle.cloak_model.specs.Hart.{Hart}
 use Rattle.cloak_model.specs.Report.{hexadecimal, words_text, hart_lines, harts_lines}
 use Rattle.cloak_base.specs.declared.causes.Failed.{Failed}
 use Rattle.outside_io.specs.Told.{Grows, GrowsByFront, Counts, Puts}
-use Rattle.outside_io.proofs.ToldFacts.{Grows-none, Grows-append, GrowsByFront-append, GrowsByFront-first, Rose-after}
+use Rattle.outside_io.proofs.ToldFacts.{Grows-none, Grows-append, GrowsByFront-append, GrowsByFront-first}
+use Rattle.outside_io.proofs.ToldFacts.{Rose-after}
 use Rattle.cloak_machine.specs.Putting.{Putting, PutsMore}
 
 -- one text after another

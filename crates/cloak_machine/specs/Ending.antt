@@ -2,6 +2,7 @@
 use Rattle.std.specs.Prelude.{ℕ, List, ◌++◌, codes, decimal}
 use Rattle.hex.specs.Hex.{encode_lower}
 use Rattle.cloak_model.specs.Report.{stop_line, number_line, harts_lines}
+use Rattle.cloak_machine.specs.Lines.{lines_text}
 use Rattle.cloak_machine.specs.declared.end.KernelLines.{KernelLines}
 use Rattle.cloak_machine.specs.declared.end.End.{End}
 
@@ -23,4 +24,4 @@ kernel_text lines =
 abbrev pub end_report : End → List ℕ
 end_report e =
     stop_line e.stop ++ (number_line (codes "steps ") e.steps ++ (number_line (codes "draws ") e.draws
-    ++ kernel_text e.lines))
+    ++ (kernel_text e.lines ++ lines_text e.domains)))

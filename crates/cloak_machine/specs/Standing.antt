@@ -1,65 +1,46 @@
 -- What a machine stands for: moments of the joint run.
-use Rattle.std.specs.Prelude.{ℕ, ◌≡◌, ◌+◌, false, List, [], ◌∷◌, ◌++◌, length, replicate, Option, Some, None, Result}
-use Rattle.std.specs.Prelude.{Ok, Err}
+use Rattle.std.specs.Prelude.{ℕ, ◌≡◌, ◌≤◌, ◌+◌, List, [], ◌∷◌, ◌++◌, length, All, Option, Some, Result, Ok, Err}
 use Rattle.cloak_base.specs.Random.{Random}
 use Rattle.cloak_base.specs.declared.causes.Stop.{Stop}
 use Rattle.cloak_model.specs.declared.image.Bundle.{Bundle}
 use Rattle.cloak_model.specs.declared.item.Item.TheVariants as item
-use Rattle.cloak_base.specs.Pages.{zero_page}
+use Rattle.cloak_model.specs.DomainState.{Domain}
 use Rattle.cloak_model.specs.Exchange.{Piece, Emits, item_pieces}
 use Rattle.cloak_model.specs.Opening.{Opened, NoKey, NoPageDraw, opening}
 use Rattle.cloak_model.specs.Report.{report}
 use Rattle.cloak_model.specs.Joint.{Moment, Turn, after_turn, stop_of}
 use Rattle.cloak_model.specs.Run.{first_moment, turn_pieces, cause_of}
+use Rattle.joint_machine.specs.Standing.{StandsForJoint}
+use Rattle.joint_machine.specs.declared.opened.OpenFault.{OpenFault}
+use Rattle.joint_machine.specs.declared.opened.OpenFault.TheVariants as fault
 use Rattle.cloak_machine.specs.Console.{ConsoleShows}
 use Rattle.cloak_machine.specs.Ending.{end_report}
+use Rattle.cloak_machine.specs.Turns.{IsAt}
 use Rattle.cloak_machine.specs.declared.end.End.{End}
 use Rattle.cloak_machine.specs.declared.machine.Machine.{Machine}
-use Rattle.cloak_machine.specs.declared.machine.OpenFault.{OpenFault}
-use Rattle.cloak_machine.specs.declared.machine.OpenFault.TheVariants as fault
 
 -- the steps that a machine made
 abbrev pub steps_made : Machine → ℕ
 steps_made machine = machine.steps
 
--- The moment of a machine without programs whose console was shown these bytes. Every page is zeros, none is recorded,
--- no frame is owed one, and no space has a page table.
-abbrev pub moment_of : Machine → List ℕ → Moment
-moment_of machine console = record {
-  schedule = machine.schedule.items;
-  steps = machine.steps;
-  joint = record {
-    harts = machine.harts.items;
-    disk = machine.disk;
-    console = console;
-    memory = record {
-      ram = machine.memory.frames.items;
-      plain = λ page. zero_page;
-      ledger = record {
-        key = machine.key;
-        stream = machine.stream;
-        draws = machine.draws;
-        recorded = λ page. None;
-        owed = replicate (length machine.memory.frames.items) None;
-        root = λ space. None;
-        missed = false;
-        clashed = false;
-      };
-    };
-    domains = [];
-  };
-}
+-- each program completed at most this many loads
+abbrev pub HaveFewLoads : ℕ → List Domain → Type 0
+HaveFewLoads most domains = All (λ d. length d.loads ≤ most) domains
 
--- The machine is that of this moment, of whose console it knows the digest and the length.
+-- The machine is that of this moment. Of what its console was shown it knows the digest and the length. A program made
+-- at most one load a step.
 pub record StandsForMoment (machine : Machine) (m : Moment) : Type 0 where
+  pub schedule : m.schedule ≡ machine.schedule.turns.items
+  pub place : IsAt machine.schedule m.steps
+  pub steps : m.steps ≡ machine.steps
+  pub joint : StandsForJoint machine.joint m.joint
   pub console : ConsoleShows machine.console m.joint.console
-  pub moment : m ≡ moment_of machine m.joint.console
+  pub loads : HaveFewLoads m.steps m.joint.domains
 
--- a run opens so, shows the kernel nothing, and the machine is that of its first moment
+-- a run opens so, and the machine is that of its first moment
 pub record OpensAs (b : Bundle) (stream : Random) (machine : Machine) : Type 0 where
   pub opened : Opened
   pub opens : opening b stream ≡ Ok opened
-  pub no_items : opened.items ≡ []
   pub stands : StandsForMoment machine (first_moment b opened.joint)
 
 -- what an opening answers: the machine of the run's opening, or what it lacks
@@ -68,6 +49,12 @@ Opens b stream (Ok machine) = OpensAs b stream machine
 Opens b stream (Err fault.NoKey) = opening b stream ≡ Err NoKey
 Opens b stream (Err fault.NoRandom) = opening b stream ≡ Err NoPageDraw
 Opens b stream (Err fault.NoMemory) = Unit {0}
+
+-- what the kernel is shown as a run opens so, and the machine is still that of its first moment
+pub record ShowsOpening {E : Type 0} (gave : E → E → List Piece → Type 0) (e e' : E) (machine : Machine) (b : Bundle)
+    (o : Opened) : Type 0 where
+  pub emits : Emits gave e e' (item_pieces o.items)
+  pub stands : StandsForMoment machine (first_moment b o.joint)
 
 -- what a step from this moment emits and answers, where it is this turn, and what the machine then stands for
 pub record MakesTurn {E : Type 0} (gave : E → E → List Piece → Type 0) (e e' : E) (machine : Machine)

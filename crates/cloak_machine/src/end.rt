@@ -1,15 +1,21 @@
-ghost use Rattle.std.specs.Prelude.{◌≡◌, ◌+◌, ◌<◌, ◌≤◌, ◌^◌, List, ℕ, ◌++◌, length};
+ghost use Rattle.std.specs.Prelude.{◌≡◌, ◌<◌, List, ℕ, None};
 ghost use Rattle.std.specs.List.{concat};
 ghost use Rattle.sha2.specs.Sha256.{sha256};
 ghost use Rattle.outside_io.specs.Told.{Puts};
 ghost use Rattle.cloak_machine.specs.Putting.{PutsMore, putting};
+ghost use Rattle.cloak_model.specs.Cloaking.{CloakedMemory};
 ghost use Rattle.cloak_model.specs.Report as spec;
+ghost use Rattle.cloak_pager.specs.State.{held_in};
+ghost use Rattle.cloaked_side.specs.Holding.{Holds};
 ghost use Rattle.cloak_machine.specs.Ending.{digest_text, console_text, kernel_text};
 ghost use Rattle.cloak_machine.specs.Console.{ConsoleShows};
 
 use crate::console::Console;
+use crate::domains::DomainLines;
+use crate::frames::digest_of;
 use crate::lines::{SoFar, decimal, digest, hexadecimal, text};
 use cloak_base::{Failed, Mode, Stop, Violation};
+use cloaked_side::Memory;
 use host_calls::Hart;
 use outside_io::Sink;
 use sha2::{Digest, Sha256};
@@ -33,37 +39,24 @@ pub struct End {
     /// The draws that were made for pages, without the key.
     pub draws: u64,
     pub(crate) lines: KernelLines,
-}
-
-/// The digest of all frames in order.
-fn digest_of(frames: &[[u8; 4096]]) -> [u8; 32]
-    ensures { result ≡ sha256 (concat frames.now) }
-{
-    let mut hasher = Sha256::new();
-    for frame in frames {
-        hasher.update(frame.as_slice());
-    }
-    hasher.finalize()
+    pub(crate) domains: DomainLines,
 }
 
 impl KernelLines {
-    /// What is said of this console, these frames and harts, and this disk.
-    pub fn new(
-        console: Console,
-        frames: &[[u8; 4096]],
-        disk: &[u8],
-        harts: Vec<Hart>,
-    ) -> KernelLines
+    /// What is said of this console, this memory, in which each frame is as the kernel sees it, this disk and these
+    /// harts.
+    pub fn new(console: Console, memory: &mut Memory, disk: &[u8], harts: Vec<Hart>) -> KernelLines
+        requires { (k : ℕ) → held_in memory.old.pager k ≡ None }
         ensures count { result.console_length ≡ console.count }
         ensures console { (bytes : List ℕ) → ConsoleShows console bytes → result.console ≡ sha256 bytes }
-        ensures ram { result.ram ≡ sha256 (concat frames.now) }
+        ensures ram { (m : CloakedMemory) → Holds memory.old m → result.ram ≡ sha256 (concat m.ram) }
         ensures disk { result.disk ≡ sha256 disk.now }
         ensures harts { result.harts ≡ harts }
     {
         KernelLines {
             console_length: console.count,
             console: console.digest(),
-            ram: digest_of(frames),
+            ram: digest_of(memory),
             disk: Sha256::digest(disk),
             harts,
         }
@@ -264,6 +257,7 @@ impl End {
         let so_far = put_stop_line(out, Ok(()), &self.stop);
         let so_far = put_number(out, so_far, b"steps ", self.steps as u64);
         let so_far = put_number(out, so_far, b"draws ", self.draws);
-        put_kernel(out, so_far, &self.lines)
+        let so_far = put_kernel(out, so_far, &self.lines);
+        text(out, so_far, self.domains.text())
     }
 }

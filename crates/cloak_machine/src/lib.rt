@@ -1,18 +1,20 @@
-//! The machine: harts over one memory and a console, with the monitor's key.
+//! The machine as it runs: the joint machine, its schedule, and the console.
 //!
-//! `Machine::open` stands for the opening of the joint run, `step` for its next step, and `finish` for its
-//! closing, whose `End` writes the report: for every moment that the machine stood for, what is emitted
-//! and answered is what the definitions say, and afterwards the machine stands for the next moment. After
-//! the opening no call takes memory.
+//! `Machine::open` and `opening` stand for the opening of the joint run, `step` for its next step, and `finish` for
+//! its closing, whose `End` writes the report: for every moment that the machine stood for, what is emitted and
+//! answered is what the definitions say, and afterwards the machine stands for the next moment; a step unless two
+//! different pages with one digest were compared. After the opening no call takes memory.
 #![tactic(auto)]
 
 mod console;
+mod domains;
 mod end;
-mod hart;
+mod frames;
 mod lines;
 mod machine;
-mod memory;
+mod schedule;
 
-pub use cloak_model::{Bundle, Emit, Item, KernelImage, Segment};
+pub use cloak_model::{Bundle, Emit, Item, KernelImage, Program, Segment};
 pub use end::End;
-pub use machine::{Machine, OpenFault};
+pub use joint_machine::OpenFault;
+pub use machine::Machine;

@@ -1,66 +1,35 @@
-ghost use Rattle.std.specs.Prelude.{◌≡◌, ◌+◌, ◌<◌, ◌≤◌, [], length, All, OnOk, IfOk};
+ghost use Rattle.std.specs.Prelude.{◌≡◌, ◌+◌, ◌<◌, ◌≤◌, ◌^◌, ◌++◌, ℕ, List, Ok, All, IfOk, false, if◌then◌else◌};
+ghost use Rattle.cloak_base.specs.Random.{Random};
+ghost use Rattle.cloak_model.specs.declared.image.Bundle.{Bundle};
 ghost use Rattle.cloak_model.specs.Bundle.{IsInGrammar};
 ghost use Rattle.cloak_model.specs.Command.{most_steps};
-ghost use Rattle.cloak_model.specs.Exchange.{EmitsSome};
+ghost use Rattle.cloak_model.specs.Exchange.{Emits, EmitsSome, shown_each};
 ghost use Rattle.cloak_model.specs.Joint.{Moment, joint_step};
-ghost use Rattle.cloak_model.specs.Run.{closing};
+ghost use Rattle.cloak_model.specs.Opening.{Opened, opening};
+ghost use Rattle.cloak_model.specs.Run.{closing, first_moment};
+ghost use Rattle.joint_machine.specs.Standing.{harts_of, shown_byte};
+ghost use Rattle.cloak_machine.specs.Console.{ConsoleShows};
 
 use crate::console::Console;
+use crate::domains::DomainLines;
 use crate::end::{End, KernelLines};
-use crate::hart;
-use crate::memory::{self, Memory};
-use cloak_base::{NoMemory, Stop, Violation};
-use cloak_model::{Bundle, Emit, Item};
-use host_calls::{Disk, Hart, Kernel, kernel_step, tick};
+use crate::schedule::Schedule;
+use cloak_base::Stop;
+use cloak_model::{Bundle, Emit, Item, Program};
+use joint_machine::{Joint, JointParts, OpenFault};
 use outside_io::Stream;
-use std::alloc::{AllocError, Global};
-
-/// Why a machine could not be opened.
-#[derive(Clone, Copy, Debug, PartialEq, Eq)]
-pub enum OpenFault {
-    /// The random stream holds fewer than 16 bytes.
-    NoKey,
-    /// A page of a program found no draw.
-    NoRandom,
-    NoMemory,
-}
-
-impl From<NoMemory> for OpenFault {
-    ghost use Rattle.cloak_machine.specs.declared.machine.OpenFault.TheVariants as fault;
-
-    ghost from_gives = { λ _ e. e ≡ fault.NoMemory };
-
-    fn from(_: NoMemory) -> OpenFault {
-        OpenFault::NoMemory
-    }
-}
-
-impl From<AllocError> for OpenFault {
-    ghost use Rattle.cloak_machine.specs.declared.machine.OpenFault.TheVariants as fault;
-
-    ghost from_gives = { λ _ e. e ≡ fault.NoMemory };
-
-    fn from(_: AllocError) -> OpenFault {
-        OpenFault::NoMemory
-    }
-}
+use std::alloc::Global;
 
 /// A machine as its run goes on.
 #[derive(Drop)]
 pub struct Machine {
-    harts: Vec<Hart>,
-    memory: Memory,
-    disk: Disk,
-    schedule: Vec<u8>,
+    joint: Joint,
+    schedule: Schedule,
     steps: u32,
     console: Console,
     /// The marker of the last step. It is kept, since an item has room for a page, and to build one clears it.
     marker: Item,
-    key: [u8; 16],
-    stream: Stream,
-    draws: u64,
-    ghost some_turns: { 0 < length schedule.items },
-    ghost turns: { All (λ h. h < length harts.items) schedule.items },
+    ghost turns: { All (λ h. h < harts_of joint) schedule.turns.items },
     ghost counted: { console.count ≤ steps },
 }
 
@@ -74,93 +43,108 @@ fn set_number(marker: &mut Item, number: u32)
     }
 }
 
-impl Machine {
-    ghost use Rattle.cloak_machine.specs.Standing.{EndsAs, MakesTurn, Opens, StandsForMoment, steps_made};
+/// Shows the byte of a step, if there is one.
+fn show<E: Emit>(console: &mut Console, byte: Option<u8>, e: &mut E)
+    requires { console.old.count + 1 < 2 ^ 64 }
+    ensures count { console.new.count ≤ console.old.count + 1 }
+    ensures shows { (bytes : List ℕ) → ConsoleShows console.old bytes →
+        ConsoleShows console.new (bytes ++ shown_byte byte) }
+    ensures emits { Emits E.gave e.old e.new (shown_each (shown_byte byte)) }
+{
+    if let Some(b) = byte {
+        console.put(b);
+        e.console(b);
+    }
+}
 
-    /// The machine of a guest image without programs, before its first step. Its key is the first draw of
-    /// the stream.
+/// Why a run stopped, where a draw may be missing as it closes.
+fn stop_of(missed: bool, stop: Stop) -> Stop
+    ensures { result ≡ (if missed then Stop.NoRandom else stop) }
+{
+    if missed { Stop::NoRandom } else { stop }
+}
+
+impl Machine {
+    ghost use Rattle.cloak_machine.specs.Standing.{EndsAs, MakesTurn, Opens, ShowsOpening};
+    ghost use Rattle.cloak_machine.specs.Standing.{StandsForMoment, steps_made};
+
+    /// The machine of a guest image, before its first step. Its key is the first draw of the stream, and each page of
+    /// a program takes the next one.
     pub fn open(alloc: Global, b: &Bundle, s: Stream) -> Result<Machine, OpenFault>
-        requires in_grammar { IsInGrammar b.now }
-        requires kernel_only { b.now.programs ≡ [] }
+        requires { IsInGrammar b.now }
         ensures opens { Opens b.now s result }
         ensures no_step { IfOk result (λ machine. steps_made machine ≡ 0) }
     {
-        let mut stream = s;
-        let Some(key) = stream.draw() else {
-            return Err(OpenFault::NoKey);
+        let joint = match Joint::open(alloc, b, s) {
+            Ok(joint) => joint,
+            Err(fault) => return Err(fault),
         };
-        let k = &b.kernel;
-        let harts = hart::start_all(alloc, k.entry, k.harts)?;
-        let memory = memory::load(alloc, k.frames, k.segments.as_slice())?;
-        let disk = Disk::open(alloc, k.disk.as_slice())?;
-        let schedule = Vec::from_slice(alloc, k.schedule.as_slice())?;
+        let schedule = Schedule::open(alloc, b.kernel.schedule.as_slice())?;
         Ok(Machine {
-            harts,
-            memory,
-            disk,
+            joint,
             schedule,
             steps: 0,
             console: Console::new(),
             marker: Item::Step { number: 0 },
-            key,
-            stream,
-            draws: 0,
         })
     }
 
-    /// Makes the next step of the schedule, and answers why it stopped the run, if it did. A hart that was
-    /// left inside by a refused resume counts its timer and does nothing else.
+    /// Emits what the kernel is shown as the run begins: each frame that holds a page of a program. Is called before
+    /// the first step, with the programs of the guest image.
+    pub fn opening<E: Emit>(&mut self, programs: &[Program], e: &mut E)
+        ensures steps { steps_made self.new ≡ steps_made self.old }
+        ensures emits_some { EmitsSome E.gave e.old e.new }
+        ensures shows { (b : Bundle) (s : Random) (o : Opened) → opening b s ≡ Ok o → b.programs ≡ programs.now →
+            StandsForMoment self.old (first_moment b o.joint) → ShowsOpening E.gave e.old e.new self.new b o }
+    {
+        self.joint.show_opening(programs, e);
+    }
+
+    /// Makes the next step of the schedule, and answers why it stopped the run, if it did.
     pub fn step<E: Emit>(&mut self, e: &mut E) -> Option<Stop>
         requires { steps_made self.old < most_steps }
         ensures steps { steps_made self.new ≡ steps_made self.old + 1 }
         ensures emits_some { EmitsSome E.gave e.old e.new }
         ensures makes { (m : Moment) → StandsForMoment self.old m →
+            (joint_step m).joint.memory.ledger.clashed ≡ false →
             MakesTurn E.gave e.old e.new self.new result m (joint_step m) }
     {
-        let number = self.schedule[self.steps as usize % self.schedule.len()] as usize;
+        let number = self.schedule.next();
         self.steps += 1;
         set_number(&mut self.marker, self.steps);
         e.item(&self.marker);
-        let hart = &mut self.harts[number];
-        if hart::is_inside(hart) {
-            tick(hart);
-            return None;
-        }
-        match kernel_step(hart, &mut self.disk, &mut self.memory) {
-            Kernel::Stay => None,
-            Kernel::Put(b) => {
-                self.console.put(b);
-                e.console(b);
-                None
-            }
-            Kernel::Halt(value) => Some(Stop::Halt(value)),
-            Kernel::Resume { ctx, .. } => Some(Stop::Violation(Violation::Context { ctx })),
-        }
+        let turned = self.joint.turn(number, e);
+        show(&mut self.console, turned.console, e);
+        turned.stop
     }
 
     /// Makes the closing of a run that this stopped.
     pub fn finish<E: Emit>(self, stop: Stop, e: &mut E) -> End
-        ensures stop { result.stop ≡ stop }
         ensures emits_some { EmitsSome E.gave e.old e.new }
         ensures ends { (m : Moment) → StandsForMoment self m →
             EndsAs E.gave e.old e.new result stop m (closing m.joint) }
     {
-        e.item(&Item::Close { steps: self.steps });
-        e.item(&Item::End);
         let Machine {
-            harts,
-            memory,
-            disk,
+            mut joint,
             steps,
             console,
-            draws,
             ..
         } = self;
+        e.item(&Item::Close { steps });
+        joint.close(e);
+        e.item(&Item::End);
+        let JointParts {
+            harts,
+            mut memory,
+            domains,
+            disk,
+        } = joint.into_parts();
         End {
-            stop,
+            stop: stop_of(memory.missed, stop),
             steps,
-            draws,
-            lines: KernelLines::new(console, memory.frames.as_slice(), disk.bytes(), harts),
+            draws: memory.draws,
+            lines: KernelLines::new(console, &mut memory, disk.bytes(), harts),
+            domains: DomainLines::of(domains),
         }
     }
 }

@@ -16,9 +16,11 @@ mod loading;
 mod opened;
 mod opening;
 mod placing;
+mod reading;
 mod starting;
 mod turned;
 
 pub use joint::Joint;
 pub use opened::OpenFault;
+pub use reading::JointParts;
 pub use turned::Turned;

@@ -14,6 +14,7 @@ pub enum OpenFault {
 }
 
 impl From<NoMemory> for OpenFault {
+    ghost use Rattle.std.specs.Prelude.{◌≡◌};
     ghost use Rattle.joint_machine.specs.declared.opened.OpenFault.TheVariants as fault;
 
     ghost from_gives = { λ _ e. e ≡ fault.NoMemory };
@@ -24,6 +25,7 @@ impl From<NoMemory> for OpenFault {
 }
 
 impl From<AllocError> for OpenFault {
+    ghost use Rattle.std.specs.Prelude.{◌≡◌};
     ghost use Rattle.joint_machine.specs.declared.opened.OpenFault.TheVariants as fault;
 
     ghost from_gives = { λ _ e. e ≡ fault.NoMemory };

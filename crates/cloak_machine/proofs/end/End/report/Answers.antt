@@ -1,8 +1,9 @@
 use Rattle.std.proofs.Common.{refl}
-use Rattle.cloak_machine.proofs.PutFacts.{then, Puts-all}
+use Rattle.cloak_machine.proofs.PutFacts.{then, text_is, Puts-all}
 use Rattle.cloak_machine.proofs.end.End.report.Goals as goal
 
 pub returns : goal.returns
 returns g c = Puts-all _ _ _ refl
     (then c.put_stop_line-so_far.ensures
-    (then c.put_number-so_far.ensures (then c.put_number-so_far-2.ensures c.put_kernel.ensures)))
+    (then c.put_number-so_far.ensures (then c.put_number-so_far-2.ensures (then c.put_kernel-so_far.ensures
+    (text_is c.text-2.ensures c.text.ensures)))))

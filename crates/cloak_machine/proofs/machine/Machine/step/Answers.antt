@@ -1,125 +1,25 @@
-use Rattle.std.proofs.Common.{refl, ◌∙◌, ap, sym, slice_set}
-use Rattle.cloak_model.specs.declared.outcome.Kernel.TheVariants.{Stay, Put, Halt, Resume}
-use Rattle.cloak_machine.proofs.StepFacts.{is_next, outside_turn, inside_turn, step_made, step_of_memory, emits_as}
-use Rattle.cloak_machine.proofs.StepFacts.{emits_then, shows_same}
+use Rattle.std.proofs.Common.{refl, sym, ap, subst, ◌≡◌, ◌∷◌, [], false}
+use Rattle.cloak_model.specs.declared.item.Item.{Item}
+use Rattle.cloak_model.specs.Exchange.{Emits, item_pieces}
+use Rattle.cloak_model.specs.Joint.{Turn}
+use Rattle.cloaked_side.proofs.Emitting.{emits_then}
+use Rattle.cloak_machine.proofs.Stepping.{next_turn, step_made}
 use Rattle.cloak_machine.proofs.machine.Machine.step.Goals as goal
 
-pub returns-then-is_inside-clause-makes : goal.returns-then-is_inside-clause-makes
-returns-then-is_inside-clause-makes g c m stands =
-    let old = c.args.self.now in
-    let next = is_next old _ _ c.index_mut-hart.result.now c.index.ensures (c.len.ensures ∙ old.schedule.ok.0)
-    c.index_mut-hart.ensures.value in
-    step_made Stay stands
-    (inside_turn old _ c.index_mut-hart.result.now next (sym c.if-is_inside.ensures))
-    (record {
-      schedule = refl;
-      steps = refl;
-      harts = ap (slice_set old.harts.items c.index.result.now) c.tick.ensures;
-      frames = refl;
-      count = refl;
-      disk_is = refl;
-      key = refl;
-      stream = refl;
-      draws = refl;
-    })
-    (λ bytes. shows_same _ bytes)
-    (emits_as c.set_number.ensures c.item.ensures)
+pub returns-clause-emits_some : goal.returns-clause-emits_some
+returns-clause-emits_some g c =
+    let some = c.turn-turned.ensures.emits_some in
+    (_, emits_then c.item.ensures (emits_then some.1 c.show.ensures.emits))
 
-pub returns-in-Stay-clause-makes : goal.returns-in-Stay-clause-makes
-returns-in-Stay-clause-makes g c m stands =
+pub returns-clause-makes : goal.returns-clause-makes
+returns-clause-makes g c m stands unclashed =
     let old = c.args.self.now in
-    let next = is_next old _ _ c.index_mut-hart.result.now c.index.ensures (c.len.ensures ∙ old.schedule.ok.0)
-    c.index_mut-hart.ensures.value in
-    step_made Stay stands
-    (outside_turn old _ _ c.kernel_step.new.h c.kernel_step.new.d Stay c.kernel_step.new.m.frames.items next
-    (sym c.if-is_inside.ensures)
-    (step_of_memory old.memory c.kernel_step.new.m c.index_mut-hart.result.now c.kernel_step.new.h old.disk
-    c.kernel_step.new.d Stay c.in-Stay.ensures.follows))
-    (record {
-      schedule = refl;
-      steps = refl;
-      harts = refl;
-      frames = refl;
-      count = c.kernel_step.ensures.same_count;
-      disk_is = refl;
-      key = refl;
-      stream = refl;
-      draws = refl;
-    })
-    (λ bytes. shows_same _ bytes)
-    (emits_as c.set_number.ensures c.item.ensures)
-
-pub returns-in-Put-clause-makes : goal.returns-in-Put-clause-makes
-returns-in-Put-clause-makes g c m stands =
-    let old = c.args.self.now in
-    let next = is_next old _ _ c.index_mut-hart.result.now c.index.ensures (c.len.ensures ∙ old.schedule.ok.0)
-    c.index_mut-hart.ensures.value in
-    step_made (Put c.in-Put.b) stands
-    (outside_turn old _ _ c.kernel_step.new.h c.kernel_step.new.d (Put c.in-Put.b) c.kernel_step.new.m.frames.items
-    next (sym c.if-is_inside.ensures)
-    (step_of_memory old.memory c.kernel_step.new.m c.index_mut-hart.result.now c.kernel_step.new.h old.disk
-    c.kernel_step.new.d (Put c.in-Put.b) c.in-Put.ensures.follows))
-    (record {
-      schedule = refl;
-      steps = refl;
-      harts = refl;
-      frames = refl;
-      count = c.kernel_step.ensures.same_count;
-      disk_is = refl;
-      key = refl;
-      stream = refl;
-      draws = refl;
-    })
-    c.put.ensures.shows
-    (emits_then (emits_as c.set_number.ensures c.item.ensures) c.console.ensures)
-
-pub returns-in-Halt-clause-makes : goal.returns-in-Halt-clause-makes
-returns-in-Halt-clause-makes g c m stands =
-    let old = c.args.self.now in
-    let next = is_next old _ _ c.index_mut-hart.result.now c.index.ensures (c.len.ensures ∙ old.schedule.ok.0)
-    c.index_mut-hart.ensures.value in
-    step_made (Halt c.in-Halt.value) stands
-    (outside_turn old _ _ c.kernel_step.new.h c.kernel_step.new.d (Halt c.in-Halt.value)
-    c.kernel_step.new.m.frames.items next (sym c.if-is_inside.ensures)
-    (step_of_memory old.memory c.kernel_step.new.m c.index_mut-hart.result.now c.kernel_step.new.h old.disk
-    c.kernel_step.new.d (Halt c.in-Halt.value) c.in-Halt.ensures.follows))
-    (record {
-      schedule = refl;
-      steps = refl;
-      harts = refl;
-      frames = refl;
-      count = c.kernel_step.ensures.same_count;
-      disk_is = refl;
-      key = refl;
-      stream = refl;
-      draws = refl;
-    })
-    (λ bytes. shows_same _ bytes)
-    (emits_as c.set_number.ensures c.item.ensures)
-
-pub returns-in-Resume-clause-makes : goal.returns-in-Resume-clause-makes
-returns-in-Resume-clause-makes g c m stands =
-    let old = c.args.self.now in
-    let next = is_next old _ _ c.index_mut-hart.result.now c.index.ensures (c.len.ensures ∙ old.schedule.ok.0)
-    c.index_mut-hart.ensures.value in
-    step_made (Resume c.in-Resume.ctx c.in-Resume.answer) stands
-    (outside_turn old _ _ c.kernel_step.new.h c.kernel_step.new.d (Resume c.in-Resume.ctx c.in-Resume.answer)
-    c.kernel_step.new.m.frames.items next (sym c.if-is_inside.ensures)
-    (step_of_memory old.memory c.kernel_step.new.m c.index_mut-hart.result.now c.kernel_step.new.h old.disk
-    c.kernel_step.new.d (Resume c.in-Resume.ctx c.in-Resume.answer) c.in-Resume.ensures.follows))
-    (record {
-      schedule = refl;
-      steps = refl;
-      harts = refl;
-      frames = refl;
-      count = c.kernel_step.ensures.same_count;
-      disk_is = refl;
-      key = refl;
-      stream = refl;
-      draws = refl;
-    })
-    (λ bytes. shows_same _ bytes)
-    (emits_as c.set_number.ensures c.item.ensures)
-
-pub returns-in-Put-clause-emits_some : goal.returns-in-Put-clause-emits_some
-returns-in-Put-clause-emits_some g c = (_, emits_then c.item.ensures c.console.ensures)
+    let number = c.next-number.result in
+    let next = next_turn old m number stands c.next-number.ensures.turn in
+    let takes = c.turn-turned.ensures.turns m.joint stands.joint
+    (subst (λ (t : Turn). t.joint.memory.ledger.clashed ≡ false) (sym next) unclashed) in
+    step_made old _ m number c.turn-turned.result stands next
+    (subst (λ (x : Item). Emits g.E.Emit.gave c.args.e.now c.item.new.self (item_pieces (x ∷ [])))
+    c.set_number.ensures c.item.ensures)
+    takes c.show.ensures.emits (ap (λ (turns : _). turns.items) c.next-number.ensures.turns)
+    (c.next-number.ensures.place m.steps stands.place) refl (c.show.ensures.shows m.joint.console stands.console)

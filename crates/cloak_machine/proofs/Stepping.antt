@@ -1,0 +1,185 @@
+-- A step of the machine, its opening and its closing, out of what the joint machine says of them.
+use Rattle.std.proofs.Common.{◌≡◌, ◌<◌, ◌∙◌, ℕ, ◌+◌, ◌%◌, ◌^◌, Bool, List, [], ◌∷◌, ◌++◌, length}
+use Rattle.std.proofs.Common.{All, Ok, refl, sym, ap, subst, slice_index, arith, codes, decimal, if◌then◌else◌}
+use Rattle.std.specs.List.{concat, flat_map}
+use Rattle.sha2.specs.Sha256.{sha256}
+use Rattle.cloak_base.specs.Random.{Random}
+use Rattle.cloak_base.specs.declared.causes.Stop.{Stop}
+use Rattle.cloak_base.specs.declared.causes.Stop.TheVariants as cause
+use Rattle.cloak_model.specs.declared.image.Bundle.{Bundle}
+use Rattle.cloak_model.specs.declared.item.Item.TheVariants as item
+use Rattle.cloak_model.specs.DomainState.{Domain, domain_line}
+use Rattle.cloak_model.specs.Exchange.{Piece, Emits, item_pieces, shown_each}
+use Rattle.cloak_model.specs.Hart.{Hart}
+use Rattle.cloak_model.specs.Joint.{Moment, Turn, joint_step}
+use Rattle.cloak_model.specs.Opening.{Opened, opening}
+use Rattle.cloak_model.specs.Parts.{Joint, KernelPart, kernel_part}
+use Rattle.cloak_model.specs.Report.{stop_line, number_line, kernel_lines, harts_lines, report}
+use Rattle.cloak_model.specs.Run.{closing, first_moment}
+use Rattle.joint_machine.specs.Standing.{StandsForJoint, TakesTurn, ShowsAs, turn_in, shown_byte}
+use Rattle.joint_machine.specs.declared.joint.Joint.{Joint as Machines}
+use Rattle.joint_machine.specs.declared.turned.Turned.{Turned}
+use Rattle.cloaked_side.proofs.Emitting.{emits_then, emits_items}
+use Rattle.cloak_machine.specs.Console.{ConsoleShows}
+use Rattle.cloak_machine.specs.Ending.{kernel_text, digest_text}
+use Rattle.cloak_machine.specs.Lines.{lines_text}
+use Rattle.cloak_machine.specs.Standing.{StandsForMoment, MakesTurn, EndsAs, HaveFewLoads}
+use Rattle.cloak_machine.specs.Turns.{IsAt}
+use Rattle.cloak_machine.specs.declared.console.Console.{Console}
+use Rattle.cloak_machine.specs.declared.end.End.{End}
+use Rattle.cloak_machine.specs.declared.end.KernelLines.{KernelLines}
+use Rattle.cloak_machine.specs.declared.machine.Machine.{Machine}
+use Rattle.cloak_machine.specs.declared.schedule.Schedule.{Schedule}
+use Rattle.cloak_machine.proofs.Opening.{begun}
+use Rattle.cloak_machine.proofs.Turning.{goes}
+
+-- Opening.
+
+-- the machine of an opening, before its first step
+pub first_stands : (machine : Machine) (b : Bundle) (s : Random) (o : Opened) → opening b s ≡ Ok o →
+    StandsForJoint machine.joint o.joint → machine.schedule.turns.items ≡ b.kernel.schedule →
+    machine.schedule.place ≡ 0 → machine.steps ≡ 0 → ConsoleShows machine.console [] →
+    StandsForMoment machine (first_moment b o.joint)
+first_stands machine b s o opens joint schedule place steps console =
+    let is = begun b s o opens in record {
+      schedule = sym schedule;
+      place = place ∙ sym (zero_mod (length machine.schedule.turns.items));
+      steps = sym steps;
+      joint = joint;
+      console = subst (λ (bytes : List ℕ). ConsoleShows machine.console bytes) (sym is.console) console;
+      loads = is.loads;
+    }
+  where
+    zero_mod : (n : ℕ) → 0 % n ≡ 0
+    zero_mod n = grind arith
+
+-- the same machine once it showed what the kernel is shown
+pub still_first : (old new : Machine) (b : Bundle) (o : Opened) → StandsForMoment old (first_moment b o.joint) →
+    StandsForJoint new.joint o.joint → new.schedule ≡ old.schedule → new.steps ≡ old.steps →
+    new.console ≡ old.console → StandsForMoment new (first_moment b o.joint)
+still_first old new b o stands joint schedule steps console = record {
+  schedule = stands.schedule ∙ ap (λ (x : Schedule). x.turns.items) (sym schedule);
+  place = subst (λ (x : Schedule). IsAt x 0) (sym schedule) stands.place;
+  steps = stands.steps ∙ sym steps;
+  joint = joint;
+  console = subst (λ (x : Console). ConsoleShows x o.joint.console) (sym console) stands.console;
+  loads = stands.loads;
+}
+
+-- A step.
+
+-- the turn that the schedule tells is the next step of the run
+pub next_turn : (machine : Machine) (m : Moment) (number : ℕ) → StandsForMoment machine m →
+    number ≡ slice_index machine.schedule.turns.items machine.schedule.place → turn_in m.joint number ≡ joint_step m
+unfolding joint_step
+next_turn machine m number stands told = ap (turn_in m.joint)
+    (told ∙ ap (slice_index machine.schedule.turns.items) stands.place
+    ∙ ap (λ (turns : List ℕ). slice_index turns (m.steps % length turns)) (sym stands.schedule))
+
+-- What a step left of a machine.
+pub record Leaves (old new : Machine) (m : Moment) (given : Turned) (t : Turn) : Type 0 where
+  pub turns : new.schedule.turns.items ≡ old.schedule.turns.items
+  pub place : IsAt new.schedule (m.steps + 1)
+  pub steps : new.steps ≡ old.steps + 1
+  pub joint : StandsForJoint new.joint t.joint
+  pub console : ConsoleShows new.console (m.joint.console ++ shown_byte given.console)
+
+stands_after : (old new : Machine) (m : Moment) (number : ℕ) (given : Turned) → StandsForMoment old m →
+    shown_byte given.console ≡ (turn_in m.joint number).console → Leaves old new m given (turn_in m.joint number) →
+    StandsForMoment new (record { schedule = m.schedule; steps = m.steps + 1; joint = (turn_in m.joint number).joint })
+stands_after old new m number given stands byte left =
+    let went = goes m.joint number in record {
+      schedule = stands.schedule ∙ sym left.turns;
+      place = left.place;
+      steps = ap (λ n. n + 1) stands.steps ∙ sym left.steps;
+      joint = left.joint;
+      console = subst (λ (bytes : List ℕ). ConsoleShows new.console bytes)
+          (ap (λ (bytes : List ℕ). m.joint.console ++ bytes) byte ∙ sym went.console) left.console;
+      loads = went.loads.few m.steps stands.loads;
+    }
+
+-- a whole step
+pub step_made : {E : Type 0} {gave : E → E → List Piece → Type 0} {e f g h : E} (old new : Machine) (m : Moment)
+    (number : ℕ) (given : Turned) → StandsForMoment old m → turn_in m.joint number ≡ joint_step m →
+    Emits gave e f (item_pieces (item.Step (old.steps + 1) ∷ [])) →
+    TakesTurn gave f g new.joint given (turn_in m.joint number) →
+    Emits gave g h (shown_each (shown_byte given.console)) →
+    new.schedule.turns.items ≡ old.schedule.turns.items → IsAt new.schedule (m.steps + 1) →
+    new.steps ≡ old.steps + 1 → ConsoleShows new.console (m.joint.console ++ shown_byte given.console) →
+    MakesTurn gave e h new given.stop m (joint_step m)
+step_made {E} {gave} {e} {f} {g} {h} old new m number given stands next marker takes shows turns place steps console =
+    let t = turn_in m.joint number in
+    let first : Emits gave e f (item_pieces (item.Step (m.steps + 1) ∷ [])) =
+    subst (λ n. Emits gave e f (item_pieces (item.Step (n + 1) ∷ []))) (sym stands.steps) marker in
+    let last : Emits gave g h (shown_each t.console) =
+    subst (λ (bytes : List ℕ). Emits gave g h (shown_each bytes)) takes.console shows in
+    subst (λ (x : Turn). MakesTurn gave e h new given.stop m x) next (record {
+      emits = emits_then (emits_items (item.Step (m.steps + 1) ∷ []) t.items first takes.emits) last;
+      answer = takes.stop;
+      stands = stands_after old new m number given stands takes.console (record {
+        turns = turns;
+        place = place;
+        steps = steps;
+        joint = takes.stands;
+        console = console;
+      });
+    })
+
+-- Closing.
+
+-- a closing changes no program
+pub few_closed : (j : Joint) (n : ℕ) → HaveFewLoads n j.domains → n < 2 ^ 32 →
+    All (λ (d : Domain). length d.loads < 2 ^ 64) (closing j).joint.domains
+unfolding closing
+few_closed j n few low k d inside = let here = few k d inside in omega (arith, here, low)
+
+-- the lines of console, memory, disk and harts, by what they say
+texts : (count : ℕ) (console ram disk : List ℕ) (harts : List Hart) → List ℕ
+texts count console ram disk harts =
+    (codes "console " ++ (decimal count ++ digest_text (codes " ") console)) ++
+    (digest_text (codes "ram ") ram ++ (digest_text (codes "disk ") disk ++ harts_lines 0 harts))
+
+-- what the lines of a machine's end say
+pub record IsSaid (lines : KernelLines) (k : KernelPart) : Type 0 where
+  pub count : lines.console_length ≡ length k.console
+  pub console : lines.console ≡ sha256 k.console
+  pub ram : lines.ram ≡ sha256 (concat k.ram)
+  pub disk : lines.disk ≡ sha256 k.disk
+  pub harts : lines.harts.items ≡ k.harts
+
+kernel_text-is : (lines : KernelLines) (k : KernelPart) → IsSaid lines k → kernel_text lines ≡ kernel_lines k
+unfolding texts
+kernel_text-is lines k said i = texts (said.count i) (said.console i) (said.ram i) (said.disk i) (said.harts i)
+
+-- the console is known to the closed machine
+pub closed_console : (j : Joint) → (closing j).joint.console ≡ j.console
+unfolding closing
+closed_console j = refl
+
+-- What is emitted and reported as a run closes.
+pub ends_as : {E : Type 0} {gave : E → E → List Piece → Type 0} {e f g h : E} {joint : Machines} {machine : Machine}
+    {end : End} {stopped : Stop} (m : Moment) (missed : Bool) → StandsForMoment machine m →
+    Emits gave e f (item_pieces (item.Close machine.steps ∷ [])) → ShowsAs gave f g joint (closing m.joint) →
+    Emits gave g h (item_pieces (item.End ∷ [])) → missed ≡ (closing m.joint).joint.memory.ledger.missed →
+    end.stop ≡ (if missed then cause.NoRandom else stopped) → end.steps ≡ machine.steps →
+    end.draws ≡ (closing m.joint).joint.memory.ledger.draws →
+    IsSaid end.lines (kernel_part (closing m.joint).joint) →
+    lines_text end.domains ≡ flat_map domain_line (closing m.joint).joint.domains →
+    EndsAs gave e h end stopped m (closing m.joint)
+ends_as {E} {gave} {e} {f} {g} {h} {joint} {machine} {end} {stopped} m missed stands close shows last miss stop steps
+    draws said lines =
+    let o = closing m.joint in
+    let first : Emits gave e f (item_pieces (item.Close m.steps ∷ [])) =
+    subst (λ n. Emits gave e f (item_pieces (item.Close n ∷ []))) (sym stands.steps) close in
+    let same : end.steps ≡ m.steps = steps ∙ sym stands.steps in
+    let kernel : kernel_text end.lines ≡ kernel_lines (kernel_part o.joint) = kernel_text-is end.lines _ said in
+    record {
+      emits = emits_items (item.Close m.steps ∷ []) (o.items ++ item.End ∷ []) first
+          (emits_items o.items (item.End ∷ []) shows.emits last);
+      steps = same;
+      draws = draws;
+      stop = stop ∙ ap (λ (b : Bool). if b then cause.NoRandom else stopped) miss;
+      report = λ i. stop_line end.stop ++
+          (number_line (codes "steps ") (same i) ++ (number_line (codes "draws ") (draws i)
+          ++ (kernel i ++ lines i)));
+    }

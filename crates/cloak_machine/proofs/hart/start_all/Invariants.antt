@@ -1,6 +1,0 @@
-use Rattle.std.proofs.Common.{◌≡◌}
-use Rattle.cloak_model.specs.Opening.{started_harts}
-use Rattle.cloak_machine.proofs.hart.start_all.Given as goal
-
-abbrev pub invariant-loop-number : goal.invariant-loop-number
-invariant-loop-number l = l.harts.items ≡ started_harts l.entry l.number

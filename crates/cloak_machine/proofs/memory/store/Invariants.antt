@@ -1,7 +1,0 @@
-use Rattle.std.proofs.Common.{◌≡◌, ◌+◌, drop}
-use Rattle.cloak_model.specs.Memory.{with_bytes}
-use Rattle.cloak_machine.proofs.memory.store.Given as goal
-
--- what is left of the bytes, stored behind those that are
-abbrev pub invariant-loop-i : goal.invariant-loop-i
-invariant-loop-i l = with_bytes l.frames (l.address + l.i) (drop l.i l.bytes) ≡ with_bytes l.fn.frames l.address l.bytes
