@@ -44,22 +44,16 @@ impl Schedule {
     }
 
     /// Enciphers a block that is given by its words.
-    // Each round by itself: in a loop LLVM would keep the state in one vector and take it apart for each look-up.
     #[inline(always)]
     pub fn encrypt_words(&self, s: &mut [u32; 4])
         ensures enciphered { block_of_words s.new ≡ encrypted self.now (block_of_words s.old) }
-        ensures only_one { (p : List ℕ) → IsBytes 16 p → encrypted self.now p ≡ block_of_words s.new → p ≡ block_of_words s.old }
+        ensures only_one { (p : List ℕ) → IsBytes 16 p →
+            encrypted self.now p ≡ block_of_words s.new → p ≡ block_of_words s.old }
     {
         add_words(s, &self.keys[0]);
-        round(s, &self.keys[1]);
-        round(s, &self.keys[2]);
-        round(s, &self.keys[3]);
-        round(s, &self.keys[4]);
-        round(s, &self.keys[5]);
-        round(s, &self.keys[6]);
-        round(s, &self.keys[7]);
-        round(s, &self.keys[8]);
-        round(s, &self.keys[9]);
+        for j in 0..9 {
+            round(s, &self.keys[j + 1]);
+        }
         last_round(s, &self.keys[10]);
     }
 
@@ -74,10 +68,12 @@ impl Schedule {
     }
 
     /// Deciphers a block that is given by its words.
+    // Each round by itself: in a loop LLVM would keep the state in one vector and take it apart for each look-up.
     #[inline(always)]
     pub fn decrypt_words(&self, s: &mut [u32; 4])
         ensures enciphers_back { encrypted self.now (block_of_words s.new) ≡ block_of_words s.old }
-        ensures only_one { (p : List ℕ) → IsBytes 16 p → encrypted self.now p ≡ block_of_words s.old → block_of_words s.new ≡ p }
+        ensures only_one { (p : List ℕ) → IsBytes 16 p →
+            encrypted self.now p ≡ block_of_words s.old → block_of_words s.new ≡ p }
     {
         add_words(s, &self.keys[10]);
         inverse_round(s, &self.inverse_keys[0]);

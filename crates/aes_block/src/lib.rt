@@ -10,8 +10,8 @@
 //!
 //! The layer above may rely on this: `encrypt_block` gives `encrypted key block`, and `decrypt_block` gives the one
 //! block whose encryption stood there; `encrypt_words` and `decrypt_words` are the same on a block's four words, which
-//! a chain of blocks keeps in registers. No call fails or takes memory. Nothing is said of the cipher's strength, nor of
-//! the time that a call takes: look-ups in tables depend on secret bytes.
+//! a chain of blocks keeps in registers. No call fails or takes memory. Nothing is said of the cipher's strength, nor
+//! of the time that a call takes: look-ups in tables depend on secret bytes.
 #![tactic(auto)]
 
 mod cipher;

@@ -167,11 +167,9 @@ csrs 00000000 00000000 00000000 00000000 00000000 00000000 00000000 00000000 000
 /// The command refuses an image of several harts, so its machine is opened here.
 #[test]
 fn harts_take_their_turns(rt: HostRuntime) -> Result<(), Fail> {
-    let bundle = read(rt.alloc(), &TWO_HARTS).ok().ok_or("it is a bundle")?;
+    let bundle = read(rt.alloc(), &TWO_HARTS)?;
     assert!(rt; bundle.programs.as_slice().is_empty());
-    let machine = Machine::open(rt.alloc(), &bundle, Stream::numbered(0))
-        .ok()
-        .ok_or("it opens")?;
+    let machine = Machine::open(rt.alloc(), &bundle, Stream::numbered(0))?;
     let mut shelf = MemoryShelf::open(rt.alloc(), Vec::new(rt.alloc()));
     let mut sink = MemorySink::open(rt.alloc(), Vec::new(rt.alloc()));
     let mut outlet = Outlet {

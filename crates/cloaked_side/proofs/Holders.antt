@@ -1,5 +1,6 @@
 -- What frames hold after calls on their pager.
-use Rattle.std.proofs.Common.{◌≡◌, ◌≢◌, ℕ, Option, None, Some, List, slice_index_or, inl, inr, refl, ap, sym, ◌∙◌, subst}
+use Rattle.std.proofs.Common.{◌≡◌, ◌≢◌, ℕ, Option, None, Some, List, slice_index_or, inl, inr, refl, ap, sym, ◌∙◌}
+use Rattle.std.proofs.Common.{subst}
 use Rattle.cloak_base.specs.declared.names.PageId.{PageId}
 use Rattle.cloak_pager.specs.State.{PagerState, page_of, owed_under, right_at, held_in, owed_at}
 use Rattle.cloak_pager.specs.Turns.{StaysBut}
@@ -40,12 +41,14 @@ no_more_emptied f old new stays none = record { held = held; owed = owed }
 
     owed : (k : ℕ) (q : PageId) → owed_at new k ≡ Some q → owed_at old k ≡ Some q
     owed k q e = elim (same_or_not k f) [
-      | inl same ↦ absurd (never (held_in new f) q none (owed_held (right_at new f) q (subst (λ (n : ℕ). owed_at new n ≡ Some q) same e)))
+      | inl same ↦ absurd (never (held_in new f) q none
+          (owed_held (right_at new f) q (subst (λ (n : ℕ). owed_at new n ≡ Some q) same e)))
       | inr other ↦ sym (ap owed_under (stays.rights k other)) ∙ e
     ]
 
 -- a frame came to hold page q
-pub no_other_taken : (g : ℕ) (q : PageId) (old new : PagerState) → StaysBut g old new → held_in new g ≡ Some q → HoldsNoOther q old new
+pub no_other_taken : (g : ℕ) (q : PageId) (old new : PagerState) → StaysBut g old new → held_in new g ≡ Some q →
+    HoldsNoOther q old new
 no_other_taken g q old new stays taken k p not_q e = elim (same_or_not k g) [
   | inl same ↦ absurd (not_q (one p q (sym (subst (λ (n : ℕ). held_in new n ≡ Some p) same e) ∙ taken)))
   | inr other ↦ sym (ap page_of (stays.rights k other)) ∙ e

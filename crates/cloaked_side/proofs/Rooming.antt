@@ -1,5 +1,6 @@
 -- Room for a page: what the settlings before an offer come to.
-use Rattle.std.proofs.Common.{◌≡◌, ◌≢◌, ◌<◌, ℕ, Bool, true, false, not, cond, List, [], ◌∷◌, ◌++◌, Option, Some, None, length, get_or, append_assoc, inl, inr, ◌⊎◌, refl, ap, sym, ◌∙◌, subst, arith}
+use Rattle.std.proofs.Common.{◌≡◌, ◌≢◌, ◌<◌, ℕ, Bool, true, false, not, cond, List, [], ◌∷◌, ◌++◌, Option, Some, None}
+use Rattle.std.proofs.Common.{length, get_or, append_assoc, inl, inr, ◌⊎◌, refl, ap, sym, ◌∙◌, subst, arith}
 use Rattle.std.specs.Str.{bytes_eq}
 use Rattle.std.specs.List.{position, position_or_len}
 use Rattle.std.proofs.lemmas.Grind.{common_steps}
@@ -9,7 +10,8 @@ use Rattle.std.proofs.lemmas.List.Quantifiers.{position-Some}
 use Rattle.std.proofs.lemmas.List.Sums.{fails_before_first}
 use Rattle.cloak_base.specs.declared.names.PageId.{PageId}
 use Rattle.cloak_base.proofs.Pages.{same_page-decides, same_page-self}
-use Rattle.cloak_model.specs.Cloaking.{CloakedMemory, AfterSettling, AfterOffer, Offer, Ready, Missed, settle, settle_frame_if, offer, owes, owing_frame, compared, unless_missed, owed_in}
+use Rattle.cloak_model.specs.Cloaking.{CloakedMemory, AfterSettling, AfterOffer, Offer, Ready, Missed, settle}
+use Rattle.cloak_model.specs.Cloaking.{settle_frame_if, offer, owes, owing_frame, compared, unless_missed, owed_in}
 use Rattle.cloak_pager.specs.Turns.{StaysBut}
 use Rattle.cloak_pager.proofs.Pages.{same_or_not}
 use Rattle.cloak_pager.specs.State.{PagerState, IsWholePager, page_of, owed_under, right_at, held_in, owed_at}
@@ -41,27 +43,34 @@ unheld_unowed (Clean r) e = refl
 unheld_unowed (Changed r) e = e
 unheld_unowed Spent e = refl
 
-position_none : {X : Type 0} (p : X → Bool) (xs : List X) (i : ℕ) (d : X) → position p xs ≡ None → i < length xs → p (get_or xs i d) ≡ false
-position_none p xs i d e lt = let far : i < position_or_len p xs = grind (arith, common_steps) in fails_before_first p xs i d far
+position_none : {X : Type 0} (p : X → Bool) (xs : List X) (i : ℕ) (d : X) → position p xs ≡ None → i < length xs →
+    p (get_or xs i d) ≡ false
+position_none p xs i d e lt = let far : i < position_or_len p xs = grind (arith, common_steps) in
+    fails_before_first p xs i d far
 
 owing_is : (q : PageId) (o : Option PageId) → owes q o ≡ true → o ≡ Some q
 owing_is q None e = absurd (false≢true e)
 owing_is q (Some x) e = ap (λ (y : PageId). Some y) ((same_page-decides x q).0 e)
 
 -- a frame that does not hold the page is not owed it
-unowed_here : (p : PagerState) (w : PageId → Bool) (m : CloakedMemory) (g : ℕ) (q : PageId) → StandsForMemory p w m → held_in p g ≢ Some q → owes q (owed_in m g) ≡ false
+unowed_here : (p : PagerState) (w : PageId → Bool) (m : CloakedMemory) (g : ℕ) (q : PageId) → StandsForMemory p w m →
+    held_in p g ≢ Some q → owes q (owed_in m g) ≡ false
 unowed_here p w m g q s n = by_value (owes q (owed_in m g)) refl
   where
     by_value : (b : Bool) → owes q (owed_in m g) ≡ b → owes q (owed_in m g) ≡ false
     by_value false e = e
-    by_value true e = absurd (n (owed_held (right_at p g) q (sym (owed_by_right p w m s g) ∙ owing_is q (owed_in m g) e)))
+    by_value true e = absurd (n
+        (owed_held (right_at p g) q (sym (owed_by_right p w m s g) ∙ owing_is q (owed_in m g) e)))
 
 -- the frame that holds a page changed is the one that is found to be owed it
-found : (p : PagerState) (w : PageId → Bool) (m : CloakedMemory) (f : ℕ) (q : PageId) → StandsForMemory p w m → held_in p f ≡ Some q → owed_at p f ≡ Some q → owing_frame m q ≡ Some f
+found : (p : PagerState) (w : PageId → Bool) (m : CloakedMemory) (f : ℕ) (q : PageId) → StandsForMemory p w m →
+    held_in p f ≡ Some q → owed_at p f ≡ Some q → owing_frame m q ≡ Some f
 found p w m f q s held owed = by_value (owing_frame m q) refl
   where
     within : f < length m.ledger.owed
-    within = subst (λ (n : ℕ). f < n) (sym (ap (λ (xs : List (Option PageId)). length xs) s.owed ∙ length-map p.rights owed_under)) (held_within p.rights f q held)
+    within = subst (λ (n : ℕ). f < n)
+        (sym (ap (λ (xs : List (Option PageId)). length xs) s.owed ∙ length-map p.rights owed_under))
+        (held_within p.rights f q held)
 
     here : owes q (owed_in m f) ≡ true
     here = ap (λ o. owes q o) (owed_by_right p w m s f ∙ owed) ∙ same_page-self q
@@ -70,53 +79,83 @@ found p w m f q s held owed = by_value (owing_frame m q) refl
     by_value None e = absurd (false≢true (sym (position_none (owes q) m.ledger.owed f None e within) ∙ here))
     by_value (Some i) e =
         let at = position-Some (owes q) m.ledger.owed i None e in
-        ap (λ k. Some k) (s.whole.one_home i f q (owed_held (right_at p i) q (sym (owed_by_right p w m s i) ∙ owing_is q (owed_in m i) at.1)) held)
+        ap (λ k. Some k) (s.whole.one_home i f q
+        (owed_held (right_at p i) q (sym (owed_by_right p w m s i) ∙ owing_is q (owed_in m i) at.1)) held)
 
 -- so settling the frame that holds a page is settling the one that is owed it, if there is one
-home_settled : (p : PagerState) (w : PageId → Bool) (m : CloakedMemory) (f : ℕ) (q : PageId) → StandsForMemory p w m → held_in p f ≡ Some q → settle_frame_if (owing_frame m q) m ≡ settle f m
+home_settled : (p : PagerState) (w : PageId → Bool) (m : CloakedMemory) (f : ℕ) (q : PageId) → StandsForMemory p w m →
+    held_in p f ≡ Some q → settle_frame_if (owing_frame m q) m ≡ settle f m
 home_settled p w m f q s held = elim (changed_or_not (right_at p f) q held) [
   | inl owed ↦ ap (λ o. settle_frame_if o m) (found p w m f q s held owed)
-  | inr none ↦ ap (λ o. settle_frame_if o m) (none_owing m q (unowed_clean p w m s f q held none)) ∙ sym (settle_none f m (owed_by_right p w m s f ∙ none))
+  | inr none ↦ ap (λ o. settle_frame_if o m) (none_owing m q (unowed_clean p w m s f q held none))
+      ∙ sym (settle_none f m (owed_by_right p w m s f ∙ none))
 ]
 
 -- what follows the settling of the frame
 abbrev later : PageId → ℕ → Bool → CloakedMemory → AfterOffer
-later q g write m = unless_missed (settle_frame_if (owing_frame m q) m) (λ m'. compared q g write (m'.ledger.recorded q) m')
+later q g write m = unless_missed (settle_frame_if (owing_frame m q) m)
+    (λ m'. compared q g write (m'.ledger.recorded q) m')
 
-offer_later : (q : PageId) (g : ℕ) (write : Bool) (m : CloakedMemory) → owes q (owed_in m g) ≡ false → offer q g write m ≡ unless_missed (settle g m) (later q g write)
+offer_later : (q : PageId) (g : ℕ) (write : Bool) (m : CloakedMemory) → owes q (owed_in m g) ≡ false →
+    offer q g write m ≡ unless_missed (settle g m) (later q g write)
 unfolding offer
-offer_later q g write m e = ap (λ b. cond b (record { memory = m; ciphers = []; answer = Ready }) (unless_missed (settle g m) (later q g write))) e
+offer_later q g write m e =
+    ap (λ b. cond b (record { memory = m; ciphers = []; answer = Ready })
+    (unless_missed (settle g m) (later q g write))) e
 
 -- an offer where nobody holds the page and the frame is outside
-offer_bare : (p : PagerState) (w : PageId → Bool) (m : CloakedMemory) (g : ℕ) (q : PageId) (write : Bool) → StandsForMemory p w m → held_in p g ≡ None → ((k : ℕ) → held_in p k ≢ Some q) → compared q g write (m.ledger.recorded q) m ≡ offer q g write m
+offer_bare : (p : PagerState) (w : PageId → Bool) (m : CloakedMemory) (g : ℕ) (q : PageId) (write : Bool) →
+    StandsForMemory p w m → held_in p g ≡ None → ((k : ℕ) → held_in p k ≢ Some q) →
+    compared q g write (m.ledger.recorded q) m ≡ offer q g write m
 offer_bare p w m g q write s outside nowhere =
-    sym (offer_settled q g write m (owed_by_right p w m s g ∙ unheld_unowed (right_at p g) outside) (none_owing m q (unowed_nowhere p w m s q nowhere)))
+    sym (offer_settled q g write m (owed_by_right p w m s g ∙ unheld_unowed (right_at p g) outside)
+    (none_owing m q (unowed_nowhere p w m s q nowhere)))
 
-pub unless_miss : (s : AfterSettling) (next : CloakedMemory → AfterOffer) → s.missed ≡ true → unless_missed s next ≡ record { memory = s.memory; ciphers = s.ciphers; answer = Missed }
+pub unless_miss : (s : AfterSettling) (next : CloakedMemory → AfterOffer) → s.missed ≡ true →
+    unless_missed s next ≡ record { memory = s.memory; ciphers = s.ciphers; answer = Missed }
 unfolding unless_missed
-unless_miss s next missed = ap (λ b. let o = next s.memory in cond b (record { memory = s.memory; ciphers = s.ciphers; answer = Missed }) (record { memory = o.memory; ciphers = s.ciphers ++ o.ciphers; answer = o.answer })) missed
+unless_miss s next missed = ap (λ b. let o = next s.memory in
+    cond b (record { memory = s.memory; ciphers = s.ciphers; answer = Missed })
+    (record { memory = o.memory; ciphers = s.ciphers ++ o.ciphers; answer = o.answer })) missed
 
-pub unless_no_miss : (s : AfterSettling) (next : CloakedMemory → AfterOffer) → s.missed ≡ false → unless_missed s next ≡ behind s.ciphers (next s.memory)
+pub unless_no_miss : (s : AfterSettling) (next : CloakedMemory → AfterOffer) → s.missed ≡ false →
+    unless_missed s next ≡ behind s.ciphers (next s.memory)
 unfolding unless_missed
-unless_no_miss s next missed = ap (λ b. let o = next s.memory in cond b (record { memory = s.memory; ciphers = s.ciphers; answer = Missed }) (record { memory = o.memory; ciphers = s.ciphers ++ o.ciphers; answer = o.answer })) missed
+unless_no_miss s next missed = ap (λ b. let o = next s.memory in
+    cond b (record { memory = s.memory; ciphers = s.ciphers; answer = Missed })
+    (record { memory = o.memory; ciphers = s.ciphers ++ o.ciphers; answer = o.answer })) missed
 
-behind_nothing : (ciphers : List (ℕ × List ℕ)) (q : PageId) (g : ℕ) (write : Bool) (m : CloakedMemory) → record { memory = m; ciphers = ciphers; answer = Missed } ≡ behind ciphers (rest_of false q g write m)
+behind_nothing : (ciphers : List (ℕ × List ℕ)) (q : PageId) (g : ℕ) (write : Bool) (m : CloakedMemory) →
+    record { memory = m; ciphers = ciphers; answer = Missed } ≡ behind ciphers (rest_of false q g write m)
 behind_nothing ciphers q g write m = λ i. record { memory = m; ciphers = sym (append-nil ciphers) i; answer = Missed }
 
 behind_both : (cs ds : List (ℕ × List ℕ)) (o : AfterOffer) → behind cs (behind ds o) ≡ behind (cs ++ ds) o
-behind_both cs ds o = λ i. record { memory = o.memory; ciphers = sym (append_assoc cs ds o.ciphers) i; answer = o.answer }
+behind_both cs ds o = λ i. record {
+  memory = o.memory;
+  ciphers = sym (append_assoc cs ds o.ciphers) i;
+  answer =
+      o.answer;
+}
 
 -- The frame's draw was missing.
-pub rooms_missed : (p : PagerState) (w : PageId → Bool) (m : CloakedMemory) (g : ℕ) (q : PageId) (write : Bool) → StandsForMemory p w m → held_in p g ≢ Some q → (settle g m).missed ≡ true → offer q g write m ≡ behind (settle g m).ciphers (rest_of false q g write (settle g m).memory)
-rooms_missed p w m g q write s n missed = offer_later q g write m (unowed_here p w m g q s n) ∙ unless_miss (settle g m) (later q g write) missed ∙ behind_nothing (settle g m).ciphers q g write (settle g m).memory
+pub rooms_missed : (p : PagerState) (w : PageId → Bool) (m : CloakedMemory) (g : ℕ) (q : PageId) (write : Bool) →
+    StandsForMemory p w m → held_in p g ≢ Some q → (settle g m).missed ≡ true →
+    offer q g write m ≡ behind (settle g m).ciphers (rest_of false q g write (settle g m).memory)
+rooms_missed p w m g q write s n missed =
+    offer_later q g write m (unowed_here p w m g q s n) ∙ unless_miss (settle g m) (later q g write) missed
+    ∙ behind_nothing (settle g m).ciphers q g write (settle g m).memory
 
-later_alone : (p : PagerState) (w : PageId → Bool) (m : CloakedMemory) (g : ℕ) (q : PageId) (write : Bool) → StandsForMemory p w m → held_in p g ≡ None → ((k : ℕ) → held_in p k ≢ Some q) → later q g write m ≡ offer q g write m
+later_alone : (p : PagerState) (w : PageId → Bool) (m : CloakedMemory) (g : ℕ) (q : PageId) (write : Bool) →
+    StandsForMemory p w m → held_in p g ≡ None → ((k : ℕ) → held_in p k ≢ Some q) →
+    later q g write m ≡ offer q g write m
 unfolding unless_missed
 later_alone p w m g q write s outside nowhere =
-    ap (λ o. unless_missed (settle_frame_if o m) (λ m'. compared q g write (m'.ledger.recorded q) m')) (none_owing m q (unowed_nowhere p w m s q nowhere)) ∙ offer_bare p w m g q write s outside nowhere
+    ap (λ o. unless_missed (settle_frame_if o m) (λ m'. compared q g write (m'.ledger.recorded q) m'))
+    (none_owing m q (unowed_nowhere p w m s q nowhere)) ∙ offer_bare p w m g q write s outside nowhere
 
 -- Nobody holds the page once the frame is settled.
-pub rooms_alone : (p p1 : PagerState) (w w1 : PageId → Bool) (m : CloakedMemory) (g : ℕ) (q : PageId) (write : Bool) → StandsForMemory p w m → held_in p g ≢ Some q → (settle g m).missed ≡ false →
+pub rooms_alone : (p p1 : PagerState) (w w1 : PageId → Bool) (m : CloakedMemory) (g : ℕ) (q : PageId) (write : Bool) →
+    StandsForMemory p w m → held_in p g ≢ Some q → (settle g m).missed ≡ false →
     StandsForMemory p1 w1 (settle g m).memory → held_in p1 g ≡ None → ((k : ℕ) → held_in p1 k ≢ Some q) →
     offer q g write m ≡ behind (settle g m).ciphers (offer q g write (settle g m).memory)
 rooms_alone p p1 w w1 m g q write s n missed s1 outside nowhere =
@@ -124,38 +163,56 @@ rooms_alone p p1 w w1 m g q write s n missed s1 outside nowhere =
     ∙ ap (λ o. behind (settle g m).ciphers o) (later_alone p1 w1 (settle g m).memory g q write s1 outside nowhere)
 
 -- A frame holds it, and is settled too.
-pub rooms_home : (p p1 : PagerState) (w w1 : PageId → Bool) (m : CloakedMemory) (g f : ℕ) (q : PageId) (write room : Bool) → StandsForMemory p w m → held_in p g ≢ Some q → (settle g m).missed ≡ false →
+pub rooms_home : (p p1 : PagerState) (w w1 : PageId → Bool) (m : CloakedMemory) (g f : ℕ) (q : PageId)
+    (write room : Bool) → StandsForMemory p w m → held_in p g ≢ Some q → (settle g m).missed ≡ false →
     StandsForMemory p1 w1 (settle g m).memory → held_in p1 f ≡ Some q →
-    unless_missed (settle f (settle g m).memory) (λ m'. compared q g write (m'.ledger.recorded q) m') ≡ behind (settle f (settle g m).memory).ciphers (rest_of room q g write (settle f (settle g m).memory).memory) →
-    offer q g write m ≡ behind ((settle g m).ciphers ++ (settle f (settle g m).memory).ciphers) (rest_of room q g write (settle f (settle g m).memory).memory)
+    unless_missed (settle f (settle g m).memory) (λ m'. compared q g write (m'.ledger.recorded q) m') ≡ behind
+    (settle f (settle g m).memory).ciphers (rest_of room q g write (settle f (settle g m).memory).memory) →
+    offer q g write m ≡ behind ((settle g m).ciphers ++ (settle f (settle g m).memory).ciphers)
+    (rest_of room q g write (settle f (settle g m).memory).memory)
 rooms_home p p1 w w1 m g f q write room s n missed s1 held rest =
     let m1 : CloakedMemory = (settle g m).memory in
     offer_later q g write m (unowed_here p w m g q s n) ∙ unless_no_miss (settle g m) (later q g write) missed
-    ∙ ap (λ o. behind (settle g m).ciphers o) (ap (λ x. unless_missed x (λ m'. compared q g write (m'.ledger.recorded q) m')) (home_settled p1 w1 m1 f q s1 held) ∙ rest)
+    ∙ ap (λ o. behind (settle g m).ciphers o)
+    (ap (λ x. unless_missed x (λ m'. compared q g write (m'.ledger.recorded q) m'))
+    (home_settled p1 w1 m1 f q s1 held) ∙ rest)
     ∙ behind_both (settle g m).ciphers (settle f m1).ciphers (rest_of room q g write (settle f m1).memory)
 
 pub rest_missed : (m : CloakedMemory) (g f : ℕ) (q : PageId) (write : Bool) → (settle f m).missed ≡ true →
-    unless_missed (settle f m) (λ m'. compared q g write (m'.ledger.recorded q) m') ≡ behind (settle f m).ciphers (rest_of false q g write (settle f m).memory)
-rest_missed m g f q write missed = unless_miss (settle f m) _ missed ∙ behind_nothing (settle f m).ciphers q g write (settle f m).memory
+    unless_missed (settle f m) (λ m'. compared q g write (m'.ledger.recorded q) m') ≡ behind (settle f m).ciphers
+    (rest_of false q g write (settle f m).memory)
+rest_missed m g f q write missed =
+    unless_miss (settle f m) _ missed ∙ behind_nothing (settle f m).ciphers q g write (settle f m).memory
 
-pub rest_drawn : (p2 : PagerState) (w2 : PageId → Bool) (m : CloakedMemory) (g f : ℕ) (q : PageId) (write : Bool) → (settle f m).missed ≡ false → StandsForMemory p2 w2 (settle f m).memory → held_in p2 g ≡ None → ((k : ℕ) → held_in p2 k ≢ Some q) →
-    unless_missed (settle f m) (λ m'. compared q g write (m'.ledger.recorded q) m') ≡ behind (settle f m).ciphers (rest_of true q g write (settle f m).memory)
+pub rest_drawn : (p2 : PagerState) (w2 : PageId → Bool) (m : CloakedMemory) (g f : ℕ) (q : PageId) (write : Bool) →
+    (settle f m).missed ≡ false → StandsForMemory p2 w2 (settle f m).memory → held_in p2 g ≡ None →
+    ((k : ℕ) → held_in p2 k ≢ Some q) →
+    unless_missed (settle f m) (λ m'. compared q g write (m'.ledger.recorded q) m') ≡ behind (settle f m).ciphers
+    (rest_of true q g write (settle f m).memory)
 rest_drawn p2 w2 m g f q write missed s outside nowhere =
-    unless_no_miss (settle f m) (λ m'. compared q g write (m'.ledger.recorded q) m') missed ∙ ap (λ o. behind (settle f m).ciphers o) (offer_bare p2 w2 (settle f m).memory g q write s outside nowhere)
+    unless_no_miss (settle f m) (λ m'. compared q g write (m'.ledger.recorded q) m') missed
+    ∙ ap (λ o. behind (settle f m).ciphers o) (offer_bare p2 w2 (settle f m).memory g q write s outside nowhere)
 
 -- the frame that held the page was settled: nobody holds it
-pub home_gone : (p p' : PagerState) (f : ℕ) (q : PageId) → IsWholePager p → StaysBut f p p' → held_in p' f ≡ None → held_in p f ≡ Some q → (k : ℕ) → held_in p' k ≢ Some q
+pub home_gone : (p p' : PagerState) (f : ℕ) (q : PageId) → IsWholePager p → StaysBut f p p' → held_in p' f ≡ None →
+    held_in p f ≡ Some q → (k : ℕ) → held_in p' k ≢ Some q
 home_gone p p' f q whole stays none held k there = elim (same_or_not k f) [
   | inl is ↦ (let no : None ≡ Some q = sym (subst (λ n. held_in p' n ≡ None) (sym is) none) ∙ there in cc)
   | inr n ↦ n (whole.one_home k f q (ap page_of (sym (stays.rights k n)) ∙ there) held)
 ]
 
 -- and another frame that was outside still is
-pub outside_still : (p p' : PagerState) (f g : ℕ) (q : PageId) → StaysBut f p p' → held_in p g ≡ None → held_in p f ≡ Some q → held_in p' g ≡ None
-outside_still p p' f g q stays outside held = ap page_of (stays.rights g (λ is. (let no : None ≡ Some q = sym outside ∙ subst (λ n. held_in p n ≡ Some q) (sym is) held in cc))) ∙ outside
+pub outside_still : (p p' : PagerState) (f g : ℕ) (q : PageId) → StaysBut f p p' → held_in p g ≡ None →
+    held_in p f ≡ Some q → held_in p' g ≡ None
+outside_still p p' f g q stays outside held =
+    ap page_of (stays.rights g
+    (λ is. (let no : None ≡ Some q = sym outside ∙ subst (λ n. held_in p n ≡ Some q) (sym is) held in cc))) ∙ outside
 
-pub rest_by : (p2 : PagerState) (w2 : PageId → Bool) (m : CloakedMemory) (g f : ℕ) (q : PageId) (write missed : Bool) → (settle f m).missed ≡ missed → StandsForMemory p2 w2 (settle f m).memory → held_in p2 g ≡ None → ((k : ℕ) → held_in p2 k ≢ Some q) →
-    unless_missed (settle f m) (λ m'. compared q g write (m'.ledger.recorded q) m') ≡ behind (settle f m).ciphers (rest_of (not missed) q g write (settle f m).memory)
+pub rest_by : (p2 : PagerState) (w2 : PageId → Bool) (m : CloakedMemory) (g f : ℕ) (q : PageId)
+    (write missed : Bool) → (settle f m).missed ≡ missed → StandsForMemory p2 w2 (settle f m).memory →
+    held_in p2 g ≡ None → ((k : ℕ) → held_in p2 k ≢ Some q) →
+    unless_missed (settle f m) (λ m'. compared q g write (m'.ledger.recorded q) m') ≡ behind (settle f m).ciphers
+    (rest_of (not missed) q g write (settle f m).memory)
 rest_by p2 w2 m g f q write true missed s outside nowhere = rest_missed m g f q write missed
 rest_by p2 w2 m g f q write false missed s outside nowhere = rest_drawn p2 w2 m g f q write missed s outside nowhere
 
@@ -169,29 +226,40 @@ pick : {A : Type 0} (P : A → Type 0) (b : Bool) (x y : A) → P x → P y → 
 pick P true x y here there = here
 pick P false x y here there = there
 
-compared_draws : (q : PageId) (g : ℕ) (write : Bool) (r : Option (List ℕ)) (m : CloakedMemory) → (compared q g write r m).memory.ledger.draws ≡ m.ledger.draws
+compared_draws : (q : PageId) (g : ℕ) (write : Bool) (r : Option (List ℕ)) (m : CloakedMemory) →
+    (compared q g write r m).memory.ledger.draws ≡ m.ledger.draws
 unfolding compared
 compared_draws q g write None m = refl
 compared_draws q g write (Some c) m =
-    pick (λ (o : AfterOffer). o.memory.ledger.draws ≡ m.ledger.draws) (bytes_eq (get_or m.ram g []) c) _ _ (pick (λ (x : CloakedMemory). x.ledger.draws ≡ m.ledger.draws) write _ _ refl refl) refl
+    pick (λ (o : AfterOffer). o.memory.ledger.draws ≡ m.ledger.draws) (bytes_eq (get_or m.ram g []) c) _ _
+    (pick (λ (x : CloakedMemory). x.ledger.draws ≡ m.ledger.draws) write _ _ refl refl) refl
 
-compared_missed : (q : PageId) (g : ℕ) (write : Bool) (r : Option (List ℕ)) (m : CloakedMemory) → (compared q g write r m).memory.ledger.missed ≡ m.ledger.missed
+compared_missed : (q : PageId) (g : ℕ) (write : Bool) (r : Option (List ℕ)) (m : CloakedMemory) →
+    (compared q g write r m).memory.ledger.missed ≡ m.ledger.missed
 unfolding compared
 compared_missed q g write None m = refl
 compared_missed q g write (Some c) m =
-    pick (λ (o : AfterOffer). o.memory.ledger.missed ≡ m.ledger.missed) (bytes_eq (get_or m.ram g []) c) _ _ (pick (λ (x : CloakedMemory). x.ledger.missed ≡ m.ledger.missed) write _ _ refl refl) refl
+    pick (λ (o : AfterOffer). o.memory.ledger.missed ≡ m.ledger.missed) (bytes_eq (get_or m.ram g []) c) _ _
+    (pick (λ (x : CloakedMemory). x.ledger.missed ≡ m.ledger.missed) write _ _ refl refl) refl
 
-compared_same : (q : PageId) (g : ℕ) (write : Bool) (r : Option (List ℕ)) (m : CloakedMemory) → Same m (compared q g write r m)
+compared_same : (q : PageId) (g : ℕ) (write : Bool) (r : Option (List ℕ)) (m : CloakedMemory) →
+    Same m (compared q g write r m)
 compared_same q g write r m = record { draws = compared_draws q g write r m; missed = compared_missed q g write r m }
 
 nothing_left : {A : Type 0} (xs ys : List A) → xs ++ ys ≡ [] → (xs ≡ []) × (ys ≡ [])
 nothing_left [] ys e = (refl, e)
 nothing_left (x ∷ xs) ys e = absurd (cc)
 
-counted_nothing : (m : CloakedMemory) (s : AfterSettling) → Counts m s → s.missed ≡ false → s.ciphers ≡ [] → (s.memory.ledger.draws ≡ m.ledger.draws) × (s.memory.ledger.missed ≡ m.ledger.missed)
-counted_nothing m s c missed none = (c.draws ∙ ap (λ cs. draws_by cs s.missed m.ledger.draws) none, c.missed ∙ ap (λ b. missed_by b m.ledger.missed) missed)
+counted_nothing : (m : CloakedMemory) (s : AfterSettling) → Counts m s → s.missed ≡ false → s.ciphers ≡ [] →
+    (s.memory.ledger.draws ≡ m.ledger.draws) × (s.memory.ledger.missed ≡ m.ledger.missed)
+counted_nothing m s c missed none = (
+  c.draws ∙ ap (λ cs. draws_by cs s.missed m.ledger.draws) none,
+  c.missed
+      ∙ ap (λ b. missed_by b m.ledger.missed) missed,
+)
 
-unless_same : (m : CloakedMemory) (s : AfterSettling) (next : CloakedMemory → AfterOffer) → Counts m s → ((m' : CloakedMemory) → (next m').ciphers ≡ [] → (next m').answer ≢ Missed → Same m' (next m')) →
+unless_same : (m : CloakedMemory) (s : AfterSettling) (next : CloakedMemory → AfterOffer) → Counts m s →
+    ((m' : CloakedMemory) → (next m').ciphers ≡ [] → (next m').answer ≢ Missed → Same m' (next m')) →
     (unless_missed s next).ciphers ≡ [] → (unless_missed s next).answer ≢ Missed → Same m (unless_missed s next)
 unless_same m s next c same none drawn = by_value s.missed refl
   where
@@ -199,7 +267,8 @@ unless_same m s next c same none drawn = by_value s.missed refl
     by_value true e = absurd (drawn (ap (λ (o : AfterOffer). o.answer) (unless_miss s next e)))
     by_value false e =
         let is = unless_no_miss s next e in
-        let parts = nothing_left s.ciphers (next s.memory).ciphers (sym (ap (λ (o : AfterOffer). o.ciphers) is) ∙ none) in
+        let parts = nothing_left s.ciphers (next s.memory).ciphers
+        (sym (ap (λ (o : AfterOffer). o.ciphers) is) ∙ none) in
         let first = counted_nothing m s c e parts.0 in
         let second = same s.memory parts.1 (λ e'. drawn (ap (λ (o : AfterOffer). o.answer) is ∙ e')) in
         record {
@@ -211,33 +280,50 @@ counts_frame_if : (f : Option ℕ) (m : CloakedMemory) → Counts m (settle_fram
 counts_frame_if None m = record { draws = refl; missed = refl }
 counts_frame_if (Some f) m = counts f m
 
-pub offer_same : (q : PageId) (g : ℕ) (write : Bool) (m : CloakedMemory) → (offer q g write m).ciphers ≡ [] → (offer q g write m).answer ≢ Missed → ((offer q g write m).memory.ledger.draws ≡ m.ledger.draws) × ((offer q g write m).memory.ledger.missed ≡ m.ledger.missed)
+pub offer_same : (q : PageId) (g : ℕ) (write : Bool) (m : CloakedMemory) → (offer q g write m).ciphers ≡ [] →
+    (offer q g write m).answer ≢ Missed →
+    ((offer q g write m).memory.ledger.draws ≡ m.ledger.draws) ×
+    ((offer q g write m).memory.ledger.missed ≡ m.ledger.missed)
 offer_same q g write m none drawn = let s = same in (s.draws, s.missed)
   where
     by_owes : (b : Bool) → owes q (owed_in m g) ≡ b → Same m (offer q g write m)
     by_owes false e =
         let is = offer_later q g write m e in
-        let s = unless_same m (settle g m) (later q g write) (counts g m) (λ m' none' drawn'. unless_same m' (settle_frame_if (owing_frame m' q) m') (λ m''. compared q g write (m''.ledger.recorded q) m'') (counts_frame_if (owing_frame m' q) m') (λ m'' n d. compared_same q g write (m''.ledger.recorded q) m'') none' drawn')
-        (ap (λ (o : AfterOffer). o.ciphers) (sym is) ∙ none) (λ e'. drawn (ap (λ (o : AfterOffer). o.answer) is ∙ e')) in
-        record { draws = ap (λ (o : AfterOffer). o.memory.ledger.draws) is ∙ s.draws; missed = ap (λ (o : AfterOffer). o.memory.ledger.missed) is ∙ s.missed }
+        let s = unless_same m (settle g m) (later q g write) (counts g m)
+        (λ m' none' drawn'. unless_same m' (settle_frame_if (owing_frame m' q) m')
+        (λ m''. compared q g write (m''.ledger.recorded q) m'') (counts_frame_if (owing_frame m' q) m')
+        (λ m'' n d. compared_same q g write (m''.ledger.recorded q) m'') none' drawn')
+        (ap (λ (o : AfterOffer). o.ciphers) (sym is) ∙ none)
+        (λ e'. drawn (ap (λ (o : AfterOffer). o.answer) is ∙ e')) in
+        record {
+          draws = ap (λ (o : AfterOffer). o.memory.ledger.draws) is ∙ s.draws;
+          missed =
+              ap (λ (o : AfterOffer). o.memory.ledger.missed) is ∙ s.missed;
+        }
     by_owes true e =
         let is = offer_at_once q g write m (owing_is q (owed_in m g) e) in
-        record { draws = ap (λ (o : AfterOffer). o.memory.ledger.draws) is; missed = ap (λ (o : AfterOffer). o.memory.ledger.missed) is }
+        record {
+          draws = ap (λ (o : AfterOffer). o.memory.ledger.draws) is;
+          missed =
+              ap (λ (o : AfterOffer). o.memory.ledger.missed) is;
+        }
 
     same : Same m (offer q g write m)
     same = by_owes (owes q (owed_in m g)) refl
 
 -- What an offer of the pager comes to, once there is room, of the memory around it.
-pub offers_so : {E : Type 0} (gave : E → E → List Piece → Type 0) (e e' : E) (old new : Memory) (room_pager : PagerState) (given : Ended) (answer : Offer) (q : PageId) (g : ℕ) (write : Bool) (m : CloakedMemory) →
+pub offers_so : {E : Type 0} (gave : E → E → List Piece → Type 0) (e e' : E) (old new : Memory) (given : Ended)
+    (answer : Offer) (q : PageId) (g : ℕ) (write : Bool) (m : CloakedMemory) →
     Rooms gave e e' old true q g m → (answer ≢ Missed) → offer_of given ≡ answer →
     MeetsUnclashed old.pager new.pager ([], answer) (after_offer q g write) →
     new.stream ≡ old.stream → new.draws ≡ old.draws → new.missed ≡ old.missed →
     (offer q g write m).memory.ledger.clashed ≡ false → Offers gave e e' new given (offer q g write m)
-offers_so {E} gave e e' old new room_pager given answer q g write m r not_missed is moves stream draws missed clash =
+offers_so {E} gave e e' old new given answer q g write m r not_missed is moves stream draws missed clash =
     let x : CloakedMemory = r.memory in
     let o : AfterOffer = offer q g write x in
     let whole : offer q g write m ≡ behind r.ciphers o = r.offers write in
-    let v = moves r.holds.wiped x r.holds.pager (sym (ap (λ (y : AfterOffer). y.memory.ledger.clashed) whole) ∙ clash) in
+    let v = moves r.holds.wiped x r.holds.pager
+    (sym (ap (λ (y : AfterOffer). y.memory.ledger.clashed) whole) ∙ clash) in
     let none : o.ciphers ≡ [] = sym (ap (λ (y : List (ℕ × List ℕ) × Offer). y.0) v.answered) in
     let ends : answer ≡ o.answer = ap (λ (y : List (ℕ × List ℕ) × Offer). y.1) v.answered in
     let same = offer_same q g write x none (λ e''. not_missed (ends ∙ e'')) in
@@ -251,14 +337,18 @@ offers_so {E} gave e e' old new room_pager given answer q g write m r not_missed
         draws = draws ∙ r.holds.draws ∙ sym same.0;
         missed = missed ∙ r.holds.missed ∙ sym same.1;
       };
-      emits = subst (λ (cs : List (ℕ × List ℕ)). Emits gave e e' (item_pieces (cipher_items cs))) (sym (ap (λ cs. r.ciphers ++ cs) none ∙ append-nil r.ciphers)) r.emits;
+      emits = subst (λ (cs : List (ℕ × List ℕ)). Emits gave e e' (item_pieces (cipher_items cs)))
+          (sym (ap (λ cs. r.ciphers ++ cs) none ∙ append-nil r.ciphers)) r.emits;
     })
 
 -- no draw was left in making room
-pub offers_missed : {E : Type 0} (gave : E → E → List Piece → Type 0) (e e' : E) (new : Memory) (given : Ended) (q : PageId) (g : ℕ) (write : Bool) (m : CloakedMemory) → Rooms gave e e' new false q g m → offer_of given ≡ Missed → Offers gave e e' new given (offer q g write m)
+pub offers_missed : {E : Type 0} (gave : E → E → List Piece → Type 0) (e e' : E) (new : Memory) (given : Ended)
+    (q : PageId) (g : ℕ) (write : Bool) (m : CloakedMemory) → Rooms gave e e' new false q g m →
+    offer_of given ≡ Missed → Offers gave e e' new given (offer q g write m)
 offers_missed {E} gave e e' new given q g write m r is =
     subst (λ (y : AfterOffer). Offers gave e e' new given y) (sym (r.offers write)) (record {
       answer = is;
       holds = r.holds;
-      emits = subst (λ (cs : List (ℕ × List ℕ)). Emits gave e e' (item_pieces (cipher_items cs))) (sym (append-nil r.ciphers)) r.emits;
+      emits = subst (λ (cs : List (ℕ × List ℕ)). Emits gave e e' (item_pieces (cipher_items cs)))
+          (sym (append-nil r.ciphers)) r.emits;
     })

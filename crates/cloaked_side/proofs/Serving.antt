@@ -1,6 +1,7 @@
 -- What a side serves, and what is unused and cleared in it, over plain variables.
-use Rattle.std.proofs.Common.{◌≡◌, ◌≢◌, ◌<◌, ◌^◌, ℕ, Bool, true, false, cond, List, slice_index_or, nat_lt, length, refl, ap, sym, ◌∙◌, subst, inl, inr, arith}
-use Rattle.std.proofs.lemmas.Bool.{false≢true, ltb-true, cases_lt}
+use Rattle.std.proofs.Common.{◌≡◌, ◌≢◌, ◌<◌, ◌^◌, ℕ, Bool, true, false, cond, List, slice_index_or, nat_lt, length}
+use Rattle.std.proofs.Common.{refl, ap, sym, ◌∙◌, subst, inl, inr, arith}
+use Rattle.std.proofs.lemmas.Bool.{false≢true, ltb-true, lt-ltb, cases_lt}
 use Rattle.std.proofs.lemmas.List.{get_or_past}
 use Rattle.cloak_base.specs.declared.names.PageId.{PageId}
 use Rattle.cloak_base.specs.declared.names.Kind.{Kind}
@@ -21,26 +22,34 @@ served_by v n d true test small is = (is, subst (λ (x : ℕ). x < n) (sym is) (
 served_by v n d false test small is = absurd (omega (arith, small, is))
 
 -- a number of 32 bits that a side serves is that of its view, and one of the memory's domains
-pub served_is : {E : Type 0} (side : Side E) (d : ℕ) → d < 2 ^ 32 → d ≡ served side → (d ≡ side.view.domain) × (d < domains_in side.memory.now)
-served_is side d small is = served_by side.view.domain (domains_in side.memory.now) d (nat_lt side.view.domain (domains_in side.memory.now)) refl small is
+pub served_is : {E : Type 0} (side : Side E) (d : ℕ) → d < 2 ^ 32 → d ≡ served side →
+    (d ≡ side.view.domain) × (d < domains_in side.memory.now)
+served_is side d small is =
+    served_by side.view.domain (domains_in side.memory.now) d
+    (nat_lt side.view.domain (domains_in side.memory.now)) refl small is
 
-pub served_same : {E : Type 0} (old new : Side E) → SameSize old.memory.now new.memory.now → new.view ≡ old.view → served new ≡ served old
+pub served_same : {E : Type 0} (old new : Side E) → SameSize old.memory.now new.memory.now → new.view ≡ old.view →
+    served new ≡ served old
 served_same old new size view =
     ap (λ (v : View). cond (nat_lt v.domain (domains_in new.memory.now)) v.domain (2 ^ 32)) view
     ∙ ap (λ (n : ℕ). cond (nat_lt old.view.domain n) old.view.domain (2 ^ 32)) size.domains
 
-pub unused_still : {E : Type 0} (old new : Side E) (n : ℕ) → new.view ≡ old.view → HoldsNoMore old.memory.now.pager new.memory.now.pager → IsUnused old n → IsUnused new n
+pub unused_still : {E : Type 0} (old new : Side E) (n : ℕ) → new.view ≡ old.view →
+    HoldsNoMore old.memory.now.pager new.memory.now.pager → IsUnused old n → IsUnused new n
 unused_still old new n view less unused k q e =
     subst (λ (v : View). is_of v.domain n q ≡ false) (sym view) (unused k q (less.held k q e))
 
-pub cleared_still : {E : Type 0} (old new : Side E) (r : ℕ) → new.view ≡ old.view → HoldsNoMore old.memory.now.pager new.memory.now.pager → IsCleared old r → IsCleared new r
+pub cleared_still : {E : Type 0} (old new : Side E) (r : ℕ) → new.view ≡ old.view →
+    HoldsNoMore old.memory.now.pager new.memory.now.pager → IsCleared old r → IsCleared new r
 cleared_still old new r view less cleared = record {
   resource = cleared.resource;
-  none_owed = λ k q e. subst (λ (v : View). is_of v.domain r q ≡ false) (sym view) (cleared.none_owed k q (less.owed k q e));
+  none_owed = λ k q e. subst (λ (v : View). is_of v.domain r q ≡ false) (sym view)
+      (cleared.none_owed k q (less.owed k q e));
 }
 
 -- a page of another resource was offered
-pub unused_offered : {E : Type 0} (old new : Side E) (q : PageId) (n : ℕ) → new.view ≡ old.view → HoldsNoOther q old.memory.now.pager new.memory.now.pager → n ≢ q.resource → IsUnused old n → IsUnused new n
+pub unused_offered : {E : Type 0} (old new : Side E) (q : PageId) (n : ℕ) → new.view ≡ old.view →
+    HoldsNoOther q old.memory.now.pager new.memory.now.pager → n ≢ q.resource → IsUnused old n → IsUnused new n
 unused_offered old new q n view others not_n unused k p e = elim (is_of_tells new.view.domain n p) [
   | inl here ↦
       let other : p ≢ q = λ same. not_n (sym here.1.1 ∙ ap (λ (x : PageId). x.resource) same) in
@@ -57,23 +66,38 @@ mark_inside marked r mark = elim (cases_lt r (length marked)) [
 
 -- The questions that the joint machine answers by its page table.
 
-pub asked_reach : {E : Type 0} (gave : E → E → List Piece → Type 0) (first old new : Side E) (q : PageId) (va : ℕ) (kind : Kind) (a : Answer) (w : World) → Sees gave first old w → is_clashed (ask_reach q va kind w).world ≡ false →
-    (is_clashed (reach_by_table q va kind w).world ≡ false → FollowsFrom (Sees gave first) new a (reach_by_table q va kind w)) → FollowsFrom (Sees gave first) new a (ask_reach q va kind w)
+pub asked_reach : {E : Type 0} (gave : E → E → List Piece → Type 0) (first old new : Side E) (q : PageId) (va : ℕ)
+    (kind : Kind) (a : Answer) (w : World) → Sees gave first old w → is_clashed (ask_reach q va kind w).world ≡ false →
+    (is_clashed (reach_by_table q va kind w).world ≡ false →
+    FollowsFrom (Sees gave first) new a (reach_by_table q va kind w)) →
+    FollowsFrom (Sees gave first) new a (ask_reach q va kind w)
 unfolding ask_reach
 asked_reach gave first old new q va kind a (Flat ram) sees unclashed told = absurd sees
 asked_reach gave first old new q va kind a (Alone handed) sees unclashed told = absurd sees
 asked_reach gave first old new q va kind a (Cloaked c) sees unclashed told = told unclashed
 
-pub asked_get : {E : Type 0} (gave : E → E → List Piece → Type 0) (first old new : Side E) (va width : ℕ) (a : Answer) (w : World) → Sees gave first old w → is_clashed (ask_get va width w).world ≡ false →
-    (is_clashed (get_by_table va width w).world ≡ false → FollowsFrom (Sees gave first) new a (get_by_table va width w)) → FollowsFrom (Sees gave first) new a (ask_get va width w)
+pub asked_get : {E : Type 0} (gave : E → E → List Piece → Type 0) (first old new : Side E) (va width : ℕ) (a : Answer)
+    (w : World) → Sees gave first old w → is_clashed (ask_get va width w).world ≡ false →
+    (is_clashed (get_by_table va width w).world ≡ false →
+    FollowsFrom (Sees gave first) new a (get_by_table va width w)) →
+    FollowsFrom (Sees gave first) new a (ask_get va width w)
 unfolding ask_get
 asked_get gave first old new va width a (Flat ram) sees unclashed told = absurd sees
 asked_get gave first old new va width a (Alone handed) sees unclashed told = absurd sees
 asked_get gave first old new va width a (Cloaked c) sees unclashed told = told unclashed
 
-pub asked_put : {E : Type 0} (gave : E → E → List Piece → Type 0) (first old new : Side E) (va width value : ℕ) (a : Answer) (w : World) → Sees gave first old w → is_clashed (ask_put va width value w).world ≡ false →
-    (is_clashed (put_by_table va width value w).world ≡ false → FollowsFrom (Sees gave first) new a (put_by_table va width value w)) → FollowsFrom (Sees gave first) new a (ask_put va width value w)
+pub asked_put : {E : Type 0} (gave : E → E → List Piece → Type 0) (first old new : Side E) (va width value : ℕ)
+    (a : Answer) (w : World) → Sees gave first old w → is_clashed (ask_put va width value w).world ≡ false →
+    (is_clashed (put_by_table va width value w).world ≡ false →
+    FollowsFrom (Sees gave first) new a (put_by_table va width value w)) →
+    FollowsFrom (Sees gave first) new a (ask_put va width value w)
 unfolding ask_put
 asked_put gave first old new va width value a (Flat ram) sees unclashed told = absurd sees
 asked_put gave first old new va width value a (Alone handed) sees unclashed told = absurd sees
 asked_put gave first old new va width value a (Cloaked c) sees unclashed told = told unclashed
+
+-- a side whose domain is one of the memory's serves it
+pub served_here : {E : Type 0} (side : Side E) → side.view.domain < domains_in side.memory.now →
+    served side ≡ side.view.domain
+served_here side here =
+    ap (λ (b : Bool). cond b side.view.domain (2 ^ 32)) (lt-ltb side.view.domain (domains_in side.memory.now) here)

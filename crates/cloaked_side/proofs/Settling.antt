@@ -1,5 +1,6 @@
 -- A memory that settled a frame.
-use Rattle.std.proofs.Common.{◌≡◌, ℕ, ◌+◌, ◌-◌, ◌^◌, Bool, true, false, List, [], ◌∷◌, Option, None, Some, refl, ap, sym, ◌∙◌, subst}
+use Rattle.std.proofs.Common.{◌≡◌, ℕ, ◌+◌, ◌-◌, ◌^◌, Bool, true, false, List, [], ◌∷◌, Option, None, Some, refl, ap}
+use Rattle.std.proofs.Common.{sym, ◌∙◌, subst}
 use Rattle.std.specs.Prelude.{min}
 use Rattle.std.proofs.lemmas.Bool.{false≢true}
 use Rattle.cloak_base.specs.declared.names.PageId.{PageId}
@@ -28,7 +29,8 @@ pub record Counts (m : CloakedMemory) (s : AfterSettling) : Type 0 where
   pub draws : s.memory.ledger.draws ≡ draws_by s.ciphers s.missed m.ledger.draws
   pub missed : s.memory.ledger.missed ≡ missed_by s.missed m.ledger.missed
 
-counts_owed : (f : ℕ) (q : PageId) (draw : Option (List ℕ × Random)) (m : CloakedMemory) → Counts m (settle_owed f q draw m)
+counts_owed : (f : ℕ) (q : PageId) (draw : Option (List ℕ × Random)) (m : CloakedMemory) →
+    Counts m (settle_owed f q draw m)
 unfolding settle_owed
 counts_owed f q None m = record { draws = refl; missed = refl }
 counts_owed f q (Some draw) m = record { draws = refl; missed = refl }
@@ -42,12 +44,14 @@ pub counts : (f : ℕ) (m : CloakedMemory) → Counts m (settle f m)
 unfolding settle
 counts f m = counts_if f (owed_in m f) m
 
-unwiped : (missed before : Bool) (owed : Option PageId) (w : PageId → Bool) → missed_by missed before ≡ false → (before ≡ false → (q : PageId) → w q ≡ false) → (q : PageId) → wiped_with missed owed w q ≡ false
+unwiped : (missed before : Bool) (owed : Option PageId) (w : PageId → Bool) → missed_by missed before ≡ false →
+    (before ≡ false → (q : PageId) → w q ≡ false) → (q : PageId) → wiped_with missed owed w q ≡ false
 unwiped true before owed w e none q = absurd (false≢true (sym e))
 unwiped false before owed w e none q = none e q
 
 -- A touch of this pager made this of it and of the stream, and showed this. What the memory has is that, read again.
-pub settled_so : {E : Type 0} (gave : E → E → List Piece → Type 0) (e e' : E) (old new : Memory) (p : PagerState) (left : Random) (f : ℕ) (shown : List (ℕ × List ℕ)) (missed : Bool) →
+pub settled_so : {E : Type 0} (gave : E → E → List Piece → Type 0) (e e' : E) (old new : Memory) (p : PagerState)
+    (left : Random) (f : ℕ) (shown : List (ℕ × List ℕ)) (missed : Bool) →
     Meets old.pager old.stream p left (shown, missed) (after_touch f) →
     ((w : PageId → Bool) (m : CloakedMemory) → StandsForMemory p w m → StandsForMemory new.pager w m) →
     new.stream ≡ left → new.draws ≡ draws_by shown missed old.draws → new.missed ≡ missed_by missed old.missed →
@@ -65,16 +69,19 @@ settled_so {E} gave e e' old new p left f shown missed meets again stream draws 
         pager = again _ _ v.stands;
         whole = λ none. unwiped s.missed old.missed (owed_in m f) h.wiped (sym mark' ∙ none) h.whole;
         stream = v.drawn ∙ sym stream;
-        draws = draws ∙ ap (λ (x : List (ℕ × List ℕ) × Bool). draws_by x.0 x.1 old.draws) v.answered ∙ ap (λ n. draws_by s.ciphers s.missed n) h.draws ∙ sym (counts f m).draws;
+        draws = draws ∙ ap (λ (x : List (ℕ × List ℕ) × Bool). draws_by x.0 x.1 old.draws) v.answered
+            ∙ ap (λ n. draws_by s.ciphers s.missed n) h.draws ∙ sym (counts f m).draws;
         missed = mark' ∙ ap (λ b. missed_by s.missed b) h.missed ∙ sym (counts f m).missed;
       };
       emits = subst (λ (x : List (ℕ × List ℕ)). Emits gave e e' (item_pieces (cipher_items x))) cs emits;
     }
 
 -- whether a draw was missing in a settling, where none was before
-pub settle_missed : (f : ℕ) (m : CloakedMemory) → m.ledger.missed ≡ false → (settle f m).missed ≡ (settle f m).memory.ledger.missed
+pub settle_missed : (f : ℕ) (m : CloakedMemory) → m.ledger.missed ≡ false →
+    (settle f m).missed ≡ (settle f m).memory.ledger.missed
 settle_missed f m none = by_value (settle f m).missed (counts f m).missed
   where
-    by_value : (b : Bool) → (settle f m).memory.ledger.missed ≡ missed_by b m.ledger.missed → b ≡ (settle f m).memory.ledger.missed
+    by_value : (b : Bool) → (settle f m).memory.ledger.missed ≡ missed_by b m.ledger.missed →
+        b ≡ (settle f m).memory.ledger.missed
     by_value true e = sym e
     by_value false e = sym (e ∙ none)

@@ -1,9 +1,11 @@
 -- A side after a call on its memory.
-use Rattle.std.proofs.Common.{◌≡◌, ◌≢◌, ℕ, Bool, true, cond, Option, None, length, slice_index_or, List, [], refl, ap, sym, ◌∙◌, subst}
+use Rattle.std.proofs.Common.{◌≡◌, ◌≢◌, ℕ, Bool, true, cond, Option, None, length, slice_index_or, List, [], refl, ap}
+use Rattle.std.proofs.Common.{sym, ◌∙◌, subst}
 use Rattle.std.proofs.lemmas.List.{length-set}
 use Rattle.cloak_model.specs.declared.view.View.{View}
 use Rattle.cloak_model.specs.Cloaking.{CloakedMemory, settle}
-use Rattle.cloak_model.specs.World.{World, Cloak, Flat, Cloaked, Alone, cipher_items, settled, ram_of, stored_at, filled_frame}
+use Rattle.cloak_model.specs.World.{World, Cloak, Flat, Cloaked, Alone, cipher_items, settled, ram_of, stored_at}
+use Rattle.cloak_model.specs.World.{filled_frame}
 use Rattle.cloak_model.specs.Memory.{frame_of, place_of, with_value_in, is_in_ram, is_in_frames}
 use Rattle.cloak_model.specs.Asking.{FollowsFrom, Keeps, answered}
 use Rattle.cloak_model.specs.Ask.{ask_word, shown_word}
@@ -25,7 +27,8 @@ use Rattle.cloaked_side.specs.declared.memory.Memory.{Memory}
 use Rattle.cloaked_side.specs.declared.side.Side.{Side}
 
 pub sees_settled : {E : Type 0} (gave : E → E → List Piece → Type 0) (first old new : Side E) (f : ℕ) (w : World) →
-    ((m : CloakedMemory) → Holds old.memory.now m → Settles gave old.emitter.now new.emitter.now new.memory.now (settle f m)) →
+    ((m : CloakedMemory) → Holds old.memory.now m →
+    Settles gave old.emitter.now new.emitter.now new.memory.now (settle f m)) →
     new.violation ≡ old.violation → new.view ≡ old.view →
     Sees gave first old w → Sees gave first new (settled f w)
 sees_settled gave first old new f (Flat ram) settles violation view sees = sees
@@ -43,7 +46,8 @@ pub same_size : {memory : Memory} → SameSize memory memory
 same_size = record { frames = refl; domains = refl }
 
 size_then : (a b c : Memory) → SameSize a b → SameSize b c → SameSize a c
-size_then a b c first second = record { frames = second.frames ∙ first.frames; domains = second.domains ∙ first.domains }
+size_then a b c first second =
+    record { frames = second.frames ∙ first.frames; domains = second.domains ∙ first.domains }
 
 pub stays_self : {E : Type 0} (gave : E → E → List Piece → Type 0) (side : Side E) → Stays gave side side
 stays_self gave side = record {
@@ -58,7 +62,8 @@ stays_self gave side = record {
 pub within_self : {E : Type 0} (gave : E → E → List Piece → Type 0) (side : Side E) → StaysWithin gave side side
 within_self gave side = record { stays = stays_self gave side; no_more = no_more_self side.memory.now.pager }
 
-pub stays_then : {E : Type 0} (gave : E → E → List Piece → Type 0) (first old new : Side E) → Stays gave first old → Stays gave old new → Stays gave first new
+pub stays_then : {E : Type 0} (gave : E → E → List Piece → Type 0) (first old new : Side E) → Stays gave first old →
+    Stays gave old new → Stays gave first new
 stays_then gave first old new s t = record {
   same_memory = t.same_memory ∙ s.same_memory;
   same_emitter = t.same_emitter ∙ s.same_emitter;
@@ -68,18 +73,21 @@ stays_then gave first old new s t = record {
   others = λ k q n e. s.others k q n (t.others k q (subst (λ (v : View). q.domain ≢ v.domain) (sym s.view) n) e);
 }
 
-pub within_then : {E : Type 0} (gave : E → E → List Piece → Type 0) (first old new : Side E) → StaysWithin gave first old → StaysWithin gave old new → StaysWithin gave first new
+pub within_then : {E : Type 0} (gave : E → E → List Piece → Type 0) (first old new : Side E) →
+    StaysWithin gave first old → StaysWithin gave old new → StaysWithin gave first new
 within_then gave first old new s t = record {
   stays = stays_then gave first old new s.stays t.stays;
   no_more = no_more_then _ old.memory.now.pager _ s.no_more t.no_more;
 }
 
 -- what stays of a side in calls that offer nothing stays of it
-pub stays_on : {E : Type 0} (gave : E → E → List Piece → Type 0) (first old new : Side E) → Keeps (StaysWithin gave) old new → Stays gave first old → Stays gave first new
+pub stays_on : {E : Type 0} (gave : E → E → List Piece → Type 0) (first old new : Side E) →
+    Keeps (StaysWithin gave) old new → Stays gave first old → Stays gave first new
 stays_on gave first old new keeps s = stays_then gave first old new s (keeps old (within_self gave old)).stays
 
 -- another memory and emitter behind the same references
-pub within_more : {E : Type 0} (gave : E → E → List Piece → Type 0) (first old new : Side E) → StaysWithin gave first old →
+pub within_more : {E : Type 0} (gave : E → E → List Piece → Type 0) (first old new : Side E) →
+    StaysWithin gave first old →
     new.memory.ghost_name ≡ old.memory.ghost_name → new.emitter.ghost_name ≡ old.emitter.ghost_name →
     EmitsSome gave old.emitter.now new.emitter.now → SameSize old.memory.now new.memory.now → new.view ≡ old.view →
     HoldsNoMore old.memory.now.pager new.memory.now.pager → StaysWithin gave first new
@@ -96,26 +104,31 @@ within_more gave first old new s memory emitter some size view less = within_the
 })
 
 -- the same, where a page of the domain that is served was offered
-pub stays_offered : {E : Type 0} (gave : E → E → List Piece → Type 0) (first old new : Side E) (q : PageId) → Stays gave first old → q.domain ≡ old.view.domain →
+pub stays_offered : {E : Type 0} (gave : E → E → List Piece → Type 0) (first old new : Side E) (q : PageId) →
+    Stays gave first old → q.domain ≡ old.view.domain →
     new.memory.ghost_name ≡ old.memory.ghost_name → new.emitter.ghost_name ≡ old.emitter.ghost_name →
     EmitsSome gave old.emitter.now new.emitter.now → SameSize old.memory.now new.memory.now → new.view ≡ old.view →
     HoldsNoOther q old.memory.now.pager new.memory.now.pager → Stays gave first new
-stays_offered gave first old new q s own memory emitter some size view others = stays_then gave first old new s (record {
-  same_memory = memory;
-  same_emitter = emitter;
-  emits_some = some;
-  size = size;
-  view = view;
-  others = λ k p n e. others k p (λ same. n (ap (λ (x : PageId). x.domain) same ∙ own)) e;
-})
+stays_offered gave first old new q s own memory emitter some size view others =
+    stays_then gave first old new s (record {
+      same_memory = memory;
+      same_emitter = emitter;
+      emits_some = some;
+      size = size;
+      view = view;
+      others = λ k p n e. others k p (λ same. n (ap (λ (x : PageId). x.domain) same ∙ own)) e;
+    })
 
 -- a pager alone is another one of the same size, in which frames hold no more
-pub within_repaged : {E : Type 0} (gave : E → E → List Piece → Type 0) (first old new : Side E) → StaysWithin gave first old →
-    new.memory.ghost_name ≡ old.memory.ghost_name → new.emitter ≡ old.emitter → SameSize old.memory.now new.memory.now → new.view ≡ old.view →
+pub within_repaged : {E : Type 0} (gave : E → E → List Piece → Type 0) (first old new : Side E) →
+    StaysWithin gave first old →
+    new.memory.ghost_name ≡ old.memory.ghost_name → new.emitter ≡ old.emitter →
+    SameSize old.memory.now new.memory.now → new.view ≡ old.view →
     HoldsNoMore old.memory.now.pager new.memory.now.pager → StaysWithin gave first new
 within_repaged gave first old new s memory emitter size view less =
     within_more gave first old new s memory (ap (λ e. e.ghost_name) emitter)
-    (subst (λ e. EmitsSome gave old.emitter.now e.now) (sym emitter) ([], emits_none gave old.emitter.now)) size view less
+    (subst (λ e. EmitsSome gave old.emitter.now e.now) (sym emitter) ([], emits_none gave old.emitter.now)) size view
+    less
 
 -- another pager, and all else of the side as it was
 pub record Repaged {E : Type 0} (old new : Side E) : Type 0 where
@@ -132,8 +145,10 @@ pub record SameDraws (m m' : CloakedMemory) : Type 0 where
   pub draws : m'.ledger.draws ≡ m.ledger.draws
   pub missed : m'.ledger.missed ≡ m.ledger.missed
 
-pub sees_moved : {E : Type 0} (gave : E → E → List Piece → Type 0) (first old new : Side E) (c : Cloak) (m' : CloakedMemory) → Repaged old new → SameDraws c.memory m' →
-    ((w : PageId → Bool) → StandsForMemory old.memory.now.pager w c.memory → StandsForMemory new.memory.now.pager w m') →
+pub sees_moved : {E : Type 0} (gave : E → E → List Piece → Type 0) (first old new : Side E) (c : Cloak)
+    (m' : CloakedMemory) → Repaged old new → SameDraws c.memory m' →
+    ((w : PageId → Bool) → StandsForMemory old.memory.now.pager w c.memory →
+    StandsForMemory new.memory.now.pager w m') →
     SeesCloak gave first old c → SeesCloak gave first new (record c { memory = m' })
 sees_moved gave first old new c m' same kept stands sees =
     let h = sees.holds in
@@ -152,56 +167,77 @@ sees_moved gave first old new c m' same kept stands sees =
     }
 
 -- Frame f was read: what is shown of it is what the world shows.
-pub read_after : {E A : Type 0} (gave : E → E → List Piece → Type 0) (first old new : Side E) (f : ℕ) (v : World) (show : List ℕ → A) (bytes : List ℕ) (a : A) → Repaged old new →
+pub read_after : {E A : Type 0} (gave : E → E → List Piece → Type 0) (first old new : Side E) (f : ℕ) (v : World)
+    (show : List ℕ → A) (bytes : List ℕ) (a : A) → Repaged old new →
     SeesFrame old.memory.now.pager f bytes → IsReadOnce old.memory.now.pager new.memory.now.pager → a ≡ show bytes →
-    Sees gave first old v → FollowsFrom (λ side w. Sees gave first side w) new a (record { answer = show (slice_index_or (ram_of v) f []); world = v })
+    Sees gave first old v → FollowsFrom (λ side w. Sees gave first side w) new a
+    (record { answer = show (slice_index_or (ram_of v) f []); world = v })
 read_after gave first old new f (Flat ram) show bytes a same sees_frame read is sees = absurd sees
 read_after gave first old new f (Alone handed) show bytes a same sees_frame read is sees = absurd sees
 read_after gave first old new f (Cloaked c) show bytes a same sees_frame read is sees = record {
   answer = is ∙ ap show (sees_frame sees.holds.wiped c.memory sees.holds.pager);
-  stands = sees_moved gave first old new c c.memory same (record { stream = refl; draws = refl; missed = refl }) (λ w s. stands_read _ _ read w c.memory s) sees;
+  stands = sees_moved gave first old new c c.memory same (record { stream = refl; draws = refl; missed = refl })
+      (λ w s. stands_read _ _ read w c.memory s) sees;
 }
 
 -- A value was stored in a frame.
-pub stored_after : {E : Type 0} (gave : E → E → List Piece → Type 0) (first old new : Side E) (pa width value : ℕ) (v : World) → Repaged old new →
+pub stored_after : {E : Type 0} (gave : E → E → List Piece → Type 0) (first old new : Side E) (pa width value : ℕ)
+    (v : World) → Repaged old new →
     ((w : PageId → Bool) (m : CloakedMemory) → StandsForMemory old.memory.now.pager w m →
-    StandsForMemory new.memory.now.pager w (with_shown_frame (frame_of pa) (with_value_in (slice_index_or m.ram (frame_of pa) []) (place_of pa) width value) m)) →
-    Sees gave first old v → FollowsFrom (λ side w. Sees gave first side w) new (tt {0}) (record { answer = tt; world = stored_at pa width value v })
+    StandsForMemory new.memory.now.pager w
+    (with_shown_frame (frame_of pa)
+    (with_value_in (slice_index_or m.ram (frame_of pa) []) (place_of pa) width value) m)) →
+    Sees gave first old v → FollowsFrom (λ side w. Sees gave first side w) new (tt {0})
+    (record { answer = tt; world = stored_at pa width value v })
 stored_after gave first old new pa width value (Flat ram) same stands sees = absurd sees
 stored_after gave first old new pa width value (Alone handed) same stands sees = absurd sees
 stored_after gave first old new pa width value (Cloaked c) same stands sees = record {
   answer = refl;
-  stands = sees_moved gave first old new c _ same (record { stream = refl; draws = refl; missed = refl }) (λ w s. stands w c.memory s) sees;
+  stands = sees_moved gave first old new c _ same (record { stream = refl; draws = refl; missed = refl })
+      (λ w s. stands w c.memory s) sees;
 }
 
 -- A frame was filled.
-pub filled_after : {E : Type 0} (gave : E → E → List Piece → Type 0) (first old new : Side E) (f : ℕ) (bytes : List ℕ) (v : World) → Repaged old new →
-    ((w : PageId → Bool) (m : CloakedMemory) → StandsForMemory old.memory.now.pager w m → StandsForMemory new.memory.now.pager w (with_shown_frame f bytes m)) →
-    Sees gave first old v → FollowsFrom (λ side w. Sees gave first side w) new (tt {0}) (record { answer = tt; world = filled_frame f bytes v })
+pub filled_after : {E : Type 0} (gave : E → E → List Piece → Type 0) (first old new : Side E) (f : ℕ) (bytes : List ℕ)
+    (v : World) → Repaged old new →
+    ((w : PageId → Bool) (m : CloakedMemory) → StandsForMemory old.memory.now.pager w m →
+    StandsForMemory new.memory.now.pager w (with_shown_frame f bytes m)) →
+    Sees gave first old v → FollowsFrom (λ side w. Sees gave first side w) new (tt {0})
+    (record { answer = tt; world = filled_frame f bytes v })
 filled_after gave first old new f bytes (Flat ram) same stands sees = absurd sees
 filled_after gave first old new f bytes (Alone handed) same stands sees = absurd sees
 filled_after gave first old new f bytes (Cloaked c) same stands sees = record {
   answer = refl;
-  stands = sees_moved gave first old new c _ same (record { stream = refl; draws = refl; missed = refl }) (λ w s. stands w c.memory s) sees;
+  stands = sees_moved gave first old new c _ same (record { stream = refl; draws = refl; missed = refl })
+      (λ w s. stands w c.memory s) sees;
 }
 
 -- the world has as many frames as the memory
-pub count_of : {E : Type 0} (gave : E → E → List Piece → Type 0) (first now : Side E) (v : World) → Sees gave first now v → length (ram_of v) ≡ frames_of now.memory.now
+pub count_of : {E : Type 0} (gave : E → E → List Piece → Type 0) (first now : Side E) (v : World) →
+    Sees gave first now v → length (ram_of v) ≡ frames_of now.memory.now
 count_of gave first now (Flat ram) sees = absurd sees
 count_of gave first now (Alone handed) sees = absurd sees
 count_of gave first now (Cloaked c) sees = sees.holds.pager.count
 
 -- The word of an address in RAM.
-pub word_told : {E : Type 0} (gave : E → E → List Piece → Type 0) (first old new : Side E) (w : World) (pa : ℕ) (a : Option ℕ) (b : Bool) → Sees gave first old w → b ≡ is_in_frames (frames_of old.memory.now) pa → b ≡ true →
-    FollowsFrom (λ side v. Sees gave first side v) new a (shown_word pa (settled (frame_of pa) w)) → FollowsFrom (λ side v. Sees gave first side v) new a (ask_word pa w)
+pub word_told : {E : Type 0} (gave : E → E → List Piece → Type 0) (first old new : Side E) (w : World) (pa : ℕ)
+    (a : Option ℕ) (b : Bool) → Sees gave first old w → b ≡ is_in_frames (frames_of old.memory.now) pa → b ≡ true →
+    FollowsFrom (λ side v. Sees gave first side v) new a (shown_word pa (settled (frame_of pa) w)) →
+    FollowsFrom (λ side v. Sees gave first side v) new a (ask_word pa w)
 unfolding ask_word
 word_told gave first old new w pa a b sees is inside told =
-    let in_ram : is_in_ram (ram_of w) pa ≡ true = ap (λ n. is_in_frames n pa) (count_of gave first old w sees) ∙ sym is ∙ inside in
-    subst (λ (t : Bool). FollowsFrom (λ side v. Sees gave first side v) new a (cond t (shown_word pa (settled (frame_of pa) w)) (answered None w))) (sym in_ram) told
+    let in_ram : is_in_ram (ram_of w) pa ≡ true =
+    ap (λ n. is_in_frames n pa) (count_of gave first old w sees) ∙ sym is ∙ inside in
+    subst (λ (t : Bool). FollowsFrom (λ side v. Sees gave first side v) new a
+    (cond t (shown_word pa (settled (frame_of pa) w)) (answered None w))) (sym in_ram) told
 
 -- reading a frame leaves as many frames and domains
-pub read_size : (old new : Memory) → IsReadOnce old.pager new.pager → new.draws ≡ old.draws → new.missed ≡ old.missed → SameSize old new
-read_size old new read draws missed = record { frames = ap (λ (p : PagerState). length p.frames) read; domains = ap (λ (p : PagerState). domains_of p.table) read }
+pub read_size : (old new : Memory) → IsReadOnce old.pager new.pager → SameSize old new
+read_size old new read = record {
+  frames = ap (λ (p : PagerState). length p.frames) read;
+  domains =
+      ap (λ (p : PagerState). domains_of p.table) read;
+}
 
 -- reading a frame, or writing one, leaves the rights
 pub no_more_read : (old new : PagerState) → IsReadOnce old new → HoldsNoMore old new
@@ -215,20 +251,26 @@ written_size old new f bytes written = record {
 }
 
 -- calls that offer nothing bring no page into a frame
-pub no_other_on : {E : Type 0} (gave : E → E → List Piece → Type 0) (old new : Side E) (q : PageId) → Keeps (StaysWithin gave) old new → HoldsNoOther q old.memory.now.pager new.memory.now.pager
+pub no_other_on : {E : Type 0} (gave : E → E → List Piece → Type 0) (old new : Side E) (q : PageId) →
+    Keeps (StaysWithin gave) old new → HoldsNoOther q old.memory.now.pager new.memory.now.pager
 no_other_on gave old new q keeps k p n e = (keeps old (within_self gave old)).no_more.held k p e
 
 -- the same of what stays of it where pages are offered too
 pub stays_repaged : {E : Type 0} (gave : E → E → List Piece → Type 0) (first old new : Side E) → Stays gave first old →
-    new.memory.ghost_name ≡ old.memory.ghost_name → new.emitter ≡ old.emitter → SameSize old.memory.now new.memory.now → new.view ≡ old.view →
+    new.memory.ghost_name ≡ old.memory.ghost_name → new.emitter ≡ old.emitter →
+    SameSize old.memory.now new.memory.now → new.view ≡ old.view →
     HoldsNoMore old.memory.now.pager new.memory.now.pager → Stays gave first new
 stays_repaged gave first old new s memory emitter size view less =
-    stays_then gave first old new s (within_repaged gave old old new (within_self gave old) memory emitter size view less).stays
+    stays_then gave first old new s
+    (within_repaged gave old old new (within_self gave old) memory emitter size view less).stays
 
 -- metadata alone leaves as many frames and domains
-pub turned_size : (old new : Memory) (metas : PageId → Option Meta) → MetasTurn old.pager new.pager metas → SameSize old new
-turned_size old new metas t = record { frames = ap (λ (xs : List (List ℕ)). length xs) t.frames_are; domains = t.domains_stay }
+pub turned_size : (old new : Memory) (metas : PageId → Option Meta) → MetasTurn old.pager new.pager metas →
+    SameSize old new
+turned_size old new metas t =
+    record { frames = ap (λ (xs : List (List ℕ)). length xs) t.frames_are; domains = t.domains_stay }
 
 -- what stays of a side in a call that offers nothing, from the call on
-pub within_of : {E : Type 0} (gave : E → E → List Piece → Type 0) (old new : Side E) → Keeps (StaysWithin gave) old new → StaysWithin gave old new
+pub within_of : {E : Type 0} (gave : E → E → List Piece → Type 0) (old new : Side E) →
+    Keeps (StaysWithin gave) old new → StaysWithin gave old new
 within_of gave old new keeps = keeps old (within_self gave old)

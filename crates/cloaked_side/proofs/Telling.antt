@@ -1,5 +1,5 @@
 -- What a side saw is told of its memory and its emitter.
-use Rattle.std.proofs.Common.{◌≡◌, ℕ, Bool, false, List, [], refl, ap, sym, ◌∙◌, subst}
+use Rattle.std.proofs.Common.{◌≡◌, ℕ, Bool, false, List, [], ap, sym, ◌∙◌, subst}
 use Rattle.cloak_model.specs.declared.view.View.{View}
 use Rattle.cloak_model.specs.World.{World, Cloak, Flat, Cloaked, Alone, is_clashed}
 use Rattle.cloak_model.specs.Asking.{Told, FollowsFrom}
@@ -19,34 +19,41 @@ use Rattle.cloaked_side.specs.declared.side.Side.{Side}
 use Rattle.cloaked_side.proofs.Emitting.{emits_none}
 
 -- a side as a step begins
-pub sees_first : {E : Type 0} (gave : E → E → List Piece → Type 0) (s : Side E) (c : Cloak) → Holds s.memory.now c.memory → c.items ≡ [] → s.violation ≡ c.violation → s.view ≡ c.view → Sees gave s s (Cloaked c)
+pub sees_first : {E : Type 0} (gave : E → E → List Piece → Type 0) (s : Side E) (c : Cloak) →
+    Holds s.memory.now c.memory → c.items ≡ [] → s.violation ≡ c.violation → s.view ≡ c.view → Sees gave s s (Cloaked c)
 sees_first gave s c holds none violation view = record {
   holds = holds;
-  emits = subst (λ is. Emits gave s.emitter.now s.emitter.now (item_pieces is)) (sym none) (emits_none gave s.emitter.now);
+  emits = subst (λ is. Emits gave s.emitter.now s.emitter.now (item_pieces is)) (sym none)
+      (emits_none gave s.emitter.now);
   violation = violation;
   view = view;
 }
 
-holds_world : {E : Type 0} (gave : E → E → List Piece → Type 0) (first now : Side E) (w : World) → Sees gave first now w → HoldsWorld now.memory.now w
+holds_world : {E : Type 0} (gave : E → E → List Piece → Type 0) (first now : Side E) (w : World) →
+    Sees gave first now w → HoldsWorld now.memory.now w
 holds_world gave first now (Flat ram) sees = sees
 holds_world gave first now (Alone handed) sees = sees
 holds_world gave first now (Cloaked c) sees = sees.holds
 
-emits_world : {E : Type 0} (gave : E → E → List Piece → Type 0) (first now : Side E) (w : World) → Sees gave first now w → Emits gave first.emitter.now now.emitter.now (item_pieces (items_of w))
+emits_world : {E : Type 0} (gave : E → E → List Piece → Type 0) (first now : Side E) (w : World) →
+    Sees gave first now w → Emits gave first.emitter.now now.emitter.now (item_pieces (items_of w))
 emits_world gave first now (Flat ram) sees = absurd sees
 emits_world gave first now (Alone handed) sees = absurd sees
 emits_world gave first now (Cloaked c) sees = sees.emits
 
 -- what followed, of the memory and the emitter that the side gave back
-pub tells_from : {E A : Type 0} (gave : E → E → List Piece → Type 0) (first now : Side E) (after : A) (told : Told A) (memory : Memory) (e : E) → memory ≡ now.memory.now → e ≡ now.emitter.now →
+pub tells_from : {E A : Type 0} (gave : E → E → List Piece → Type 0) (first now : Side E) (after : A) (told : Told A)
+    (memory : Memory) (e : E) → memory ≡ now.memory.now → e ≡ now.emitter.now →
     FollowsFrom (λ side w. Sees gave first side w) now after told → Tells gave first.emitter.now e memory after told
 tells_from gave first now after told memory e same_memory same_emitter follows = record {
   answer = follows.answer;
-  emits = subst (λ x. Emits gave first.emitter.now x (item_pieces (items_of told.world))) (sym same_emitter) (emits_world gave first now told.world follows.stands);
+  emits = subst (λ x. Emits gave first.emitter.now x (item_pieces (items_of told.world))) (sym same_emitter)
+      (emits_world gave first now told.world follows.stands);
   holds = subst (λ x. HoldsWorld x told.world) (sym same_memory) (holds_world gave first now told.world follows.stands);
 }
 
-pub view_is : (v : View) (satp : ℕ) (sum mxr : Bool) (domain : ℕ) → v.satp ≡ satp → v.sum ≡ sum → v.mxr ≡ mxr → v.domain ≡ domain → v ≡ record { satp = satp; sum = sum; mxr = mxr; domain = domain }
+pub view_is : (v : View) (satp : ℕ) (sum mxr : Bool) (domain : ℕ) → v.satp ≡ satp → v.sum ≡ sum → v.mxr ≡ mxr →
+    v.domain ≡ domain → v ≡ record { satp = satp; sum = sum; mxr = mxr; domain = domain }
 view_is v satp sum mxr domain a b c d = λ i. record { satp = a i; sum = b i; mxr = c i; domain = d i }
 
 unclashed_ahead : (h : Hart) (disk : List ℕ) (c : Cloak) → c.memory.ledger.clashed ≡ false →
@@ -61,13 +68,16 @@ unclashed_step h disk c none =
     ap (λ (t : Told After). is_clashed t.world) (settles_ahead h disk c) ∙ unclashed_ahead h disk c none
 
 -- what followed of the plain step, told as the step that settles ahead
-pub tells_ahead : {E : Type 0} (gave : E → E → List Piece → Type 0) (first now : Side E) (after : After) (h : Hart) (disk : List ℕ) (c : Cloak) (memory : Memory) (e : E) →
+pub tells_ahead : {E : Type 0} (gave : E → E → List Piece → Type 0) (first now : Side E) (after : After) (h : Hart)
+    (disk : List ℕ) (c : Cloak) (memory : Memory) (e : E) →
     memory ≡ now.memory.now → e ≡ now.emitter.now → c.memory.ledger.clashed ≡ false →
-    (is_clashed (kernel_step h disk (Cloaked c)).world ≡ false → FollowsFrom (λ side w. Sees gave first side w) now after (kernel_step h disk (Cloaked c))) →
+    (is_clashed (kernel_step h disk (Cloaked c)).world ≡ false →
+    FollowsFrom (λ side w. Sees gave first side w) now after (kernel_step h disk (Cloaked c))) →
     Tells gave first.emitter.now e memory after (settled_step h disk c)
 tells_ahead gave first now after h disk c memory e same_memory same_emitter unclashed follows =
     subst (λ (t : Told After). Tells gave first.emitter.now e memory after t) (settles_ahead h disk c)
-    (tells_from gave first now after (kernel_step h disk (Cloaked c)) memory e same_memory same_emitter (follows (unclashed_step h disk c unclashed)))
+    (tells_from gave first now after (kernel_step h disk (Cloaked c)) memory e same_memory same_emitter
+    (follows (unclashed_step h disk c unclashed)))
 
 -- What was so of a memory or an emitter behind a reference is so of the one that was given back.
 pub size_back : (old back new : Memory) → back ≡ new → SameSize old new → SameSize old back
@@ -76,5 +86,6 @@ size_back old back new same size = subst (λ (m : Memory). SameSize old m) (sym 
 pub no_more_back : (old back new : PagerState) → back ≡ new → HoldsNoMore old new → HoldsNoMore old back
 no_more_back old back new same less = subst (λ (p : PagerState). HoldsNoMore old p) (sym same) less
 
-pub some_back : {E : Type 0} (gave : E → E → List Piece → Type 0) (old back new : E) → back ≡ new → EmitsSome gave old new → EmitsSome gave old back
+pub some_back : {E : Type 0} (gave : E → E → List Piece → Type 0) (old back new : E) → back ≡ new →
+    EmitsSome gave old new → EmitsSome gave old back
 some_back gave old back new same some = subst (λ e. EmitsSome gave old e) (sym same) some

@@ -47,6 +47,7 @@ is_some_of domain resource None = false
 is_some_of domain resource (Some q) = is_of domain resource q
 
 -- frame was settled so, and what the kernel is shown was emitted
-pub record Settles {E : Type 0} (gave : E → E → List Piece → Type 0) (e e' : E) (new : Memory) (s : AfterSettling) : Type 0 where
+pub record Settles {E : Type 0} (gave : E → E → List Piece → Type 0) (e e' : E) (new : Memory)
+    (s : AfterSettling) : Type 0 where
   pub holds : Holds new s.memory
   pub emits : Emits gave e e' (item_pieces (cipher_items s.ciphers))

@@ -19,7 +19,8 @@ rest_of true q g write m = offer q g write m
 rest_of false q g write m = record { memory = m; ciphers = []; answer = Missed }
 
 -- the memory behind it, what was shown on the way, and that the offer comes to what remains of it
-pub record Rooms {E : Type 0} (gave : E → E → List Piece → Type 0) (e e' : E) (new : Memory) (room : Bool) (q : PageId) (g : ℕ) (m : CloakedMemory) : Type 0 where
+pub record Rooms {E : Type 0} (gave : E → E → List Piece → Type 0) (e e' : E) (new : Memory) (room : Bool)
+    (q : PageId) (g : ℕ) (m : CloakedMemory) : Type 0 where
   pub memory : CloakedMemory
   pub ciphers : List (ℕ × List ℕ)
   pub holds : Holds new memory
@@ -33,7 +34,8 @@ offer_of ended.Mismatch = Mismatch
 offer_of ended.Missed = Missed
 
 -- a page was offered so, and what the kernel was shown on the way was emitted
-pub record Offers {E : Type 0} (gave : E → E → List Piece → Type 0) (e e' : E) (new : Memory) (given : Ended) (o : AfterOffer) : Type 0 where
+pub record Offers {E : Type 0} (gave : E → E → List Piece → Type 0) (e e' : E) (new : Memory) (given : Ended)
+    (o : AfterOffer) : Type 0 where
   pub answer : offer_of given ≡ o.answer
   pub holds : Holds new o.memory
   pub emits : Emits gave e e' (item_pieces (cipher_items o.ciphers))

@@ -9,7 +9,7 @@ use Rattle.cloaked_side.specs.Holding.{Holds, SameSize, HoldsNoMore, domains_in}
 use Rattle.cloaked_side.specs.declared.side.Side.{Side}
 
 -- From an earlier state of the side on, in which the emitter was as a step had begun, this is what memory and step have
--- come to.
+-- come to. Which pages lie at the addresses of a space a side does not know.
 pub record SeesCloak {E : Type 0} (gave : E → E → List Piece → Type 0) (first now : Side E) (c : Cloak) : Type 0 where
   pub holds : Holds now.memory.now c.memory
   pub emits : Emits gave first.emitter.now now.emitter.now (item_pieces c.items)

@@ -48,8 +48,8 @@ impl<'m, 'e, E: Emit> Side<'m, 'e, E> {
     ghost use Rattle.cloak_model.specs.World.{written};
     ghost use Rattle.cloak_model.specs.Asking.{Follows, Keeps};
     ghost use Rattle.cloak_model.specs.Memory.{is_in_frames, frame_of};
-    ghost use Rattle.cloak_model.specs.AskPages.{replies, if_drawn, got, put_at, stored_inside, put_by_table, ask_offer};
-    ghost use Rattle.cloak_model.specs.AskPages.{reached, reach_by_table, get_by_table, ask_inside_address};
+    ghost use Rattle.cloak_model.specs.AskPages.{replies, if_drawn, got, put_at, stored_inside, ask_offer, reached};
+    ghost use Rattle.cloak_model.specs.AskPages.{reach_by_table, get_by_table, put_by_table, ask_inside_address};
     ghost use Rattle.cloak_pager.specs.State.{held_in, owed_at};
     ghost use Rattle.cloaked_side.specs.Holding.{HoldsNoOther, frames_of, domains_in};
     ghost use Rattle.cloaked_side.specs.Seeing.{Sees, Becomes, FollowsAlways, Stays, StaysWithin, CanRead, CanWrite};

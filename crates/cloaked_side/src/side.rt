@@ -36,7 +36,6 @@ impl<'m, 'e, E: Emit> Side<'m, 'e, E> {
     }
 }
 
-#[tactic(auto, unfolding(cloak_model::specs::Ask::ask_word))]
 impl<'m, 'e, E: Emit> Words for Side<'m, 'e, E> {
     ghost use Rattle.cloaked_side.specs.Seeing.{Sees, StaysWithin};
 
@@ -44,6 +43,7 @@ impl<'m, 'e, E: Emit> Words for Side<'m, 'e, E> {
 
     ghost kept = { λ first side. StaysWithin E.gave first side };
 
+    #[tactic(auto, unfolding(cloak_model::specs::Ask::ask_word))]
     fn word(&mut self, pa: u64) -> Option<u32> {
         if !self.memory.is_inside(pa) {
             return None;
@@ -55,7 +55,6 @@ impl<'m, 'e, E: Emit> Words for Side<'m, 'e, E> {
     }
 }
 
-#[tactic(auto, using(cloak_model::proofs::Later::laters), unfolding(cloak_model::specs::Ask::ask_translate, cloak_model::specs::Ask::ask_inside, cloak_model::specs::Ask::ask_count))]
 impl<'m, 'e, E: Emit> Ram for Side<'m, 'e, E> {
     ghost use Rattle.cloaked_side.specs.Holding.{frames_of};
     ghost use Rattle.cloaked_side.specs.Seeing.{Sees, StaysWithin};
@@ -66,6 +65,7 @@ impl<'m, 'e, E: Emit> Ram for Side<'m, 'e, E> {
 
     ghost count = { λ side. frames_of side.memory.now };
 
+    #[tactic(auto, using(cloak_model::proofs::Later::laters), unfolding(cloak_model::specs::Ask::ask_translate, cloak_model::specs::Ask::ask_inside))]
     fn translate(
         &mut self,
         satp: u32,
@@ -111,6 +111,7 @@ impl<'m, 'e, E: Emit> Ram for Side<'m, 'e, E> {
         self.memory.pager.fill_outside(f, b);
     }
 
+    #[tactic(auto, unfolding(cloak_model::specs::Ask::ask_count))]
     fn frames(&self) -> u32 {
         self.memory.pager.count()
     }

@@ -4,7 +4,7 @@ ghost use Rattle.cloak_pager.specs.State.{held_in};
 ghost use Rattle.cloaked_side.specs.Holding.{domains_in};
 
 use super::*;
-use cloak_base::{Kind, Mode, NoMemory, PageId};
+use cloak_base::{Frame, Kind, Mode, NoMemory, PageId};
 use cloak_model::{Answer, Emit, Item, PageSide, View};
 use cloak_pager::Pager;
 use host_calls::Ram;
@@ -100,6 +100,15 @@ fn load<M: Ram>(m: &mut M, va: u32) -> Option<u32>
     Some(m.read(pa, 4))
 }
 
+/// Fills frame 3 with one byte, and reads a byte of it where it lies.
+fn fill_and_lend<M: Ram>(m: &mut M, b: u8) -> Option<u8> {
+    if m.frames() <= 3 {
+        return None;
+    }
+    m.fill(Frame(3), &[b; 4096]);
+    Some(m.frame(Frame(3))[4095])
+}
+
 /// The page is sealed once. The kernel reads other bytes, and the frame is then as it was shown before.
 #[test]
 fn answers_each_question(rt: HostRuntime) -> Result<(), Fail> {
@@ -122,6 +131,7 @@ fn answers_each_question(rt: HostRuntime) -> Result<(), Fail> {
     assert_eq!(rt; ask_each(&mut side), Some((Answer::Word(0x3344), 77)));
     assert!(rt; load(&mut side, CLOAKED) != Some(77));
     assert_eq!(rt; load(&mut side, PLAIN), Some(0x1122_3344));
+    assert_eq!(rt; fill_and_lend(&mut side, 7), Some(7));
     assert_eq!(rt; (memory.draws, memory.missed), (1, false));
     assert_eq!(rt; (e.ciphers, e.others), (1, 6));
     Ok(())

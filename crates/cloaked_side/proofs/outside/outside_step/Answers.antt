@@ -1,8 +1,6 @@
 use Rattle.std.proofs.Common.{rules, refl, sym}
 use Rattle.cloak_model.specs.World.{Cloaked}
-use Rattle.cloak_model.specs.Exchange.{EmitsSome}
 use Rattle.cloak_model.specs.Joint.{cloak_outside}
-use Rattle.cloaked_side.specs.Holding.{SameSize, HoldsNoMore}
 use Rattle.cloaked_side.proofs.Sided.{within_self}
 use Rattle.cloaked_side.proofs.Telling.{size_back, no_more_back, some_back, sees_first, tells_ahead, view_is}
 use Rattle.cloaked_side.proofs.outside.outside_step.Goals as goal

@@ -30,9 +30,18 @@ returns-in_default-clause-rooms g c m h =
     record {
       memory = (settle f m).memory;
       ciphers = (settle f m).ciphers;
-      holds = record { wiped = st.holds.wiped; pager = st.holds.pager; whole = st.holds.whole; stream = st.holds.stream; draws = st.holds.draws; missed = st.holds.missed };
+      holds = record {
+        wiped = st.holds.wiped;
+        pager = st.holds.pager;
+        whole = st.holds.whole;
+        stream =
+            st.holds.stream;
+        draws = st.holds.draws;
+        missed = st.holds.missed;
+      };
       emits = st.emits;
-      offers = λ write. rooms_alone _ _ h.wiped st.holds.wiped m f c.args.q write h.pager n missed st.holds.pager c.settle.ensures.outside (search rules);
+      offers = λ write. rooms_alone _ _ h.wiped st.holds.wiped m f c.args.q write h.pager n missed st.holds.pager
+          c.settle.ensures.outside (search rules);
     }
 
 pub returns-clause-emits_some : goal.returns-clause-emits_some
@@ -54,10 +63,14 @@ returns-clause-rooms g c m h =
       ciphers = (settle f m).ciphers ++ (settle home m1).ciphers;
       holds = st2.holds;
       emits = emits_ciphers (settle f m).ciphers (settle home m1).ciphers st.emits st2.emits;
-      offers = λ write. rooms_home _ _ h.wiped st.holds.wiped m f home c.args.q write (not c.settle-2.new.self.missed) h.pager n missed st.holds.pager held
-          (rest_by c.settle-2.new.self.pager st2.holds.wiped m1 f home c.args.q write c.settle-2.new.self.missed missed2 st2.holds.pager
-          (outside_still c.settle.new.self.pager _ home f c.args.q c.settle-2.ensures.stays c.settle.ensures.outside held)
-          (home_gone c.settle.new.self.pager _ home c.args.q st.holds.pager.whole c.settle-2.ensures.stays c.settle-2.ensures.outside held));
+      offers = λ write. rooms_home _ _ h.wiped st.holds.wiped m f home c.args.q write
+          (not c.settle-2.new.self.missed) h.pager n missed st.holds.pager held
+          (rest_by c.settle-2.new.self.pager st2.holds.wiped m1 f home c.args.q write c.settle-2.new.self.missed
+          missed2 st2.holds.pager
+          (outside_still c.settle.new.self.pager _ home f c.args.q c.settle-2.ensures.stays c.settle.ensures.outside
+          held)
+          (home_gone c.settle.new.self.pager _ home c.args.q st.holds.pager.whole c.settle-2.ensures.stays
+          c.settle-2.ensures.outside held));
     }
 
 pub returns-then-is_held-clause-no_more : goal.returns-then-is_held-clause-no_more
@@ -71,5 +84,6 @@ returns-in_default-clause-no_more g c = no_more_emptied c.args.g.0 _ _ c.settle.
 
 pub returns-clause-no_more : goal.returns-clause-no_more
 returns-clause-no_more g c =
-    no_more_then _ c.settle.new.self.pager _ (no_more_emptied c.args.g.0 _ _ c.settle.ensures.stays c.settle.ensures.outside)
+    no_more_then _ c.settle.new.self.pager _
+    (no_more_emptied c.args.g.0 _ _ c.settle.ensures.stays c.settle.ensures.outside)
     (no_more_emptied c.in-Some.home.0 _ _ c.settle-2.ensures.stays c.settle-2.ensures.outside)

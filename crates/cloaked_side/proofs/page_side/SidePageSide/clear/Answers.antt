@@ -14,7 +14,8 @@ pub returns-clause-cleared : goal.returns-clause-cleared
 returns-clause-cleared g c ok r mark =
     let new = c.clear_frames.new.self in
     let kept = within_of g.E.Emit.gave c.args.self.now new c.clear_frames.ensures.keeps in
-    let own = (served_is c.args.self.now c.args.domain c.ranges.domain.fits c.requires).0 ∙ sym (ap (λ v. v.domain) kept.stays.view) in
+    let own = (served_is c.args.self.now c.args.domain c.ranges.domain.fits c.requires).0
+    ∙ sym (ap (λ v. v.domain) kept.stays.view) in
     let sixteen : length c.args.resources.now ≡ 16 = search rules in
     record {
       resource = subst (λ (n : ℕ). r < n) sixteen (mark_inside c.args.resources.now r mark);

@@ -7,42 +7,59 @@ use Rattle.cloaked_side.proofs.Serving.{served_is, cleared_still, unused_still, 
 use Rattle.cloaked_side.proofs.page_side.SidePageSide.copy.Goals as goal
 
 pub copy_pages-requires-clause-domain : goal.copy_pages-requires-clause-domain
-copy_pages-requires-clause-domain g c = (served_is c.args.self.now c.args.domain c.ranges.domain.fits c.requires.domain).1
+copy_pages-requires-clause-domain g c =
+    (served_is c.args.self.now c.args.domain c.ranges.domain.fits c.requires.domain).1
 
 pub copy_pages-requires-clause-from : goal.copy_pages-requires-clause-from
 copy_pages-requires-clause-from g c = c.requires.cleared.resource
 
 pub copy_pages-requires-clause-shown : goal.copy_pages-requires-clause-shown
 copy_pages-requires-clause-shown g c =
-    subst (λ (d : ℕ). IsNoneOwed c.args.self.now.memory.now.pager d c.args.from) (sym (served_is c.args.self.now c.args.domain c.ranges.domain.fits c.requires.domain).0) c.requires.cleared.none_owed
+    subst (λ (d : ℕ). IsNoneOwed c.args.self.now.memory.now.pager d c.args.from)
+    (sym (served_is c.args.self.now c.args.domain c.ranges.domain.fits c.requires.domain).0)
+    c.requires.cleared.none_owed
 
 pub copy_pages-requires-clause-away : goal.copy_pages-requires-clause-away
 copy_pages-requires-clause-away g c =
-    subst (λ (d : ℕ). IsNoneHeld c.args.self.now.memory.now.pager d c.args.to) (sym (served_is c.args.self.now c.args.domain c.ranges.domain.fits c.requires.domain).0) c.requires.unused
+    subst (λ (d : ℕ). IsNoneHeld c.args.self.now.memory.now.pager d c.args.to)
+    (sym (served_is c.args.self.now c.args.domain c.ranges.domain.fits c.requires.domain).0) c.requires.unused
 
 pub returns-clause-follows : goal.returns-clause-follows
 returns-clause-follows g c first w sees unclashed =
     sees_copied g.E.Emit.gave first c.args.self.now _ c.args.domain c.args.from c.args.to w
-    (record { stream = refl; draws = refl; missed = refl; emitter = refl; violation = refl; view = refl }) c.copy_pages.ensures.model sees
+    (record { stream = refl; draws = refl; missed = refl; emitter = refl; violation = refl; view = refl })
+    c.copy_pages.ensures.model sees
 
 pub returns-clause-keeps : goal.returns-clause-keeps
 returns-clause-keeps g c first stays =
-    stays_repaged g.E.Emit.gave first c.args.self.now _ stays refl refl (turned_size _ _ _ c.copy_pages.ensures.state) refl (no_more_rights _ _ c.copy_pages.ensures.state.rights_are)
+    stays_repaged g.E.Emit.gave first c.args.self.now _ stays refl refl
+    (turned_size _ _ _ c.copy_pages.ensures.state) refl (no_more_rights _ _ c.copy_pages.ensures.state.rights_are)
 
 pub returns-clause-cleared : goal.returns-clause-cleared
 returns-clause-cleared g c r cleared =
     let old = c.args.self.now in
-    let new = record old { memory = record old.memory { now = record old.memory.now { pager = c.copy_pages.new.self } } } in
-    cleared_still old new r refl (no_more_rights old.memory.now.pager c.copy_pages.new.self c.copy_pages.ensures.state.rights_are) cleared
+    let new = record old {
+      memory =
+          record old.memory { now = record old.memory.now { pager = c.copy_pages.new.self } };
+    } in
+    cleared_still old new r refl
+    (no_more_rights old.memory.now.pager c.copy_pages.new.self c.copy_pages.ensures.state.rights_are) cleared
 
 pub returns-clause-unused : goal.returns-clause-unused
 returns-clause-unused g c n unused =
     let old = c.args.self.now in
-    let new = record old { memory = record old.memory { now = record old.memory.now { pager = c.copy_pages.new.self } } } in
-    unused_still old new n refl (no_more_rights old.memory.now.pager c.copy_pages.new.self c.copy_pages.ensures.state.rights_are) unused
+    let new = record old {
+      memory =
+          record old.memory { now = record old.memory.now { pager = c.copy_pages.new.self } };
+    } in
+    unused_still old new n refl
+    (no_more_rights old.memory.now.pager c.copy_pages.new.self c.copy_pages.ensures.state.rights_are) unused
 
 pub returns-clause-same_domain : goal.returns-clause-same_domain
 returns-clause-same_domain g c =
     let old = c.args.self.now in
-    let new = record old { memory = record old.memory { now = record old.memory.now { pager = c.copy_pages.new.self } } } in
+    let new = record old {
+      memory =
+          record old.memory { now = record old.memory.now { pager = c.copy_pages.new.self } };
+    } in
     served_same old new (turned_size old.memory.now new.memory.now _ c.copy_pages.ensures.state) refl

@@ -8,13 +8,16 @@ use Rattle.cloaked_side.proofs.page_side.SidePageSide.forget.Goals as goal
 
 pub empty_frames-requires : goal.empty_frames-requires
 empty_frames-requires g c = record {
-  cleared = subst (λ (d : ℕ). IsNoneOwed c.args.self.now.memory.now.pager d c.args.resource) (sym (served_is c.args.self.now c.args.domain c.ranges.domain.fits c.requires.domain).0) c.requires.cleared.none_owed;
+  cleared = subst (λ (d : ℕ). IsNoneOwed c.args.self.now.memory.now.pager d c.args.resource)
+      (sym (served_is c.args.self.now c.args.domain c.ranges.domain.fits c.requires.domain).0)
+      c.requires.cleared.none_owed;
 }
 
 pub drop_pages-requires-clause-domain : goal.drop_pages-requires-clause-domain
 drop_pages-requires-clause-domain g c =
     let kept = within_of g.E.Emit.gave c.args.self.now c.empty_frames.new.self c.empty_frames.ensures.keeps in
-    subst (λ (n : ℕ). c.args.domain < n) (sym kept.stays.size.domains) (served_is c.args.self.now c.args.domain c.ranges.domain.fits c.requires.domain).1
+    subst (λ (n : ℕ). c.args.domain < n) (sym kept.stays.size.domains)
+    (served_is c.args.self.now c.args.domain c.ranges.domain.fits c.requires.domain).1
 
 pub drop_pages-requires-clause-resource : goal.drop_pages-requires-clause-resource
 drop_pages-requires-clause-resource g c = c.requires.cleared.resource
@@ -22,39 +25,62 @@ drop_pages-requires-clause-resource g c = c.requires.cleared.resource
 pub returns-clause-follows : goal.returns-clause-follows
 returns-clause-follows g c first w sees unclashed =
     sees_dropped g.E.Emit.gave first c.empty_frames.new.self _ c.args.domain c.args.resource w
-    (record { stream = refl; draws = refl; missed = refl; emitter = refl; violation = refl; view = refl }) c.drop_pages.ensures.model (c.empty_frames.ensures.sees first w sees)
+    (record { stream = refl; draws = refl; missed = refl; emitter = refl; violation = refl; view = refl })
+    c.drop_pages.ensures.model (c.empty_frames.ensures.sees first w sees)
 
 pub returns-clause-keeps : goal.returns-clause-keeps
 returns-clause-keeps g c first stays =
-    stays_repaged g.E.Emit.gave first c.empty_frames.new.self _ (stays_on g.E.Emit.gave first c.args.self.now c.empty_frames.new.self c.empty_frames.ensures.keeps stays)
-    refl refl (turned_size _ _ _ c.drop_pages.ensures.state) refl (no_more_rights _ _ c.drop_pages.ensures.state.rights_are)
+    stays_repaged g.E.Emit.gave first c.empty_frames.new.self _
+    (stays_on g.E.Emit.gave first c.args.self.now c.empty_frames.new.self c.empty_frames.ensures.keeps stays)
+    refl refl (turned_size _ _ _ c.drop_pages.ensures.state) refl
+    (no_more_rights _ _ c.drop_pages.ensures.state.rights_are)
 
 pub returns-clause-cleared : goal.returns-clause-cleared
 returns-clause-cleared g c r cleared =
     let kept = within_of g.E.Emit.gave c.args.self.now c.empty_frames.new.self c.empty_frames.ensures.keeps in
     let mid = c.empty_frames.new.self in
-    let new = record mid { memory = record mid.memory { now = record mid.memory.now { pager = c.drop_pages.new.self } } } in
-    cleared_still c.args.self.now new r kept.stays.view (no_more_then c.args.self.now.memory.now.pager mid.memory.now.pager c.drop_pages.new.self kept.no_more (no_more_rights mid.memory.now.pager c.drop_pages.new.self c.drop_pages.ensures.state.rights_are)) cleared
+    let new = record mid {
+      memory =
+          record mid.memory { now = record mid.memory.now { pager = c.drop_pages.new.self } };
+    } in
+    cleared_still c.args.self.now new r kept.stays.view
+    (no_more_then c.args.self.now.memory.now.pager mid.memory.now.pager c.drop_pages.new.self kept.no_more
+    (no_more_rights mid.memory.now.pager c.drop_pages.new.self c.drop_pages.ensures.state.rights_are)) cleared
 
 pub returns-clause-unused : goal.returns-clause-unused
 returns-clause-unused g c n unused =
     let kept = within_of g.E.Emit.gave c.args.self.now c.empty_frames.new.self c.empty_frames.ensures.keeps in
     let mid = c.empty_frames.new.self in
-    let new = record mid { memory = record mid.memory { now = record mid.memory.now { pager = c.drop_pages.new.self } } } in
-    unused_still c.args.self.now new n kept.stays.view (no_more_then c.args.self.now.memory.now.pager mid.memory.now.pager c.drop_pages.new.self kept.no_more (no_more_rights mid.memory.now.pager c.drop_pages.new.self c.drop_pages.ensures.state.rights_are)) unused
+    let new = record mid {
+      memory =
+          record mid.memory { now = record mid.memory.now { pager = c.drop_pages.new.self } };
+    } in
+    unused_still c.args.self.now new n kept.stays.view
+    (no_more_then c.args.self.now.memory.now.pager mid.memory.now.pager c.drop_pages.new.self kept.no_more
+    (no_more_rights mid.memory.now.pager c.drop_pages.new.self c.drop_pages.ensures.state.rights_are)) unused
 
 pub returns-clause-dropped : goal.returns-clause-dropped
 returns-clause-dropped g c =
     let kept = within_of g.E.Emit.gave c.args.self.now c.empty_frames.new.self c.empty_frames.ensures.keeps in
-    let own = (served_is c.args.self.now c.args.domain c.ranges.domain.fits c.requires.domain).0 ∙ sym (ap (λ v. v.domain) kept.stays.view) in
+    let own = (served_is c.args.self.now c.args.domain c.ranges.domain.fits c.requires.domain).0
+    ∙ sym (ap (λ v. v.domain) kept.stays.view) in
     let mid = c.empty_frames.new.self in
-    let new = record mid { memory = record mid.memory { now = record mid.memory.now { pager = c.drop_pages.new.self } } } in
-    unused_still mid new c.args.resource refl (no_more_rights mid.memory.now.pager c.drop_pages.new.self c.drop_pages.ensures.state.rights_are)
-    (subst (λ (d : ℕ). IsNoneHeld c.empty_frames.new.self.memory.now.pager d c.args.resource) own c.empty_frames.ensures.away)
+    let new = record mid {
+      memory =
+          record mid.memory { now = record mid.memory.now { pager = c.drop_pages.new.self } };
+    } in
+    unused_still mid new c.args.resource refl
+    (no_more_rights mid.memory.now.pager c.drop_pages.new.self c.drop_pages.ensures.state.rights_are)
+    (subst (λ (d : ℕ). IsNoneHeld c.empty_frames.new.self.memory.now.pager d c.args.resource) own
+    c.empty_frames.ensures.away)
 
 pub returns-clause-same_domain : goal.returns-clause-same_domain
 returns-clause-same_domain g c =
     let kept = within_of g.E.Emit.gave c.args.self.now c.empty_frames.new.self c.empty_frames.ensures.keeps in
     let mid = c.empty_frames.new.self in
-    let new = record mid { memory = record mid.memory { now = record mid.memory.now { pager = c.drop_pages.new.self } } } in
-    served_same mid new (turned_size mid.memory.now new.memory.now _ c.drop_pages.ensures.state) refl ∙ served_same c.args.self.now c.empty_frames.new.self kept.stays.size kept.stays.view
+    let new = record mid {
+      memory =
+          record mid.memory { now = record mid.memory.now { pager = c.drop_pages.new.self } };
+    } in
+    served_same mid new (turned_size mid.memory.now new.memory.now _ c.drop_pages.ensures.state) refl
+    ∙ served_same c.args.self.now c.empty_frames.new.self kept.stays.size kept.stays.view

@@ -4,7 +4,8 @@ use Rattle.cloaked_side.proofs.page_side.SidePageSide.get.Goals as goal
 
 pub returns-clause-follows : goal.returns-clause-follows
 returns-clause-follows g c first w sees unclashed =
-    asked_get g.E.Emit.gave first c.args.self.now _ c.args.va c.args.width _ w sees unclashed (λ u. c.get_value.ensures.follows first w sees u)
+    asked_get g.E.Emit.gave first c.args.self.now _ c.args.va c.args.width _ w sees unclashed
+    (λ u. c.get_value.ensures.follows first w sees u)
 
 pub returns-clause-keeps : goal.returns-clause-keeps
 returns-clause-keeps g c first stays = stays_on g.E.Emit.gave first c.args.self.now _ c.get_value.ensures.keeps stays

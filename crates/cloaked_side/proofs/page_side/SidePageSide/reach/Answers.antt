@@ -4,7 +4,8 @@ use Rattle.cloaked_side.proofs.page_side.SidePageSide.reach.Goals as goal
 
 pub returns-clause-follows : goal.returns-clause-follows
 returns-clause-follows g c first w has sees unclashed =
-    asked_reach g.E.Emit.gave first c.args.self.now _ c.args.q c.args.va c.args.kind _ w sees unclashed (λ u. c.reach_page.ensures.follows first w sees u)
+    asked_reach g.E.Emit.gave first c.args.self.now _ c.args.q c.args.va c.args.kind _ w sees unclashed
+    (λ u. c.reach_page.ensures.follows first w sees u)
 
 pub returns-clause-unused : goal.returns-clause-unused
 returns-clause-unused g c n other unused =

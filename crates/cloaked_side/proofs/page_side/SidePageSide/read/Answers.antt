@@ -2,4 +2,6 @@ use Rattle.cloaked_side.proofs.Answering.{plain_told}
 use Rattle.cloaked_side.proofs.page_side.SidePageSide.read.Goals as goal
 
 pub returns-clause-follows : goal.returns-clause-follows
-returns-clause-follows g c first w sees unclashed = plain_told g.E.Emit.gave first c.args.self.now c.args.q c.args.at c.args.width c.read_plain.result w sees c.requires.reached.drawn c.read_plain.ensures.model
+returns-clause-follows g c first w sees unclashed =
+    plain_told g.E.Emit.gave first c.args.self.now c.args.q c.args.at c.args.width c.read_plain.result w sees
+    c.requires.reached.drawn c.read_plain.ensures.model

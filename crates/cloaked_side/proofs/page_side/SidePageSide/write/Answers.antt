@@ -11,13 +11,15 @@ use Rattle.cloaked_side.proofs.page_side.SidePageSide.write.Goals as goal
 pub returns-clause-follows : goal.returns-clause-follows
 returns-clause-follows g c first w sees unclashed =
     plain_stored g.E.Emit.gave first c.args.self.now _ c.args.q c.args.at c.args.width c.args.v w
-    (record { stream = refl; draws = refl; missed = refl; emitter = refl; violation = refl; view = refl }) c.write_plain.ensures.model sees
+    (record { stream = refl; draws = refl; missed = refl; emitter = refl; violation = refl; view = refl })
+    c.write_plain.ensures.model sees
 
 pub returns-clause-keeps : goal.returns-clause-keeps
 returns-clause-keeps g c first stays =
     let owed = c.requires.writable.owed in
     let state = c.write_plain.ensures.state owed.0 owed.1 in
-    stays_repaged g.E.Emit.gave first c.args.self.now _ stays refl refl (written_size _ _ _ _ state) refl (no_more_rights _ _ state.rights_are)
+    stays_repaged g.E.Emit.gave first c.args.self.now _ stays refl refl (written_size _ _ _ _ state) refl
+    (no_more_rights _ _ state.rights_are)
 
 pub returns-clause-writable : goal.returns-clause-writable
 returns-clause-writable g c =
@@ -28,19 +30,32 @@ returns-clause-writable g c =
       resource = r.resource;
       page = r.page;
       drawn = r.drawn;
-      owed = (r.owed.0, ap (λ (rs : List Held). owed_under (slice_index_or rs r.owed.0 Spent)) state.rights_are ∙ r.owed.1);
+      owed = (
+        r.owed.0,
+        ap (λ (rs : List Held). owed_under (slice_index_or rs r.owed.0 Spent)) state.rights_are
+            ∙ r.owed.1,
+      );
     }
 
 pub returns-clause-unused : goal.returns-clause-unused
 returns-clause-unused g c n unused =
     let owed = c.requires.writable.owed in
     let old = c.args.self.now in
-    let new = record old { memory = record old.memory { now = record old.memory.now { pager = c.write_plain.new.self } } } in
-    unused_still old new n refl (no_more_rights old.memory.now.pager c.write_plain.new.self (c.write_plain.ensures.state owed.0 owed.1).rights_are) unused
+    let new = record old {
+      memory =
+          record old.memory { now = record old.memory.now { pager = c.write_plain.new.self } };
+    } in
+    unused_still old new n refl
+    (no_more_rights old.memory.now.pager c.write_plain.new.self
+    (c.write_plain.ensures.state owed.0 owed.1).rights_are) unused
 
 pub returns-clause-same_domain : goal.returns-clause-same_domain
 returns-clause-same_domain g c =
     let owed = c.requires.writable.owed in
     let old = c.args.self.now in
-    let new = record old { memory = record old.memory { now = record old.memory.now { pager = c.write_plain.new.self } } } in
-    served_same old new (written_size old.memory.now new.memory.now _ _ (c.write_plain.ensures.state owed.0 owed.1)) refl
+    let new = record old {
+      memory =
+          record old.memory { now = record old.memory.now { pager = c.write_plain.new.self } };
+    } in
+    served_same old new (written_size old.memory.now new.memory.now _ _ (c.write_plain.ensures.state owed.0 owed.1))
+    refl

@@ -12,9 +12,12 @@ returns-then-self-clause-told g c first w sees =
     let count = c.count-count.result in
     let i = c.loop-i.i in
     let more : count - i ≡ suc (count - (i + 1)) = omega (arith, c.loop-i-test.true) in
-    asked_clear gave first c.args.self.now c.answer.new.self domain marked count c.answer.result w sees c.count-count.ensures.value
-    (clears_missed gave c.args.self.now c.loop-i.self c.clear_frame.new.self c.answer.new.self domain marked i (count - i) (count - (i + 1)) count c.answer.result first w c.loop-i.invariant.told more
-    (λ v seen. c.clear_frame.ensures.sees first v seen) c.if-self.true (λ v seen. c.answer.ensures.told first v seen) sees)
+    asked_clear gave first c.args.self.now c.answer.new.self domain marked count c.answer.result w sees
+    c.count-count.ensures.value
+    (clears_missed gave c.args.self.now c.loop-i.self c.clear_frame.new.self c.answer.new.self domain marked i
+    (count - i) (count - (i + 1)) count c.answer.result first w c.loop-i.invariant.told more
+    (λ v seen. c.clear_frame.ensures.sees first v seen) c.if-self.true
+    (λ v seen. c.answer.ensures.told first v seen) sees)
 
 pub loop-i-preserved : goal.loop-i-preserved
 loop-i-preserved g c =
@@ -26,11 +29,14 @@ loop-i-preserved g c =
     let mid = c.clear_frame.new.self in
     let more : count - i ≡ suc (count - (i + 1)) = omega (arith, c.loop-i-test.true) in
     record {
-      told = clears_next gave c.args.self.now c.loop-i.self mid domain marked i (count - i) (count - (i + 1)) count c.loop-i.invariant.told more (λ first v seen. c.clear_frame.ensures.sees first v seen) c.if-self.false;
+      told = clears_next gave c.args.self.now c.loop-i.self mid domain marked i (count - i)
+          (count - (i + 1)) count c.loop-i.invariant.told more
+          (λ first v seen. c.clear_frame.ensures.sees first v seen) c.if-self.false;
       keeps = λ first stays. c.clear_frame.ensures.keeps first (c.loop-i.invariant.keeps first stays);
       same_count = c.clear_frame.ensures.same_count ∙ c.loop-i.invariant.same_count;
       cleared =
-          cleared_next domain marked i c.loop-i.self.memory.now.pager mid.memory.now.pager (within_of gave c.loop-i.self mid c.clear_frame.ensures.keeps).no_more
+          cleared_next domain marked i c.loop-i.self.memory.now.pager mid.memory.now.pager
+          (within_of gave c.loop-i.self mid c.clear_frame.ensures.keeps).no_more
           c.loop-i.invariant.cleared c.clear_frame.ensures.cleared;
     }
 
@@ -42,8 +48,10 @@ returns-clause-told g c first w sees =
     let count = c.count-count.result in
     let i = c.loop-i.i in
     let none : count - i ≡ 0 = omega (arith, c.loop-i-test.false) in
-    asked_clear gave first c.args.self.now c.answer-2.new.self domain marked count c.answer-2.result w sees c.count-count.ensures.value
-    (clears_end gave c.args.self.now c.loop-i.self c.answer-2.new.self domain marked i (count - i) count c.answer-2.result first w c.loop-i.invariant.told none
+    asked_clear gave first c.args.self.now c.answer-2.new.self domain marked count c.answer-2.result w sees
+    c.count-count.ensures.value
+    (clears_end gave c.args.self.now c.loop-i.self c.answer-2.new.self domain marked i
+    (count - i) count c.answer-2.result first w c.loop-i.invariant.told none
     (λ v seen. c.answer-2.ensures.told first v seen) sees)
 
 pub returns-clause-cleared : goal.returns-clause-cleared
@@ -52,4 +60,5 @@ returns-clause-cleared g c ok r mark =
     let past : c.count-count.result ≤ c.loop-i.i = c.loop-i-test.false in
     let same : length p.frames ≡ c.count-count.result = c.loop-i.invariant.same_count in
     subst (λ m. IsNoneOwed m.now.pager c.args.domain r) (sym c.answer-2.ensures.same)
-    (none_owed p c.args.domain c.args.resources.now c.whole.ensures (λ k lt. c.loop-i.invariant.cleared k (omega (arith, lt, past, same))) r mark)
+    (none_owed p c.args.domain c.args.resources.now c.whole.ensures
+    (λ k lt. c.loop-i.invariant.cleared k (omega (arith, lt, past, same))) r mark)

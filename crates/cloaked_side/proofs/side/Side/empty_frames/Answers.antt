@@ -15,5 +15,6 @@ loop-i-preserved g c =
       sees = λ first w seen. c.empty_frame.ensures.sees first w (c.loop-i.invariant.sees first w seen);
       keeps = λ first stays. c.empty_frame.ensures.keeps first (c.loop-i.invariant.keeps first stays);
       same_count = c.empty_frame.ensures.same_count ∙ c.loop-i.invariant.same_count;
-      away = away_next c.args.domain c.args.resource c.loop-i.i c.loop-i.self.memory.now.pager c.empty_frame.new.self.memory.now.pager less c.loop-i.invariant.away c.empty_frame.ensures.away;
+      away = away_next c.args.domain c.args.resource c.loop-i.i c.loop-i.self.memory.now.pager
+          c.empty_frame.new.self.memory.now.pager less c.loop-i.invariant.away c.empty_frame.ensures.away;
     }

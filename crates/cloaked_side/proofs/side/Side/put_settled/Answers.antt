@@ -7,7 +7,8 @@ use Rattle.cloaked_side.proofs.Answering.{drawn_told, undrawn_told, put_told}
 use Rattle.cloaked_side.proofs.side.Side.put_settled.Goals as goal
 
 pub returns-then-self-clause-told : goal.returns-then-self-clause-told
-returns-then-self-clause-told g c first w sees = drawn_told g.E.Emit.gave first c.args.self.now _ _ _ w sees c.if-self.true (c.answer.ensures.told first w sees)
+returns-then-self-clause-told g c first w sees =
+    drawn_told g.E.Emit.gave first c.args.self.now _ _ _ w sees c.if-self.true (c.answer.ensures.told first w sees)
 
 pub returns-clause-told : goal.returns-clause-told
 returns-clause-told g c first w sees =
@@ -15,19 +16,32 @@ returns-clause-told g c first w sees =
     let pa = c.args.pa in
     let width = c.args.width in
     let old = c.args.self.now in
-    let mid = record old { memory = record old.memory { now = record old.memory.now { pager = c.write_outside.new.self } } } in
-    let at_frame = subst (λ (f : ℕ). MeetsStill old.memory.now.pager c.write_outside.new.self (tt {0}) (after_write_outside f (record { at = c.place_of.result; width = width; value = c.args.v }))) c.frame_of.ensures c.write_outside.ensures.model in
-    let meets = subst (λ (at : ℕ). MeetsStill old.memory.now.pager c.write_outside.new.self (tt {0}) (after_write_outside (frame_of pa) (record { at = at; width = width; value = c.args.v }))) c.place_of.ensures.value at_frame in
+    let mid = record old {
+      memory =
+          record old.memory { now = record old.memory.now { pager = c.write_outside.new.self } };
+    } in
+    let at_frame = subst (λ (f : ℕ). MeetsStill old.memory.now.pager c.write_outside.new.self (tt {0})
+    (after_write_outside f (record { at = c.place_of.result; width = width; value = c.args.v })))
+    c.frame_of.ensures c.write_outside.ensures.model in
+    let meets = subst (λ (at : ℕ). MeetsStill old.memory.now.pager c.write_outside.new.self (tt {0})
+    (after_write_outside (frame_of pa) (record { at = at; width = width; value = c.args.v })))
+    c.place_of.ensures.value at_frame in
     let stored = stored_after gave first old mid pa width c.args.v w
     (record { stream = refl; draws = refl; missed = refl; emitter = refl; violation = refl; view = refl })
     (λ wiped m stands. (meets wiped m stands).stands) sees in
     undrawn_told gave first old _ _ _ w sees c.if-self.false
-    (put_told gave first mid c.write_put.new.self _ pa width c.args.v _ w stored.stands (λ v seen. c.write_put.ensures.sees first v seen)
+    (put_told gave first mid c.write_put.new.self _ pa width c.args.v _ w stored.stands
+    (λ v seen. c.write_put.ensures.sees first v seen)
     (λ v seen. c.answer-2.ensures.told first v seen))
 
 pub returns-clause-keeps : goal.returns-clause-keeps
 returns-clause-keeps g c first stays =
     let old = c.args.self.now in
-    let mid = record old { memory = record old.memory { now = record old.memory.now { pager = c.write_outside.new.self } } } in
+    let mid = record old {
+      memory =
+          record old.memory { now = record old.memory.now { pager = c.write_outside.new.self } };
+    } in
     c.answer-2.ensures.keeps first (c.write_put.ensures.keeps first
-    (within_repaged g.E.Emit.gave first old mid stays refl refl (written_size _ _ _ _ c.write_outside.ensures.state) refl (no_more_rights _ _ c.write_outside.ensures.state.rights_are)))
+    (within_repaged g.E.Emit.gave first old mid stays refl refl
+    (written_size _ _ _ _ c.write_outside.ensures.state) refl
+    (no_more_rights _ _ c.write_outside.ensures.state.rights_are)))

@@ -4,7 +4,8 @@ use Rattle.cloaked_side.proofs.Holders.{no_more_emptied}
 use Rattle.cloaked_side.proofs.side.Side.settle.Goals as goal
 
 pub returns-clause-sees : goal.returns-clause-sees
-returns-clause-sees g c first w sees = sees_settled _ first c.args.self.now _ c.args.f.0 w c.settle.ensures.settles refl refl sees
+returns-clause-sees g c first w sees =
+    sees_settled _ first c.args.self.now _ c.args.f.0 w c.settle.ensures.settles refl refl sees
 
 pub returns-clause-keeps : goal.returns-clause-keeps
 returns-clause-keeps g c first stays =

@@ -15,5 +15,6 @@ returns-clause-follows g c first w sees unclashed =
 
 pub returns-clause-keeps : goal.returns-clause-keeps
 returns-clause-keeps g c first stays =
-    within_repaged g.E.Emit.gave first c.settle.new.self _ (c.settle.ensures.keeps first stays) refl refl (written_size _ _ _ _ c.fill_outside.ensures.state) refl
+    within_repaged g.E.Emit.gave first c.settle.new.self _ (c.settle.ensures.keeps first stays) refl refl
+    (written_size _ _ _ _ c.fill_outside.ensures.state) refl
     (no_more_rights _ _ c.fill_outside.ensures.state.rights_are)

@@ -13,14 +13,17 @@ returns-clause-follows g c first w sees unclashed =
     let pa = c.args.pa in
     let side = c.settle.new.self in
     let bytes = c.read_outside.result.now in
-    read_after g.E.Emit.gave first side _ (frame_of pa) (settled (frame_of pa) w) (λ b. value_in b (place_of pa) c.args.width) bytes c.value_in.result
+    read_after g.E.Emit.gave first side _ (frame_of pa) (settled (frame_of pa) w)
+    (λ b. value_in b (place_of pa) c.args.width) bytes c.value_in.result
     (record { stream = refl; draws = refl; missed = refl; emitter = refl; violation = refl; view = refl })
     (subst (λ (f : ℕ). SeesFrame side.memory.now.pager f bytes) c.frame_of-f.ensures c.read_outside.ensures.model)
     c.read_outside.follows.holds-at-none
     (c.value_in.ensures ∙ ap (λ n. value_in bytes n c.args.width) c.place_of.ensures.value)
-    (subst (λ (f : ℕ). Sees g.E.Emit.gave first side (settled f w)) c.frame_of-f.ensures (c.settle.ensures.sees first w sees))
+    (subst (λ (f : ℕ). Sees g.E.Emit.gave first side (settled f w)) c.frame_of-f.ensures
+    (c.settle.ensures.sees first w sees))
 
 pub returns-clause-keeps : goal.returns-clause-keeps
 returns-clause-keeps g c first stays =
-    within_repaged g.E.Emit.gave first c.settle.new.self _ (c.settle.ensures.keeps first stays) refl refl (read_size _ _ c.read_outside.follows.holds-at-none refl refl) refl
+    within_repaged g.E.Emit.gave first c.settle.new.self _ (c.settle.ensures.keeps first stays) refl refl
+    (read_size _ _ c.read_outside.follows.holds-at-none) refl
     (no_more_read _ _ c.read_outside.follows.holds-at-none)

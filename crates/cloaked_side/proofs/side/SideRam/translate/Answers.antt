@@ -5,7 +5,8 @@ use Rattle.cloaked_side.proofs.Sided.{within_of}
 use Rattle.cloaked_side.proofs.side.SideRam.translate.Goals as goal
 
 pub returns-in-Err-clause-same_count : goal.returns-in-Err-clause-same_count
-returns-in-Err-clause-same_count g c = (within_of g.E.Emit.gave c.args.self.now c.walk.new.w c.walk.ensures.keeps).stays.size.frames
+returns-in-Err-clause-same_count g c =
+    (within_of g.E.Emit.gave c.args.self.now c.walk.new.w c.walk.ensures.keeps).stays.size.frames
 
 pub returns-then-is_inside-clause-inside : goal.returns-then-is_inside-clause-inside
 returns-then-is_inside-clause-inside g c =
@@ -13,7 +14,9 @@ returns-then-is_inside-clause-inside g c =
     subst (λ (n : ℕ). IsTrue (is_in_frames n c.in-Ok.walked.pa)) size (search rules)
 
 pub returns-then-is_inside-clause-same_count : goal.returns-then-is_inside-clause-same_count
-returns-then-is_inside-clause-same_count g c = (within_of g.E.Emit.gave c.args.self.now c.walk.new.w c.walk.ensures.keeps).stays.size.frames
+returns-then-is_inside-clause-same_count g c =
+    (within_of g.E.Emit.gave c.args.self.now c.walk.new.w c.walk.ensures.keeps).stays.size.frames
 
 pub returns-else-is_inside-clause-same_count : goal.returns-else-is_inside-clause-same_count
-returns-else-is_inside-clause-same_count g c = (within_of g.E.Emit.gave c.args.self.now c.walk.new.w c.walk.ensures.keeps).stays.size.frames
+returns-else-is_inside-clause-same_count g c =
+    (within_of g.E.Emit.gave c.args.self.now c.walk.new.w c.walk.ensures.keeps).stays.size.frames

@@ -13,14 +13,20 @@ unfolding ask_store
 returns-clause-follows g c first w sees unclashed =
     let pa = c.args.pa in
     let side = c.settle.new.self in
-    let at_frame = subst (λ (f : ℕ). MeetsStill side.memory.now.pager c.write_outside.new.self (tt {0}) (after_write_outside f (record { at = c.place_of.result; width = c.args.width; value = c.args.v }))) c.frame_of-f.ensures c.write_outside.ensures.model in
-    let meets = subst (λ (at : ℕ). MeetsStill side.memory.now.pager c.write_outside.new.self (tt {0}) (after_write_outside (frame_of pa) (record { at = at; width = c.args.width; value = c.args.v }))) c.place_of.ensures.value at_frame in
+    let at_frame = subst (λ (f : ℕ). MeetsStill side.memory.now.pager c.write_outside.new.self (tt {0})
+    (after_write_outside f (record { at = c.place_of.result; width = c.args.width; value = c.args.v })))
+    c.frame_of-f.ensures c.write_outside.ensures.model in
+    let meets = subst (λ (at : ℕ). MeetsStill side.memory.now.pager c.write_outside.new.self (tt {0})
+    (after_write_outside (frame_of pa) (record { at = at; width = c.args.width; value = c.args.v })))
+    c.place_of.ensures.value at_frame in
     stored_after g.E.Emit.gave first side _ pa c.args.width c.args.v (settled (frame_of pa) w)
     (record { stream = refl; draws = refl; missed = refl; emitter = refl; violation = refl; view = refl })
     (λ wiped m stands. (meets wiped m stands).stands)
-    (subst (λ (f : ℕ). Sees g.E.Emit.gave first side (settled f w)) c.frame_of-f.ensures (c.settle.ensures.sees first w sees))
+    (subst (λ (f : ℕ). Sees g.E.Emit.gave first side (settled f w)) c.frame_of-f.ensures
+    (c.settle.ensures.sees first w sees))
 
 pub returns-clause-keeps : goal.returns-clause-keeps
 returns-clause-keeps g c first stays =
-    within_repaged g.E.Emit.gave first c.settle.new.self _ (c.settle.ensures.keeps first stays) refl refl (written_size _ _ _ _ c.write_outside.ensures.state) refl
+    within_repaged g.E.Emit.gave first c.settle.new.self _ (c.settle.ensures.keeps first stays) refl refl
+    (written_size _ _ _ _ c.write_outside.ensures.state) refl
     (no_more_rights _ _ c.write_outside.ensures.state.rights_are)
