@@ -1,5 +1,5 @@
 -- What the commands answer.
-use Rattle.std.proofs.Common.{◌≡◌, ◌≢◌, ◌<◌, ◌-◌, ◌^◌, ℕ, Bool, true, false, List, [], refl, sym, ◌∙◌, ap, subst, inl}
+use Rattle.std.proofs.Common.{◌≡◌, ◌<◌, ◌-◌, ◌^◌, ℕ, Bool, true, false, List, [], refl, sym, ◌∙◌, ap, subst, inl}
 use Rattle.std.proofs.Common.{inr, Option, Result, Ok, Err, OnOk, OnErr, is_err}
 use Rattle.cloak_base.specs.declared.causes.Failed.{Failed}
 use Rattle.cloak_base.specs.declared.causes.Stop.{Stop}
@@ -12,15 +12,18 @@ use Rattle.std.specs.Result.{result_map_both}
 use Rattle.cloak_model.specs.Opening.{Opened, Lack}
 use Rattle.cloak_model.specs.Run.{Run, run_of, due}
 use Rattle.cloak_machine.specs.declared.machine.Machine.{Machine}
+use Rattle.cloak_cli.specs.declared.refusal.Refusal.{Refusal}
+use Rattle.cloak_cli.specs.declared.refusal.Refusal.TheVariants as refusal
 use Rattle.cloak_cli.specs.declared.status.Status.{Status}
 use Rattle.cloak_cli.specs.declared.status.Status.TheVariants as status
 use Rattle.cloak_cli.specs.declared.outlet.Outlet.{Outlet}
-use Rattle.cloak_cli.specs.Outside.{Raised, Output, Outside, outside}
+use Rattle.cloak_cli.specs.Outside.{Raised, Output, Outside, OnlyRead, outside}
 use Rattle.cloak_cli.specs.Outlet.{pieces_left, FailedAt, WroteAll, WroteFront, Writes, Gave}
-use Rattle.cloak_cli.specs.Running.{IsStatusOf, status_of}
+use Rattle.cloak_cli.specs.Refusal.{status_of_refusal}
+use Rattle.cloak_cli.specs.Running.{status_of}
 use Rattle.cloak_cli.specs.Preparing.{IsPrepared}
 use Rattle.cloak_cli.specs.Recording.{Records, Refuses}
-use Rattle.cloak_cli.specs.Answering.{NoRun, HasCause, IsRefused, AsksRun, HasRun, Answers, KeepsFiles, refusal_line}
+use Rattle.cloak_cli.specs.Answering.{NoRun, IsRefused, AsksRun, HasRun, Answers, KeepsFiles}
 
 -- what a call that succeeded or failed did
 
@@ -46,30 +49,27 @@ raised {before} {now} rose low = record { greater = Rose-below before now rose l
 
 -- A line that refuses.
 
-answers_refused : {S O : Type 0} (asked : spec.Asked) (s : Status) (before after : Outside S O) →
-    HasCause asked before after s → IsRefused asked s before after → Answers asked before after s
-answers_refused asked status.Done before after cause refused = absurd cause
-answers_refused asked status.Violation before after cause refused = absurd cause
-answers_refused asked status.Usage before after cause refused = refused
-answers_refused asked status.BadBundle before after cause refused = absurd cause
-answers_refused asked status.ReadFault before after cause refused = refused
-answers_refused asked status.WriteFault before after cause refused = absurd cause
-answers_refused asked status.NoMemory before after cause refused = refused
-answers_refused asked status.NoRandom before after cause refused = absurd cause
-answers_refused asked status.BadRecord before after cause refused = absurd cause
-answers_refused asked status.Unbuilt before after cause refused = refused
+answers_refused : {S O : Type 0} (asked : spec.Asked) (r : Refusal) (before after : Outside S O) →
+    IsRefused asked (status_of_refusal r) before after → Answers asked before after (status_of_refusal r)
+answers_refused asked refusal.NotBuilt before after refused = refused
+answers_refused asked (refusal.Usage fault) before after refused = refused
+answers_refused asked (refusal.BadBundle fault) before after refused = refused
+answers_refused asked refusal.ReadFault before after refused = refused
+answers_refused asked refusal.NoMemory before after refused = refused
+answers_refused asked refusal.NoKey before after refused = inl refused
+answers_refused asked refusal.NoPageDraw before after refused = inl refused
 
 -- what is answered where there is no run
-pub answers_no_run : {S O : Type 0} {asked : spec.Asked} {s : Status} {before after : Outside S O} {given : Status} →
-    NoRun asked s before after → before.output.faults < 2 ^ 64 - 1 →
-    Refuses before.output after.output s (refusal_line asked s) given → Answers asked before after given
-answers_no_run {S} {O} {asked} {s} {before} {after} {given} none low (inl shows) =
+pub answers_no_run : {S O : Type 0} {asked : spec.Asked} {r : Refusal} {before after : Outside S O} {given : Status} →
+    NoRun asked r before.files after.files → before.output.faults < 2 ^ 64 - 1 →
+    Refuses before.output after.output r given → Answers asked before after given
+answers_no_run {S} {O} {asked} {r} {before} {after} {given} none low (inl shows) =
     subst (λ (x : Status). Answers asked before after x) (sym shows.answer)
-    (answers_refused asked s before after none.cause
-    (record { no_run = none; line = shows.line_shown; faults = shows.faults }))
-answers_no_run {S} {O} {asked} {s} {before} {after} {given} none low (inr front) =
+    (answers_refused asked r before after
+    (record { refused = r; status = refl; no_run = none; line = shows.line_shown; faults = shows.faults }))
+answers_no_run {S} {O} {asked} {r} {before} {after} {given} none low (inr front) =
     subst (λ (x : Status). Answers asked before after x) (sym front.answer)
-    (inl (record { refused = s; no_run = none; line = front.front_shown; faults = raised front.faults low }))
+    (inl (record { refused = r; no_run = none; line = front.front_shown; faults = raised front.faults low }))
 
 -- Writing a run.
 
@@ -120,7 +120,7 @@ records_front {S} {O} name before mid after r w empty others reading writing out
 
 -- the record was begun, and the run was written whole
 records_all : {S O : Type 0} (name : List ℕ) (before mid after : Outside S O) (given : Status) (r : Run) →
-    WroteAll name mid after (due r) → IsStatusOf given r.stop →
+    WroteAll name mid after (due r) → given ≡ status_of r.stop →
     Tells (mid.files.held name) [] → OtherFiles name before.files.held mid.files.held →
     mid.files.reading ≡ before.files.reading → mid.files.writing ≡ before.files.writing → mid.output ≡ before.output →
     Records name before after given r
@@ -161,7 +161,7 @@ pub recorded_all : {S O : Type 0} {held : S → List ℕ → Option (List ℕ)} 
     {taken : O → Option (List ℕ)} {faults : O → ℕ} {first now : Outlet S O} (old s' : S) (o' : O) (given : Status)
     (r : Run) →
     Gave held reading writing taken faults first now (due r) → first.failed ≡ false → now.failed ≡ false →
-    s' ≡ now.shelf.now → o' ≡ now.out.now → IsStatusOf given r.stop →
+    s' ≡ now.shelf.now → o' ≡ now.out.now → given ≡ status_of r.stop →
     Tells (held first.shelf.now first.name.now) [] → OtherFiles first.name.now (held old) (held first.shelf.now) →
     reading first.shelf.now ≡ reading old → writing first.shelf.now ≡ writing old →
     Records first.name.now (outside held reading writing taken faults old first.out.now)
@@ -180,11 +180,11 @@ recorded_all {S} {O} {held} {reading} {writing} {taken} {faults} {first} {now} o
 
 -- the status of a run says that it was made
 answers_stop : {S O : Type 0} (asked : spec.Asked) (before after : Outside S O) (cause : Stop) →
-    cause ≢ stop.NoRandom → HasRun asked (status_of cause) before after → Answers asked before after (status_of cause)
-answers_stop asked before after (stop.Halt value) drawn run = run
-answers_stop asked before after stop.Budget drawn run = run
-answers_stop asked before after (stop.Violation violation) drawn run = run
-answers_stop asked before after stop.NoRandom drawn run = absurd (drawn refl)
+    HasRun asked (status_of cause) before after → Answers asked before after (status_of cause)
+answers_stop asked before after (stop.Halt value) run = run
+answers_stop asked before after stop.Budget run = run
+answers_stop asked before after (stop.Violation violation) run = run
+answers_stop asked before after stop.NoRandom run = inr run
 
 failed_above : {S O : Type 0} (piece : Piece) (before after : Outside S O) → before.files.writing < 2 ^ 64 - 1 →
     before.output.faults < 2 ^ 64 - 1 → FailedAt Rose piece before after → FailedAt Raised piece before after
@@ -192,52 +192,44 @@ failed_above (recorded bytes) before after low_writing low_faults fault = (raise
 failed_above (shown bytes) before after low_writing low_faults fault = (fault.0, raised fault.1 low_faults)
 
 -- what the words ask for where a machine was prepared
-pub asks_run : {told : List ℕ → Option (List ℕ)} {bundle_name : List ℕ} {number : ℕ} {machine : Machine}
-    (record_name : List ℕ) (steps : ℕ) (prepared : IsPrepared (told bundle_name) number machine) →
-    AsksRun (spec.Run bundle_name record_name steps number) told record_name
-    (run_of prepared.bundle steps prepared.opened)
-asks_run {told} {bundle_name} {number} {machine} record_name steps prepared = record {
-  bundle_name = bundle_name;
+pub asks_run : {asked : spec.Asked} {held : List ℕ → Option (List ℕ)} {record_name : List ℕ} {steps : ℕ}
+    {machine : Machine} (prepared : IsPrepared asked held record_name steps machine) →
+    AsksRun asked held record_name (run_of prepared.bundle steps prepared.opened)
+asks_run {asked} {held} {record_name} {steps} {machine} prepared = record {
   steps = steps;
-  number = number;
-  run = refl;
   bundle = prepared.bundle;
-  is = prepared.is;
-  first_form = prepared.first_form;
+  stream = prepared.stream;
+  asks = prepared.asks;
   joint = ap (λ (opened : Result Opened Lack). result_map_both (run_of prepared.bundle steps) (λ lack. lack) opened)
       prepared.opens;
 }
 
--- What opening a machine left of the outside.
-pub record Reads {S O : Type 0} (before mid : Outside S O) : Type 0 where
-  pub held : SameFiles before.files.held mid.files.held
-  pub reading : mid.files.reading ≡ before.files.reading
-  pub writing : mid.files.writing ≡ before.files.writing
-  pub output : mid.output ≡ before.output
-
 pub answers_recorded : {S O : Type 0} {asked : spec.Asked} {name : List ℕ} {before mid after : Outside S O}
-    {given : Status} {r : Run} → AsksRun asked before.files.held name r → Reads before mid →
-    before.files.writing < 2 ^ 64 - 1 → before.output.faults < 2 ^ 64 - 1 → Records name mid after given r →
+    {given : Status} {r : Run} → AsksRun asked before.files.held name r →
+    OnlyRead before.files mid.files → mid.output ≡ before.output → before.files.writing < 2 ^ 64 - 1 → before.output.faults < 2 ^ 64 - 1 → Records name mid after given r →
     Answers asked before after given
-answers_recorded {S} {O} {asked} {name} {before} {mid} {after} {given} {r} asks reads low_writing low_faults records =
+answers_recorded {S} {O} {asked} {name} {before} {mid} {after} {given} {r} asks reads same_output low_writing
+    low_faults records =
     let others : OtherFiles name before.files.held after.files.held = λ other apart. records.others other apart ∙
     reads.held other in
     elim records.outcome [
       | inl all ↦
-          subst (λ (s : Status). Answers asked before after s) (sym all.answer.is)
-          (answers_stop asked before after r.stop all.answer.drawn (record {
+          subst (λ (s : Status). Answers asked before after s) (sym all.answer)
+          (answers_stop asked before after r.stop (record {
             record_name = name;
             made = r;
             asks = asks;
-            status = refl;
-            file = all.file;
-            output = subst (λ (o : Output O). Grows o.taken after.output.taken (shown_bytes (due r))) reads.output
-                all.output;
+            written = record {
+              status = refl;
+              file = all.file;
+              output = subst (λ (o : Output O). Grows o.taken after.output.taken (shown_bytes (due r))) same_output
+                  all.output;
+            };
             others = others;
             nothing_rose = record {
               reading = records.reading ∙ reads.reading;
               writing = all.nothing_rose.writing ∙ reads.writing;
-              faults = all.nothing_rose.faults ∙ ap (λ (o : Output O). o.faults) reads.output;
+              faults = all.nothing_rose.faults ∙ ap (λ (o : Output O). o.faults) same_output;
             };
           }))
       | inr (inl none) ↦
@@ -250,7 +242,7 @@ answers_recorded {S} {O} {asked} {name} {before} {mid} {after} {given} {r} asks 
             others = others;
             reading = records.reading ∙ reads.reading;
             writing = raised (Rose-after _ _ _ reads.writing none.writing) low_writing;
-            untouched = none.untouched ∙ reads.output;
+            untouched = none.untouched ∙ same_output;
           })))
       | inr (inr front) ↦
           subst (λ (s : Status). Answers asked before after s) (sym front.answer)
@@ -258,14 +250,16 @@ answers_recorded {S} {O} {asked} {name} {before} {mid} {after} {given} {r} asks 
             record_name = name;
             due_run = r;
             asks = asks;
-            cut = front.cut;
-            file = front.file;
-            output = subst (λ (o : Output O). Grows o.taken after.output.taken (shown_bytes (pieces_left front.cut)))
-                reads.output front.output;
+            cut_off = record {
+              cut = front.cut;
+              file = front.file;
+              output = subst (λ (o : Output O). Grows o.taken after.output.taken
+                  (shown_bytes (pieces_left front.cut))) same_output front.output;
+              fault = failed_above front.cut.piece before after low_writing low_faults
+                  (failed_since front.cut.piece before mid after reads.writing same_output front.fault);
+            };
             others = others;
             reading = records.reading ∙ reads.reading;
-            fault = failed_above front.cut.piece before after low_writing low_faults
-                (failed_since front.cut.piece before mid after reads.writing reads.output front.fault);
           })))
     ]
 
@@ -278,40 +272,57 @@ answers_asked {S} {O} {asked} {same} before after given is answers =
 -- What every answer says of the files.
 
 keeps_run : (asked : spec.Asked) (answer : Status) (held held' : List ℕ → Option (List ℕ))
-    (record_name bundle_name : List ℕ) (steps number : ℕ) → asked ≡ spec.Run bundle_name record_name steps number →
-    KeepsFiles (spec.Run bundle_name record_name steps number) answer held held' → KeepsFiles asked answer held held'
-keeps_run asked answer held held' record_name bundle_name steps number is keeps =
+    (record_name bundle_name : List ℕ) (steps : ℕ) (from : spec.Randomness) →
+    asked ≡ spec.Run bundle_name record_name steps from →
+    KeepsFiles (spec.Run bundle_name record_name steps from) answer held held' → KeepsFiles asked answer held held'
+keeps_run asked answer held held' record_name bundle_name steps from is keeps =
     subst (λ (a : spec.Asked). KeepsFiles a answer held held') (sym is) keeps
 
 same_files : (asked : spec.Asked) (answer : Status) (held held' : List ℕ → Option (List ℕ)) → SameFiles held held' →
     KeepsFiles asked answer held held'
 same_files spec.NotBuilt answer held held' same = same
 same_files (spec.Faulty fault) answer held held' same = same
-same_files (spec.Run bundle_name record_name steps number) status.Done held held' same = λ other apart. same other
-same_files (spec.Run bundle_name record_name steps number) status.Violation held held' same = λ other apart. same other
-same_files (spec.Run bundle_name record_name steps number) status.Usage held held' same = same
-same_files (spec.Run bundle_name record_name steps number) status.BadBundle held held' same = same
-same_files (spec.Run bundle_name record_name steps number) status.ReadFault held held' same = same
-same_files (spec.Run bundle_name record_name steps number) status.WriteFault held held' same = λ other apart. same other
-same_files (spec.Run bundle_name record_name steps number) status.NoMemory held held' same = same
-same_files (spec.Run bundle_name record_name steps number) status.NoRandom held held' same = same
-same_files (spec.Run bundle_name record_name steps number) status.BadRecord held held' same = same
-same_files (spec.Run bundle_name record_name steps number) status.Unbuilt held held' same = same
+same_files (spec.Run bundle_name record_name steps from) status.Done held held' same = λ other apart. same other
+same_files (spec.Run bundle_name record_name steps from) status.Violation held held' same = λ other apart. same other
+same_files (spec.Run bundle_name record_name steps from) status.Usage held held' same = same
+same_files (spec.Run bundle_name record_name steps from) status.BadBundle held held' same = same
+same_files (spec.Run bundle_name record_name steps from) status.ReadFault held held' same = same
+same_files (spec.Run bundle_name record_name steps from) status.WriteFault held held' same = λ other apart. same other
+same_files (spec.Run bundle_name record_name steps from) status.NoMemory held held' same = same
+same_files (spec.Run bundle_name record_name steps from) status.NoRandom held held' same = λ other apart. same other
+same_files (spec.Run bundle_name record_name steps from) status.BadRecord held held' same = same
+same_files (spec.Run bundle_name record_name steps from) status.Unbuilt held held' same = same
+
+-- a run that was made changed its record at most
+keeps_record : {S O : Type 0} (asked : spec.Asked) (before after : Outside S O) (answer given : Status) →
+    HasRun asked given before after →
+    ((bundle_name record_name : List ℕ) (steps : ℕ) (from : spec.Randomness) →
+    OtherFiles record_name before.files.held after.files.held →
+    KeepsFiles (spec.Run bundle_name record_name steps from) answer before.files.held after.files.held) →
+    KeepsFiles asked answer before.files.held after.files.held
+keeps_record {S} {O} asked before after answer given run keeps =
+    let asks = run.asks.asks in
+    keeps_run asked answer _ _ run.record_name asks.bundle_name run.asks.steps asks.randomness asks.run
+    (keeps asks.bundle_name run.record_name run.asks.steps asks.randomness run.others)
 
 pub keeps_files : {S O : Type 0} (asked : spec.Asked) (before after : Outside S O) (answer : Status) →
     Answers asked before after answer → KeepsFiles asked answer before.files.held after.files.held
-keeps_files asked before after status.Done run = keeps_run asked status.Done _ _ _ _ _ _ run.asks.run run.others
+keeps_files asked before after status.Done run =
+    keeps_record asked before after status.Done status.Done run (λ b r n f others. others)
 keeps_files asked before after status.Violation run =
-    keeps_run asked status.Violation _ _ _ _ _ _ run.asks.run run.others
+    keeps_record asked before after status.Violation status.Violation run (λ b r n f others. others)
 keeps_files asked before after status.Usage refused = same_files asked status.Usage _ _ refused.no_run.held
-keeps_files asked before after status.BadBundle never = absurd never
+keeps_files asked before after status.BadBundle refused = same_files asked status.BadBundle _ _ refused.no_run.held
 keeps_files asked before after status.ReadFault refused = same_files asked status.ReadFault _ _ refused.no_run.held
 keeps_files asked before after status.WriteFault (inl line) = same_files asked status.WriteFault _ _ line.no_run.held
 keeps_files asked before after status.WriteFault (inr (inl none)) =
-    keeps_run asked status.WriteFault _ _ _ _ _ _ none.asks.run none.others
+    keeps_run asked status.WriteFault _ _ _ _ _ _ none.asks.asks.run none.others
 keeps_files asked before after status.WriteFault (inr (inr broke)) =
-    keeps_run asked status.WriteFault _ _ _ _ _ _ broke.asks.run broke.others
+    keeps_run asked status.WriteFault _ _ _ _ _ _ broke.asks.asks.run broke.others
 keeps_files asked before after status.NoMemory refused = same_files asked status.NoMemory _ _ refused.no_run.held
-keeps_files asked before after status.NoRandom never = absurd never
+keeps_files asked before after status.NoRandom (inl refused) =
+    same_files asked status.NoRandom _ _ refused.no_run.held
+keeps_files asked before after status.NoRandom (inr run) =
+    keeps_record asked before after status.NoRandom status.NoRandom run (λ b r n f others. others)
 keeps_files asked before after status.BadRecord never = absurd never
 keeps_files asked before after status.Unbuilt refused = same_files asked status.Unbuilt _ _ refused.no_run.held

@@ -1,6 +1,9 @@
 pub mod AnswerFacts
+pub mod FileFacts
 mod NumberFacts
+pub mod OptionFacts
 pub mod OutletFacts
 pub mod PrepareFacts
+pub mod RefusalFacts
 pub mod RunFacts
 pub mod ProgramFacts

@@ -1,34 +1,30 @@
--- Why there is no machine.
-use Rattle.std.proofs.Common.{◌≡◌, ℕ, Bool, true, false, List, [], Err, ◌⊎◌, inl, inr, refl, sym, ◌∙◌, subst}
-use Rattle.cloak_base.specs.Random.{Random, next_draw, numbered}
-use Rattle.cloak_model.specs.declared.image.Bundle.{Bundle}
-use Rattle.cloak_model.specs.Bundle.{IsBundle}
-use Rattle.cloak_model.specs.Opening.{Lack, NoKey, NoPageDraw, opening}
-use Rattle.cloak_machine.specs.declared.machine.OpenFault.{OpenFault}
-use Rattle.cloak_machine.specs.declared.machine.OpenFault.TheVariants as fault
-use Rattle.cloak_machine.specs.Standing.{Opens}
-use Rattle.cloak_machine.proofs.Opening.{opening-some}
-use Rattle.cloak_cli.specs.Answering.{IsFirstForm, IsOtherForm}
+-- What is read of the files of a run.
+use Rattle.std.proofs.Common.{◌≡◌, ◌<◌, ℕ, min, true, List, length, take, ◌∙◌, ap, refl, subst, arith, Option, Some, None}
+use Rattle.std.proofs.Common.{IfSome}
+use Rattle.std.proofs.lemmas.Bool.Decides.{nat_tests}
+use Rattle.std.proofs.lemmas.List.{take_min}
+use Rattle.std.specs.Prelude.{nat_lt}
+use Rattle.cloak_model.specs.Bundle.{largest_bundle}
+use Rattle.cloak_model.specs.BundleFault.{bundle_fault}
+use Rattle.cloak_model.specs.declared.fault.BundleFault.TheVariants.{TooLarge}
 
--- the one bundle that these bytes are is of another form
-pub other_form : (bytes : List ℕ) (found : Bundle) (first_form : Bool) →
-    ((b : Bundle) → IsBundle bytes b → found ≡ b) → (IsFirstForm found → first_form ≡ true) → first_form ≡ false →
-    IsOtherForm bytes
-other_form bytes found first_form only test no_test = λ b is first.
-    let yes : first_form ≡ true = test (subst IsFirstForm (sym (only b is)) first) in
-    absurd (let clash : true ≡ false = sym yes ∙ no_test in cc)
+-- a file above the largest
+above : (file : List ℕ) → largest_bundle < length file → bundle_fault file ≡ Some (TooLarge 0)
+unfolding bundle_fault
+above file large = let yes : nat_lt largest_bundle (length file) ≡ true = grind (arith, nat_tests) in rw yes refl
 
--- a numbered stream always has a key, and no page of a program is placed here
-never_lacks : (b : Bundle) (n : ℕ) (lack : Lack) → b.programs ≡ [] → opening b (numbered n) ≡ Err lack → ⊥
-unfolding numbered next_draw
-never_lacks b n lack none is = let some = opening-some b (numbered n) _ _ none refl in cc
+pub too_large : (told : Option (List ℕ)) (size : ℕ) → IfSome told (λ file. size ≡ length file) →
+    largest_bundle < size → IfSome told (λ file. bundle_fault file ≡ Some (TooLarge 0))
+too_large (Some file) size long large = above file (let same : size ≡ length file = long in omega (arith, same, large))
+too_large None size long large = tt
 
-pub always_opens : (b : Bundle) (s : Random) (n : ℕ) (e : OpenFault) → b.programs ≡ [] → s ≡ numbered n →
-    Opens b s (Err e) → (e ≡ fault.NoKey) ⊎ (e ≡ fault.NoRandom) → ⊥
-always_opens b s n e none is opens (inl no_key) =
-    never_lacks b n NoKey none
-    (subst (λ (r : Random). opening b r ≡ Err NoKey) is (subst (λ (f : OpenFault). Opens b s (Err f)) no_key opens))
-always_opens b s n e none is opens (inr no_random) =
-    never_lacks b n NoPageDraw none
-    (subst (λ (r : Random). opening b r ≡ Err NoPageDraw) is
-    (subst (λ (f : OpenFault). Opens b s (Err f)) no_random opens))
+-- the front of a file, as far as it goes
+pub front_within : (told mid : Option (List ℕ)) (bytes : List ℕ) (size count limit : ℕ) → mid ≡ told →
+    IfSome told (λ file. size ≡ length file) → count ≡ min size limit → IfSome mid (λ file. bytes ≡ take count file) →
+    IfSome told (λ file. bytes ≡ take limit file)
+front_within (Some file) mid bytes size count limit same long least front =
+    let taken : bytes ≡ take count file =
+    subst (λ (o : Option (List ℕ)). IfSome o (λ f. bytes ≡ take count f)) same front in
+    let few : count ≡ min limit (length file) = let whole : size ≡ length file = long in omega (arith, whole, least) in
+    taken ∙ (ap (λ n. take n file) few ∙ take_min limit file)
+front_within None mid bytes size count limit same long least front = tt

@@ -1,18 +1,17 @@
 -- The steps of a run, one after another, and its end.
-use Rattle.std.proofs.Common.{◌≡◌, ◌≢◌, ◌<◌, ℕ, suc, ◌+◌, ◌-◌, Bool, true, false, cond, List, [], ◌∷◌, ◌++◌, length}
+use Rattle.std.proofs.Common.{◌≡◌, ◌<◌, ℕ, suc, ◌+◌, ◌-◌, Bool, true, false, List, [], ◌∷◌, ◌++◌, length}
 use Rattle.std.proofs.Common.{refl, sym, ◌∙◌, ap, subst, append_assoc, length-append, arith, Option, Some, None}
 use Rattle.std.specs.Prelude.{unwrap_or, codes}
 use Rattle.std.proofs.lemmas.List.{append-nil}
 use Rattle.cloak_base.specs.declared.causes.Stop.{Stop}
 use Rattle.cloak_base.specs.declared.causes.Stop.TheVariants as stop
-use Rattle.cloak_base.specs.declared.causes.Violation.{Violation}
 use Rattle.cloak_model.specs.declared.image.Bundle.{Bundle}
 use Rattle.cloak_model.specs.declared.item.Item.{Item}
 use Rattle.cloak_model.specs.Exchange.{Piece, recorded, shown, record_magic, item_pieces, Emits}
 use Rattle.cloak_model.specs.Opening.{Opened}
 use Rattle.cloak_model.specs.Parts.{Joint}
 use Rattle.cloak_model.specs.Report.{report}
-use Rattle.cloak_model.specs.Joint.{Moment, Turn, joint_step, after_turn, stop_of, stop_without_miss}
+use Rattle.cloak_model.specs.Joint.{Moment, Turn, joint_step, after_turn, stop_of}
 use Rattle.cloak_model.specs.Run.{unless_stopped, turns_from, joint_after, last_stop, turn_pieces, turns_pieces}
 use Rattle.cloak_model.specs.Run.{closing, cause_of, first_moment, run_of, due}
 use Rattle.cloak_machine.specs.declared.machine.Machine.{Machine}
@@ -138,17 +137,8 @@ record IsMade {E : Type 0} (gave : E → E → List Piece → Type 0) (e e' : E)
   count : length made ≡ n + 1
   emits : Emits gave e e' (turns_pieces (suc m.steps) made)
   last : last_stop None made ≡ given
-  drawn : given ≢ Some stop.NoRandom
   stands : StandsForMoment machine now
   left : turns_from budget m ≡ made ++ unless_stopped given (turns_from (budget - (n + 1))) now
-
--- no draw was missing in a step of a machine without programs
-undrawn : (missed : Bool) (violation : Option Violation) (halt : Option ℕ) → missed ≡ false →
-    cond missed (Some stop.NoRandom) (stop_without_miss violation halt) ≡ Some stop.NoRandom → ⊥
-undrawn true violation halt none is = absurd (let clash : true ≡ false = none in cc)
-undrawn false (Some v) halt none is = cc
-undrawn false None (Some value) none is = cc
-undrawn false None None none is = cc
 
 is_made : {E : Type 0} (gave : E → E → List Piece → Type 0) (e f h : E) (old new : Machine) (given : Option Stop)
     (n budget : ℕ) (m : Moment) (on : GoesOn gave e f old n budget m) →
@@ -168,8 +158,6 @@ is_made {E} gave e f h old new given n budget m on makes within =
           (suc m.steps) on.made t)
           (emits_then on.emits makes.emits);
       last = last_stop-last None on.made t ∙ sym makes.answer;
-      drawn = λ is. undrawn t.joint.memory.ledger.missed t.violation t.halt
-          (ap (λ (x : Moment). x.joint.memory.ledger.missed) makes.stands.moment) (sym makes.answer ∙ is);
       stands = makes.stands;
       left =
           on.left
@@ -216,7 +204,6 @@ stops-made {E} gave failed e h new n budget m given cause stopped made =
       emits = made.emits;
       made = λ unfailed. record {
         last = sym stopped ∙ sym made.last;
-        drawn = λ is. made.drawn (stopped ∙ is);
         stands = subst (λ (x : Moment). StandsForMoment new x) made.now_is made.stands;
       };
     })
@@ -239,7 +226,7 @@ runs-all {E} gave failed e f machine budget n m on whole =
     (turns_from-none n budget (moment_behind m on.made) whole) ∙ append-nil on.made in
     subst (λ (ts : List Turn). RunsSteps gave failed e f machine None m ts) (sym all) (record {
       emits = on.emits;
-      made = λ unfailed. record { last = sym on.on; drawn = λ is. cc; stands = on.stands };
+      made = λ unfailed. record { last = sym on.on; stands = on.stands };
     })
 
 -- as many steps as there were until the outlet failed, which is then given the others in vain
@@ -263,11 +250,6 @@ emits_text : {E : Type 0} {gave : E → E → List Piece → Type 0} {e f : E} {
     Emits gave e f (shown x ∷ []) → Emits gave e f (shown y ∷ [])
 emits_text {E} {gave} {e} {f} {x} {y} same emits =
     subst (λ (text : List ℕ). Emits gave e f (shown text ∷ [])) same emits
-
--- what stops a run in whose steps no draw was missing
-drawn_cause : (stopped : Option Stop) → stopped ≢ Some stop.NoRandom → unwrap_or stopped stop.Budget ≡ stop.NoRandom → ⊥
-drawn_cause None drawn is = cc
-drawn_cause (Some cause) drawn is = drawn (ap (λ (s : Stop). let o : Option Stop = Some s in o) is)
 
 -- the pieces behind the magic of a run that showed nothing as it opened
 pieces_of_run : (b : Bundle) (steps : ℕ) (o : Opened) → o.items ≡ [] →
@@ -319,21 +301,17 @@ writes-whole {E} gave mid_failed failed e f h i machine stopped cause given b st
       emits = emits_as (pieces_of_run b steps o none_shown) (emits_then first (emits_then runs.emits
           (emits_as (λ k. last_pieces (same k) ((let e : 0 + length turns ≡ length turns = omega arith in e) k)
           closed) end.emits)));
-      status = λ unfailed. record {
-        is = end.status ∙ ap status_of same;
-        drawn = λ missing. drawn_cause stopped all.drawn (sym unwrapped ∙ (sym end.drawn ∙ (same ∙ missing)));
-      };
+      status = λ unfailed. end.status ∙ ap status_of same;
     }
 
 -- the end of a run, by what the machine's end emits and says
 pub ends_run : {E : Type 0} {gave : E → E → List Piece → Type 0} {e f g h : E} {end : End} {stopped : Stop}
     {m : Moment} {closed : Opened} {given : Status} →
     EndsAs gave e f end stopped m closed → Emits gave f g (shown (codes "\n") ∷ []) →
-    Emits gave g h (shown (end_report end) ∷ []) → end.stop ≡ stopped → given ≡ status_of end.stop →
+    Emits gave g h (shown (end_report end) ∷ []) → given ≡ status_of end.stop →
     EndsRun gave e h given stopped m.steps closed
-ends_run {E} {gave} {e} {f} {g} {h} {end} {stopped} {m} {closed} {given} ends line lines same is = record {
+ends_run {E} {gave} {e} {f} {g} {h} {end} {stopped} {m} {closed} {given} ends line lines is = record {
   emits = emits_then ends.emits
       (emits_then line (emits_text (ends.report ∙ ap (λ (s : Stop). report s m.steps closed.joint) ends.stop) lines));
   status = is ∙ ap status_of ends.stop;
-  drawn = sym ends.stop ∙ same;
 }

@@ -4,6 +4,7 @@ pub mod Outlet
 pub mod Outside
 pub mod Preparing
 pub mod Recording
+pub mod Refusal
 pub mod Request
 pub mod Running
 pub mod Status

@@ -1,6 +1,6 @@
 -- What is outside: the files of a shelf, and an output.
 use Rattle.std.specs.Prelude.{ℕ, ◌≡◌, ◌<◌, List, Option}
-use Rattle.outside_io.specs.Told.{Rose}
+use Rattle.outside_io.specs.Told.{Rose, SameFiles}
 
 -- a shelf, the bytes of its files by their names as far as it tells them, and how often reading and writing them failed
 pub record Files (S : Type 0) : Type 0 where
@@ -43,6 +43,12 @@ outside held reading writing taken faults shelf out = record {
 pub record Raised (before now : ℕ) : Type 0 where
   pub greater : before < now
   pub by_call : Rose before now
+
+-- the files keep their bytes, and no call on them failed
+pub record OnlyRead {S : Type 0} (before after : Files S) : Type 0 where
+  pub held : SameFiles before.held after.held
+  pub reading : after.reading ≡ before.reading
+  pub writing : after.writing ≡ before.writing
 
 -- no call failed
 pub record NothingRose {S O : Type 0} (before after : Outside S O) : Type 0 where

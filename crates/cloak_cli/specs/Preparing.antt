@@ -1,31 +1,44 @@
 -- What opening the machine of a run answers.
-use Rattle.std.specs.Prelude.{ℕ, ◌≡◌, List, [], Option, IfSome, Result, Ok, Err}
-use Rattle.cloak_base.specs.Random.{numbered}
-use Rattle.outside_io.specs.Told.{Rose}
+use Rattle.std.specs.Prelude.{ℕ, ◌≡◌, List, [], Option, Some, IfSome, Result, Ok, Err}
+use Rattle.cloak_base.specs.Random.{Random}
 use Rattle.cloak_model.specs.declared.image.Bundle.{Bundle}
-use Rattle.cloak_model.specs.Bundle.{IsBundle}
+use Rattle.cloak_model.specs.BundleFault.{bundle_fault}
+use Rattle.cloak_model.specs.Command as spec
 use Rattle.cloak_model.specs.Opening.{Opened, opening}
 use Rattle.cloak_model.specs.Run.{first_moment}
 use Rattle.cloak_machine.specs.declared.machine.Machine.{Machine}
 use Rattle.cloak_machine.specs.Standing.{StandsForMoment}
-use Rattle.cloak_cli.specs.declared.prepare.Refusal.{Refusal}
-use Rattle.cloak_cli.specs.declared.prepare.Refusal.TheVariants as refusal
-use Rattle.cloak_cli.specs.Answering.{IsFirstForm, IsOtherForm}
+use Rattle.cloak_cli.specs.declared.refusal.Refusal.{Refusal}
+use Rattle.cloak_cli.specs.declared.refusal.Refusal.TheVariants as refusal
+use Rattle.cloak_cli.specs.Answering.{AsksBundle, IsInFile, IsStream, NoRun}
+use Rattle.cloak_cli.specs.Files.{ReadsFile}
+use Rattle.cloak_cli.specs.Outside.{Files, OnlyRead}
 
--- The file, where its bytes are told, is a bundle of the first form, whose run opens so, and the machine is that of its
--- first moment.
-pub record IsPrepared (told : Option (List ℕ)) (number : ℕ) (machine : Machine) : Type 0 where
+-- the bundle that a file is, or why it is none; and what became of the count of reading faults
+abbrev pub ReadsBundle : Option (List ℕ) → ℕ → ℕ → Result Bundle Refusal → Type 0
+ReadsBundle told before now (Ok bundle) = (now ≡ before) × IsInFile told bundle
+ReadsBundle told before now (Err (refusal.BadBundle fault)) =
+    (now ≡ before) × IfSome told (λ bytes. bundle_fault bytes ≡ Some fault)
+ReadsBundle told before now (Err other) = ReadsFile {A = Bundle} before now (Err other)
+
+-- a random stream, or why it was not read
+abbrev pub ReadsStream : (List ℕ → Option (List ℕ)) → spec.Randomness → ℕ → ℕ → Result Random Refusal → Type 0
+ReadsStream held randomness before now (Ok stream) = (now ≡ before) × IsStream held randomness stream
+ReadsStream held randomness before now (Err other) = ReadsFile {A = Random} before now (Err other)
+
+-- The run that is asked for opens so, and the machine is that of its first moment.
+pub record IsPrepared (asked : spec.Asked) (held : List ℕ → Option (List ℕ)) (record_name : List ℕ) (steps : ℕ)
+    (machine : Machine) : Type 0 where
   pub bundle : Bundle
-  pub is : IfSome told (λ bytes. IsBundle bytes bundle)
-  pub first_form : IsFirstForm bundle
+  pub stream : Random
+  pub asks : AsksBundle asked held record_name steps bundle stream
   pub opened : Opened
-  pub opens : opening bundle (numbered number) ≡ Ok opened
+  pub opens : opening bundle stream ≡ Ok opened
   pub no_items : opened.items ≡ []
   pub stands : StandsForMoment machine (first_moment bundle opened.joint)
 
--- a machine, or why there is none; and what became of the count of reading faults
-abbrev pub Prepares : Option (List ℕ) → ℕ → ℕ → ℕ → Result Machine Refusal → Type 0
-Prepares told number before now (Ok machine) = (now ≡ before) × IsPrepared told number machine
-Prepares told number before now (Err refusal.ReadFault) = Rose before now
-Prepares told number before now (Err refusal.NoMemory) = now ≡ before
-Prepares told number before now (Err refusal.Unbuilt) = (now ≡ before) × IfSome told IsOtherForm
+-- a machine, or why there is none; the files were at most read
+abbrev pub Prepares : {S : Type 0} → spec.Asked → Files S → Files S → List ℕ → ℕ → Result Machine Refusal → Type 0
+Prepares asked before after record_name steps (Ok machine) =
+    OnlyRead before after × IsPrepared asked before.held record_name steps machine
+Prepares asked before after record_name steps (Err refused) = NoRun asked refused before after

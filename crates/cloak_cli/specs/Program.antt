@@ -1,8 +1,9 @@
 -- What the program answers as it ends.
-use Rattle.std.specs.Prelude.{◌≡◌, ◌⊎◌, map, codes, string_bytes}
+use Rattle.std.specs.Prelude.{◌≡◌, ◌⊎◌, map, string_bytes}
 use Rattle.outside_io.specs.Told.{Rose, SameFiles}
 use Rattle.cloak_model.specs.declared.outcome.UsageFault.TheVariants.{WrongWords}
 use Rattle.cloak_model.specs.Command as spec
+use Rattle.cloak_cli.specs.declared.refusal.Refusal.TheVariants as refusal
 use Rattle.cloak_cli.specs.declared.status.Status.{Status}
 use Rattle.cloak_cli.specs.declared.status.Status.TheVariants as status
 use Rattle.cloak_cli.specs.declared.words.Words.{Words}
@@ -19,7 +20,7 @@ pub record AnswersAsked {S O : Type 0} (asked : spec.Asked) (before after : Outs
 
 -- the line of want of memory was shown, and no file was asked for anything
 pub record WantsMemory {S O : Type 0} (before after : Outside S O) (answer : Status) : Type 0 where
-  pub line : Refuses before.output after.output status.NoMemory (codes "no memory\n") answer
+  pub line : Refuses before.output after.output refusal.NoMemory answer
   pub untouched : after.files ≡ before.files
 
 -- What was answered to these words. One that is no text makes them faulty.

@@ -1,5 +1,5 @@
 -- A run over an outlet.
-use Rattle.std.specs.Prelude.{ℕ, suc, ◌≡◌, ◌≢◌, ◌+◌, Bool, false, List, [], ◌∷◌, ◌++◌, length, codes, Option, Some}
+use Rattle.std.specs.Prelude.{ℕ, suc, ◌≡◌, ◌+◌, Bool, false, List, [], ◌∷◌, ◌++◌, length, codes, Option, Some}
 use Rattle.std.specs.Prelude.{None}
 use Rattle.cloak_base.specs.declared.causes.Stop.{Stop}
 use Rattle.cloak_base.specs.declared.causes.Stop.TheVariants as stop
@@ -22,10 +22,9 @@ moment_behind m turns = record {
   joint = joint_after m.joint turns;
 }
 
--- all of these steps were made, the last of them stopped the run for this cause, if it did, and no draw was missing
+-- all of these steps were made, and the last of them stopped the run for this cause, if it did
 pub record MadeAll (machine : Machine) (stopped : Option Stop) (m : Moment) (turns : List Turn) : Type 0 where
   pub last : stopped ≡ last_stop None turns
-  pub drawn : stopped ≢ Some stop.NoRandom
   pub stands : StandsForMoment machine (moment_behind m turns)
 
 -- the pieces of these steps were given, and all of them were made unless the outlet failed
@@ -47,21 +46,14 @@ status_of stop.Budget = status.Done
 status_of (stop.Violation violation) = status.Violation
 status_of stop.NoRandom = status.NoRandom
 
--- The end of a run that this stopped behind so many steps, and that closed so, was given, and its status answered; no
--- draw was missing as it closed.
+-- The end of a run that this stopped behind so many steps, and that closed so, was given, and its status answered.
 pub record EndsRun {E : Type 0} (gave : E → E → List Piece → Type 0) (e e' : E) (given : Status) (stopped : Stop)
     (steps : ℕ) (closed : Opened) : Type 0 where
   pub emits : Emits gave e e' (last_pieces (cause_of closed.joint (Some stopped)) steps closed)
   pub status : given ≡ status_of (cause_of closed.joint (Some stopped))
-  pub drawn : cause_of closed.joint (Some stopped) ≡ stopped
-
--- this is the status of a stop, for which no draw was missing
-pub record IsStatusOf (given : Status) (cause : Stop) : Type 0 where
-  pub is : given ≡ status_of cause
-  pub drawn : cause ≢ stop.NoRandom
 
 -- what is due of a run was given, and the answer is its status unless the outlet failed
 pub record WritesRun {E : Type 0} (gave : E → E → List Piece → Type 0) (failed : Bool) (e e' : E) (given : Status)
     (r : Run) : Type 0 where
   pub emits : Emits gave e e' (due r)
-  pub status : failed ≡ false → IsStatusOf given r.stop
+  pub status : failed ≡ false → given ≡ status_of r.stop

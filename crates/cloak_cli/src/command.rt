@@ -6,44 +6,21 @@ ghost use Rattle.cloak_model.specs.Opening.{Opened};
 ghost use Rattle.cloak_model.specs.Run.{first_moment, run_of};
 ghost use Rattle.cloak_machine.specs.Standing.{StandsForMoment, steps_made};
 ghost use Rattle.cloak_cli.specs.Answering.{Answers, KeepsFiles};
-ghost use Rattle.cloak_cli.specs.Outside.{output, outside};
-ghost use Rattle.cloak_cli.specs.Recording.{Records, Refuses};
+ghost use Rattle.cloak_cli.specs.Outside.{outside};
+ghost use Rattle.cloak_cli.specs.Recording.{Records};
+ghost use Rattle.cloak_cli.specs.Request.{asked_of_run};
 
 use crate::item_bytes::LONGEST;
 use crate::outlet::Outlet;
-use crate::prepare::{Refusal, prepare};
+use crate::prepare::prepare;
+use crate::refusal::{Refusal, refuse};
 use crate::request::{Request, read_words};
 use crate::run::write_run;
 use crate::run_request::RunRequest;
 use crate::status::Status;
 use cloak_machine::Machine;
-use cloak_model::UsageFault;
-use outside_io::{Shelf, Sink, put_all};
+use outside_io::{Shelf, Sink};
 use std::alloc::Global;
-
-/// Shows a line that refuses, and answers the status, or the write fault.
-pub fn refuse<O: Sink>(out: &mut O, status: Status, line: &[u8]) -> Status
-    ensures { Refuses (output O.taken O.faults out.old) (output O.taken O.faults out.new) status line.now result }
-{
-    match put_all(out, line) {
-        Ok(()) => status,
-        Err(_) => Status::WriteFault,
-    }
-}
-
-/// Shows what is wrong with the words.
-pub fn refuse_words<O: Sink>(out: &mut O, fault: UsageFault) -> Status
-    ensures { Refuses (output O.taken O.faults out.old) (output O.taken O.faults out.new)
-        Status.Usage (spec.usage_line fault) result }
-{
-    match fault {
-        UsageFault::NoCommand => refuse(out, Status::Usage, b"usage: no command\n"),
-        UsageFault::UnknownCommand => refuse(out, Status::Usage, b"usage: unknown command\n"),
-        UsageFault::WrongWords => refuse(out, Status::Usage, b"usage: words\n"),
-        UsageFault::NoRandomness => refuse(out, Status::Usage, b"usage: randomness\n"),
-        UsageFault::WrongNumber => refuse(out, Status::Usage, b"usage: number\n"),
-    }
-}
 
 /// Begins the record of a run and makes it.
 fn record_run<S: Shelf, O: Sink>(
@@ -87,15 +64,13 @@ fn run_command<S: Shelf, O: Sink>(
     requires reading { S.reading_faults shelf.old < 2 ^ 64 - 1 }
     requires writing { S.writing_faults shelf.old < 2 ^ 64 - 1 }
     requires output { O.faults out.old < 2 ^ 64 - 1 }
-    ensures { Answers (spec.Run run.now.bundle.now run.now.record_name.now run.now.steps run.now.number)
+    ensures { Answers (asked_of_run run.now)
         (outside S.held S.reading_faults S.writing_faults O.taken O.faults shelf.old out.old)
         (outside S.held S.reading_faults S.writing_faults O.taken O.faults shelf.new out.new) result }
 {
-    match prepare(alloc, run.bundle, run.number, shelf) {
+    match prepare(alloc, run, shelf) {
         Ok(machine) => record_run(machine, run, shelf, out),
-        Err(Refusal::ReadFault) => refuse(out, Status::ReadFault, b"read fault\n"),
-        Err(Refusal::NoMemory) => refuse(out, Status::NoMemory, b"no memory\n"),
-        Err(Refusal::Unbuilt) => refuse(out, Status::Unbuilt, b"unbuilt 0\n"),
+        Err(refusal) => refuse(out, &refusal),
     }
 }
 
@@ -117,8 +92,8 @@ pub fn cloak<S: Shelf, O: Sink>(
         (S.held shelf.old) (S.held shelf.new) }
 {
     match read_words(words.as_slice()) {
-        Request::NotBuilt => refuse(out, Status::Unbuilt, b"unbuilt 0\n"),
-        Request::Faulty(fault) => refuse_words(out, fault),
+        Request::NotBuilt => refuse(out, &Refusal::NotBuilt),
+        Request::Faulty(fault) => refuse(out, &Refusal::Usage(fault)),
         Request::Run(run) => run_command(alloc, &run, shelf, out),
     }
 }

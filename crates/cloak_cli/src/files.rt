@@ -1,59 +1,58 @@
-//! Whole files of a shelf.
-ghost use Rattle.std.specs.Prelude.{◌≡◌, ◌≤◌, ◌<◌, length, IfOk, IfSome, IsErrOf};
-ghost use Rattle.outside_io.specs.Told.{SameFiles, Rose};
-ghost use Rattle.cloak_cli.specs.Files.{ReadsCount};
+//! The bytes of files.
+ghost use Rattle.std.specs.Prelude.{◌≡◌, ◌≤◌, length, take, IfOk, IfSome};
+ghost use Rattle.outside_io.specs.Told.{SameFiles};
+ghost use Rattle.cloak_cli.specs.Files.{ReadsFile};
 
+use crate::refusal::Refusal;
 use outside_io::Shelf;
 use std::alloc::Global;
 
-/// Why a file was not read.
-#[derive(Clone, Copy, Debug, PartialEq, Eq)]
-pub enum ReadFailure {
-    /// A call on the shelf failed.
-    Failed,
-    TooLarge,
-    NoMemory,
+/// The number of a file's bytes.
+pub fn file_size<S: Shelf>(shelf: &mut S, name: &str) -> Result<u64, Refusal>
+    requires { S.is_settled shelf.old }
+    ensures size { IfOk result (λ n. IfSome (S.held shelf.old name.now) (λ bytes. n ≡ length bytes)) }
+    ensures files { SameFiles (S.held shelf.old) (S.held shelf.new) }
+    ensures reading { ReadsFile (S.reading_faults shelf.old) (S.reading_faults shelf.new) result }
+    ensures writing { S.writing_faults shelf.new ≡ S.writing_faults shelf.old }
+    ensures settled { S.is_settled shelf.new }
+{
+    match shelf.size(name) {
+        Ok(size) => Ok(size),
+        Err(_) => Err(Refusal::ReadFault),
+    }
 }
 
-/// The bytes of a file that has at most `limit` of them.
-pub fn read_whole<S: Shelf>(
+/// The first bytes of a file, as many as `size` or, where it has fewer, all.
+pub fn read_front<S: Shelf>(
     alloc: Global,
     shelf: &mut S,
     name: &str,
-    limit: u64,
-) -> Result<Vec<u8>, ReadFailure>
+    size: u64,
+) -> Result<Vec<u8>, Refusal>
     requires { S.is_settled shelf.old }
-    ensures bytes { IfOk result (λ v. IfSome (S.held shelf.old name.now) (λ bytes. v.items ≡ bytes)) }
-    ensures fits { IfOk result (λ v. length v.items ≤ limit) }
-    ensures too_large { IsErrOf result ReadFailure.TooLarge →
-        IfSome (S.held shelf.old name.now) (λ bytes. limit < length bytes) }
+    ensures bytes { IfOk result (λ v. IfSome (S.held shelf.old name.now) (λ bytes. v.items ≡ take size bytes)) }
+    ensures fits { IfOk result (λ v. length v.items ≤ size) }
     ensures files { SameFiles (S.held shelf.old) (S.held shelf.new) }
-    ensures reading { ReadsCount (S.reading_faults shelf.old) (S.reading_faults shelf.new) result }
+    ensures reading { ReadsFile (S.reading_faults shelf.old) (S.reading_faults shelf.new) result }
     ensures writing { S.writing_faults shelf.new ≡ S.writing_faults shelf.old }
+    ensures settled { S.is_settled shelf.new }
 {
-    let size = match shelf.size(name) {
-        Ok(size) => size,
-        Err(_) => return Err(ReadFailure::Failed),
-    };
-    if size > limit {
-        return Err(ReadFailure::TooLarge);
-    }
     let mut bytes = match Vec::with_capacity(alloc, size as usize) {
         Ok(bytes) => bytes,
-        Err(_) => return Err(ReadFailure::NoMemory),
+        Err(_) => return Err(Refusal::NoMemory),
     };
     let mut piece = [0; 65536];
     while (bytes.len() as u64) < size {
         let count = match shelf.read_at(name, bytes.len() as u64, &mut piece) {
             Ok(count) => count,
-            Err(_) => return Err(ReadFailure::Failed),
+            Err(_) => return Err(Refusal::ReadFault),
         };
         if count == 0 {
             break;
         }
         let left = size as usize - bytes.len();
         if bytes.extend_from_slice(&piece[..count.min(left)]).is_err() {
-            return Err(ReadFailure::NoMemory);
+            return Err(Refusal::NoMemory);
         }
     }
     Ok(bytes)

@@ -15,6 +15,7 @@ mod number;
 mod outlet;
 mod prepare;
 mod program;
+mod refusal;
 mod request;
 mod run;
 mod run_request;

@@ -1,13 +1,14 @@
-//! The machine of a run, from the file of its bundle.
-ghost use Rattle.std.specs.Prelude.{◌≡◌, true, IfOk, IsErrOf};
-ghost use Rattle.std.specs.Bool.{OnTrue};
-ghost use Rattle.cloak_model.specs.Bundle.{IsBundle};
+//! The machine of a run, from the files that the words name.
+ghost use Rattle.std.specs.Prelude.{◌≡◌, ◌<◌, ◌-◌, ◌^◌, true, IfOk, length};
 ghost use Rattle.cloak_machine.specs.Standing.{steps_made};
 ghost use Rattle.outside_io.specs.Told.{SameFiles};
-ghost use Rattle.cloak_cli.specs.Answering.{IsFirstForm, IsOtherForm};
-ghost use Rattle.cloak_cli.specs.Preparing.{Prepares};
+ghost use Rattle.cloak_cli.specs.Outside.{files};
+ghost use Rattle.cloak_cli.specs.Preparing.{Prepares, ReadsBundle, ReadsStream};
+ghost use Rattle.cloak_cli.specs.Request.{asked_of_run, randomness_of};
 
-use crate::files::{ReadFailure, read_whole};
+use crate::files::{file_size, read_front};
+use crate::refusal::Refusal;
+use crate::run_request::{Randomness, RunRequest};
 use cloak_machine::{Machine, OpenFault};
 use cloak_model::Bundle;
 use guest_bundle::{BundleFault, read};
@@ -17,77 +18,74 @@ use std::alloc::Global;
 /// The largest file of a bundle, in bytes.
 const LARGEST_BUNDLE: u64 = 67_108_864;
 
-/// Why there is no machine.
-#[derive(Clone, Copy, Debug, PartialEq, Eq)]
-pub enum Refusal {
-    ReadFault,
-    NoMemory,
-    /// The file is no bundle of the first form.
-    Unbuilt,
-}
+/// The most bytes of a file that a run takes for its randomness.
+const LONGEST_STREAM: u64 = 16_777_216;
 
-/// The image has one hart with its schedule, one segment, and no program.
-fn is_first_form(b: &Bundle) -> bool
-    ensures first_form { OnTrue result (IsFirstForm b.now) }
-    ensures other_form { IsFirstForm b.now → result ≡ true }
+/// The bundle that a file is.
+fn read_bundle<S: Shelf>(alloc: Global, shelf: &mut S, name: &str) -> Result<Bundle, Refusal>
+    requires { S.is_settled shelf.old }
+    ensures bundle { ReadsBundle (S.held shelf.old name.now)
+        (S.reading_faults shelf.old) (S.reading_faults shelf.new) result }
+    ensures files { SameFiles (S.held shelf.old) (S.held shelf.new) }
+    ensures writing { S.writing_faults shelf.new ≡ S.writing_faults shelf.old }
+    ensures settled { S.is_settled shelf.new }
 {
-    b.kernel.harts == 1
-        && b.kernel.schedule.as_slice().len() == 1
-        && b.kernel.segments.as_slice().len() == 1
-        && b.programs.as_slice().is_empty()
-}
-
-/// The bundle of the first form that these bytes are.
-fn read_first_form(alloc: Global, bytes: &[u8]) -> Result<Bundle, Refusal>
-    ensures ok { IfOk result (λ b. IsBundle bytes.now b) }
-    ensures first_form { IfOk result IsFirstForm }
-    ensures unbuilt { IsErrOf result Refusal.Unbuilt → IsOtherForm bytes.now }
-    ensures not_read { IsErrOf result Refusal.ReadFault → ⊥ }
-{
-    match read(alloc, bytes) {
-        Ok(bundle) => {
-            if is_first_form(&bundle) {
-                Ok(bundle)
-            } else {
-                Err(Refusal::Unbuilt)
-            }
-        }
-        Err(fault) => match fault {
-            BundleFault::NoMemory => Err(Refusal::NoMemory),
-            _ => Err(Refusal::Unbuilt),
-        },
+    let size = file_size(shelf, name)?;
+    if size > LARGEST_BUNDLE {
+        return Err(Refusal::BadBundle(BundleFault::TooLarge(0)));
+    }
+    let bytes = read_front(alloc, shelf, name, size)?;
+    match read(alloc, bytes.as_slice()) {
+        Ok(bundle) => Ok(bundle),
+        Err(BundleFault::NoMemory) => Err(Refusal::NoMemory),
+        Err(fault) => Err(Refusal::BadBundle(fault)),
     }
 }
 
-/// The machine of the run of this file under the random stream of a number.
-pub fn prepare<S: Shelf>(
+/// The random stream of a run.
+fn open_stream<S: Shelf>(
     alloc: Global,
-    name: &str,
-    number: u64,
     shelf: &mut S,
-) -> Result<Machine, Refusal>
+    randomness: &Randomness<'_>,
+) -> Result<Stream, Refusal>
     requires { S.is_settled shelf.old }
-    ensures prepares { Prepares (S.held shelf.old name.now) number
+    ensures stream { ReadsStream (S.held shelf.old) (randomness_of randomness.now)
         (S.reading_faults shelf.old) (S.reading_faults shelf.new) result }
-    ensures fresh { IfOk result (λ machine. steps_made machine ≡ 0) }
     ensures files { SameFiles (S.held shelf.old) (S.held shelf.new) }
     ensures writing { S.writing_faults shelf.new ≡ S.writing_faults shelf.old }
 {
-    let bytes = match read_whole(alloc, shelf, name, LARGEST_BUNDLE) {
-        Ok(bytes) => bytes,
-        Err(ReadFailure::Failed) => return Err(Refusal::ReadFault),
-        Err(ReadFailure::NoMemory) => return Err(Refusal::NoMemory),
-        Err(ReadFailure::TooLarge) => return Err(Refusal::Unbuilt),
-    };
-    let bundle = match read_first_form(alloc, bytes.as_slice()) {
-        Ok(bundle) => bundle,
-        Err(refusal) => return Err(refusal),
-    };
-    match Machine::open(alloc, &bundle, Stream::numbered(number)) {
+    match *randomness {
+        Randomness::Numbered(number) => Ok(Stream::numbered(number)),
+        Randomness::FromFile(name) => {
+            let size = file_size(shelf, name)?;
+            let bytes = read_front(alloc, shelf, name, size.min(LONGEST_STREAM))?;
+            Ok(Stream::bytes(bytes))
+        }
+    }
+}
+
+/// The machine of the run that is asked for.
+pub fn prepare<S: Shelf>(
+    alloc: Global,
+    run: &RunRequest<'_>,
+    shelf: &mut S,
+) -> Result<Machine, Refusal>
+    requires settled { S.is_settled shelf.old }
+    requires reading { S.reading_faults shelf.old < 2 ^ 64 - 1 }
+    ensures prepares { Prepares (asked_of_run run.now)
+        (files S.held S.reading_faults S.writing_faults shelf.old)
+        (files S.held S.reading_faults S.writing_faults shelf.new) run.now.record_name.now run.now.steps result }
+    ensures fresh { IfOk result (λ machine. steps_made machine ≡ 0) }
+{
+    let bundle = read_bundle(alloc, shelf, run.bundle)?;
+    if !bundle.programs.as_slice().is_empty() {
+        return Err(Refusal::NotBuilt);
+    }
+    let stream = open_stream(alloc, shelf, &run.randomness)?;
+    match Machine::open(alloc, &bundle, stream) {
         Ok(machine) => Ok(machine),
-        Err(fault) => match fault {
-            OpenFault::NoMemory => Err(Refusal::NoMemory),
-            OpenFault::NoKey | OpenFault::NoRandom => unreachable!(),
-        },
+        Err(OpenFault::NoKey) => Err(Refusal::NoKey),
+        Err(OpenFault::NoRandom) => Err(Refusal::NoPageDraw),
+        Err(OpenFault::NoMemory) => Err(Refusal::NoMemory),
     }
 }

@@ -3,7 +3,8 @@ ghost use Rattle.std.specs.Prelude.{◌≡◌, ◌≢◌, ◌<◌, ◌-◌, ◌^
 ghost use Rattle.cloak_cli.specs.Outside.{outside};
 ghost use Rattle.cloak_cli.specs.Program.{AnswersWords, Exits};
 
-use crate::command::{cloak, refuse, refuse_words};
+use crate::command::cloak;
+use crate::refusal::{Refusal, refuse};
 use crate::status::Status;
 use crate::words::Words;
 use cloak_model::UsageFault;
@@ -22,8 +23,8 @@ fn obey<S: Shelf, O: Sink>(alloc: Global, words: &Words, shelf: &mut S, out: &mu
 {
     match words {
         Words::Taken(words) => cloak(alloc, words, shelf, out),
-        Words::NotText => refuse_words(out, UsageFault::WrongWords),
-        Words::NoMemory => refuse(out, Status::NoMemory, b"no memory\n"),
+        Words::NotText => refuse(out, &Refusal::Usage(UsageFault::WrongWords)),
+        Words::NoMemory => refuse(out, &Refusal::NoMemory),
     }
 }
 

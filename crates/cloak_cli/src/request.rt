@@ -1,11 +1,10 @@
 //! What the words of a command line ask for.
-ghost use Rattle.std.specs.Prelude.{◌≡◌, ◌∷◌, codes, map, string_bytes};
-ghost use Rattle.std.specs.List.{list_any};
+ghost use Rattle.std.specs.Prelude.{◌≡◌, ◌∷◌, map, string_bytes, option_map};
 ghost use Rattle.cloak_model.specs.Command as spec;
-ghost use Rattle.cloak_cli.specs.Request.{asked_of};
+ghost use Rattle.cloak_cli.specs.Request.{asked_of, randomness_of, texts_of};
 
 use crate::number::number_up_to;
-use crate::run_request::RunRequest;
+use crate::run_request::{Randomness, RunRequest};
 use cloak_model::UsageFault;
 
 /// The most steps of a run.
@@ -33,21 +32,107 @@ fn is_later_command(word: &str) -> bool
     word == "view" || word == "solo" || word == "stats" || word == "gen" || word == "demo"
 }
 
-#[tactic(auto, unfolding(cloak_model::specs::Command::run_of_texts))]
-fn run_of_texts<'a>(bundle: &'a str, record_name: &'a str, steps: &str, number: &str) -> Request<'a>
-    ensures { asked_of result ≡ spec.run_of_texts bundle.now record_name.now steps.now number.now }
+/// The options of a run, with the texts of their values.
+#[derive(Clone, Copy)]
+struct Options<'a> {
+    steps: Option<&'a str>,
+    stream: Option<&'a str>,
+    number: Option<&'a str>,
+}
+
+/// These options and one more, which is none of them.
+#[tactic(auto, unfolding(cloak_model::specs::Command::with_option))]
+fn with_option<'a>(options: Options<'a>, name: &str, value: &'a str) -> Option<Options<'a>>
+    ensures { option_map texts_of result ≡ spec.with_option (texts_of options.entry) name.now value.now }
 {
-    match (
-        number_up_to(steps, MOST_STEPS),
-        number_up_to(number, u64::MAX),
-    ) {
-        (Some(steps), Some(number)) => Request::Run(RunRequest {
+    if name == "--steps" {
+        if options.steps.is_some() {
+            return None;
+        }
+        return Some(Options {
+            steps: Some(value),
+            ..options
+        });
+    }
+    if name == "--stream" {
+        if options.stream.is_some() {
+            return None;
+        }
+        return Some(Options {
+            stream: Some(value),
+            ..options
+        });
+    }
+    if name == "--number" {
+        if options.number.is_some() {
+            return None;
+        }
+        return Some(Options {
+            number: Some(value),
+            ..options
+        });
+    }
+    None
+}
+
+/// These options and those that the words are.
+#[tactic(auto, unfolding(cloak_model::specs::Command::options_from))]
+fn options_from<'a>(options: Options<'a>, words: &'a [String]) -> Option<Options<'a>>
+    ensures { option_map texts_of result
+        ≡ spec.options_from (texts_of options.entry) (map string_bytes words.now) }
+{
+    match words {
+        [] => Some(options),
+        [name, value, rest @ ..] => {
+            if is_option(value.as_str()) {
+                return None;
+            }
+            options_from(with_option(options, name.as_str(), value.as_str())?, rest)
+        }
+        _ => None,
+    }
+}
+
+/// The run of these values, where they were numbers in their ranges.
+fn run_of_values<'a>(
+    bundle: &'a str,
+    record_name: &'a str,
+    steps: &str,
+    randomness: Option<Randomness<'a>>,
+) -> Request<'a>
+    ensures { asked_of result ≡ spec.run_of_values bundle.now record_name.now
+        (spec.number_up_to spec.most_steps steps.now) (option_map randomness_of randomness.entry) }
+{
+    match (number_up_to(steps, MOST_STEPS), randomness) {
+        (Some(steps), Some(randomness)) => Request::Run(RunRequest {
             bundle,
             record_name,
             steps: steps as u32,
-            number,
+            randomness,
         }),
         _ => Request::Faulty(UsageFault::WrongNumber),
+    }
+}
+
+/// The run with these options.
+#[tactic(auto, unfolding(cloak_model::specs::Command::run_of_texts))]
+fn run_of_options<'a>(bundle: &'a str, record_name: &'a str, options: Options<'a>) -> Request<'a>
+    ensures { asked_of result
+        ≡ spec.run_of_options bundle.now record_name.now (Some (texts_of options.entry)) }
+{
+    match (options.steps, options.stream, options.number) {
+        (None, _, _) => Request::Faulty(UsageFault::WrongWords),
+        (Some(steps), Some(name), None) => {
+            run_of_values(bundle, record_name, steps, Some(Randomness::FromFile(name)))
+        }
+        (Some(steps), None, Some(text)) => {
+            let randomness = match number_up_to(text, u64::MAX) {
+                Some(number) => Some(Randomness::Numbered(number)),
+                None => None,
+            };
+            run_of_values(bundle, record_name, steps, randomness)
+        }
+        _ => Request::Faulty(UsageFault::NoRandomness),
     }
 }
 
@@ -56,59 +141,21 @@ fn run_of_texts<'a>(bundle: &'a str, record_name: &'a str, steps: &str, number: 
 fn run_words<'a>(words: &'a [String]) -> Request<'a>
     ensures { asked_of result ≡ spec.run_words (map string_bytes words.now) }
 {
-    match words {
-        [bundle, record_name, option, text] => {
-            if is_option(bundle.as_str())
-                || is_option(record_name.as_str())
-                || is_option(text.as_str())
-            {
-                return Request::Faulty(UsageFault::WrongWords);
-            }
-            if option.as_str() == "--steps" {
-                return Request::Faulty(UsageFault::NoRandomness);
-            }
-            Request::Faulty(UsageFault::WrongWords)
-        }
-        [bundle, record_name, first, text, second, other] => {
-            if is_option(bundle.as_str())
-                || is_option(record_name.as_str())
-                || is_option(text.as_str())
-                || is_option(other.as_str())
-            {
-                return Request::Faulty(UsageFault::WrongWords);
-            }
-            if first.as_str() == "--steps" && second.as_str() == "--number" {
-                return run_of_texts(
-                    bundle.as_str(),
-                    record_name.as_str(),
-                    text.as_str(),
-                    other.as_str(),
-                );
-            }
-            if first.as_str() == "--number" && second.as_str() == "--steps" {
-                return run_of_texts(
-                    bundle.as_str(),
-                    record_name.as_str(),
-                    other.as_str(),
-                    text.as_str(),
-                );
-            }
-            Request::Faulty(UsageFault::WrongWords)
-        }
-        _ => Request::Faulty(UsageFault::WrongWords),
+    let [bundle, record_name, rest @ ..] = words else {
+        return Request::Faulty(UsageFault::WrongWords);
+    };
+    if is_option(bundle.as_str()) || is_option(record_name.as_str()) {
+        return Request::Faulty(UsageFault::WrongWords);
     }
-}
-
-/// A word is this option.
-fn has_stream(words: &[String]) -> bool
-    ensures { result ≡ list_any (spec.is (codes "--stream")) (map string_bytes words.now) }
-{
-    for word in words {
-        if word.as_str() == "--stream" {
-            return true;
-        }
+    let none = Options {
+        steps: None,
+        stream: None,
+        number: None,
+    };
+    match options_from(none, rest) {
+        Some(options) => run_of_options(bundle.as_str(), record_name.as_str(), options),
+        None => Request::Faulty(UsageFault::WrongWords),
     }
-    false
 }
 
 /// Reads a command and the words behind it.
@@ -117,9 +164,6 @@ fn read_command<'a>(command: &str, words: &'a [String]) -> Request<'a>
     ensures { asked_of result ≡ spec.words_of (command.now ∷ map string_bytes words.now) }
 {
     if is_later_command(command) {
-        return Request::NotBuilt;
-    }
-    if has_stream(words) {
         return Request::NotBuilt;
     }
     if command == "run" {

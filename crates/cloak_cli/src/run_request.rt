@@ -1,13 +1,21 @@
 ghost use Rattle.std.specs.Prelude.{◌≤◌};
 ghost use Rattle.cloak_model.specs.Command.{most_steps};
 
+/// Where a run takes its randomness.
+#[derive(Clone, Copy)]
+pub enum Randomness<'a> {
+    /// The stream of a number.
+    Numbered(u64),
+    /// The bytes of the file of this name.
+    FromFile(&'a str),
+}
+
 /// A run that is asked for.
 #[derive(Drop)]
 pub struct RunRequest<'a> {
     pub bundle: &'a str,
     pub record_name: &'a str,
     pub steps: u32,
-    /// The number of the random stream.
-    pub number: u64,
+    pub randomness: Randomness<'a>,
     ghost few_steps: { steps ≤ most_steps },
 }

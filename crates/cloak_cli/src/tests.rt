@@ -194,9 +194,25 @@ fn refused_words(rt: HostRuntime) -> Result<(), Fail> {
         ),
         ("view a.b a.r", Status::Unbuilt, "unbuilt 0\n"),
         (
+            "run a.b a.r --steps 10 --number 0 --stream a.b",
+            Status::Usage,
+            "usage: randomness\n",
+        ),
+        (
+            "run a.b a.r --steps 10 --number 0 --number 0",
+            Status::Usage,
+            "usage: words\n",
+        ),
+        ("run a.b a.r --number 0", Status::Usage, "usage: words\n"),
+        (
             "run none a.r --steps 10 --number 0",
-            Status::Unbuilt,
-            "unbuilt 0\n",
+            Status::BadBundle,
+            "bundle: short at 0\n",
+        ),
+        (
+            "run a.b a.r --steps 10 --stream none",
+            Status::NoRandom,
+            "random: no key\n",
         ),
     ] {
         let left = called(
@@ -208,6 +224,45 @@ fn refused_words(rt: HostRuntime) -> Result<(), Fail> {
         )?;
         assert_eq!(rt; left.status, status, "{line}");
         assert_eq!(rt; left.sink.taken(), output.as_bytes(), "{line}");
+        assert_eq!(rt; left.shelf.bytes("a.r"), b"".as_slice(), "{line}");
+    }
+    Ok(())
+}
+
+/// A file with one of its bytes in the place of another, or with fewer or more of them.
+fn damaged(alloc: Global, length: u64, at: usize, byte: u8) -> Result<Vec<u8>, Fail> {
+    let mut file = Vec::new(alloc);
+    for i in 0..length.min(100) as usize {
+        let kept = SMALLEST.get(i).copied().unwrap_or(0);
+        file.push(if i == at { byte } else { kept })?;
+    }
+    Ok(file)
+}
+
+/// What is shown of the smallest image with one byte in the place of another, cut short, or with a byte more.
+#[test]
+fn damaged_files(rt: HostRuntime) -> Result<(), Fail> {
+    let rows = [
+        (64, 0, b'C', "bundle: short at 49\n"),
+        (66, 0, b'C', "bundle: extra at 65\n"),
+        (65, 0, b'c', "bundle: magic\n"),
+        (65, 8, 2, "bundle: version 2\n"),
+        (65, 12, 63, "bundle: count at 12\n"),
+        (65, 13, 17, "bundle: too large at 12\n"),
+        (65, 40, 1, "bundle: range at 40\n"),
+        (0, 0, 0, "bundle: short at 0\n"),
+    ];
+    for (length, at, byte, line) in rows {
+        let file = damaged(rt.alloc(), length, at, byte)?;
+        let left = called(
+            rt.alloc(),
+            "run a.b a.r --steps 10 --number 0",
+            file.as_slice(),
+            Vec::new(rt.alloc()),
+            Vec::new(rt.alloc()),
+        )?;
+        assert_eq!(rt; left.status, Status::BadBundle, "{line}");
+        assert_eq!(rt; left.sink.taken(), line.as_bytes(), "{line}");
         assert_eq!(rt; left.shelf.bytes("a.r"), b"".as_slice(), "{line}");
     }
     Ok(())

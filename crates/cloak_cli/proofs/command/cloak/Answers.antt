@@ -1,6 +1,6 @@
 use Rattle.std.proofs.Common.{◌∙◌, List, ap, refl, map, string_bytes, inl}
 use Rattle.cloak_model.specs.Command as spec
-use Rattle.cloak_cli.specs.declared.status.Status.TheVariants as status
+use Rattle.cloak_cli.specs.declared.refusal.Refusal.TheVariants as refusal
 use Rattle.cloak_cli.proofs.AnswerFacts.{answers_asked, answers_no_run, keeps_files}
 use Rattle.cloak_cli.proofs.command.cloak.Goals as goal
 
@@ -8,7 +8,7 @@ pub returns-in-NotBuilt-clause-answers : goal.returns-in-NotBuilt-clause-answers
 returns-in-NotBuilt-clause-answers g c =
     answers_asked _ _ _ (c.in-NotBuilt.ensures ∙ ap (λ (ws : List _). spec.words_of (map string_bytes ws))
     c.as_slice.ensures.value)
-    (answers_no_run {s = status.Unbuilt}
+    (answers_no_run {r = refusal.NotBuilt}
     (record { cause = inl (record { not_built = refl; untouched = refl }); held = λ name. refl; writing = refl })
     c.requires.output c.refuse.ensures)
 
@@ -19,12 +19,9 @@ pub returns-in-Faulty-clause-answers : goal.returns-in-Faulty-clause-answers
 returns-in-Faulty-clause-answers g c =
     answers_asked _ _ _ (c.in-Faulty.ensures ∙ ap (λ (ws : List _). spec.words_of (map string_bytes ws))
     c.as_slice.ensures.value)
-    (answers_no_run {s = status.Usage}
-    (record {
-      cause = record { fault = c.in-Faulty.fault; faulty = refl; untouched = refl };
-      held = λ name. refl;
-      writing = refl;
-    }) c.requires.output c.refuse_words.ensures)
+    (answers_no_run {r = refusal.Usage c.in-Faulty.fault}
+    (record { cause = record { faulty = refl; untouched = refl }; held = λ name. refl; writing = refl })
+    c.requires.output c.refuse-in-Faulty.ensures)
 
 pub returns-in-Faulty-clause-kept : goal.returns-in-Faulty-clause-kept
 returns-in-Faulty-clause-kept g c = keeps_files _ _ _ _ (returns-in-Faulty-clause-answers g c)

@@ -1,7 +1,7 @@
 use Rattle.std.proofs.Common.{refl}
 use Rattle.cloak_model.specs.declared.outcome.UsageFault.TheVariants.{WrongWords}
 use Rattle.cloak_model.specs.Command.{Faulty}
-use Rattle.cloak_cli.specs.declared.status.Status.TheVariants as status
+use Rattle.cloak_cli.specs.declared.refusal.Refusal.TheVariants as refusal
 use Rattle.cloak_cli.proofs.AnswerFacts.{answers_no_run, keeps_files}
 use Rattle.cloak_cli.proofs.program.obey.Goals as goal
 
@@ -11,12 +11,12 @@ returns-in-Taken g c =
 
 pub returns-in-NotText : goal.returns-in-NotText
 returns-in-NotText g c =
-    let answers = answers_no_run {asked = Faulty WrongWords} {s = status.Usage} (record {
-      cause = record { fault = WrongWords; faulty = refl; untouched = refl };
+    let answers = answers_no_run {asked = Faulty WrongWords} {r = refusal.Usage WrongWords} (record {
+      cause = record { faulty = refl; untouched = refl };
       held = λ name. refl;
       writing = refl;
-    }) c.requires.output c.refuse_words.ensures in
+    }) c.requires.output c.refuse.ensures in
     rw c.in-NotText.is (record { answers = answers; kept = keeps_files _ _ _ _ answers })
 
 pub returns-in-NoMemory : goal.returns-in-NoMemory
-returns-in-NoMemory g c = rw c.in-NoMemory.is (record { line = c.refuse.ensures; untouched = refl })
+returns-in-NoMemory g c = rw c.in-NoMemory.is (record { line = c.refuse-in-NoMemory.ensures; untouched = refl })

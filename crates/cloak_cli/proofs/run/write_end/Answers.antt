@@ -6,7 +6,7 @@ use Rattle.cloak_cli.proofs.run.write_end.Goals as goal
 pub returns-clause-ends : goal.returns-clause-ends
 returns-clause-ends g c =
     λ m stands. ends_run (c.finish-end.ensures.ends m stands) c.show.ensures.emits c.report.ensures.emits
-    c.finish-end.ensures.stop c.status.ensures
+    c.status.ensures
 
 pub returns-clause-same_shelf : goal.returns-clause-same_shelf
 returns-clause-same_shelf g c = let given =

@@ -1,14 +1,12 @@
 use Rattle.std.proofs.Common.{◌≡◌, ◌≤◌, ◌-◌, length, take, IfSome}
 use Rattle.outside_io.specs.Told.{SameFiles}
-use Rattle.cloak_cli.proofs.files.read_whole.Given as goal
+use Rattle.cloak_cli.proofs.files.read_front.Given as goal
 
 -- the bytes so far are a front of the file's
 abbrev pub invariant-loop-piece : goal.invariant-loop-piece
 invariant-loop-piece g l = record {
   front : IfSome (g.S.Shelf.held l.fn.shelf l.name) (λ told. l.bytes.items ≡ take (length l.bytes.items) told);
-  size : IfSome (g.S.Shelf.held l.fn.shelf l.name) (λ told. l.size ≡ length told);
   few : length l.bytes.items ≤ l.size;
-  fits : l.size ≤ l.limit;
   files : SameFiles (g.S.Shelf.held l.fn.shelf) (g.S.Shelf.held l.shelf);
   reading : g.S.Shelf.reading_faults l.shelf ≡ g.S.Shelf.reading_faults l.fn.shelf;
   settled : g.S.Shelf.is_settled l.shelf;
