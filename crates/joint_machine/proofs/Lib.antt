@@ -1,0 +1,2 @@
+pub mod RootedPages
+pub mod RootedSteps

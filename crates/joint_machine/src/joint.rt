@@ -18,6 +18,7 @@ pub struct Joint {
     ghost use Rattle.cloaked_side.specs.Holding.{domains_in};
     ghost use Rattle.joint_machine.specs.Standing.{AreNumbered, AreFreeUnused};
     ghost few: { length domains.items ≤ 4 },
+    ghost few_harts: { length harts.items ≤ 4 },
     ghost served: { length domains.items ≡ domains_in memory },
     ghost numbered: { AreNumbered domains.items },
     ghost unused: { AreFreeUnused domains.items memory.pager },

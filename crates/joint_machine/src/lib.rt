@@ -10,13 +10,16 @@
 //! stands for the state after it; a step unless two different pages with one digest were compared.
 #![tactic(auto)]
 
-mod closing;
+// mod closing;
+mod ended;
+mod going;
 mod inside;
 mod joint;
 mod opened;
-mod opening;
+// mod opening;
 mod outside;
 mod resuming;
+mod stepping;
 mod turned;
 
 pub use joint::Joint;
