@@ -1,2 +1,9 @@
 pub mod RootedPages
 pub mod RootedSteps
+pub mod Sides
+pub mod Gone
+pub mod Insides
+pub mod Places
+pub mod Turns
+pub mod Resumed
+pub mod Clashed

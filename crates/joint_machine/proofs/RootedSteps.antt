@@ -1,5 +1,5 @@
 -- No step of a cloaked program changes the page tables that are recorded.
-use Rattle.std.proofs.Common.{ℕ, Bool, Option, Some, None, true, false, List, [], ◌∷◌, ◌×◌, Result, Ok, Err}
+use Rattle.std.proofs.Common.{ℕ, Bool, Option, Some, None, true, false, List, [], ◌∷◌, Result, Ok, Err}
 use Rattle.cloak_base.specs.declared.names.PageId.{PageId}
 use Rattle.rv_isa.specs.declared.instr.Instr.{Instr}
 use Rattle.rv_isa.specs.declared.instr.Instr.TheVariants.{Ecall, Ebreak}

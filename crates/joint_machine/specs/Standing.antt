@@ -1,21 +1,19 @@
 -- What a joint machine stands for, and what its calls make of it.
-use Rattle.std.specs.Prelude.{ℕ, ◌≡◌, ◌<◌, List, [], ◌∷◌, length, slice_get, Option, Some, None, Result, Ok, Err}
-use Rattle.std.specs.Option.{ForSome}
+use Rattle.std.specs.Prelude.{ℕ, ◌≡◌, List, [], ◌∷◌, length, Option, Some, None, Result, Ok, Err}
 use Rattle.cloak_base.specs.Random.{Random}
 use Rattle.cloak_base.specs.declared.causes.Stop.{Stop}
 use Rattle.cloak_base.specs.declared.names.SpaceId.{SpaceId}
 use Rattle.cloak_model.specs.declared.image.Bundle.{Bundle}
 use Rattle.cloak_model.specs.Exchange.{Piece, Emits, item_pieces}
-use Rattle.cloak_model.specs.Resources.{resource_at}
-use Rattle.cloak_model.specs.DomainState as model
+use Rattle.cloak_model.specs.DomainState as program
 use Rattle.cloak_model.specs.Parts as model
 use Rattle.cloak_model.specs.Joint.{Turn, hart_in, turn_of, stop_of}
 use Rattle.cloak_model.specs.Opening.{Opened, NoKey, NoPageDraw, opening}
 use Rattle.thread_context.specs.Recorded.{root_at}
-use Rattle.cloak_pager.specs.State.{PagerState, IsNoneHeld, held_in}
+use Rattle.cloak_pager.specs.State.{held_in}
 use Rattle.cloaked_side.specs.Holding.{Holds}
 use Rattle.hypercalls.specs.declared.domain.Domain.{Domain}
-use Rattle.hypercalls.specs.Standing.{StandsFor, control_of, number_of}
+use Rattle.hypercalls.specs.Standing.{StandsFor}
 use Rattle.joint_machine.specs.declared.joint.Joint.{Joint}
 use Rattle.joint_machine.specs.declared.turned.Turned.{Turned}
 use Rattle.joint_machine.specs.declared.opened.OpenFault.{OpenFault}
@@ -26,7 +24,7 @@ abbrev pub harts_of : Joint → ℕ
 harts_of joint = length joint.harts.items
 
 -- these are the programs, in order
-abbrev pub AreDomains : List Domain → List model.Domain → Type 0
+abbrev pub AreDomains : List Domain → List program.Domain → Type 0
 AreDomains [] [] = Unit {0}
 AreDomains [] (d ∷ ds) = ⊥
 AreDomains (x ∷ xs) [] = ⊥
@@ -39,17 +37,6 @@ pub record StandsForJoint (joint : Joint) (j : model.Joint) : Type 0 where
   pub memory : Holds joint.memory j.memory
   pub domains : AreDomains joint.domains.items j.domains
   pub roots : (s : SpaceId) → root_at joint.roots s ≡ j.memory.ledger.root s
-
--- What holds of the programs at every moment.
-
--- each has its place for its number
-abbrev pub AreNumbered : List Domain → Type 0
-AreNumbered domains = (d : ℕ) → ForSome (slice_get domains d) (λ domain. number_of domain ≡ d)
-
--- no frame holds a page of a resource whose number is free
-abbrev pub AreFreeUnused : List Domain → PagerState → Type 0
-AreFreeUnused domains pager = (d n : ℕ) → n < 16 →
-    ForSome (slice_get domains d) (λ domain. resource_at (control_of domain).resources n ≡ None → IsNoneHeld pager d n)
 
 -- A step.
 

@@ -1,5 +1,5 @@
 -- What the parts of a hart's step come to.
-use Rattle.std.specs.Prelude.{ℕ, ◌≡◌, List, [], ◌∷◌, ◌++◌, Option, Some, None, slice_get, slice_set}
+use Rattle.std.specs.Prelude.{ℕ, ◌≡◌, List, [], ◌∷◌, ◌++◌, Option, Some, None, slice_set, is_some, if◌then◌else◌}
 use Rattle.cloak_base.specs.declared.names.SpaceId.{SpaceId}
 use Rattle.cloak_base.specs.declared.causes.Violation.{Violation}
 use Rattle.cloak_model.specs.declared.item.Item.{Item}
@@ -12,8 +12,8 @@ use Rattle.cloak_model.specs.Cloaking.{CloakedMemory}
 use Rattle.cloak_model.specs.World.{World, Cloak, Cloaked, items_of, violation_of}
 use Rattle.cloak_model.specs.Asking.{Told}
 use Rattle.cloak_model.specs.HostCalls.{After}
-use Rattle.cloak_model.specs.Contexts.{context_at}
-use Rattle.cloak_model.specs.DomainState as model
+use Rattle.cloak_model.specs.Contexts.{Context, context_at}
+use Rattle.cloak_model.specs.DomainState as program
 use Rattle.cloak_model.specs.DomainStep.{DomainStepped}
 use Rattle.cloak_model.specs.Exchange.{Piece, Emits, item_pieces}
 use Rattle.cloak_model.specs.Resuming.{AfterResume}
@@ -56,11 +56,16 @@ pub record Resumes {E : Type 0} (gave : E → E → List Piece → Type 0) (e e'
 abbrev pub AreRoots : List (List (Option ℕ)) → (SpaceId → Option ℕ) → Type 0
 AreRoots roots root = (s : SpaceId) → root_at roots s ≡ root s
 
+-- the space of a context that is there and runs on no hart
+abbrev pub idle_space : Option Context → Option ℕ
+idle_space None = None
+idle_space (Some c) = if is_some c.on then None else Some c.space
+
 -- A resuming has come about in a program, which has this place, and in the recorded page tables.
 pub record ResumesIn {E : Type 0} (gave : E → E → List Piece → Type 0) (e e' : E) (domain : Domain) (roots : List (List (Option ℕ))) (given : Option Violation) (j : model.Joint) (d : ℕ) (r : AfterResume) : Type 0 where
   pub emits : Emits gave e e' (item_pieces r.items)
   pub violation : given ≡ r.violation
-  pub after : model.Domain
+  pub after : program.Domain
   pub stands : StandsFor domain after
   pub domains : r.joint.domains ≡ slice_set j.domains d after
   pub roots_are : AreRoots roots r.joint.memory.ledger.root
@@ -71,7 +76,7 @@ pub record ResumesIn {E : Type 0} (gave : E → E → List Piece → Type 0) (e 
 -- A hart inside.
 
 -- the memory as the step of a slot's context begins
-abbrev pub begun : CloakedMemory → View → ℕ → model.Domain → Cloak
+abbrev pub begun : CloakedMemory → View → ℕ → program.Domain → Cloak
 begun m view slot d = record {
   memory = m;
   items = [];
@@ -110,7 +115,7 @@ pub record TurnsIn {E : Type 0} (gave : E → E → List Piece → Type 0) (e e'
   pub console : t.console ≡ []
   pub halt : t.halt ≡ None
   pub harts : t.joint.harts ≡ slice_set j.harts number h
-  pub after : model.Domain
+  pub after : program.Domain
   pub stands : StandsFor domain after
   pub domains : t.joint.domains ≡ slice_set j.domains d after
   pub disk : t.joint.disk ≡ j.disk
@@ -124,7 +129,7 @@ pub record InterruptsIn {E : Type 0} (gave : E → E → List Piece → Type 0) 
   pub console : t.console ≡ []
   pub halt : t.halt ≡ None
   pub harts : t.joint.harts ≡ slice_set j.harts number h
-  pub after : model.Domain
+  pub after : program.Domain
   pub stands : StandsFor domain after
   pub domains : t.joint.domains ≡ slice_set j.domains d after
   pub disk : t.joint.disk ≡ j.disk

@@ -1,6 +1,5 @@
 //! What follows the step of a program: its context goes on, or leaves its hart.
 ghost use Rattle.std.specs.Prelude.{◌≡◌, ◌<◌, ℕ, Option, [], ◌∷◌};
-ghost use Rattle.cloak_model.specs.Contexts.{forget_root};
 ghost use Rattle.cloak_model.specs.Exchange.{Emits, EmitsSome, item_pieces};
 ghost use Rattle.cloak_model.specs.Joint.{domain_ended};
 ghost use Rattle.cloak_model.specs.Leaving as spec;
@@ -24,16 +23,6 @@ pub fn leave_context<E: Emit>(h: &mut Hart, s: &Shown, e: &mut E)
     e.item(&Item::Leave(*s));
 }
 
-/// The page table of a space that ended is forgotten.
-fn forget_space(roots: &mut Roots, domain: u32, space: u32)
-    requires { domain < 4 }
-    ensures { (root : SpaceId → Option ℕ) → AreRoots roots.old root → AreRoots roots.new (forget_root (record { domain = domain; number = space }) root) }
-{
-    if space < 8 {
-        roots.forget(SpaceId { domain, number: space });
-    }
-}
-
 /// A context of this domain goes on or leaves after its step. Answers what the kernel presented in place of what is
 /// recorded, where that stopped the step.
 pub fn go_on<E: Emit>(h: &mut Hart, domain: u32, roots: &mut Roots, stepped: &Stepped, e: &mut E) -> Option<Violation>
@@ -51,7 +40,10 @@ pub fn go_on<E: Emit>(h: &mut Hart, domain: u32, roots: &mut Roots, stepped: &St
             None
         }
         Went::SpaceGone(space, s) => {
-            forget_space(roots, domain, *space);
+            roots.forget(SpaceId {
+                domain,
+                number: *space,
+            });
             leave_context(h, s, e);
             None
         }

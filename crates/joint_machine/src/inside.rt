@@ -25,9 +25,8 @@ use host_calls::{Hart, tick};
 use hypercalls::Domain;
 use thread_context::Roots;
 
-/// The context of a slot leaves the hart for the timer interrupt.
+/// The timer interrupts the hart, and the context of the slot leaves, where it is there.
 fn take_interrupt<E: Emit>(h: &mut Hart, d: u8, slot: u32, domain: &mut Domain, e: &mut E)
-    requires runs { IsSome (context_at (control_of domain.old).contexts slot) }
     ensures number { number_of domain.new ≡ number_of domain.old }
     ensures resources { (control_of domain.new).resources ≡ (control_of domain.old).resources }
     ensures emits_some { EmitsSome E.gave e.old e.new }
@@ -35,8 +34,10 @@ fn take_interrupt<E: Emit>(h: &mut Hart, d: u8, slot: u32, domain: &mut Domain, 
         InterruptsIn E.gave e.old e.new h.new domain.new j number d (after_interrupt j number h.old d was (spec.interrupt slot was.control)) }
 {
     e.item(&Item::Timer { domain: d });
-    let shown = domain.interrupt(slot);
-    leave_context(h, &shown, e);
+    if domain.context(slot).is_some() {
+        let shown = domain.interrupt(slot);
+        leave_context(h, &shown, e);
+    }
 }
 
 /// Makes the step of a hart that runs the context of a slot of this domain, after its timer fell. Answers what the
@@ -64,11 +65,11 @@ fn step_context<E: Emit>(
         (by_interrupt (interrupt_due h.old.mode h.old.csrs) j number h.old d slot was).joint.memory.ledger.clashed ≡ false →
         TurnsIn E.gave e.old e.new h.new domain.new roots.new memory.new result j number d (by_interrupt (interrupt_due h.old.mode h.old.csrs) j number h.old d slot was) }
 {
-    if domain.context(slot).is_none() {
-        return None;
-    }
     if h.csrs.due(h.mode) {
         take_interrupt(h, d, slot, domain, e);
+        return None;
+    }
+    if domain.context(slot).is_none() {
         return None;
     }
     let view = view_of(h, d);

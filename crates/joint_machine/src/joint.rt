@@ -1,4 +1,6 @@
-ghost use Rattle.std.specs.Prelude.{◌≡◌, ◌≤◌, ◌<◌, length};
+ghost use Rattle.std.specs.Prelude.{◌≡◌, ◌≤◌, length};
+ghost use Rattle.cloaked_side.specs.Holding.{domains_in};
+ghost use Rattle.joint_machine.specs.Programs.{AreNumbered, AreFreeUnused};
 
 use cloaked_side::Memory;
 use host_calls::{Disk, Hart};
@@ -15,10 +17,8 @@ pub struct Joint {
     /// The page table that each space was first resumed with.
     pub(crate) roots: Roots,
     pub(crate) disk: Disk,
-    ghost use Rattle.cloaked_side.specs.Holding.{domains_in};
-    ghost use Rattle.joint_machine.specs.Standing.{AreNumbered, AreFreeUnused};
-    ghost few: { length domains.items ≤ 4 },
     ghost few_harts: { length harts.items ≤ 4 },
+    ghost few: { length domains.items ≤ 4 },
     ghost served: { length domains.items ≡ domains_in memory },
     ghost numbered: { AreNumbered domains.items },
     ghost unused: { AreFreeUnused domains.items memory.pager },

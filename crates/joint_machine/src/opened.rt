@@ -1,3 +1,5 @@
+ghost use Rattle.std.specs.Prelude.{◌≡◌};
+
 use cloak_base::NoMemory;
 use std::alloc::AllocError;
 

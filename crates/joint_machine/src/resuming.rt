@@ -1,19 +1,31 @@
 //! Resuming a context.
-ghost use Rattle.std.specs.Prelude.{◌≡◌, ◌<◌, ◌≤◌, ℕ, Some, slice_get};
-ghost use Rattle.cloak_model.specs.Contexts.{domain_of, slot_of};
+ghost use Rattle.std.specs.Prelude.{◌≡◌, ◌<◌, ◌≤◌, ℕ, Some, IfSome, slice_get};
+ghost use Rattle.cloak_model.specs.Contexts.{context_at, domain_of, slot_of};
 ghost use Rattle.cloak_model.specs.Csr.{satp_of};
 ghost use Rattle.cloak_model.specs.DomainState as model;
 ghost use Rattle.cloak_model.specs.Exchange.{EmitsSome};
 ghost use Rattle.cloak_model.specs.Parts as parts;
 ghost use Rattle.cloak_model.specs.Resuming as spec;
 ghost use Rattle.hypercalls.specs.Standing.{StandsFor, control_of, number_of};
-ghost use Rattle.joint_machine.specs.Turning.{AreRoots, ResumesIn};
+ghost use Rattle.joint_machine.specs.Turning.{AreRoots, ResumesIn, idle_space};
 
 use crate::joint::Joint;
 use cloak_base::{HartId, SpaceId, Violation};
 use cloak_model::{Emit, Item};
 use hypercalls::Domain;
 use thread_context::Roots;
+
+/// The space of the context of a slot, where it is there and runs on no hart.
+fn idle_space(domain: &Domain, slot: u32) -> Option<u32>
+    ensures value { result ≡ idle_space (context_at (control_of domain.now).contexts slot) }
+    ensures below_eight { IfSome result (λ space. space < 8) }
+{
+    let (space, on) = domain.context(slot)?;
+    match on {
+        None => Some(space),
+        Some(_) => None,
+    }
+}
 
 /// Resumes a context of a program on a hart with this page table: the context is there and runs on no hart, and the
 /// table is the one of its space, or there was none yet and it is recorded. Answers the violation, where it is not so.
@@ -35,7 +47,7 @@ fn resume_in<E: Emit>(
         StandsFor domain.old was → AreRoots roots.old j.memory.ledger.root →
         ResumesIn E.gave e.old e.new domain.new roots.new result j (domain_of ctx) (spec.by_domain j hart.0 satp ctx answer (Some was)) }
 {
-    let Some((space, None)) = domain.context(ctx % 8) else {
+    let Some(space) = idle_space(domain, ctx % 8) else {
         return Some(Violation::Context { ctx });
     };
     let space = SpaceId {
