@@ -1,5 +1,5 @@
 -- What follows the step of a program.
-use Rattle.std.proofs.Common.{◌≡◌, ◌∙◌, ℕ, Bool, true, false, List, [], ◌∷◌, ◌++◌, Option, Some, None, refl, ap, sym, subst, if◌then◌else◌}
+use Rattle.std.proofs.Common.{◌≡◌, ◌∙◌, ◌⊎◌, inl, inr, ℕ, Bool, true, false, List, [], ◌∷◌, ◌++◌, Option, Some, None, refl, ap, sym, subst, if◌then◌else◌}
 use Rattle.std.proofs.lemmas.List.{append-nil}
 use Rattle.cloak_base.specs.declared.names.SpaceId.{SpaceId}
 use Rattle.cloak_base.specs.declared.causes.Shown.{Shown}
@@ -17,11 +17,27 @@ use Rattle.cloak_model.specs.Leaving.{leave}
 use Rattle.cloak_model.specs.Parts as model
 use Rattle.cloak_model.specs.Resuming.{with_roots}
 use Rattle.cloak_model.specs.World.{World, items_of, violation_of}
+use Rattle.cloak_base.specs.declared.names.PageId.{PageId}
+use Rattle.protect_meta.specs.declared.meta.Meta.{Meta}
+use Rattle.cloak_pager.specs.State.{PagerState}
+use Rattle.cloak_pager.specs.Relation.{FrameStands, PageStands}
+use Rattle.cloak_pager.specs.declared.held.Held.{Held}
+use Rattle.cloak_pager.specs.declared.held.Held.TheVariants.{Outside, Clean, Changed, Spent}
 use Rattle.cloaked_side.specs.Holding.{Holds}
 use Rattle.cloaked_side.specs.declared.memory.Memory.{Memory}
 use Rattle.cloaked_side.proofs.Emitting.{emits_none}
 use Rattle.thread_context.specs.Recorded.{root_at}
 use Rattle.joint_machine.specs.Turning.{AreRoots, GoesOn}
+
+frame_rooted : (p : PagerState) (wiped : PageId → Bool) (m : CloakedMemory) (root : SpaceId → Option ℕ) (f : ℕ) (r : Held) → FrameStands p wiped m f r → FrameStands p wiped (with_roots root m) f r
+frame_rooted p wiped m root f (Outside r) stands = stands
+frame_rooted p wiped m root f (Clean r) stands = record { newest = stands.newest; shown = stands.shown; long = stands.long; sealed = stands.sealed }
+frame_rooted p wiped m root f (Changed r) stands = stands
+frame_rooted p wiped m root f Spent stands = stands
+
+page_rooted : (lost : Bool) (m : CloakedMemory) (root : SpaceId → Option ℕ) (q : PageId) (t : Option Meta) → PageStands lost m q t → PageStands lost (with_roots root m) q t
+page_rooted lost m root q None stands = stands
+page_rooted lost m root q (Some t) stands = record { bytes = stands.bytes; is = stands.is; digest = stands.digest; sealed = stands.sealed }
 
 -- a memory stands for the same whatever page tables are recorded
 pub holds_rooted : (memory : Memory) (m : CloakedMemory) (root : SpaceId → Option ℕ) → Holds memory m → Holds memory (with_roots root m)
@@ -31,9 +47,9 @@ holds_rooted memory m root h = record {
     whole = h.pager.whole;
     key = h.pager.key;
     count = h.pager.count;
-    frames = h.pager.frames;
+    frames = λ f inside. frame_rooted memory.pager h.wiped m root f _ (h.pager.frames f inside);
     owed = h.pager.owed;
-    pages = h.pager.pages;
+    pages = λ q. page_rooted (h.wiped q) m root q _ (h.pager.pages q);
     plain = h.pager.plain;
     drained = h.pager.drained;
   };
@@ -75,6 +91,12 @@ module _ {E : Type 0} (gave : E → E → List Piece → Type 0) (e : E) (h : Ha
     roots_are = same;
     holds = λ memory holds. holds;
   })
+
+  pub goes_inside : ((ended ≡ went.Stay) ⊎ ((space : ℕ) × (ended ≡ went.Remapped space))) → given ≡ None → AreRoots roots j.memory.ledger.root → GoesOn gave e e h roots given j number (items_of w) (domain_ended j number h d w ended)
+  goes_inside is none same = elim is [
+    | inl stay ↦ goes_stay stay none same
+    | inr remapped ↦ goes_remapped remapped.0 remapped.1 none same
+  ]
 
   pub goes_stopped : ended ≡ went.Stopped → given ≡ violation_of w → AreRoots roots j.memory.ledger.root → GoesOn gave e e h roots given j number (items_of w) (domain_ended j number h d w ended)
   unfolding domain_ended

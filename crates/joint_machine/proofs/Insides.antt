@@ -1,5 +1,8 @@
 -- The step of a hart inside, by what its parts came to.
 use Rattle.std.proofs.Common.{◌≡◌, ◌<◌, ◌∙◌, ℕ, Bool, true, false, List, [], ◌∷◌, ◌++◌, Option, Some, None, refl, ap, sym, subst}
+use Rattle.std.specs.Prelude.{is_none, is_some, option_map}
+use Rattle.std.proofs.lemmas.Bool.{false≢true}
+use Rattle.cloak_base.specs.declared.names.HartId.{HartId}
 use Rattle.cloak_base.specs.declared.names.SpaceId.{SpaceId}
 use Rattle.cloak_base.specs.declared.causes.Shown.{Shown}
 use Rattle.cloak_base.specs.declared.causes.Violation.{Violation}
@@ -26,7 +29,7 @@ use Rattle.cloaked_side.specs.Telling.{HoldsWorld}
 use Rattle.cloaked_side.specs.declared.memory.Memory.{Memory}
 use Rattle.cloaked_side.proofs.Emitting.{emits_none, emits_items}
 use Rattle.hypercalls.specs.declared.domain.Domain.{Domain}
-use Rattle.hypercalls.specs.Standing.{StandsFor, EndsAs}
+use Rattle.hypercalls.specs.Standing.{StandsFor, EndsAs, control_of}
 use Rattle.joint_machine.specs.declared.stepping.Stepped.{Stepped}
 use Rattle.joint_machine.specs.Turning.{AreRoots, GoesOn, InterruptsIn, StepsDomain, TurnsIn, begun}
 use Rattle.joint_machine.proofs.RootedPages.{SameRoot, root_of}
@@ -163,6 +166,21 @@ turns_interrupted gave e e' h h' domain roots memory given j number d slot was n
   roots_are = subst (λ (m : CloakedMemory). AreRoots roots m.ledger.root) (sym i.memory) are;
   holds = subst (λ (m : CloakedMemory). Holds memory m) (sym i.memory) holds;
 }
+
+-- A slot is free.
+free_if : {A B : Type 0} (o : Option A) (f : A → B) (r : Option B) (b : Bool) → r ≡ option_map f o → b ≡ is_some r → b ≡ false → o ≡ None
+free_if None f r b is test off = refl
+free_if (Some a) f r b is test off = absurd (false≢true (sym off ∙ test ∙ ap (λ (x : Option _). is_some x) is))
+
+pub free_slot : (domain : Domain) (was : program.Domain) (slot : ℕ) (r : Option (ℕ × Option HartId)) (b : Bool) → StandsFor domain was → r ≡ option_map (λ (c : Context). (c.space, c.on)) (context_at (control_of domain).contexts slot) → b ≡ is_some r → b ≡ false → context_at was.control.contexts slot ≡ None
+free_slot domain was slot r b stands is test off = ap (λ (k : program.Control). context_at k.contexts slot) stands.control ∙ free_if (context_at (control_of domain).contexts slot) (λ (c : Context). (c.space, c.on)) r b is test off
+
+taken_if : {B : Type 0} (r : Option B) (b : Bool) → b ≡ is_none r → b ≡ true → is_some r ≡ false
+taken_if None b test on = refl
+taken_if (Some x) b test on = absurd (false≢true (sym test ∙ on))
+
+pub free_none : (domain : Domain) (was : program.Domain) (slot : ℕ) (r : Option (ℕ × Option HartId)) (b : Bool) → StandsFor domain was → r ≡ option_map (λ (c : Context). (c.space, c.on)) (context_at (control_of domain).contexts slot) → b ≡ is_none r → b ≡ true → context_at was.control.contexts slot ≡ None
+free_none domain was slot r b stands is test on = free_slot domain was slot r (is_some r) stands is refl (taken_if r b test on)
 
 -- The interrupt by itself: the context leaves.
 pub interrupts_out : {E : Type 0} (gave : E → E → List Piece → Type 0) (e e' e'' : E) (h h' : Hart) (domain : Domain) (s : Shown) (j : model.Joint) (number d slot : ℕ) (was : program.Domain) →

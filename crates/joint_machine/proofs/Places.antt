@@ -2,7 +2,7 @@
 use Rattle.std.proofs.Common.{◌≡◌, ◌≢◌, ◌<◌, ◌≤◌, ◌∙◌, ◌⊎◌, ℕ, zero, suc, Bool, false, List, [], ◌∷◌, Option, Some, None, length, slice_get, slice_set, slice_index_or, refl, ap, sym, subst, inl, inr, arith}
 use Rattle.std.proofs.lemmas.Option.{slice_get_past}
 use Rattle.std.proofs.lemmas.Bool.Decides.{Decides-eqb}
-use Rattle.std.specs.Option.{ForSome}
+use Rattle.std.specs.Option.{ForSome, IfSome}
 use Rattle.cloak_base.specs.declared.names.PageId.{PageId}
 use Rattle.cloak_base.specs.Pages.{is_of}
 use Rattle.cloak_base.proofs.Pages.{told, is_of-other}
@@ -13,6 +13,7 @@ use Rattle.cloaked_fork.specs.Marks.{AreUnused}
 use Rattle.cloaked_side.specs.Holding.{HoldsNoMore}
 use Rattle.hypercalls.specs.declared.domain.Domain.{Domain}
 use Rattle.hypercalls.specs.Standing.{StandsFor, control_of, number_of}
+use Rattle.joint_machine.specs.Turning.{HoldsNoFree, HoldsNoOthers}
 use Rattle.joint_machine.specs.Programs.{AreNumbered, AreFreeUnused}
 use Rattle.joint_machine.specs.Standing.{AreDomains}
 
@@ -48,10 +49,13 @@ set_same [] d x there = refl
 set_same (y ∷ xs) zero x there = cc
 set_same (y ∷ xs) (suc d) x there = ap (λ (ys : List _). y ∷ ys) (set_same xs d x there)
 
+some_holds : {A : Type 0} (P : A → Type 0) (x z : A) → Some x ≡ Some z → P x → P z
+some_holds P x z same holds = subst (λ (o : Option _). IfSome o P) same holds
+
 -- what holds of each by its place holds with another of which it holds in its place
 each_set : {A : Type 0} (P : ℕ → A → Type 0) (xs : List A) (d : ℕ) (x : A) → P d x → ((k : ℕ) → ForSome (slice_get xs k) (P k)) → (k : ℕ) → ForSome (slice_get (slice_set xs d x) k) (P k)
 each_set P [] d x holds each k = each k
-each_set P (y ∷ xs) zero x holds each zero z there = subst (λ o. P 0 o) (cc) holds
+each_set P (y ∷ xs) zero x holds each zero = λ z there. some_holds (P 0) x z there holds
 each_set P (y ∷ xs) zero x holds each (suc k) = each (suc k)
 each_set P (y ∷ xs) (suc d) x holds each zero = each zero
 each_set P (y ∷ xs) (suc d) x holds each (suc k) = each_set (λ n. P (suc n)) xs d x holds (λ n. each (suc n)) k
@@ -70,23 +74,19 @@ free_same xs pager d x y there same unused k n few z is free =
     (λ none. unused d n few x there (ap (λ (r : Resources). resource_at r n) (sym same) ∙ none))
     (λ m o at. unused m n few o at) k z is free
 
--- no page of another domain than d came into a frame
-abbrev pub HoldsNoOthers : ℕ → PagerState → PagerState → Type 0
-HoldsNoOthers d old new = (k : ℕ) (q : PageId) → q.domain ≢ d → held_in new k ≡ Some q → held_in old k ≡ Some q
-
 other_domain : (d m n : ℕ) (q : PageId) → m ≢ d → q.domain ≡ d → is_of m n q ≡ false
 other_domain d m n q other here = is_of-other m n q (λ both. other (sym both.0 ∙ here))
 
 still_unused : (pager pager' : PagerState) (d m n : ℕ) → m ≢ d → HoldsNoOthers d pager pager' → IsNoneHeld pager m n → IsNoneHeld pager' m n
 still_unused pager pager' d m n other stay unused k q held = elim (told _ (Decides-eqb q.domain d)) [
   | inl here ↦ other_domain d m n q other here.1
-  | inr there ↦ unused k q (stay k q there.1 held)
+  | inr there ↦ unused k q (stay.held k q there.1 held)
 ]
 
 -- a program after its step in its place
-pub free_stepped : (xs : List Domain) (pager pager' : PagerState) (d : ℕ) (x : Domain) → HoldsNoOthers d pager pager' → AreUnused (IsNoneHeld pager' d) (control_of x).resources → AreFreeUnused xs pager → AreFreeUnused (slice_set xs d x) pager'
+pub free_stepped : (xs : List Domain) (pager pager' : PagerState) (d : ℕ) (x : Domain) → HoldsNoOthers d pager pager' → HoldsNoFree d (control_of x).resources pager' → AreFreeUnused xs pager → AreFreeUnused (slice_set xs d x) pager'
 free_stepped xs pager pager' d x stay own unused k n few z is free = elim (told _ (Decides-eqb k d)) [
-  | inl here ↦ subst (λ m. IsNoneHeld pager' m n) (sym here.1) (own n few (subst (λ (o : Domain). resource_at (control_of o).resources n ≡ None) (at_own xs d x z (subst (λ m. slice_get (slice_set xs d x) m ≡ Some z) here.1 is)) free))
+  | inl here ↦ subst (λ m. IsNoneHeld pager' m n) (sym here.1) (own.unused n few (subst (λ (o : Domain). resource_at (control_of o).resources n ≡ None) (at_own xs d x z (subst (λ m. slice_get (slice_set xs d x) m ≡ Some z) here.1 is)) free))
   | inr there ↦ still_unused pager pager' d k n there.1 stay (unused k n few z (at_other xs d k x z there.1 is) free)
 ]
   where
@@ -100,3 +100,7 @@ free_stepped xs pager pager' d x stay own unused k n few z is free = elim (told 
     at_other (o ∷ ys) zero (suc j) y z n is = is
     at_other (o ∷ ys) (suc i) zero y z n is = is
     at_other (o ∷ ys) (suc i) (suc j) y z n is = at_other ys i j y z (λ e. n (ap suc e)) is
+
+-- a program as its step begins
+pub free_here : (xs : List Domain) (pager : PagerState) (d : ℕ) (x : Domain) → slice_get xs d ≡ Some x → AreFreeUnused xs pager → HoldsNoFree d (control_of x).resources pager
+free_here xs pager d x there unused = record { unused = λ n few free. unused d n few x there free }

@@ -7,7 +7,7 @@ use Rattle.cloak_base.specs.declared.causes.Violation.TheVariants as violation
 use Rattle.cloak_model.specs.declared.context.ResumeFault.{ResumeFault}
 use Rattle.cloak_model.specs.declared.context.ResumeFault.TheVariants.{NoContext, Busy}
 use Rattle.cloak_model.specs.declared.item.Item.TheVariants as item
-use Rattle.cloak_model.specs.Contexts.{Context, context_at, domain_of, slot_of, Admitted, admit, resume_if, resume_at, with_context}
+use Rattle.cloak_model.specs.Contexts.{Context, context_at, domain_of, slot_of, Admitted, admit, Resumed as Made, resume_if, resume_at, with_context}
 use Rattle.cloak_model.specs.DomainState as program
 use Rattle.cloak_model.specs.DomainStep.{resume_slot, resume_told}
 use Rattle.cloak_model.specs.Exchange.{Piece, Emits, item_pieces}
@@ -33,9 +33,11 @@ idle_granted k slot hart reply space idle = by (context_at k.contexts slot) idle
   where
     told : Option Context → Result (Unit {0}) ResumeFault
     told o = let made = resume_if slot hart o k.contexts in (resume_told slot reply made.answer (record k { contexts = made.contexts })).answer
-    on_hart : (c : Context) (b : Bool) → (if b then None else Some c.space) ≡ Some space →
-        (let made = if b then record { answer = Err Busy; contexts = k.contexts } else record { answer = Ok tt; contexts = with_context slot (record c { on = Some (record { 0 = hart }) }) k.contexts } in
-        (resume_told slot reply made.answer (record k { contexts = made.contexts })).answer) ≡ Ok tt
+    of_made : Made → Result (Unit {0}) ResumeFault
+    of_made m = (resume_told slot reply m.answer (record k { contexts = m.contexts })).answer
+    made : Context → Bool → Made
+    made c b = if◌then◌else◌ {A = Made} b (record { answer = Err Busy; contexts = k.contexts }) (record { answer = Ok tt; contexts = with_context slot (record c { on = Some (record { 0 = hart }) }) k.contexts })
+    on_hart : (c : Context) (b : Bool) → (if b then None else Some c.space) ≡ Some space → of_made (made c b) ≡ Ok tt
     on_hart c true is = absurd (cc)
     on_hart c false is = refl
     by : (o : Option Context) → idle_space o ≡ Some space → told o ≡ Ok tt
@@ -48,9 +50,11 @@ idle_refused k slot hart reply idle = by (context_at k.contexts slot) idle
   where
     told : Option Context → Result (Unit {0}) ResumeFault
     told o = let made = resume_if slot hart o k.contexts in (resume_told slot reply made.answer (record k { contexts = made.contexts })).answer
-    on_hart : (c : Context) (b : Bool) → (if b then None else Some c.space) ≡ None → (f : ResumeFault) ×
-        ((let made = if b then record { answer = Err Busy; contexts = k.contexts } else record { answer = Ok tt; contexts = with_context slot (record c { on = Some (record { 0 = hart }) }) k.contexts } in
-        (resume_told slot reply made.answer (record k { contexts = made.contexts })).answer) ≡ Err f)
+    of_made : Made → Result (Unit {0}) ResumeFault
+    of_made m = (resume_told slot reply m.answer (record k { contexts = m.contexts })).answer
+    made : Context → Bool → Made
+    made c b = if◌then◌else◌ {A = Made} b (record { answer = Err Busy; contexts = k.contexts }) (record { answer = Ok tt; contexts = with_context slot (record c { on = Some (record { 0 = hart }) }) k.contexts })
+    on_hart : (c : Context) (b : Bool) → (if b then None else Some c.space) ≡ None → (f : ResumeFault) × (of_made (made c b) ≡ Err f)
     on_hart c true is = (Busy, refl)
     on_hart c false is = absurd (cc)
     by : (o : Option Context) → idle_space o ≡ None → (f : ResumeFault) × (told o ≡ Err f)

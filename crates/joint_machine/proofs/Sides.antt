@@ -1,5 +1,5 @@
 -- The step of a program over the machine's memory.
-use Rattle.std.proofs.Common.{◌≡◌, ◌<◌, ◌∙◌, ◌^◌, ℕ, Bool, false, cond, List, Option, Some, None, refl, ap, sym, subst}
+use Rattle.std.proofs.Common.{◌≡◌, ◌≢◌, ◌<◌, ◌∙◌, ◌^◌, ℕ, Bool, false, cond, List, Option, Some, None, refl, ap, sym, subst}
 use Rattle.std.specs.Option.{IfSome}
 use Rattle.std.proofs.lemmas.Bool.{lt-ltb}
 use Rattle.cloak_base.specs.declared.names.PageId.{PageId}
@@ -15,7 +15,7 @@ use Rattle.cloak_model.specs.DomainState as program
 use Rattle.cloak_model.specs.DomainStep.{DomainStepped}
 use Rattle.cloak_model.specs.Exchange.{Piece, Emits, item_pieces}
 use Rattle.cloak_model.specs.Joint.{pages_for}
-use Rattle.cloak_pager.specs.State.{PagerState, IsNoneHeld}
+use Rattle.cloak_pager.specs.State.{PagerState, IsNoneHeld, held_in}
 use Rattle.cloaked_fork.specs.Marks.{AreUnused}
 use Rattle.cloaked_side.specs.Holding.{domains_in}
 use Rattle.cloaked_side.specs.Seeing.{Sees, IsUnused, served}
@@ -25,7 +25,7 @@ use Rattle.cloaked_side.specs.declared.side.Side.{Side}
 use Rattle.hypercalls.specs.declared.domain.Domain.{Domain}
 use Rattle.hypercalls.specs.Standing.{StepsTo, HasPagesOf}
 use Rattle.joint_machine.specs.declared.stepping.Stepped.{Stepped}
-use Rattle.joint_machine.specs.Turning.{StepsDomain, begun}
+use Rattle.joint_machine.specs.Turning.{HoldsNoFree, HoldsNoOthers, StepsDomain, begun}
 
 -- a domain that the memory has is served under its number
 pub served_there : {E : Type 0} (side : Side E) → side.view.domain < domains_in side.memory.now → side.view.domain ≡ served side
@@ -69,7 +69,11 @@ steps_told gave first now domain given told memory e same_memory same_emitter sa
 }
 
 -- what is unused in a side is so in the memory that it gave back
-pub unused_back : {E : Type 0} (side : Side E) (pager : PagerState) (view : View) (r : Resources) → pager ≡ side.memory.now.pager → side.view ≡ view → AreUnused (IsUnused side) r → AreUnused (IsNoneHeld pager view.domain) r
+pub unused_back : {E : Type 0} (side : Side E) (pager : PagerState) (view : View) (r : Resources) → pager ≡ side.memory.now.pager → side.view ≡ view → AreUnused (IsUnused side) r → HoldsNoFree view.domain r pager
 unused_back side pager view r same_pager same_view unused =
-    subst (λ (p : PagerState). AreUnused (IsNoneHeld p view.domain) r) (sym same_pager)
-    (subst (λ (v : View). AreUnused (IsNoneHeld side.memory.now.pager v.domain) r) same_view unused)
+    subst (λ (p : PagerState). HoldsNoFree view.domain r p) (sym same_pager)
+    (record { unused = subst (λ (v : View). AreUnused (IsNoneHeld side.memory.now.pager v.domain) r) same_view unused })
+
+-- no page of another domain came into a frame of the memory that was given back
+pub others_back : (d : ℕ) (old back new : PagerState) → back ≡ new → ((k : ℕ) (q : PageId) → q.domain ≢ d → held_in new k ≡ Some q → held_in old k ≡ Some q) → HoldsNoOthers d old back
+others_back d old back new same others = subst (λ (p : PagerState). HoldsNoOthers d old p) (sym same) (record { held = others })

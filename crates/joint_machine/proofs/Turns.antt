@@ -1,5 +1,6 @@
 -- The step of a hart, by what its parts came to.
 use Rattle.std.proofs.Common.{◌≡◌, ◌<◌, ◌≤◌, ◌∙◌, ℕ, Bool, true, false, List, [], ◌∷◌, ◌++◌, Option, Some, None, length, slice_get, slice_set, slice_index_or, refl, ap, sym, subst}
+use Rattle.std.proofs.lemmas.Option.{get_or_from_slice_get, slice_get-get_or}
 use Rattle.cloak_base.specs.declared.causes.Violation.{Violation}
 use Rattle.cloak_base.specs.declared.names.SpaceId.{SpaceId}
 use Rattle.cloak_model.specs.declared.item.Item.{Item}
@@ -12,8 +13,10 @@ use Rattle.cloak_model.specs.Csr.{interrupt_due, satp_of}
 use Rattle.cloak_model.specs.DomainState as program
 use Rattle.cloak_model.specs.Exchange.{Piece, Emits, item_pieces}
 use Rattle.cloak_model.specs.Hart.{Hart, started}
+use Rattle.cloak_model.specs.Contexts.{domain_of, slot_of}
 use Rattle.cloak_model.specs.HostCalls.{After}
-use Rattle.cloak_model.specs.Joint.{Turn, by_interrupt, inside_step, with_hart, hart_in, memory_of, after_kernel_step, after_outside, outside_ended, cloak_outside}
+use Rattle.cloak_model.specs.KernelStep.{ticked}
+use Rattle.cloak_model.specs.Joint.{Turn, by_interrupt, inside_step, with_hart, hart_in, memory_of, after_kernel_step, after_outside, outside_ended, outside_step, cloak_outside, turn_of}
 use Rattle.cloak_model.specs.Parts as model
 use Rattle.cloak_model.specs.Resuming.{resume}
 use Rattle.cloak_model.specs.World.{World, Cloak, Flat, Cloaked, Alone, items_of}
@@ -26,10 +29,15 @@ use Rattle.hypercalls.specs.Standing.{StandsFor}
 use Rattle.settling_ahead.proofs.Laws.{keeps_rest}
 use Rattle.joint_machine.specs.declared.ended.Ended.{Ended}
 use Rattle.joint_machine.specs.declared.joint.Joint.{Joint}
-use Rattle.joint_machine.specs.Standing.{AreDomains, StandsForJoint, shown_byte}
+use Rattle.joint_machine.specs.Standing.{AreDomains, StandsForJoint, shown_byte, turn_in}
 use Rattle.joint_machine.specs.Turning.{AreRoots, EndsTurn, Resumes, StepsPlainly, TurnsIn}
 use Rattle.joint_machine.proofs.Insides.{holds_memory, root_in}
 use Rattle.joint_machine.proofs.Places.{domain_at, domains_set, none_past}
+
+-- the hart of a number
+pub hart_is : (hs js : List Hart) (n : ℕ) (h : Hart) → hs ≡ js → n < length hs → h ≡ slice_index_or hs n h → h ≡ slice_index_or js n (started 0 0)
+hart_is hs js n h same inside is =
+    is ∙ sym (get_or_from_slice_get hs n (slice_index_or hs n h) (started 0 0) (slice_get-get_or hs n h inside)) ∙ ap (λ (xs : List Hart). slice_index_or xs n (started 0 0)) same
 
 -- A hart inside.
 
@@ -159,3 +167,14 @@ module _ {E : Type 0} (gave : E → E → List Piece → Type 0) (e e' : E) (joi
     halt = ap (λ (x : Ended). x.halt) none;
     stands = r.stands;
   })
+
+-- A hart, by the context that it runs.
+
+pub turn_outside : (j : model.Joint) (number : ℕ) (h : Hart) → h ≡ hart_in j number → h.inside ≡ None → turn_in j number ≡ outside_step j number (hart_in j number)
+unfolding turn_of
+turn_outside j number h is none = ap (λ (o : Option ℕ). turn_of j number (hart_in j number) o) (sym (ap (λ (x : Hart). x.inside) is) ∙ none)
+
+pub turn_inside : (j : model.Joint) (number ctx : ℕ) (h : Hart) → h ≡ hart_in j number → h.inside ≡ Some ctx →
+    turn_in j number ≡ inside_step j number (ticked (hart_in j number)) (domain_of ctx) (slot_of ctx) (slice_get j.domains (domain_of ctx))
+unfolding turn_of
+turn_inside j number ctx h is some = ap (λ (o : Option ℕ). turn_of j number (hart_in j number) o) (sym (ap (λ (x : Hart). x.inside) is) ∙ some)

@@ -1,5 +1,6 @@
 -- What the parts of a hart's step come to.
-use Rattle.std.specs.Prelude.{ℕ, ◌≡◌, List, [], ◌∷◌, ◌++◌, Option, Some, None, slice_set, is_some, if◌then◌else◌}
+use Rattle.std.specs.Prelude.{ℕ, ◌≡◌, ◌≢◌, List, [], ◌∷◌, ◌++◌, Option, Some, None, slice_set, is_some, if◌then◌else◌}
+use Rattle.cloak_base.specs.declared.names.PageId.{PageId}
 use Rattle.cloak_base.specs.declared.names.SpaceId.{SpaceId}
 use Rattle.cloak_base.specs.declared.causes.Violation.{Violation}
 use Rattle.cloak_model.specs.declared.item.Item.{Item}
@@ -20,6 +21,9 @@ use Rattle.cloak_model.specs.Resuming.{AfterResume}
 use Rattle.cloak_model.specs.Parts as model
 use Rattle.cloak_model.specs.Joint.{Turn, pages_for, after_kernel_step}
 use Rattle.thread_context.specs.Recorded.{root_at}
+use Rattle.cloak_model.specs.Resources.{Resources}
+use Rattle.cloak_pager.specs.State.{PagerState, IsNoneHeld, held_in}
+use Rattle.cloaked_fork.specs.Marks.{AreUnused}
 use Rattle.cloaked_side.specs.Holding.{Holds}
 use Rattle.cloaked_side.specs.Telling.{HoldsWorld}
 use Rattle.cloaked_side.specs.declared.memory.Memory.{Memory}
@@ -72,6 +76,16 @@ pub record ResumesIn {E : Type 0} (gave : E → E → List Piece → Type 0) (e 
   pub holds : (memory : Memory) → Holds memory j.memory → Holds memory r.joint.memory
   pub harts : r.joint.harts ≡ j.harts
   pub disk : r.joint.disk ≡ j.disk
+
+-- What holds of frames and pages before and after a program's step.
+
+-- no frame holds a page of another domain that it did not hold
+pub record HoldsNoOthers (d : ℕ) (old new : PagerState) : Type 0 where
+  pub held : (k : ℕ) (q : PageId) → q.domain ≢ d → held_in new k ≡ Some q → held_in old k ≡ Some q
+
+-- no frame holds a page of a resource of this domain whose number is free
+pub record HoldsNoFree (d : ℕ) (r : Resources) (pager : PagerState) : Type 0 where
+  pub unused : AreUnused (IsNoneHeld pager d) r
 
 -- A hart inside.
 

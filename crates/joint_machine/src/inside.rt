@@ -1,7 +1,5 @@
 //! The step of a hart inside.
 ghost use Rattle.std.specs.Prelude.{◌≡◌, ◌≢◌, ◌<◌, ℕ, false, Some, IsSome};
-ghost use Rattle.cloak_base.specs.declared.names.PageId.{PageId};
-ghost use Rattle.cloak_pager.specs.State.{held_in, IsNoneHeld};
 ghost use Rattle.cloak_model.specs.Contexts.{context_at};
 ghost use Rattle.cloak_model.specs.Csr.{interrupt_due};
 ghost use Rattle.cloak_model.specs.DomainState as model;
@@ -9,10 +7,9 @@ ghost use Rattle.cloak_model.specs.Exchange.{EmitsSome};
 ghost use Rattle.cloak_model.specs.Joint.{after_interrupt, by_interrupt};
 ghost use Rattle.cloak_model.specs.DomainStep as spec;
 ghost use Rattle.cloak_model.specs.Parts as parts;
-ghost use Rattle.cloaked_fork.specs.Marks.{AreUnused};
 ghost use Rattle.cloaked_side.specs.Holding.{Holds, SameSize, domains_in};
 ghost use Rattle.hypercalls.specs.Standing.{StandsFor, control_of, number_of};
-ghost use Rattle.joint_machine.specs.Turning.{AreRoots, InterruptsIn, TurnsIn};
+ghost use Rattle.joint_machine.specs.Turning.{AreRoots, HoldsNoFree, HoldsNoOthers, InterruptsIn, TurnsIn};
 
 use crate::ended::Ended;
 use crate::going::{go_on, leave_context};
@@ -54,12 +51,12 @@ fn step_context<E: Emit>(
     requires few { d < 4 }
     requires number { number_of domain.old ≡ d }
     requires there { d < domains_in memory.old }
-    requires unused { AreUnused (IsNoneHeld memory.old.pager d) (control_of domain.old).resources }
+    requires unused { HoldsNoFree d (control_of domain.old).resources memory.old.pager }
     ensures number { number_of domain.new ≡ d }
     ensures size { SameSize memory.old memory.new }
     ensures emits_some { EmitsSome E.gave e.old e.new }
-    ensures others { (k : ℕ) (q : PageId) → q.domain ≢ d → held_in memory.new.pager k ≡ Some q → held_in memory.old.pager k ≡ Some q }
-    ensures unused { AreUnused (IsNoneHeld memory.new.pager d) (control_of domain.new).resources }
+    ensures others { HoldsNoOthers d memory.old.pager memory.new.pager }
+    ensures unused { HoldsNoFree d (control_of domain.new).resources memory.new.pager }
     ensures turns { (j : parts.Joint) (number : ℕ) (was : model.Domain) → StandsFor domain.old was → Holds memory.old j.memory →
         AreRoots roots.old j.memory.ledger.root →
         (by_interrupt (interrupt_due h.old.mode h.old.csrs) j number h.old d slot was).joint.memory.ledger.clashed ≡ false →

@@ -1,17 +1,14 @@
 //! The step of a program over the machine's memory.
 ghost use Rattle.std.specs.Prelude.{◌≡◌, ◌≢◌, ◌<◌, ℕ, false, Some, IsSome};
-ghost use Rattle.cloak_base.specs.declared.names.PageId.{PageId};
-ghost use Rattle.cloak_pager.specs.State.{held_in, IsNoneHeld};
 ghost use Rattle.cloak_model.specs.Cloaking.{CloakedMemory};
 ghost use Rattle.cloak_model.specs.Contexts.{context_at};
 ghost use Rattle.cloak_model.specs.DomainState as model;
 ghost use Rattle.cloak_model.specs.DomainStep.{domain_step};
 ghost use Rattle.cloak_model.specs.Exchange.{EmitsSome};
 ghost use Rattle.cloak_model.specs.World.{Cloaked, is_clashed};
-ghost use Rattle.cloaked_fork.specs.Marks.{AreUnused};
 ghost use Rattle.cloaked_side.specs.Holding.{Holds, SameSize, domains_in};
 ghost use Rattle.hypercalls.specs.Standing.{StandsFor, control_of, number_of};
-ghost use Rattle.joint_machine.specs.Turning.{StepsDomain, begun};
+ghost use Rattle.joint_machine.specs.Turning.{HoldsNoFree, HoldsNoOthers, StepsDomain, begun};
 
 use cloak_base::Violation;
 use cloak_model::{Emit, View, Went};
@@ -31,12 +28,12 @@ pub fn step_domain<E: Emit>(domain: &mut Domain, slot: u32, view: View, memory: 
     requires runs { IsSome (context_at (control_of domain.old).contexts slot) }
     requires number { number_of domain.old ≡ view.domain }
     requires there { view.domain < domains_in memory.old }
-    requires unused { AreUnused (IsNoneHeld memory.old.pager view.domain) (control_of domain.old).resources }
+    requires unused { HoldsNoFree view.domain (control_of domain.old).resources memory.old.pager }
     ensures number { number_of domain.new ≡ number_of domain.old }
     ensures size { SameSize memory.old memory.new }
     ensures emits_some { EmitsSome E.gave e.old e.new }
-    ensures others { (k : ℕ) (q : PageId) → q.domain ≢ view.domain → held_in memory.new.pager k ≡ Some q → held_in memory.old.pager k ≡ Some q }
-    ensures unused { AreUnused (IsNoneHeld memory.new.pager view.domain) (control_of domain.new).resources }
+    ensures others { HoldsNoOthers view.domain memory.old.pager memory.new.pager }
+    ensures unused { HoldsNoFree view.domain (control_of domain.new).resources memory.new.pager }
     ensures steps { (m : CloakedMemory) (d : model.Domain) → Holds memory.old m → StandsFor domain.old d →
         is_clashed (domain_step slot d (Cloaked (begun m view slot d))).world ≡ false →
         StepsDomain E.gave e.old e.new memory.new domain.new result (domain_step slot d (Cloaked (begun m view slot d))) }
