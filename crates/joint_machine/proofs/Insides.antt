@@ -23,7 +23,7 @@ use Rattle.cloak_model.specs.Hypercalls.{Stepped as Interrupted}
 use Rattle.cloak_model.specs.Joint.{Turn, memory_of, with_domain, domain_ended, after_domain_step, by_interrupt, after_interrupt, interrupt_ended, cloak_of, pages_for, quiet, with_hart}
 use Rattle.cloak_model.specs.Leaving.{leave}
 use Rattle.cloak_model.specs.Parts as model
-use Rattle.cloak_model.specs.World.{World, Cloak, Flat, Cloaked, Alone, items_of, is_clashed}
+use Rattle.cloak_model.specs.World.{World, Cloak, Flat, Cloaked, Alone, items_of, violation_of, is_clashed}
 use Rattle.cloaked_side.specs.Holding.{Holds}
 use Rattle.cloaked_side.specs.Telling.{HoldsWorld}
 use Rattle.cloaked_side.specs.declared.memory.Memory.{Memory}
@@ -223,3 +223,24 @@ interrupts_none gave e e' h domain j number d slot was free stands emits = subst
       disk = refl;
       memory = refl;
     }
+
+-- The step by whether an interrupt is due.
+pub turns_now : {E : Type 0} (gave : E → E → List Piece → Type 0) (e e' : E) (h h' : Hart) (domain : Domain) (roots : List (List (Option ℕ))) (memory : Memory) (given : Option Violation) (j : model.Joint) (number d slot : ℕ) (was : program.Domain) (due now : Bool) → due ≡ now →
+    ((by_interrupt now j number h d slot was).joint.memory.ledger.clashed ≡ false → TurnsIn gave e e' h' domain roots memory given j number d (by_interrupt now j number h d slot was)) →
+    (by_interrupt due j number h d slot was).joint.memory.ledger.clashed ≡ false → TurnsIn gave e e' h' domain roots memory given j number d (by_interrupt due j number h d slot was)
+turns_now gave e e' h h' domain roots memory given j number d slot was due now is turns =
+    subst (λ (b : Bool). (by_interrupt b j number h d slot was).joint.memory.ledger.clashed ≡ false → TurnsIn gave e e' h' domain roots memory given j number d (by_interrupt b j number h d slot was)) (sym is) turns
+
+-- A program's step over the memory as it begins, and what followed.
+pub turns_stepping : {E : Type 0} (gave : E → E → List Piece → Type 0) (e e' e'' : E) (h h' : Hart) (domain : Domain) (roots roots' : List (List (Option ℕ))) (memory : Memory) (stepped : Stepped) (given : Option Violation) (j : model.Joint) (number d slot : ℕ) (was : program.Domain) (view : View) →
+    begun j.memory view slot was ≡ cloak_of j.memory h d (pages_for was (context_at was.control.contexts slot)) → AreRoots roots j.memory.ledger.root →
+    (is_clashed (domain_step slot was (Cloaked (begun j.memory view slot was))).world ≡ false → StepsDomain gave e e' memory domain stepped (domain_step slot was (Cloaked (begun j.memory view slot was)))) →
+    ((after : model.Joint) (w : World) → stepped.violation ≡ violation_of w → AreRoots roots after.memory.ledger.root → GoesOn gave e' e'' h' roots' given after number (items_of w) (domain_ended after number h d w stepped.went)) →
+    (by_interrupt false j number h d slot was).joint.memory.ledger.clashed ≡ false → TurnsIn gave e e'' h' domain roots' memory given j number d (by_interrupt false j number h d slot was)
+turns_stepping gave e e' e'' h h' domain roots roots' memory stepped given j number d slot was view begins are steps goes none =
+    let told = told_of j h d slot was in
+    let after = stepped_joint j d told in
+    let s : StepsDomain gave e e' memory domain stepped told = subst (λ (c : Cloak). is_clashed (domain_step slot was (Cloaked c)).world ≡ false → StepsDomain gave e e' memory domain stepped (domain_step slot was (Cloaked c))) begins steps (step_unclashed j number h d slot was none) in
+    turns_stepped gave e e' e'' h h' domain roots' memory stepped given j number d slot was s
+    (subst (λ (x : Went). GoesOn gave e' e'' h' roots' given after number (items_of told.world) (domain_ended after number h d told.world x)) s.went
+    (goes after told.world s.violation (roots_stepped roots j h d slot was are)))

@@ -1,6 +1,7 @@
 -- Resuming a context, by what its parts came to.
 use Rattle.std.proofs.Common.{◌≡◌, ◌≤◌, ◌∙◌, ℕ, Bool, true, false, List, [], ◌∷◌, Option, Some, None, Result, Ok, Err, length, slice_get, slice_set, refl, ap, sym, subst, if◌then◌else◌}
-use Rattle.std.specs.Prelude.{is_some}
+use Rattle.std.specs.Prelude.{is_some, is_err, OnErr}
+use Rattle.std.proofs.lemmas.Bool.{false≢true}
 use Rattle.cloak_base.specs.declared.names.SpaceId.{SpaceId}
 use Rattle.cloak_base.specs.declared.causes.Violation.{Violation}
 use Rattle.cloak_base.specs.declared.causes.Violation.TheVariants as violation
@@ -73,6 +74,23 @@ idle_is (Some c) space is = by (is_some c.on) is
 pub resume_granted : (k : program.Control) (slot hart reply space : ℕ) → Some space ≡ idle_space (context_at k.contexts slot) → (resume_slot slot hart reply k).answer ≡ Ok tt
 resume_granted k slot hart reply space idle = idle_granted k slot hart reply space (sym idle)
 
+-- what tests of an answer tell
+err_of : (a : Result (Unit {0}) ResumeFault) (b : Bool) → b ≡ is_err a → b ≡ true → (f : ResumeFault) × (a ≡ Err f)
+err_of (Ok tt) b test on = absurd (false≢true (sym test ∙ on))
+err_of (Err f) b test on = (f, refl)
+
+ok_of : (a : Result (Unit {0}) ResumeFault) (b : Bool) → b ≡ is_err a → b ≡ false → a ≡ Ok tt
+ok_of (Ok tt) b test off = refl
+ok_of (Err f) b test off = absurd (false≢true (sym off ∙ test))
+
+on_err : (a : Result (Unit {0}) ResumeFault) (f : ResumeFault) (P : Type 0) → a ≡ Err f → OnErr a P → P
+on_err (Ok tt) f P is holds = absurd (cc)
+on_err (Err g) f P is holds = holds
+
+-- an answer that is granted is no fault
+pub no_fault : (a b : Result (Unit {0}) ResumeFault) (f : ResumeFault) → a ≡ Err f → a ≡ b → b ≡ Ok tt → ⊥
+no_fault a b f err same ok = cc
+
 -- The definition, by these.
 
 module _ (j : model.Joint) (hart satp ctx reply : ℕ) (was : program.Domain) where
@@ -132,28 +150,31 @@ module _ {E : Type 0} (gave : E → E → List Piece → Type 0) (e : E) (domain
   admitted_is s = ap (λ (root : SpaceId → Option ℕ). admit s satp root) (same_roots roots j.memory.ledger.root are)
 
   -- the page table is another one
-  pub resumes_mapping : (o : Option ℕ) (space : ℕ) (f : ResumeFault) → o ≡ idle_space (context_at (control_of domain).contexts (slot_of ctx)) → o ≡ Some space → Err f ≡ (admit (record { domain = domain_of ctx; number = space }) satp (root_at roots)).answer → given ≡ Some (violation.Mapping ctx satp) →
-      ResumesIn gave e e domain roots given j (domain_of ctx) (by_domain j hart satp ctx reply (Some was))
-  resumes_mapping o space f is idle wrong met =
-      let mapping = is_mapping j hart satp ctx reply was space f (idle_of domain was (slot_of ctx) o stands is ∙ idle) (sym (wrong ∙ ap (λ (a : Admitted). a.answer) (admitted_is (record { domain = domain_of ctx; number = space })))) in
-      refused_in gave e domain roots given j (domain_of ctx) was (violation.Mapping ctx satp) _ mapping met there stands are
+  pub resumes_mapping : (roots' : List (List (Option ℕ))) (o : Option ℕ) (space : ℕ) (a : Result (Unit {0}) ResumeFault) (b : Bool) → b ≡ is_err a → b ≡ true → OnErr a (roots' ≡ roots) → o ≡ idle_space (context_at (control_of domain).contexts (slot_of ctx)) → o ≡ Some space → a ≡ (admit (record { domain = domain_of ctx; number = space }) satp (root_at roots)).answer → given ≡ Some (violation.Mapping ctx satp) →
+      ResumesIn gave e e domain roots' given j (domain_of ctx) (by_domain j hart satp ctx reply (Some was))
+  resumes_mapping roots' o space a b test on same is idle wrong met =
+      let fault = err_of a b test on in
+      let f = fault.0 in
+      let mapping = is_mapping j hart satp ctx reply was space f (idle_of domain was (slot_of ctx) o stands is ∙ idle) (sym (sym fault.1 ∙ wrong ∙ ap (λ (x : Admitted). x.answer) (admitted_is (record { domain = domain_of ctx; number = space })))) in
+      subst (λ (r : List (List (Option ℕ))). ResumesIn gave e e domain r given j (domain_of ctx) (by_domain j hart satp ctx reply (Some was))) (sym (on_err a f (roots' ≡ roots) fault.1 same))
+      (refused_in gave e domain roots given j (domain_of ctx) was (violation.Mapping ctx satp) _ mapping met there stands are)
 
   -- the context runs
-  pub resumes_granted : (e' : E) (o : Option ℕ) (space : ℕ) (answer : Result (Unit {0}) ResumeFault) (domain' : Domain) (roots' : List (List (Option ℕ))) → o ≡ idle_space (context_at (control_of domain).contexts (slot_of ctx)) → o ≡ Some space → Ok tt ≡ (admit (record { domain = domain_of ctx; number = space }) satp (root_at roots)).answer →
+  pub resumes_granted : (e' : E) (o : Option ℕ) (space : ℕ) (a : Result (Unit {0}) ResumeFault) (b : Bool) (answer : Result (Unit {0}) ResumeFault) (domain' : Domain) (roots' : List (List (Option ℕ))) → o ≡ idle_space (context_at (control_of domain).contexts (slot_of ctx)) → b ≡ is_err a → b ≡ false → o ≡ Some space → a ≡ (admit (record { domain = domain_of ctx; number = space }) satp (root_at roots)).answer →
       ((t : SpaceId) → root_at roots' t ≡ (admit (record { domain = domain_of ctx; number = space }) satp (root_at roots)).root t) →
       ResumesAs domain' was answer (resume_slot (slot_of ctx) hart reply was.control) → Emits gave e e' (item_pieces (item.Resume (domain_of ctx) ctx reply ∷ [])) → given ≡ None →
       ResumesIn gave e e' domain' roots' given j (domain_of ctx) (by_domain j hart satp ctx reply (Some was))
   unfolding by_root
-  resumes_granted e' o space answer domain' roots' is idle right each resumed emits none =
+  resumes_granted e' o space a b answer domain' roots' is test off idle right each resumed emits none =
       let s : SpaceId = record { domain = domain_of ctx; number = space } in
-      let granted = is_granted j hart satp ctx reply was space (idle_of domain was (slot_of ctx) o stands is ∙ idle) (sym (right ∙ ap (λ (a : Admitted). a.answer) (admitted_is s))) in
+      let granted = is_granted j hart satp ctx reply was space (idle_of domain was (slot_of ctx) o stands is ∙ idle) (sym (sym (ok_of a b test off) ∙ right ∙ ap (λ (x : Admitted). x.answer) (admitted_is s))) in
       subst (λ (x : AfterResume). ResumesIn gave e e' domain' roots' given j (domain_of ctx) x) (sym granted) (record {
         emits = emits;
         violation = none;
         after = record was { control = (resume_slot (slot_of ctx) hart reply was.control).control };
         stands = resumed.domain_stands;
         domains = refl;
-        roots_are = λ t. each t ∙ ap (λ (a : Admitted). a.root t) (admitted_is s);
+        roots_are = λ t. each t ∙ ap (λ (x : Admitted). x.root t) (admitted_is s);
         holds = λ memory holds. holds_rooted memory j.memory _ holds;
         harts = refl;
         disk = refl;

@@ -62,21 +62,22 @@ ends_none gave e old new given j number h d slot s past harts disk memory domain
 })
 
 -- the step of a program in its place
-pub ends_turned : {E : Type 0} (gave : E → E → List Piece → Type 0) (e e' : E) (old new : Joint) (met : Option Violation) (given : Ended) (j : model.Joint) (number : ℕ) (h h' : Hart) (d slot : ℕ) (x x' : Domain) →
+pub ends_turned : {E : Type 0} (gave : E → E → List Piece → Type 0) (e e' : E) (old new : Joint) (met : Option Violation) (given : Ended) (j : model.Joint) (number : ℕ) (h h' at_start : Hart) (d slot : ℕ) (x x' : Domain) → h ≡ at_start →
     StandsForJoint old j → slice_get old.domains.items d ≡ Some x →
     new.harts.items ≡ slice_set old.harts.items number h' → new.disk ≡ old.disk → new.domains.items ≡ slice_set old.domains.items d x' →
     given ≡ record { console = None; violation = met; halt = None } →
     ((was : program.Domain) → StandsFor x was → (by_interrupt (interrupt_due h.mode h.csrs) j number h d slot was).joint.memory.ledger.clashed ≡ false →
         TurnsIn gave e e' h' x' new.roots new.memory met j number d (by_interrupt (interrupt_due h.mode h.csrs) j number h d slot was)) →
-    (inside_step j number h d slot (slice_get j.domains d)).joint.memory.ledger.clashed ≡ false →
-    EndsTurn gave e e' new given (inside_step j number h d slot (slice_get j.domains d))
+    (inside_step j number at_start d slot (slice_get j.domains d)).joint.memory.ledger.clashed ≡ false →
+    EndsTurn gave e e' new given (inside_step j number at_start d slot (slice_get j.domains d))
 unfolding inside_step
-ends_turned gave e e' old new met given j number h h' d slot x x' s there harts disk domains is turns unclashed =
+ends_turned gave e e' old new met given j number h h' at_start d slot x x' same s there harts disk domains is turns unclashed =
     let at = domain_at old.domains.items j.domains d x s.domains there in
     let was = at.0 in
     let step : Option program.Domain → Turn = λ o. inside_step j number h d slot o in
-    let t = turns was at.1.1 (subst (λ (o : Option program.Domain). (step o).joint.memory.ledger.clashed ≡ false) at.1.0 unclashed) in
-    subst (λ (o : Option program.Domain). EndsTurn gave e e' new given (step o)) (sym at.1.0) (record {
+    let unclashed_h = subst (λ (y : Hart). (inside_step j number y d slot (slice_get j.domains d)).joint.memory.ledger.clashed ≡ false) (sym same) unclashed in
+    let t = turns was at.1.1 (subst (λ (o : Option program.Domain). (step o).joint.memory.ledger.clashed ≡ false) at.1.0 unclashed_h) in
+    subst (λ (y : Hart). EndsTurn gave e e' new given (inside_step j number y d slot (slice_get j.domains d))) same (subst (λ (o : Option program.Domain). EndsTurn gave e e' new given (step o)) (sym at.1.0) (record {
       emits = t.emits;
       console = ap (λ (y : Ended). shown_byte y.console) is ∙ sym t.console;
       violation = ap (λ (y : Ended). y.violation) is ∙ t.violation;
@@ -89,7 +90,7 @@ ends_turned gave e e' old new met given j number h h' d slot x x' s there harts 
             (subst (λ (ds : List program.Domain). AreDomains (slice_set old.domains.items d x') ds) (sym t.domains) (domains_set old.domains.items j.domains d x' t.after s.domains t.stands));
         roots = t.roots_are;
       };
-    })
+    }))
 
 -- A hart outside.
 
