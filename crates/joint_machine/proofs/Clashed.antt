@@ -1,8 +1,7 @@
 -- That two pages clashed is never taken back by a step or by the closing, and what a step shows on the console is added
 -- to it.
-use Rattle.std.proofs.Common.{◌≡◌, ◌∙◌, ℕ, zero, suc, Bool, true, false, List, [], ◌∷◌, ◌++◌, Option, Some, None, Result, Ok, Err, length, slice_get, slice_index_or, refl, ap, sym, subst}
+use Rattle.std.proofs.Common.{◌≡◌, ◌∙◌, ℕ, zero, suc, Bool, true, false, List, ◌++◌, Option, Some, None, Result, Ok, Err, length, slice_get, refl, sym}
 use Rattle.std.proofs.lemmas.List.{append-nil}
-use Rattle.cloak_base.specs.declared.names.SpaceId.{SpaceId}
 use Rattle.cloak_model.specs.declared.context.ResumeFault.{ResumeFault}
 use Rattle.cloak_model.specs.declared.item.Item.{Item}
 use Rattle.cloak_model.specs.declared.outcome.Kernel.{Kernel}
@@ -10,25 +9,22 @@ use Rattle.cloak_model.specs.declared.outcome.Kernel.TheVariants.{Stay, Put, Hal
 use Rattle.cloak_model.specs.declared.inside.Went.{Went}
 use Rattle.cloak_model.specs.declared.inside.Went.TheVariants as went
 use Rattle.cloak_model.specs.Ahead.{settled_step, made_after}
-use Rattle.cloak_model.specs.Asking.{Told}
 use Rattle.cloak_model.specs.Cloaking.{CloakedMemory}
-use Rattle.cloak_model.specs.Contexts.{Admitted, admit, domain_of, slot_of, context_at}
-use Rattle.cloak_model.specs.Csr.{interrupt_due}
+use Rattle.cloak_model.specs.Contexts.{Admitted, domain_of, slot_of}
 use Rattle.cloak_model.specs.DomainState as program
-use Rattle.cloak_model.specs.DomainStep.{resume_slot, interrupt}
+use Rattle.cloak_model.specs.DomainStep.{interrupt}
 use Rattle.cloak_model.specs.Hart.{Hart}
-use Rattle.cloak_model.specs.HostCalls.{After}
-use Rattle.cloak_model.specs.Joint.{Turn, after_interrupt, after_kernel_step, after_outside, by_interrupt, after_domain_step, cloak_outside, domain_ended, hart_in, inside_step, interrupt_ended, memory_of, outside_ended, outside_step, turn_of}
+use Rattle.cloak_model.specs.Joint.{after_interrupt, after_kernel_step, after_outside, by_interrupt, after_domain_step, cloak_outside, domain_ended, hart_in, inside_step, interrupt_ended, memory_of, outside_ended, outside_step, turn_of}
 use Rattle.cloak_model.specs.KernelStep.{ticked}
 use Rattle.cloak_model.specs.Parts as model
-use Rattle.cloak_model.specs.Resuming.{AfterResume, by_context, by_domain, by_root, resume, space_of}
+use Rattle.cloak_model.specs.Resuming.{by_context, by_domain, by_root, resume}
 use Rattle.cloak_model.specs.Run.{closing, settled_below}
-use Rattle.cloak_model.specs.World.{World, Cloak, Flat, Cloaked, Alone, items_of, is_clashed}
+use Rattle.cloak_model.specs.World.{World, Cloak, items_of}
 use Rattle.cloak_model.proofs.Clashes.{settle_clashed}
 use Rattle.settling_ahead.proofs.Laws.{keeps_rest}
 use Rattle.hypercalls.proofs.StepLater.{later_domain_step}
 use Rattle.joint_machine.specs.Standing.{turn_in}
-use Rattle.joint_machine.proofs.Insides.{ended_clashed, interrupt_clashed, step_unclashed, told_of}
+use Rattle.joint_machine.proofs.Insides.{interrupt_clashed, step_unclashed, told_of}
 
 -- A resuming compares no pages, and shows nothing on the console.
 

@@ -1,5 +1,5 @@
 -- The step of a hart inside, by what its parts came to.
-use Rattle.std.proofs.Common.{◌≡◌, ◌<◌, ◌∙◌, ℕ, Bool, true, false, List, [], ◌∷◌, ◌++◌, Option, Some, None, refl, ap, sym, subst}
+use Rattle.std.proofs.Common.{◌≡◌, ◌∙◌, ℕ, Bool, true, false, List, [], ◌∷◌, Option, Some, None, refl, ap, sym, subst}
 use Rattle.std.specs.Prelude.{is_none, is_some, option_map}
 use Rattle.std.proofs.lemmas.Bool.{false≢true}
 use Rattle.cloak_base.specs.declared.names.HartId.{HartId}
@@ -19,8 +19,7 @@ use Rattle.cloak_model.specs.DomainState as program
 use Rattle.cloak_model.specs.DomainStep.{DomainStepped, domain_step, step_if, interrupt, interrupt_if, within}
 use Rattle.cloak_model.specs.Exchange.{Piece, Emits, item_pieces}
 use Rattle.cloak_model.specs.Hart.{Hart}
-use Rattle.cloak_model.specs.Hypercalls.{Stepped as Interrupted}
-use Rattle.cloak_model.specs.Joint.{Turn, memory_of, with_domain, domain_ended, after_domain_step, by_interrupt, after_interrupt, interrupt_ended, cloak_of, pages_for, quiet, with_hart}
+use Rattle.cloak_model.specs.Joint.{Turn, memory_of, with_domain, domain_ended, after_domain_step, by_interrupt, after_interrupt, interrupt_ended, cloak_of, pages_for}
 use Rattle.cloak_model.specs.Leaving.{leave}
 use Rattle.cloak_model.specs.Parts as model
 use Rattle.cloak_model.specs.World.{World, Cloak, Flat, Cloaked, Alone, items_of, violation_of, is_clashed}
@@ -32,7 +31,7 @@ use Rattle.hypercalls.specs.declared.domain.Domain.{Domain}
 use Rattle.hypercalls.specs.Standing.{StandsFor, EndsAs, control_of}
 use Rattle.joint_machine.specs.declared.stepping.Stepped.{Stepped}
 use Rattle.joint_machine.specs.Turning.{AreRoots, GoesOn, InterruptsIn, StepsDomain, TurnsIn, begun}
-use Rattle.joint_machine.proofs.RootedPages.{SameRoot, root_of}
+use Rattle.joint_machine.proofs.RootedPages.{root_of}
 use Rattle.joint_machine.proofs.RootedSteps.{rooted_domain_step}
 
 -- The memory of a world.
@@ -131,8 +130,10 @@ turns_none gave e h domain roots memory given j number d slot was free none stan
   where
     begins : Option Context → World
     begins c = Cloaked (cloak_of j.memory h d (pages_for was c))
+
     stepped_if : Option Context → Turn
     stepped_if c = let told = step_if c slot was (begins c) in domain_ended (stepped_joint j d told) number h d told.world told.answer.went
+
     at_none : TurnsIn gave e e h domain roots memory given j number d (stepped_if None)
     at_none = record {
       emits = emits_none gave e;

@@ -1,5 +1,5 @@
 -- The programs in their places.
-use Rattle.std.proofs.Common.{◌≡◌, ◌≢◌, ◌<◌, ◌≤◌, ◌∙◌, ◌⊎◌, ℕ, zero, suc, Bool, false, List, [], ◌∷◌, Option, Some, None, length, slice_get, slice_set, slice_index_or, refl, ap, sym, subst, inl, inr, arith}
+use Rattle.std.proofs.Common.{◌≡◌, ◌≢◌, ◌≤◌, ◌∙◌, ℕ, zero, suc, false, List, [], ◌∷◌, Option, Some, None, length, slice_get, slice_set, refl, ap, sym, subst, inl, inr}
 use Rattle.std.proofs.lemmas.Option.{slice_get_past}
 use Rattle.std.proofs.lemmas.Bool.Decides.{Decides-eqb}
 use Rattle.std.specs.Option.{ForSome, IfSome}
@@ -8,8 +8,7 @@ use Rattle.cloak_base.specs.Pages.{is_of}
 use Rattle.cloak_base.proofs.Pages.{told, is_of-other}
 use Rattle.cloak_model.specs.DomainState as program
 use Rattle.cloak_model.specs.Resources.{Resources, resource_at}
-use Rattle.cloak_pager.specs.State.{PagerState, IsNoneHeld, held_in}
-use Rattle.cloaked_fork.specs.Marks.{AreUnused}
+use Rattle.cloak_pager.specs.State.{PagerState, IsNoneHeld}
 use Rattle.cloaked_side.specs.Holding.{HoldsNoMore}
 use Rattle.hypercalls.specs.declared.domain.Domain.{Domain}
 use Rattle.hypercalls.specs.Standing.{StandsFor, control_of, number_of}
@@ -94,6 +93,7 @@ free_stepped xs pager pager' d x stay own unused k n few z is free = elim (told 
     at_own [] i y z is = absurd (cc)
     at_own (o ∷ ys) zero y z is = cc
     at_own (o ∷ ys) (suc i) y z is = at_own ys i y z is
+
     at_other : (ys : List Domain) (i j : ℕ) (y z : Domain) → j ≢ i → slice_get (slice_set ys i y) j ≡ Some z → slice_get ys j ≡ Some z
     at_other [] i j y z n is = is
     at_other (o ∷ ys) zero zero y z n is = absurd (n refl)

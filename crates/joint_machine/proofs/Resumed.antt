@@ -34,13 +34,17 @@ idle_granted k slot hart reply space idle = by (context_at k.contexts slot) idle
   where
     told : Option Context → Result (Unit {0}) ResumeFault
     told o = let made = resume_if slot hart o k.contexts in (resume_told slot reply made.answer (record k { contexts = made.contexts })).answer
+
     of_made : Made → Result (Unit {0}) ResumeFault
     of_made m = (resume_told slot reply m.answer (record k { contexts = m.contexts })).answer
+
     made : Context → Bool → Made
     made c b = if◌then◌else◌ {A = Made} b (record { answer = Err Busy; contexts = k.contexts }) (record { answer = Ok tt; contexts = with_context slot (record c { on = Some (record { 0 = hart }) }) k.contexts })
+
     on_hart : (c : Context) (b : Bool) → (if b then None else Some c.space) ≡ Some space → of_made (made c b) ≡ Ok tt
     on_hart c true is = absurd (cc)
     on_hart c false is = refl
+
     by : (o : Option Context) → idle_space o ≡ Some space → told o ≡ Ok tt
     by None is = absurd (cc)
     by (Some c) is = on_hart c (is_some c.on) is
@@ -51,13 +55,17 @@ idle_refused k slot hart reply idle = by (context_at k.contexts slot) idle
   where
     told : Option Context → Result (Unit {0}) ResumeFault
     told o = let made = resume_if slot hart o k.contexts in (resume_told slot reply made.answer (record k { contexts = made.contexts })).answer
+
     of_made : Made → Result (Unit {0}) ResumeFault
     of_made m = (resume_told slot reply m.answer (record k { contexts = m.contexts })).answer
+
     made : Context → Bool → Made
     made c b = if◌then◌else◌ {A = Made} b (record { answer = Err Busy; contexts = k.contexts }) (record { answer = Ok tt; contexts = with_context slot (record c { on = Some (record { 0 = hart }) }) k.contexts })
+
     on_hart : (c : Context) (b : Bool) → (if b then None else Some c.space) ≡ None → (f : ResumeFault) × (of_made (made c b) ≡ Err f)
     on_hart c true is = (Busy, refl)
     on_hart c false is = absurd (cc)
+
     by : (o : Option Context) → idle_space o ≡ None → (f : ResumeFault) × (told o ≡ Err f)
     by None is = (NoContext, refl)
     by (Some c) is = on_hart c (is_some c.on) is
@@ -191,17 +199,17 @@ resumes_none gave e joint given j number satp ctx reply s past met = subst (λ (
   stands = s;
 })
 
-pub resumes_there : {E : Type 0} (gave : E → E → List Piece → Type 0) (e e' : E) (old new : Joint) (given : Option Violation) (j : model.Joint) (number satp ctx reply : ℕ) (x x' : Domain) →
+pub resumes_there : {E : Type 0} (gave : E → E → List Piece → Type 0) (e e' : E) (old new : Joint) (given : Option Violation) (j : model.Joint) (number satp word ctx reply : ℕ) (x x' : Domain) → satp ≡ word →
     StandsForJoint old j → slice_get old.domains.items (domain_of ctx) ≡ Some x →
     new.harts.items ≡ old.harts.items → new.disk ≡ old.disk → new.memory ≡ old.memory → new.domains.items ≡ slice_set old.domains.items (domain_of ctx) x' →
     ((was : program.Domain) → slice_get j.domains (domain_of ctx) ≡ Some was → StandsFor x was → ResumesIn gave e e' x' new.roots given j (domain_of ctx) (by_domain j number satp ctx reply (Some was))) →
-    Resumes gave e e' new given (resume j number satp ctx reply)
+    Resumes gave e e' new given (resume j number word ctx reply)
 unfolding resume
-resumes_there gave e e' old new given j number satp ctx reply x x' s there harts disk memory domains resumes =
+resumes_there gave e e' old new given j number satp word ctx reply x x' same s there harts disk memory domains resumes =
     let at = domain_at old.domains.items j.domains (domain_of ctx) x s.domains there in
     let was = at.0 in
     let r = resumes was at.1.0 at.1.1 in
-    subst (λ (o : Option program.Domain). Resumes gave e e' new given (by_domain j number satp ctx reply o)) (sym at.1.0) (record {
+    subst (λ (w : ℕ). Resumes gave e e' new given (by_domain j number w ctx reply (slice_get j.domains (domain_of ctx)))) same (subst (λ (o : Option program.Domain). Resumes gave e e' new given (by_domain j number satp ctx reply o)) (sym at.1.0) (record {
       emits = r.emits;
       violation = r.violation;
       stands = record {
@@ -212,4 +220,4 @@ resumes_there gave e e' old new given j number satp ctx reply x x' s there harts
             (subst (λ (ds : List program.Domain). AreDomains (slice_set old.domains.items (domain_of ctx) x') ds) (sym r.domains) (domains_set old.domains.items j.domains (domain_of ctx) x' r.after s.domains r.stands));
         roots = r.roots_are;
       };
-    })
+    }))

@@ -1,27 +1,26 @@
 -- The step of a hart, by what its parts came to.
-use Rattle.std.proofs.Common.{◌≡◌, ◌<◌, ◌≤◌, ◌∙◌, ℕ, Bool, true, false, List, [], ◌∷◌, ◌++◌, Option, Some, None, length, slice_get, slice_set, slice_index_or, refl, ap, sym, subst}
+use Rattle.std.proofs.Common.{◌≡◌, ◌<◌, ◌≤◌, ◌∙◌, ℕ, false, List, [], ◌∷◌, ◌++◌, Option, Some, None, length, slice_get, slice_set, slice_index_or, ap, sym, subst}
 use Rattle.std.proofs.lemmas.Option.{get_or_from_slice_get, slice_get-get_or}
 use Rattle.cloak_base.specs.declared.causes.Violation.{Violation}
 use Rattle.cloak_base.specs.declared.names.SpaceId.{SpaceId}
-use Rattle.cloak_model.specs.declared.item.Item.{Item}
 use Rattle.cloak_model.specs.declared.outcome.Kernel.{Kernel}
 use Rattle.cloak_model.specs.declared.outcome.Kernel.TheVariants as kernel
-use Rattle.cloak_model.specs.Ahead.{settled_step, made_after, settle_touched}
+use Rattle.cloak_model.specs.Ahead.{settled_step, made_after}
 use Rattle.cloak_model.specs.Asking.{Told}
 use Rattle.cloak_model.specs.Cloaking.{CloakedMemory}
 use Rattle.cloak_model.specs.Csr.{interrupt_due, satp_of}
 use Rattle.cloak_model.specs.DomainState as program
-use Rattle.cloak_model.specs.Exchange.{Piece, Emits, item_pieces}
+use Rattle.cloak_model.specs.Exchange.{Piece}
 use Rattle.cloak_model.specs.Hart.{Hart, started}
 use Rattle.cloak_model.specs.Contexts.{domain_of, slot_of}
 use Rattle.cloak_model.specs.HostCalls.{After}
 use Rattle.cloak_model.specs.KernelStep.{ticked}
-use Rattle.cloak_model.specs.Joint.{Turn, by_interrupt, inside_step, with_hart, hart_in, memory_of, after_kernel_step, after_outside, outside_ended, outside_step, cloak_outside, turn_of}
+use Rattle.cloak_model.specs.Joint.{Turn, by_interrupt, inside_step, hart_in, memory_of, after_kernel_step, after_outside, outside_ended, outside_step, cloak_outside, turn_of}
 use Rattle.cloak_model.specs.Parts as model
 use Rattle.cloak_model.specs.Resuming.{resume}
-use Rattle.cloak_model.specs.World.{World, Cloak, Flat, Cloaked, Alone, items_of}
+use Rattle.cloak_model.specs.World.{items_of}
 use Rattle.cloaked_side.specs.Holding.{Holds}
-use Rattle.cloaked_side.specs.Telling.{HoldsWorld, Tells}
+use Rattle.cloaked_side.specs.Telling.{Tells}
 use Rattle.cloaked_side.specs.declared.memory.Memory.{Memory}
 use Rattle.cloaked_side.proofs.Emitting.{emits_none, emits_items}
 use Rattle.hypercalls.specs.declared.domain.Domain.{Domain}
@@ -31,7 +30,7 @@ use Rattle.joint_machine.specs.declared.ended.Ended.{Ended}
 use Rattle.joint_machine.specs.declared.joint.Joint.{Joint}
 use Rattle.joint_machine.specs.Standing.{AreDomains, StandsForJoint, shown_byte, turn_in}
 use Rattle.joint_machine.specs.Turning.{AreRoots, EndsTurn, Resumes, StepsPlainly, TurnsIn}
-use Rattle.joint_machine.proofs.Insides.{holds_memory, root_in}
+use Rattle.joint_machine.proofs.Insides.{holds_memory}
 use Rattle.joint_machine.proofs.Places.{domain_at, domains_set, none_past}
 
 -- the hart of a number
@@ -67,7 +66,7 @@ pub ends_turned : {E : Type 0} (gave : E → E → List Piece → Type 0) (e e' 
     new.harts.items ≡ slice_set old.harts.items number h' → new.disk ≡ old.disk → new.domains.items ≡ slice_set old.domains.items d x' →
     given ≡ record { console = None; violation = met; halt = None } →
     ((was : program.Domain) → StandsFor x was → (by_interrupt (interrupt_due h.mode h.csrs) j number h d slot was).joint.memory.ledger.clashed ≡ false →
-        TurnsIn gave e e' h' x' new.roots new.memory met j number d (by_interrupt (interrupt_due h.mode h.csrs) j number h d slot was)) →
+    TurnsIn gave e e' h' x' new.roots new.memory met j number d (by_interrupt (interrupt_due h.mode h.csrs) j number h d slot was)) →
     (inside_step j number at_start d slot (slice_get j.domains d)).joint.memory.ledger.clashed ≡ false →
     EndsTurn gave e e' new given (inside_step j number at_start d slot (slice_get j.domains d))
 unfolding inside_step
@@ -108,8 +107,8 @@ pub steps_plainly : {E : Type 0} (gave : E → E → List Piece → Type 0) (e e
 steps_plainly gave e e' old new given j number h h' s is harts domains roots tells =
     let told : Hart → List ℕ → Told After = λ x disk. settled_step x disk (cloak_outside j.memory x) in
     let told_here : Tells gave e e' new.memory (record { hart = h'; disk = new.disk; ending = given }) (told (hart_in j number) j.disk) =
-        subst (λ (x : Hart). Tells gave e e' new.memory (record { hart = h'; disk = new.disk; ending = given }) (told x j.disk)) is
-        (subst (λ (disk : List ℕ). Tells gave e e' new.memory (record { hart = h'; disk = new.disk; ending = given }) (told h disk)) s.disk tells) in
+    subst (λ (x : Hart). Tells gave e e' new.memory (record { hart = h'; disk = new.disk; ending = given }) (told x j.disk)) is
+    (subst (λ (disk : List ℕ). Tells gave e e' new.memory (record { hart = h'; disk = new.disk; ending = given }) (told h disk)) s.disk tells) in
     record {
       answer = ap (λ (a : After). a.ending) told_here.answer;
       emits = told_here.emits;

@@ -25,7 +25,13 @@ pub fn leave_context<E: Emit>(h: &mut Hart, s: &Shown, e: &mut E)
 
 /// A context of this domain goes on or leaves after its step. Answers what the kernel presented in place of what is
 /// recorded, where that stopped the step.
-pub fn go_on<E: Emit>(h: &mut Hart, domain: u32, roots: &mut Roots, stepped: &Stepped, e: &mut E) -> Option<Violation>
+pub fn go_on<E: Emit>(
+    h: &mut Hart,
+    domain: u32,
+    roots: &mut Roots,
+    stepped: &Stepped,
+    e: &mut E,
+) -> Option<Violation>
     requires { domain < 4 }
     ensures emits_some { EmitsSome E.gave e.old e.new }
     ensures goes_on { (j : model.Joint) (number : ℕ) (w : World) → stepped.now.violation ≡ violation_of w →

@@ -99,6 +99,14 @@ impl Joint {
             return Ended::met(None);
         }
         let domain = &mut self.domains[d];
-        Ended::met(step_context(h, d as u8, ctx % 8, domain, &mut self.roots, &mut self.memory, e))
+        Ended::met(step_context(
+            h,
+            d as u8,
+            ctx % 8,
+            domain,
+            &mut self.roots,
+            &mut self.memory,
+            e,
+        ))
     }
 }

@@ -75,7 +75,13 @@ impl Joint {
     ghost use Rattle.joint_machine.specs.Turning.{Resumes};
 
     /// This hart resumes a context with an answer. Answers the violation, where it may not.
-    pub(crate) fn resume<E: Emit>(&mut self, number: usize, ctx: u32, answer: u32, e: &mut E) -> Option<Violation>
+    pub(crate) fn resume<E: Emit>(
+        &mut self,
+        number: usize,
+        ctx: u32,
+        answer: u32,
+        e: &mut E,
+    ) -> Option<Violation>
         requires { number < harts_of self.old }
         ensures harts { harts_of self.new ≡ harts_of self.old }
         ensures emits_some { EmitsSome E.gave e.old e.new }
@@ -88,6 +94,14 @@ impl Joint {
         }
         let satp = self.harts[number].csrs.satp();
         let hart = HartId(number as u32);
-        resume_in(&mut self.domains[d], &mut self.roots, hart, satp, ctx, answer, e)
+        resume_in(
+            &mut self.domains[d],
+            &mut self.roots,
+            hart,
+            satp,
+            ctx,
+            answer,
+            e,
+        )
     }
 }

@@ -24,7 +24,13 @@ pub struct Stepped {
 }
 
 /// Makes one step of the context of a slot, which runs on a hart that sees memory so.
-pub fn step_domain<E: Emit>(domain: &mut Domain, slot: u32, view: View, memory: &mut Memory, e: &mut E) -> Stepped
+pub fn step_domain<E: Emit>(
+    domain: &mut Domain,
+    slot: u32,
+    view: View,
+    memory: &mut Memory,
+    e: &mut E,
+) -> Stepped
     requires runs { IsSome (context_at (control_of domain.old).contexts slot) }
     requires number { number_of domain.old ≡ view.domain }
     requires there { view.domain < domains_in memory.old }

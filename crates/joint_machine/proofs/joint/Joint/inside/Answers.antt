@@ -12,20 +12,20 @@ returns-then-d-len-clause-turns g c j s unclashed =
     let harts = c.args.self.now.harts.items in
     let h = c.tick.ensures ∙ ap ticked (hart_is harts j.harts c.args.number c.index_mut-h.result.now s.harts c.requires c.index_mut-h.ensures.value) in
     ends_none g.E.Emit.gave _ c.args.self.now _ _ j c.args.number _ (c.args.ctx / 8) (c.args.ctx % 8) s
-    (subst (λ n. n ≤ c.args.ctx / 8) c.len.ensures c.if-d-len.true) (ap (λ (x : Hart). slice_set harts c.args.number x) h) refl refl refl refl c.met.ensures
+    (subst (λ n. n ≤ c.args.ctx / 8) (c.len.ensures ∙ c.args.self.now.domains.ok.0) c.if-d-len.true) (ap (λ (x : Hart). slice_set harts c.args.number x) h) refl refl refl refl c.met.ensures
 
 pub step_context-requires-clause-number : goal.step_context-requires-clause-number
 step_context-requires-clause-number g c =
     let x = c.index_mut-domain.result.now in
     let d = c.args.ctx / 8 in
-    c.args.self.now.numbered d x (slice_get_read c.args.self.now.domains.items c.len.result d x c.len.ensures c.if-d-len.false c.index_mut-domain.ensures.value)
+    c.args.self.now.numbered d x (slice_get_read c.args.self.now.domains.items c.len.result d x (c.len.ensures ∙ c.args.self.now.domains.ok.0) c.if-d-len.false c.index_mut-domain.ensures.value)
 
 pub step_context-requires-clause-unused : goal.step_context-requires-clause-unused
 step_context-requires-clause-unused g c =
     let x = c.index_mut-domain.result.now in
     let d = c.args.ctx / 8 in
     let domains = c.args.self.now.domains.items in
-    free_here domains c.args.self.now.memory.pager d x (slice_get_read domains c.len.result d x c.len.ensures c.if-d-len.false c.index_mut-domain.ensures.value) c.args.self.now.unused
+    free_here domains c.args.self.now.memory.pager d x (slice_get_read domains c.len.result d x (c.len.ensures ∙ c.args.self.now.domains.ok.0) c.if-d-len.false c.index_mut-domain.ensures.value) c.args.self.now.unused
 
 pub invariant_of-self-2 : goal.invariant_of-self-2
 invariant_of-self-2 g c =
@@ -46,7 +46,7 @@ returns-clause-turns g c j s unclashed =
     let domains = c.args.self.now.domains.items in
     let d = c.args.ctx / 8 in
     let x = c.index_mut-domain.result.now in
-    let there = slice_get_read domains c.len.result d x c.len.ensures c.if-d-len.false c.index_mut-domain.ensures.value in
+    let there = slice_get_read domains c.len.result d x (c.len.ensures ∙ c.args.self.now.domains.ok.0) c.if-d-len.false c.index_mut-domain.ensures.value in
     let h = c.tick.ensures ∙ ap ticked (hart_is harts j.harts c.args.number c.index_mut-h.result.now s.harts c.requires c.index_mut-h.ensures.value) in
     ends_turned g.E.Emit.gave _ _ c.args.self.now _ _ _ j c.args.number c.tick.new.h c.step_context.new.h _ d (c.args.ctx % 8) x c.step_context.new.domain h s there refl refl refl c.met-2.ensures
     (λ was stands none. c.step_context.ensures.turns j c.args.number was stands s.memory s.roots none) unclashed
