@@ -4,3 +4,12 @@ pub mod Started
 pub mod Showing
 pub mod Opens
 pub mod Closed
+pub mod RootedPages
+pub mod RootedSteps
+pub mod Sides
+pub mod Gone
+pub mod Insides
+pub mod Places
+pub mod Turns
+pub mod Resumed
+pub mod Clashed

@@ -1,7 +1,6 @@
 -- What a joint machine stands for, and what its calls make of it.
 use Rattle.std.specs.Prelude.{ℕ, ◌≡◌, List, [], ◌∷◌, length, Option, Some, None, Result, Ok, Err}
 use Rattle.cloak_base.specs.Random.{Random}
-use Rattle.cloak_base.specs.declared.causes.Stop.{Stop}
 use Rattle.cloak_base.specs.declared.names.SpaceId.{SpaceId}
 use Rattle.cloak_model.specs.declared.image.Bundle.{Bundle}
 use Rattle.cloak_model.specs.Exchange.{Piece, Emits, item_pieces}

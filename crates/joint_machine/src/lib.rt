@@ -11,13 +11,19 @@
 #![tactic(auto)]
 
 mod closing;
+mod ended;
+mod going;
+mod inside;
 mod joint;
 mod loading;
 mod opened;
 mod opening;
+mod outside;
 mod placing;
 mod reading;
+mod resuming;
 mod starting;
+mod stepping;
 mod turned;
 
 pub use joint::Joint;

@@ -1,4 +1,11 @@
+ghost use Rattle.std.specs.Prelude.{◌≡◌, ◌<◌, false};
+ghost use Rattle.cloak_model.specs.Exchange.{EmitsSome};
+ghost use Rattle.cloak_model.specs.Parts as model;
+
+use crate::ended::Ended;
+use crate::joint::Joint;
 use cloak_base::Stop;
+use cloak_model::Emit;
 
 /// How a step ended.
 #[derive(Clone, Copy)]
@@ -7,4 +14,41 @@ pub struct Turned {
     pub console: Option<u8>,
     /// Why it stopped the run.
     pub stop: Option<Stop>,
+}
+
+impl Joint {
+    ghost use Rattle.joint_machine.specs.Standing.{StandsForJoint, TakesTurn, harts_of, turn_in};
+    ghost use Rattle.joint_machine.specs.Turning.{EndsTurn};
+
+    /// Makes the next step of a hart, by the context that it runs.
+    fn step<E: Emit>(&mut self, number: usize, e: &mut E) -> Ended
+        requires { number < harts_of self.old }
+        ensures harts { harts_of self.new ≡ harts_of self.old }
+        ensures emits_some { EmitsSome E.gave e.old e.new }
+        ensures turns { (j : model.Joint) → StandsForJoint self.old j →
+            (turn_in j number).joint.memory.ledger.clashed ≡ false →
+            EndsTurn E.gave e.old e.new self.new result (turn_in j number) }
+    {
+        match self.harts[number].inside {
+            None => self.outside(number, e),
+            Some(ctx) => self.inside(number, ctx, e),
+        }
+    }
+
+    /// Makes the next step of a hart. What it shows and answers is emitted as it comes about, but for the console's
+    /// byte, which is answered. A hart that was left inside by a refused resume counts its timer and does nothing else.
+    pub fn turn<E: Emit>(&mut self, number: usize, e: &mut E) -> Turned
+        requires { number < harts_of self.old }
+        ensures harts { harts_of self.new ≡ harts_of self.old }
+        ensures emits_some { EmitsSome E.gave e.old e.new }
+        ensures turns { (j : model.Joint) → StandsForJoint self.old j →
+            (turn_in j number).joint.memory.ledger.clashed ≡ false →
+            TakesTurn E.gave e.old e.new self.new result (turn_in j number) }
+    {
+        let ended = self.step(number, e);
+        Turned {
+            console: ended.console,
+            stop: ended.stop(self.memory.missed),
+        }
+    }
 }

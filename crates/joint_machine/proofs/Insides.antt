@@ -1,0 +1,247 @@
+-- The step of a hart inside, by what its parts came to.
+use Rattle.std.proofs.Common.{◌≡◌, ◌∙◌, ℕ, Bool, true, false, List, [], ◌∷◌, Option, Some, None, refl, ap, sym, subst}
+use Rattle.std.specs.Prelude.{is_none, is_some, option_map}
+use Rattle.std.proofs.lemmas.Bool.{false≢true}
+use Rattle.cloak_base.specs.declared.names.HartId.{HartId}
+use Rattle.cloak_base.specs.declared.names.SpaceId.{SpaceId}
+use Rattle.cloak_base.specs.declared.causes.Shown.{Shown}
+use Rattle.cloak_base.specs.declared.causes.Violation.{Violation}
+use Rattle.cloak_model.specs.declared.item.Item.{Item}
+use Rattle.cloak_model.specs.declared.item.Item.TheVariants as item
+use Rattle.cloak_model.specs.declared.inside.Went.{Went}
+use Rattle.cloak_model.specs.declared.inside.Went.TheVariants as went
+use Rattle.cloak_model.specs.declared.view.View.{View}
+use Rattle.cloak_model.specs.Asking.{Told}
+use Rattle.cloak_model.specs.Cloaking.{CloakedMemory}
+use Rattle.cloak_model.specs.Contexts.{Context, context_at}
+use Rattle.cloak_model.specs.Csr.{satp_of, sum_of, mxr_of}
+use Rattle.cloak_model.specs.DomainState as program
+use Rattle.cloak_model.specs.DomainStep.{DomainStepped, domain_step, step_if, interrupt, interrupt_if, within}
+use Rattle.cloak_model.specs.Exchange.{Piece, Emits, item_pieces}
+use Rattle.cloak_model.specs.Hart.{Hart}
+use Rattle.cloak_model.specs.Joint.{Turn, memory_of, with_domain, domain_ended, after_domain_step, by_interrupt, after_interrupt, interrupt_ended, cloak_of, pages_for}
+use Rattle.cloak_model.specs.Leaving.{leave}
+use Rattle.cloak_model.specs.Parts as model
+use Rattle.cloak_model.specs.World.{World, Cloak, Flat, Cloaked, Alone, items_of, violation_of, is_clashed}
+use Rattle.cloaked_side.specs.Holding.{Holds}
+use Rattle.cloaked_side.specs.Telling.{HoldsWorld}
+use Rattle.cloaked_side.specs.declared.memory.Memory.{Memory}
+use Rattle.cloaked_side.proofs.Emitting.{emits_none, emits_items}
+use Rattle.hypercalls.specs.declared.domain.Domain.{Domain}
+use Rattle.hypercalls.specs.Standing.{StandsFor, EndsAs, control_of}
+use Rattle.joint_machine.specs.declared.stepping.Stepped.{Stepped}
+use Rattle.joint_machine.specs.Turning.{AreRoots, GoesOn, InterruptsIn, StepsDomain, TurnsIn, begun}
+use Rattle.joint_machine.proofs.RootedPages.{root_of}
+use Rattle.joint_machine.proofs.RootedSteps.{rooted_domain_step}
+
+-- The memory of a world.
+
+pub holds_memory : (memory : Memory) (w : World) (m : CloakedMemory) → HoldsWorld memory w → Holds memory (memory_of w m)
+holds_memory memory (Flat ram) m holds = absurd holds
+holds_memory memory (Alone handed) m holds = absurd holds
+holds_memory memory (Cloaked c) m holds = holds
+
+pub root_in : (w : World) (m : CloakedMemory) → root_of w ≡ m.ledger.root → (memory_of w m).ledger.root ≡ m.ledger.root
+root_in (Flat ram) m same = refl
+root_in (Cloaked c) m same = same
+root_in (Alone handed) m same = refl
+
+pub clashed_in : (w : World) (m : CloakedMemory) → (memory_of w m).ledger.clashed ≡ false → is_clashed w ≡ false
+clashed_in (Flat ram) m none = refl
+clashed_in (Cloaked c) m none = none
+clashed_in (Alone handed) m none = refl
+
+-- an end compares no pages
+pub ended_clashed : (j : model.Joint) (number : ℕ) (h : Hart) (d : ℕ) (w : World) (ended : Went) → (domain_ended j number h d w ended).joint.memory.ledger.clashed ≡ j.memory.ledger.clashed
+unfolding domain_ended
+ended_clashed j number h d w went.Stay = refl
+ended_clashed j number h d w (went.Leave s) = refl
+ended_clashed j number h d w went.Stopped = refl
+ended_clashed j number h d w (went.SpaceGone space s) = refl
+ended_clashed j number h d w (went.Remapped space) = refl
+
+-- nor does an interrupt
+pub interrupt_clashed : (j : model.Joint) (number : ℕ) (h : Hart) (items : List Item) (ended : Went) → (interrupt_ended j number h items ended).joint.memory.ledger.clashed ≡ j.memory.ledger.clashed
+unfolding interrupt_ended
+interrupt_clashed j number h items went.Stay = refl
+interrupt_clashed j number h items (went.Leave s) = refl
+interrupt_clashed j number h items went.Stopped = refl
+interrupt_clashed j number h items (went.SpaceGone space s) = refl
+interrupt_clashed j number h items (went.Remapped space) = refl
+
+-- what was told of a program's step, by the memory as it begins
+abbrev pub told_of : model.Joint → Hart → ℕ → ℕ → program.Domain → Told DomainStepped
+told_of j h d slot was = domain_step slot was (Cloaked (cloak_of j.memory h d (pages_for was (context_at was.control.contexts slot))))
+
+abbrev pub stepped_joint : model.Joint → ℕ → Told DomainStepped → model.Joint
+stepped_joint j d told = record (with_domain d told.answer.domain j) { memory = memory_of told.world j.memory }
+
+pub step_unclashed : (j : model.Joint) (number : ℕ) (h : Hart) (d slot : ℕ) (was : program.Domain) → (by_interrupt false j number h d slot was).joint.memory.ledger.clashed ≡ false → is_clashed (told_of j h d slot was).world ≡ false
+unfolding by_interrupt after_domain_step
+step_unclashed j number h d slot was none =
+    let told = told_of j h d slot was in
+    clashed_in told.world j.memory (sym (ended_clashed (stepped_joint j d told) number h d told.world told.answer.went) ∙ none)
+
+-- the page tables after a program's step
+pub roots_stepped : (roots : List (List (Option ℕ))) (j : model.Joint) (h : Hart) (d slot : ℕ) (was : program.Domain) → AreRoots roots j.memory.ledger.root → AreRoots roots (memory_of (told_of j h d slot was).world j.memory).ledger.root
+roots_stepped roots j h d slot was are =
+    subst (λ (root : SpaceId → Option ℕ). AreRoots roots root) (sym (root_in (told_of j h d slot was).world j.memory (rooted_domain_step slot was _).root)) are
+
+-- the hart's view
+pub begun_is : (m : CloakedMemory) (view : View) (slot : ℕ) (was : program.Domain) (h : Hart) (d : ℕ) → view.satp ≡ satp_of h.csrs → view.sum ≡ sum_of h.csrs → view.mxr ≡ mxr_of h.csrs → view.domain ≡ d →
+    begun m view slot was ≡ cloak_of m h d (pages_for was (context_at was.control.contexts slot))
+begun_is m view slot was h d satp sum mxr domain = λ i. record {
+  memory = m;
+  items = [];
+  violation = None;
+  view = record { satp = satp i; sum = sum i; mxr = mxr i; domain = domain i };
+  pages = pages_for was (context_at was.control.contexts slot);
+}
+
+-- A program's step, and what followed.
+pub turns_stepped : {E : Type 0} (gave : E → E → List Piece → Type 0) (e e' e'' : E) (h h' : Hart) (domain : Domain) (roots' : List (List (Option ℕ))) (memory : Memory) (stepped : Stepped) (given : Option Violation) (j : model.Joint) (number d slot : ℕ) (was : program.Domain) →
+    StepsDomain gave e e' memory domain stepped (told_of j h d slot was) →
+    GoesOn gave e' e'' h' roots' given (stepped_joint j d (told_of j h d slot was)) number (items_of (told_of j h d slot was).world)
+    (domain_ended (stepped_joint j d (told_of j h d slot was)) number h d (told_of j h d slot was).world (told_of j h d slot was).answer.went) →
+    TurnsIn gave e e'' h' domain roots' memory given j number d (by_interrupt false j number h d slot was)
+unfolding by_interrupt after_domain_step
+turns_stepped gave e e' e'' h h' domain roots' memory stepped given j number d slot was steps goes =
+    let told = told_of j h d slot was in
+    record {
+      emits = subst (λ (items : List Item). Emits gave e e'' (item_pieces items)) (sym goes.items_are) (emits_items (items_of told.world) goes.more steps.emits goes.emits);
+      violation = goes.violation;
+      console = goes.console;
+      halt = goes.halt;
+      harts = goes.harts;
+      after = told.answer.domain;
+      stands = steps.stands;
+      domains = goes.domains;
+      disk = goes.disk;
+      roots_are = goes.roots_are;
+      holds = goes.holds memory (holds_memory memory told.world j.memory steps.holds);
+    }
+
+-- Where there is no such context, nothing happens.
+pub turns_none : {E : Type 0} (gave : E → E → List Piece → Type 0) (e : E) (h : Hart) (domain : Domain) (roots : List (List (Option ℕ))) (memory : Memory) (given : Option Violation) (j : model.Joint) (number d slot : ℕ) (was : program.Domain) →
+    context_at was.control.contexts slot ≡ None → given ≡ None → StandsFor domain was → Holds memory j.memory → AreRoots roots j.memory.ledger.root →
+    TurnsIn gave e e h domain roots memory given j number d (by_interrupt false j number h d slot was)
+unfolding by_interrupt after_domain_step domain_step step_if domain_ended
+turns_none gave e h domain roots memory given j number d slot was free none stands holds are = subst (λ (c : Option Context). TurnsIn gave e e h domain roots memory given j number d (stepped_if c)) (sym free) (at_none)
+  where
+    begins : Option Context → World
+    begins c = Cloaked (cloak_of j.memory h d (pages_for was c))
+
+    stepped_if : Option Context → Turn
+    stepped_if c = let told = step_if c slot was (begins c) in domain_ended (stepped_joint j d told) number h d told.world told.answer.went
+
+    at_none : TurnsIn gave e e h domain roots memory given j number d (stepped_if None)
+    at_none = record {
+      emits = emits_none gave e;
+      violation = none;
+      console = refl;
+      halt = refl;
+      harts = refl;
+      after = was;
+      stands = stands;
+      domains = refl;
+      disk = refl;
+      roots_are = are;
+      holds = holds;
+    }
+
+-- An interrupt changes no memory.
+pub turns_interrupted : {E : Type 0} (gave : E → E → List Piece → Type 0) (e e' : E) (h h' : Hart) (domain : Domain) (roots : List (List (Option ℕ))) (memory : Memory) (given : Option Violation) (j : model.Joint) (number d slot : ℕ) (was : program.Domain) →
+    given ≡ None → Holds memory j.memory → AreRoots roots j.memory.ledger.root → InterruptsIn gave e e' h' domain j number d (after_interrupt j number h d was (interrupt slot was.control)) →
+    TurnsIn gave e e' h' domain roots memory given j number d (by_interrupt true j number h d slot was)
+unfolding by_interrupt
+turns_interrupted gave e e' h h' domain roots memory given j number d slot was none holds are i = record {
+  emits = i.emits;
+  violation = none ∙ sym i.violation;
+  console = i.console;
+  halt = i.halt;
+  harts = i.harts;
+  after = i.after;
+  stands = i.stands;
+  domains = i.domains;
+  disk = i.disk;
+  roots_are = subst (λ (m : CloakedMemory). AreRoots roots m.ledger.root) (sym i.memory) are;
+  holds = subst (λ (m : CloakedMemory). Holds memory m) (sym i.memory) holds;
+}
+
+-- A slot is free.
+free_if : {A B : Type 0} (o : Option A) (f : A → B) (r : Option B) (b : Bool) → r ≡ option_map f o → b ≡ is_some r → b ≡ false → o ≡ None
+free_if None f r b is test off = refl
+free_if (Some a) f r b is test off = absurd (false≢true (sym off ∙ test ∙ ap (λ (x : Option _). is_some x) is))
+
+pub free_slot : (domain : Domain) (was : program.Domain) (slot : ℕ) (r : Option (ℕ × Option HartId)) (b : Bool) → StandsFor domain was → r ≡ option_map (λ (c : Context). (c.space, c.on)) (context_at (control_of domain).contexts slot) → b ≡ is_some r → b ≡ false → context_at was.control.contexts slot ≡ None
+free_slot domain was slot r b stands is test off = ap (λ (k : program.Control). context_at k.contexts slot) stands.control ∙ free_if (context_at (control_of domain).contexts slot) (λ (c : Context). (c.space, c.on)) r b is test off
+
+taken_if : {B : Type 0} (r : Option B) (b : Bool) → b ≡ is_none r → b ≡ true → is_some r ≡ false
+taken_if None b test on = refl
+taken_if (Some x) b test on = absurd (false≢true (sym test ∙ on))
+
+pub free_none : (domain : Domain) (was : program.Domain) (slot : ℕ) (r : Option (ℕ × Option HartId)) (b : Bool) → StandsFor domain was → r ≡ option_map (λ (c : Context). (c.space, c.on)) (context_at (control_of domain).contexts slot) → b ≡ is_none r → b ≡ true → context_at was.control.contexts slot ≡ None
+free_none domain was slot r b stands is test on = free_slot domain was slot r (is_some r) stands is refl (taken_if r b test on)
+
+-- The interrupt by itself: the context leaves.
+pub interrupts_out : {E : Type 0} (gave : E → E → List Piece → Type 0) (e e' e'' : E) (h h' : Hart) (domain : Domain) (s : Shown) (j : model.Joint) (number d slot : ℕ) (was : program.Domain) →
+    EndsAs domain (went.Leave s) (within was (interrupt slot was.control)) → h' ≡ leave h s → Emits gave e e' (item_pieces (item.Timer d ∷ [])) → Emits gave e' e'' (item_pieces (item.Leave s ∷ [])) →
+    InterruptsIn gave e e'' h' domain j number d (after_interrupt j number h d was (interrupt slot was.control))
+unfolding after_interrupt interrupt_ended
+interrupts_out gave e e' e'' h h' domain s j number d slot was ends left first second = subst (λ (x : Went). InterruptsIn gave e e'' h' domain j number d (interrupt_ended (with_domain d (record was { control = (interrupt slot was.control).control }) j) number h (item.Timer d ∷ []) x)) ends.went (subst (λ (y : Hart). InterruptsIn gave e e'' y domain j number d (interrupt_ended (with_domain d (record was { control = (interrupt slot was.control).control }) j) number h (item.Timer d ∷ []) (went.Leave s))) (sym left) here)
+  where
+    here : InterruptsIn gave e e'' (leave h s) domain j number d (interrupt_ended (with_domain d (record was { control = (interrupt slot was.control).control }) j) number h (item.Timer d ∷ []) (went.Leave s))
+    here = record {
+      emits = emits_items (item.Timer d ∷ []) (item.Leave s ∷ []) first second;
+      violation = refl;
+      console = refl;
+      halt = refl;
+      harts = refl;
+      after = record was { control = (interrupt slot was.control).control };
+      stands = ends.domain_stands;
+      domains = refl;
+      disk = refl;
+      memory = refl;
+    }
+
+-- The interrupt where there is no such context.
+pub interrupts_none : {E : Type 0} (gave : E → E → List Piece → Type 0) (e e' : E) (h : Hart) (domain : Domain) (j : model.Joint) (number d slot : ℕ) (was : program.Domain) →
+    context_at was.control.contexts slot ≡ None → StandsFor domain was → Emits gave e e' (item_pieces (item.Timer d ∷ [])) →
+    InterruptsIn gave e e' h domain j number d (after_interrupt j number h d was (interrupt slot was.control))
+unfolding interrupt interrupt_if after_interrupt interrupt_ended
+interrupts_none gave e e' h domain j number d slot was free stands emits = subst (λ (c : Option Context). InterruptsIn gave e e' h domain j number d (after_interrupt j number h d was (interrupt_if c slot was.control))) (sym free) here
+  where
+    here : InterruptsIn gave e e' h domain j number d (after_interrupt j number h d was (interrupt_if None slot was.control))
+    here = record {
+      emits = emits;
+      violation = refl;
+      console = refl;
+      halt = refl;
+      harts = refl;
+      after = was;
+      stands = stands;
+      domains = refl;
+      disk = refl;
+      memory = refl;
+    }
+
+-- The step by whether an interrupt is due.
+pub turns_now : {E : Type 0} (gave : E → E → List Piece → Type 0) (e e' : E) (h h' : Hart) (domain : Domain) (roots : List (List (Option ℕ))) (memory : Memory) (given : Option Violation) (j : model.Joint) (number d slot : ℕ) (was : program.Domain) (due now : Bool) → due ≡ now →
+    ((by_interrupt now j number h d slot was).joint.memory.ledger.clashed ≡ false → TurnsIn gave e e' h' domain roots memory given j number d (by_interrupt now j number h d slot was)) →
+    (by_interrupt due j number h d slot was).joint.memory.ledger.clashed ≡ false → TurnsIn gave e e' h' domain roots memory given j number d (by_interrupt due j number h d slot was)
+turns_now gave e e' h h' domain roots memory given j number d slot was due now is turns =
+    subst (λ (b : Bool). (by_interrupt b j number h d slot was).joint.memory.ledger.clashed ≡ false → TurnsIn gave e e' h' domain roots memory given j number d (by_interrupt b j number h d slot was)) (sym is) turns
+
+-- A program's step over the memory as it begins, and what followed.
+pub turns_stepping : {E : Type 0} (gave : E → E → List Piece → Type 0) (e e' e'' : E) (h h' : Hart) (domain : Domain) (roots roots' : List (List (Option ℕ))) (memory : Memory) (stepped : Stepped) (given : Option Violation) (j : model.Joint) (number d slot : ℕ) (was : program.Domain) (view : View) →
+    begun j.memory view slot was ≡ cloak_of j.memory h d (pages_for was (context_at was.control.contexts slot)) → AreRoots roots j.memory.ledger.root →
+    (is_clashed (domain_step slot was (Cloaked (begun j.memory view slot was))).world ≡ false → StepsDomain gave e e' memory domain stepped (domain_step slot was (Cloaked (begun j.memory view slot was)))) →
+    ((after : model.Joint) (w : World) → stepped.violation ≡ violation_of w → AreRoots roots after.memory.ledger.root → GoesOn gave e' e'' h' roots' given after number (items_of w) (domain_ended after number h d w stepped.went)) →
+    (by_interrupt false j number h d slot was).joint.memory.ledger.clashed ≡ false → TurnsIn gave e e'' h' domain roots' memory given j number d (by_interrupt false j number h d slot was)
+turns_stepping gave e e' e'' h h' domain roots roots' memory stepped given j number d slot was view begins are steps goes none =
+    let told = told_of j h d slot was in
+    let after = stepped_joint j d told in
+    let s : StepsDomain gave e e' memory domain stepped told = subst (λ (c : Cloak). is_clashed (domain_step slot was (Cloaked c)).world ≡ false → StepsDomain gave e e' memory domain stepped (domain_step slot was (Cloaked c))) begins steps (step_unclashed j number h d slot was none) in
+    turns_stepped gave e e' e'' h h' domain roots' memory stepped given j number d slot was s
+    (subst (λ (x : Went). GoesOn gave e' e'' h' roots' given after number (items_of told.world) (domain_ended after number h d told.world x)) s.went
+    (goes after told.world s.violation (roots_stepped roots j h d slot was are)))

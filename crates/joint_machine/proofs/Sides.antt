@@ -1,0 +1,77 @@
+-- The step of a program over the machine's memory.
+use Rattle.std.proofs.Common.{◌≡◌, ◌≢◌, ◌<◌, ◌∙◌, ◌^◌, ℕ, Bool, cond, List, Option, Some, None, ap, sym, subst}
+use Rattle.std.specs.Option.{IfSome}
+use Rattle.std.proofs.lemmas.Bool.{lt-ltb}
+use Rattle.cloak_base.specs.declared.names.PageId.{PageId}
+use Rattle.cloak_model.specs.declared.view.View.{View}
+use Rattle.cloak_model.specs.World.{World, Flat, Cloaked, Alone, items_of, violation_of}
+use Rattle.cloak_model.specs.Asking.{Told}
+use Rattle.cloak_model.specs.Cloaking.{CloakedMemory}
+use Rattle.cloak_model.specs.Contexts.{Context, context_at}
+use Rattle.cloak_model.specs.Resources.{Resources, page_at}
+use Rattle.cloak_model.specs.DomainState as program
+use Rattle.cloak_model.specs.DomainStep.{DomainStepped}
+use Rattle.cloak_model.specs.Exchange.{Piece, Emits, item_pieces}
+use Rattle.cloak_model.specs.Joint.{pages_for}
+use Rattle.cloak_pager.specs.State.{PagerState, IsNoneHeld, held_in}
+use Rattle.cloaked_fork.specs.Marks.{AreUnused}
+use Rattle.cloaked_side.specs.Holding.{domains_in}
+use Rattle.cloaked_side.specs.Seeing.{Sees, IsUnused, served}
+use Rattle.cloaked_side.specs.Telling.{HoldsWorld}
+use Rattle.cloaked_side.specs.declared.memory.Memory.{Memory}
+use Rattle.cloaked_side.specs.declared.side.Side.{Side}
+use Rattle.hypercalls.specs.declared.domain.Domain.{Domain}
+use Rattle.hypercalls.specs.Standing.{StepsTo, HasPagesOf}
+use Rattle.joint_machine.specs.declared.stepping.Stepped.{Stepped}
+use Rattle.joint_machine.specs.Turning.{HoldsNoFree, HoldsNoOthers, StepsDomain, begun}
+
+-- a domain that the memory has is served under its number
+pub served_there : {E : Type 0} (side : Side E) → side.view.domain < domains_in side.memory.now → side.view.domain ≡ served side
+served_there side there = sym (ap (λ (b : Bool). cond b side.view.domain (2 ^ 32)) (lt-ltb side.view.domain (domains_in side.memory.now) there))
+
+pages_in : (d : program.Domain) (c : Option Context) → IfSome c (λ x. (va : ℕ) (q : PageId) → page_at d.control.number d.control.resources x.space va ≡ Some q → pages_for d c va ≡ Some q)
+pages_in d None = tt
+pages_in d (Some c) = λ va q is. is
+
+-- as a step begins, the pages of the context's space lie where its regions have them
+pub pages_begun : (m : CloakedMemory) (view : View) (slot : ℕ) (d : program.Domain) (k : program.Control) → d.control ≡ k → HasPagesOf slot k (Cloaked (begun m view slot d))
+pages_begun m view slot d k same = subst (λ (k : program.Control). HasPagesOf slot k (Cloaked (begun m view slot d))) same (pages_in d (context_at d.control.contexts slot))
+
+-- What a side saw, it saw of its memory and its emitter.
+
+holds_world : {E : Type 0} (gave : E → E → List Piece → Type 0) (first now : Side E) (w : World) → Sees gave first now w → HoldsWorld now.memory.now w
+holds_world gave first now (Flat ram) sees = sees
+holds_world gave first now (Alone handed) sees = sees
+holds_world gave first now (Cloaked c) sees = sees.holds
+
+emits_world : {E : Type 0} (gave : E → E → List Piece → Type 0) (first now : Side E) (w : World) → Sees gave first now w → Emits gave first.emitter.now now.emitter.now (item_pieces (items_of w))
+emits_world gave first now (Flat ram) sees = absurd sees
+emits_world gave first now (Alone handed) sees = absurd sees
+emits_world gave first now (Cloaked c) sees = sees.emits
+
+violation_world : {E : Type 0} (gave : E → E → List Piece → Type 0) (first now : Side E) (w : World) → Sees gave first now w → now.violation ≡ violation_of w
+violation_world gave first now (Flat ram) sees = absurd sees
+violation_world gave first now (Alone handed) sees = absurd sees
+violation_world gave first now (Cloaked c) sees = sees.violation
+
+-- the step over a side, of the memory and the emitter that it gave back
+pub steps_told : {E : Type 0} (gave : E → E → List Piece → Type 0) (first now : Side E) (domain : Domain) (given : Stepped) (told : Told DomainStepped) (memory : Memory) (e : E) →
+    memory ≡ now.memory.now → e ≡ now.emitter.now → given.violation ≡ now.violation →
+    StepsTo (λ side w. Sees gave first side w) now domain given.went told → StepsDomain gave first.emitter.now e memory domain given told
+steps_told gave first now domain given told memory e same_memory same_emitter same_violation steps = record {
+  went = steps.went;
+  violation = same_violation ∙ violation_world gave first now told.world steps.world_stands;
+  emits = subst (λ x. Emits gave first.emitter.now x (item_pieces (items_of told.world))) (sym same_emitter) (emits_world gave first now told.world steps.world_stands);
+  holds = subst (λ x. HoldsWorld x told.world) (sym same_memory) (holds_world gave first now told.world steps.world_stands);
+  stands = steps.domain_stands;
+}
+
+-- what is unused in a side is so in the memory that it gave back
+pub unused_back : {E : Type 0} (side : Side E) (pager : PagerState) (view : View) (r : Resources) → pager ≡ side.memory.now.pager → side.view ≡ view → AreUnused (IsUnused side) r → HoldsNoFree view.domain r pager
+unused_back side pager view r same_pager same_view unused =
+    subst (λ (p : PagerState). HoldsNoFree view.domain r p) (sym same_pager)
+    (record { unused = subst (λ (v : View). AreUnused (IsNoneHeld side.memory.now.pager v.domain) r) same_view unused })
+
+-- no page of another domain came into a frame of the memory that was given back
+pub others_back : (d : ℕ) (old back new : PagerState) → back ≡ new → ((k : ℕ) (q : PageId) → q.domain ≢ d → held_in new k ≡ Some q → held_in old k ≡ Some q) → HoldsNoOthers d old back
+others_back d old back new same others = subst (λ (p : PagerState). HoldsNoOthers d old p) (sym same) (record { held = others })

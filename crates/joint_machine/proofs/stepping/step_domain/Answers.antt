@@ -1,0 +1,41 @@
+use Rattle.std.proofs.Common.{rules, refl, sym}
+use Rattle.cloak_model.specs.World.{Cloaked}
+use Rattle.cloaked_side.proofs.Sided.{stays_self}
+use Rattle.cloaked_side.proofs.Telling.{size_back, some_back, sees_first}
+use Rattle.joint_machine.specs.Turning.{begun}
+use Rattle.joint_machine.proofs.Sides.{others_back, pages_begun, steps_told, unused_back}
+use Rattle.joint_machine.proofs.stepping.step_domain.Goals as goal
+
+pub returns-clause-size : goal.returns-clause-size
+returns-clause-size g c =
+    let kept = c.step-went.ensures.keeps _ (stays_self g.E.Emit.gave _) in
+    let lent = sym kept.same_memory in
+    size_back c.args.memory.now _ c.step-went.new.m.memory.now (search rules) kept.size
+
+pub returns-clause-emits_some : goal.returns-clause-emits_some
+returns-clause-emits_some g c =
+    let kept = c.step-went.ensures.keeps _ (stays_self g.E.Emit.gave _) in
+    let lent = sym kept.same_emitter in
+    some_back g.E.Emit.gave c.args.e.now _ c.step-went.new.m.emitter.now (search rules) kept.emits_some
+
+pub returns-clause-others : goal.returns-clause-others
+returns-clause-others g c =
+    let kept = c.step-went.ensures.keeps _ (stays_self g.E.Emit.gave _) in
+    let lent = sym kept.same_memory in
+    others_back c.args.view.domain c.args.memory.now.pager _ c.step-went.new.m.memory.now.pager (search rules) kept.others
+
+pub returns-clause-unused : goal.returns-clause-unused
+returns-clause-unused g c =
+    let kept = c.step-went.ensures.keeps _ (stays_self g.E.Emit.gave _) in
+    let lent = sym kept.same_memory in
+    unused_back c.step-went.new.m _ c.args.view _ (search rules) kept.view c.step-went.ensures.unused
+
+pub returns-clause-steps : goal.returns-clause-steps
+returns-clause-steps g c m d holds stands unclashed =
+    let kept = c.step-went.ensures.keeps _ (stays_self g.E.Emit.gave _) in
+    let memory_lent = sym kept.same_memory in
+    let emitter_lent = sym kept.same_emitter in
+    let cloak = begun m c.args.view c.args.slot d in
+    let sees = sees_first g.E.Emit.gave _ cloak holds refl refl refl in
+    steps_told g.E.Emit.gave _ c.step-went.new.m c.step-went.new.self _ _ _ _ (search rules) (search rules) refl
+    (c.step-went.ensures.steps _ d stands (Cloaked cloak) (pages_begun m c.args.view c.args.slot d _ stands.control) sees unclashed)

@@ -1,0 +1,57 @@
+//! What follows the step of a program: its context goes on, or leaves its hart.
+ghost use Rattle.std.specs.Prelude.{◌≡◌, ◌<◌, ℕ, Option, [], ◌∷◌};
+ghost use Rattle.cloak_model.specs.Exchange.{Emits, EmitsSome, item_pieces};
+ghost use Rattle.cloak_model.specs.Joint.{domain_ended};
+ghost use Rattle.cloak_model.specs.Leaving as spec;
+ghost use Rattle.cloak_model.specs.Parts as model;
+ghost use Rattle.cloak_model.specs.World.{World, items_of, violation_of};
+ghost use Rattle.cloak_model.specs.declared.item.Item.TheVariants as item;
+ghost use Rattle.joint_machine.specs.Turning.{AreRoots, GoesOn};
+
+use crate::stepping::Stepped;
+use cloak_base::{Shown, SpaceId, Violation};
+use cloak_model::{Emit, Item, Went};
+use host_calls::{Hart, leave};
+use thread_context::Roots;
+
+/// The hart leaves the context that it runs, and what it shows is emitted.
+pub fn leave_context<E: Emit>(h: &mut Hart, s: &Shown, e: &mut E)
+    ensures hart { h.new ≡ spec.leave h.old s.now }
+    ensures emits { Emits E.gave e.old e.new (item_pieces (item.Leave s.now ∷ [])) }
+{
+    leave(h, s);
+    e.item(&Item::Leave(*s));
+}
+
+/// A context of this domain goes on or leaves after its step. Answers what the kernel presented in place of what is
+/// recorded, where that stopped the step.
+pub fn go_on<E: Emit>(
+    h: &mut Hart,
+    domain: u32,
+    roots: &mut Roots,
+    stepped: &Stepped,
+    e: &mut E,
+) -> Option<Violation>
+    requires { domain < 4 }
+    ensures emits_some { EmitsSome E.gave e.old e.new }
+    ensures goes_on { (j : model.Joint) (number : ℕ) (w : World) → stepped.now.violation ≡ violation_of w →
+        AreRoots roots.old j.memory.ledger.root →
+        GoesOn E.gave e.old e.new h.new roots.new result j number (items_of w) (domain_ended j number h.old domain w stepped.now.went) }
+{
+    match &stepped.went {
+        Went::Stay | Went::Remapped(_) => None,
+        Went::Stopped => stepped.violation,
+        Went::Leave(s) => {
+            leave_context(h, s, e);
+            None
+        }
+        Went::SpaceGone(space, s) => {
+            roots.forget(SpaceId {
+                domain,
+                number: *space,
+            });
+            leave_context(h, s, e);
+            None
+        }
+    }
+}

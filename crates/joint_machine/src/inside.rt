@@ -1,0 +1,112 @@
+//! The step of a hart inside.
+ghost use Rattle.std.specs.Prelude.{◌≡◌, ◌≢◌, ◌<◌, ℕ, false, Some, IsSome};
+ghost use Rattle.cloak_model.specs.Contexts.{context_at};
+ghost use Rattle.cloak_model.specs.Csr.{interrupt_due};
+ghost use Rattle.cloak_model.specs.DomainState as model;
+ghost use Rattle.cloak_model.specs.Exchange.{EmitsSome};
+ghost use Rattle.cloak_model.specs.Joint.{after_interrupt, by_interrupt};
+ghost use Rattle.cloak_model.specs.DomainStep as spec;
+ghost use Rattle.cloak_model.specs.Parts as parts;
+ghost use Rattle.cloaked_side.specs.Holding.{Holds, SameSize, domains_in};
+ghost use Rattle.hypercalls.specs.Standing.{StandsFor, control_of, number_of};
+ghost use Rattle.joint_machine.specs.Turning.{AreRoots, HoldsNoFree, HoldsNoOthers, InterruptsIn, TurnsIn};
+
+use crate::ended::Ended;
+use crate::going::{go_on, leave_context};
+use crate::joint::Joint;
+use crate::stepping::step_domain;
+use cloak_base::Violation;
+use cloak_model::{Emit, Item};
+use cloaked_side::{Memory, view_of};
+use host_calls::{Hart, tick};
+use hypercalls::Domain;
+use thread_context::Roots;
+
+/// The timer interrupts the hart, and the context of the slot leaves, where it is there.
+fn take_interrupt<E: Emit>(h: &mut Hart, d: u8, slot: u32, domain: &mut Domain, e: &mut E)
+    ensures number { number_of domain.new ≡ number_of domain.old }
+    ensures resources { (control_of domain.new).resources ≡ (control_of domain.old).resources }
+    ensures emits_some { EmitsSome E.gave e.old e.new }
+    ensures interrupts { (j : parts.Joint) (number : ℕ) (was : model.Domain) → StandsFor domain.old was →
+        InterruptsIn E.gave e.old e.new h.new domain.new j number d (after_interrupt j number h.old d was (spec.interrupt slot was.control)) }
+{
+    e.item(&Item::Timer { domain: d });
+    if domain.context(slot).is_some() {
+        let shown = domain.interrupt(slot);
+        leave_context(h, &shown, e);
+    }
+}
+
+/// Makes the step of a hart that runs the context of a slot of this domain, after its timer fell. Answers what the
+/// kernel presented in place of what is recorded, where that stopped the step.
+fn step_context<E: Emit>(
+    h: &mut Hart,
+    d: u8,
+    slot: u32,
+    domain: &mut Domain,
+    roots: &mut Roots,
+    memory: &mut Memory,
+    e: &mut E,
+) -> Option<Violation>
+    requires few { d < 4 }
+    requires number { number_of domain.old ≡ d }
+    requires there { d < domains_in memory.old }
+    requires unused { HoldsNoFree d (control_of domain.old).resources memory.old.pager }
+    ensures number { number_of domain.new ≡ d }
+    ensures size { SameSize memory.old memory.new }
+    ensures emits_some { EmitsSome E.gave e.old e.new }
+    ensures others { HoldsNoOthers d memory.old.pager memory.new.pager }
+    ensures unused { HoldsNoFree d (control_of domain.new).resources memory.new.pager }
+    ensures turns { (j : parts.Joint) (number : ℕ) (was : model.Domain) → StandsFor domain.old was → Holds memory.old j.memory →
+        AreRoots roots.old j.memory.ledger.root →
+        (by_interrupt (interrupt_due h.old.mode h.old.csrs) j number h.old d slot was).joint.memory.ledger.clashed ≡ false →
+        TurnsIn E.gave e.old e.new h.new domain.new roots.new memory.new result j number d (by_interrupt (interrupt_due h.old.mode h.old.csrs) j number h.old d slot was) }
+{
+    if h.csrs.due(h.mode) {
+        take_interrupt(h, d, slot, domain, e);
+        return None;
+    }
+    if domain.context(slot).is_none() {
+        return None;
+    }
+    let view = view_of(h, d);
+    let stepped = step_domain(domain, slot, view, memory, e);
+    go_on(h, d as u32, roots, &stepped, e)
+}
+
+impl Joint {
+    ghost use Rattle.std.specs.Prelude.{slice_get};
+    ghost use Rattle.cloak_model.specs.Contexts.{domain_of, slot_of};
+    ghost use Rattle.cloak_model.specs.KernelStep.{ticked};
+    ghost use Rattle.cloak_model.specs.Joint.{hart_in, inside_step};
+    ghost use Rattle.joint_machine.specs.Standing.{StandsForJoint, harts_of};
+    ghost use Rattle.joint_machine.specs.Turning.{EndsTurn};
+
+    /// Makes the step of a hart that runs this context: its timer falls, and then its context leaves for the interrupt
+    /// that is due, or makes a step. Where there is no such context, nothing else happens.
+    pub(crate) fn inside<E: Emit>(&mut self, number: usize, ctx: u32, e: &mut E) -> Ended
+        requires { number < harts_of self.old }
+        ensures harts { harts_of self.new ≡ harts_of self.old }
+        ensures emits_some { EmitsSome E.gave e.old e.new }
+        ensures turns { (j : parts.Joint) → StandsForJoint self.old j →
+            (inside_step j number (ticked (hart_in j number)) (domain_of ctx) (slot_of ctx) (slice_get j.domains (domain_of ctx))).joint.memory.ledger.clashed ≡ false →
+            EndsTurn E.gave e.old e.new self.new result (inside_step j number (ticked (hart_in j number)) (domain_of ctx) (slot_of ctx) (slice_get j.domains (domain_of ctx))) }
+    {
+        let h = &mut self.harts[number];
+        tick(h);
+        let d = (ctx / 8) as usize;
+        if d >= self.domains.len() {
+            return Ended::met(None);
+        }
+        let domain = &mut self.domains[d];
+        Ended::met(step_context(
+            h,
+            d as u8,
+            ctx % 8,
+            domain,
+            &mut self.roots,
+            &mut self.memory,
+            e,
+        ))
+    }
+}

@@ -1,0 +1,64 @@
+//! The step of a program over the machine's memory.
+ghost use Rattle.std.specs.Prelude.{◌≡◌, ◌≢◌, ◌<◌, ℕ, false, Some, IsSome};
+ghost use Rattle.cloak_model.specs.Cloaking.{CloakedMemory};
+ghost use Rattle.cloak_model.specs.Contexts.{context_at};
+ghost use Rattle.cloak_model.specs.DomainState as model;
+ghost use Rattle.cloak_model.specs.DomainStep.{domain_step};
+ghost use Rattle.cloak_model.specs.Exchange.{EmitsSome};
+ghost use Rattle.cloak_model.specs.World.{Cloaked, is_clashed};
+ghost use Rattle.cloaked_side.specs.Holding.{Holds, SameSize, domains_in};
+ghost use Rattle.hypercalls.specs.Standing.{StandsFor, control_of, number_of};
+ghost use Rattle.joint_machine.specs.Turning.{HoldsNoFree, HoldsNoOthers, StepsDomain, begun};
+
+use cloak_base::Violation;
+use cloak_model::{Emit, View, Went};
+use cloaked_side::{Memory, Side};
+use hypercalls::Domain;
+
+/// How the step of a program ended.
+#[derive(Clone, Copy)]
+pub struct Stepped {
+    pub went: Went,
+    /// What the kernel presented in place of what is recorded.
+    pub violation: Option<Violation>,
+}
+
+/// Makes one step of the context of a slot, which runs on a hart that sees memory so.
+pub fn step_domain<E: Emit>(
+    domain: &mut Domain,
+    slot: u32,
+    view: View,
+    memory: &mut Memory,
+    e: &mut E,
+) -> Stepped
+    requires runs { IsSome (context_at (control_of domain.old).contexts slot) }
+    requires number { number_of domain.old ≡ view.domain }
+    requires there { view.domain < domains_in memory.old }
+    requires unused { HoldsNoFree view.domain (control_of domain.old).resources memory.old.pager }
+    ensures number { number_of domain.new ≡ number_of domain.old }
+    ensures size { SameSize memory.old memory.new }
+    ensures emits_some { EmitsSome E.gave e.old e.new }
+    ensures others { HoldsNoOthers view.domain memory.old.pager memory.new.pager }
+    ensures unused { HoldsNoFree view.domain (control_of domain.new).resources memory.new.pager }
+    ensures steps { (m : CloakedMemory) (d : model.Domain) → Holds memory.old m → StandsFor domain.old d →
+        is_clashed (domain_step slot d (Cloaked (begun m view slot d))).world ≡ false →
+        StepsDomain E.gave e.old e.new memory.new domain.new result (domain_step slot d (Cloaked (begun m view slot d))) }
+{
+    let mut side = Side {
+        memory,
+        emitter: e,
+        violation: None,
+        view,
+    };
+    let went = domain.step(slot, &mut side);
+    // No effect at run time. The proof reads what was lent from these uses.
+    let Side {
+        memory,
+        emitter,
+        violation,
+        ..
+    } = side;
+    let _ = &*memory;
+    let _ = &*emitter;
+    Stepped { went, violation }
+}
