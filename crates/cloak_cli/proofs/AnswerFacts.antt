@@ -11,7 +11,7 @@ use Rattle.cloak_model.specs.Exchange.{Piece, recorded, shown, recorded_bytes, s
 use Rattle.std.specs.Result.{result_map_both}
 use Rattle.cloak_model.specs.Opening.{Opened, Lack}
 use Rattle.cloak_model.specs.Run.{Run, run_of, due}
-use Rattle.cloak_machine.specs.declared.machine.Machine.{Machine}
+use Rattle.cloak_cli.specs.declared.prepare.Prepared.{Prepared}
 use Rattle.cloak_cli.specs.declared.refusal.Refusal.{Refusal}
 use Rattle.cloak_cli.specs.declared.refusal.Refusal.TheVariants as refusal
 use Rattle.cloak_cli.specs.declared.status.Status.{Status}
@@ -20,9 +20,9 @@ use Rattle.cloak_cli.specs.declared.outlet.Outlet.{Outlet}
 use Rattle.cloak_cli.specs.Outside.{Raised, Output, Outside, OnlyRead, outside}
 use Rattle.cloak_cli.specs.Outlet.{pieces_left, FailedAt, WroteAll, WroteFront, Writes, Gave}
 use Rattle.cloak_cli.specs.Refusal.{status_of_refusal}
-use Rattle.cloak_cli.specs.Running.{status_of}
+use Rattle.cloak_cli.specs.Running.{NoClash, IsStatusOfStop, status_of}
 use Rattle.cloak_cli.specs.Preparing.{IsPrepared}
-use Rattle.cloak_cli.specs.Recording.{Records, Refuses}
+use Rattle.cloak_cli.specs.Recording.{Records, Refuses, GrowsSome}
 use Rattle.cloak_cli.specs.Answering.{NoRun, IsRefused, AsksRun, HasRun, Answers, KeepsFiles}
 
 -- what a call that succeeded or failed did
@@ -98,39 +98,53 @@ failed_since {S} {O} (recorded bytes) before mid after writing output fault =
 failed_since {S} {O} (shown bytes) before mid after writing output fault =
     (fault.0 ∙ writing, Rose-after _ _ _ (ap (λ (o : Output O). o.faults) output) fault.1)
 
+-- what an output took, seen from before the record was begun
+grows_since : {S O : Type 0} (before mid after : Outside S O) (text : List ℕ) → mid.output ≡ before.output →
+    Grows mid.output.taken after.output.taken text → Grows before.output.taken after.output.taken text
+grows_since {S} {O} before mid after text output grows =
+    subst (λ (o : Output O). Grows o.taken after.output.taken text) output grows
+
 -- the record was begun, and the outlet failed
-records_front : {S O : Type 0} (name : List ℕ) (before mid after : Outside S O) (r : Run) →
-    WroteFront name mid after (due r) →
+records_front : {S O : Type 0} (name : List ℕ) (before mid after : Outside S O) (r : Run) (pieces : List Piece) →
+    WroteFront name mid after pieces → (NoClash r → WroteFront name mid after (due r)) →
     Tells (mid.files.held name) [] → OtherFiles name before.files.held mid.files.held →
     mid.files.reading ≡ before.files.reading → mid.files.writing ≡ before.files.writing → mid.output ≡ before.output →
     Records name before after status.WriteFault r
-records_front {S} {O} name before mid after r w empty others reading writing output = record {
+records_front {S} {O} name before mid after r pieces w all empty others reading writing output = record {
   reading = w.wrote.reading ∙ reading;
   others = λ other apart. w.wrote.others other apart ∙ others other apart;
+  grows = (shown_bytes (pieces_left w.cut), grows_since before mid after _ output w.wrote.output);
   outcome = inr (inr (record {
     answer = refl;
-    cut = w.cut;
-    file = Tells_after (mid.files.held name) (after.files.held name) [] (recorded_bytes (pieces_left w.cut)) empty
-        w.wrote.file;
-    output = subst (λ (o : Output O). Grows o.taken after.output.taken (shown_bytes (pieces_left w.cut))) output
-        w.wrote.output;
-    fault = failed_since w.cut.piece before mid after writing output w.fault;
+    cut_off = λ none. let d = all none in record {
+      cut = d.cut;
+      file = Tells_after (mid.files.held name) (after.files.held name) [] (recorded_bytes (pieces_left d.cut)) empty
+          d.wrote.file;
+      output = grows_since before mid after (shown_bytes (pieces_left d.cut)) output d.wrote.output;
+      fault = failed_since d.cut.piece before mid after writing output d.fault;
+    };
+    fault = (w.cut.piece, failed_since w.cut.piece before mid after writing output w.fault);
   }));
 }
 
 -- the record was begun, and the run was written whole
-records_all : {S O : Type 0} (name : List ℕ) (before mid after : Outside S O) (given : Status) (r : Run) →
-    WroteAll name mid after (due r) → given ≡ status_of r.stop →
+records_all : {S O : Type 0} (name : List ℕ) (before mid after : Outside S O) (given : Status) (r : Run)
+    (pieces : List Piece) → WroteAll name mid after pieces → (NoClash r → WroteAll name mid after (due r)) →
+    IsStatusOfStop given → (NoClash r → given ≡ status_of r.stop) →
     Tells (mid.files.held name) [] → OtherFiles name before.files.held mid.files.held →
     mid.files.reading ≡ before.files.reading → mid.files.writing ≡ before.files.writing → mid.output ≡ before.output →
     Records name before after given r
-records_all {S} {O} name before mid after given r w answer empty others reading writing output = record {
+records_all {S} {O} name before mid after given r pieces w all some answer empty others reading writing output = record {
   reading = w.wrote.reading ∙ reading;
   others = λ other apart. w.wrote.others other apart ∙ others other apart;
+  grows = (shown_bytes pieces, grows_since before mid after _ output w.wrote.output);
   outcome = inl (record {
-    answer = answer;
-    file = Tells_after (mid.files.held name) (after.files.held name) [] (recorded_bytes (due r)) empty w.wrote.file;
-    output = subst (λ (o : Output O). Grows o.taken after.output.taken (shown_bytes (due r))) output w.wrote.output;
+    some_stop = some;
+    written = λ none. let d = all none in record {
+      status = answer none;
+      file = Tells_after (mid.files.held name) (after.files.held name) [] (recorded_bytes (due r)) empty d.wrote.file;
+      output = grows_since before mid after (shown_bytes (due r)) output d.wrote.output;
+    };
     nothing_rose = record {
       reading = w.nothing_rose.reading ∙ reading;
       writing = w.nothing_rose.writing ∙ writing;
@@ -140,41 +154,45 @@ records_all {S} {O} name before mid after given r w answer empty others reading 
 }
 
 pub recorded_front : {S O : Type 0} {held : S → List ℕ → Option (List ℕ)} {reading writing : S → ℕ}
-    {taken : O → Option (List ℕ)} {faults : O → ℕ} {first now : Outlet S O} (old s' : S) (o' : O) (r : Run) →
-    Gave held reading writing taken faults first now (due r) → first.failed ≡ false → now.failed ≡ true →
+    {taken : O → Option (List ℕ)} {faults : O → ℕ} {first now : Outlet S O} {pieces : List Piece} (old s' : S) (o' : O)
+    (r : Run) → Gave held reading writing taken faults first now pieces →
+    (NoClash r → Gave held reading writing taken faults first now (due r)) → first.failed ≡ false → now.failed ≡ true →
     s' ≡ now.shelf.now → o' ≡ now.out.now →
     Tells (held first.shelf.now first.name.now) [] → OtherFiles first.name.now (held old) (held first.shelf.now) →
     reading first.shelf.now ≡ reading old → writing first.shelf.now ≡ writing old →
     Records first.name.now (outside held reading writing taken faults old first.out.now)
     (outside held reading writing taken faults s' o') status.WriteFault r
-recorded_front {S} {O} {held} {reading} {writing} {taken} {faults} {first} {now} old s' o' r gave fresh broken
-    same_shelf same_out empty others same_reading same_writing =
+recorded_front {S} {O} {held} {reading} {writing} {taken} {faults} {first} {now} {pieces} old s' o' r gave all fresh
+    broken same_shelf same_out empty others same_reading same_writing =
     let before = outside held reading writing taken faults old first.out.now in
     let mid = at held reading writing taken faults first in
     let after = at held reading writing taken faults now in
     records_at held reading writing taken faults first.name.now before now s' o' status.WriteFault r same_shelf same_out
-    (records_front first.name.now before mid after r
-    (subst (λ (b : Bool). Writes b first.name.now mid after (due r)) broken (gave.wrote fresh)) empty others
-    same_reading same_writing refl)
+    (records_front first.name.now before mid after r pieces
+    (subst (λ (b : Bool). Writes b first.name.now mid after pieces) broken (gave.wrote fresh))
+    (λ none. let g = all none in subst (λ (b : Bool). Writes b first.name.now mid after (due r)) broken (g.wrote fresh))
+    empty others same_reading same_writing refl)
 
 pub recorded_all : {S O : Type 0} {held : S → List ℕ → Option (List ℕ)} {reading writing : S → ℕ}
-    {taken : O → Option (List ℕ)} {faults : O → ℕ} {first now : Outlet S O} (old s' : S) (o' : O) (given : Status)
-    (r : Run) →
-    Gave held reading writing taken faults first now (due r) → first.failed ≡ false → now.failed ≡ false →
-    s' ≡ now.shelf.now → o' ≡ now.out.now → given ≡ status_of r.stop →
+    {taken : O → Option (List ℕ)} {faults : O → ℕ} {first now : Outlet S O} {pieces : List Piece} (old s' : S) (o' : O)
+    (given : Status) (r : Run) → Gave held reading writing taken faults first now pieces →
+    (NoClash r → Gave held reading writing taken faults first now (due r)) → first.failed ≡ false →
+    now.failed ≡ false → s' ≡ now.shelf.now → o' ≡ now.out.now → IsStatusOfStop given →
+    (NoClash r → given ≡ status_of r.stop) →
     Tells (held first.shelf.now first.name.now) [] → OtherFiles first.name.now (held old) (held first.shelf.now) →
     reading first.shelf.now ≡ reading old → writing first.shelf.now ≡ writing old →
     Records first.name.now (outside held reading writing taken faults old first.out.now)
     (outside held reading writing taken faults s' o') given r
-recorded_all {S} {O} {held} {reading} {writing} {taken} {faults} {first} {now} old s' o' given r gave fresh well
-    same_shelf same_out answer empty others same_reading same_writing =
+recorded_all {S} {O} {held} {reading} {writing} {taken} {faults} {first} {now} {pieces} old s' o' given r gave all fresh
+    well same_shelf same_out some answer empty others same_reading same_writing =
     let before = outside held reading writing taken faults old first.out.now in
     let mid = at held reading writing taken faults first in
     let after = at held reading writing taken faults now in
     records_at held reading writing taken faults first.name.now before now s' o' given r same_shelf same_out
-    (records_all first.name.now before mid after given r
-    (subst (λ (b : Bool). Writes b first.name.now mid after (due r)) well (gave.wrote fresh)) answer empty others
-    same_reading same_writing refl)
+    (records_all first.name.now before mid after given r pieces
+    (subst (λ (b : Bool). Writes b first.name.now mid after pieces) well (gave.wrote fresh))
+    (λ none. let g = all none in subst (λ (b : Bool). Writes b first.name.now mid after (due r)) well (g.wrote fresh))
+    some answer empty others same_reading same_writing refl)
 
 -- A run over a machine that was prepared.
 
@@ -186,6 +204,13 @@ answers_stop asked before after stop.Budget run = run
 answers_stop asked before after (stop.Violation violation) run = run
 answers_stop asked before after stop.NoRandom run = inr run
 
+answers_some_stop : {S O : Type 0} (asked : spec.Asked) (before after : Outside S O) (given : Status) →
+    IsStatusOfStop given → HasRun asked given before after → Answers asked before after given
+answers_some_stop {S} {O} asked before after given some run =
+    subst (λ (s : Status). Answers asked before after s) (sym some.1)
+    (answers_stop asked before after some.0
+    (subst (λ (s : Status). HasRun asked s before after) some.1 run))
+
 failed_above : {S O : Type 0} (piece : Piece) (before after : Outside S O) → before.files.writing < 2 ^ 64 - 1 →
     before.output.faults < 2 ^ 64 - 1 → FailedAt Rose piece before after → FailedAt Raised piece before after
 failed_above (recorded bytes) before after low_writing low_faults fault = (raised fault.0 low_writing, fault.1)
@@ -193,9 +218,9 @@ failed_above (shown bytes) before after low_writing low_faults fault = (fault.0,
 
 -- what the words ask for where a machine was prepared
 pub asks_run : {asked : spec.Asked} {held : List ℕ → Option (List ℕ)} {record_name : List ℕ} {steps : ℕ}
-    {machine : Machine} (prepared : IsPrepared asked held record_name steps machine) →
+    {ready : Prepared} (prepared : IsPrepared asked held record_name steps ready) →
     AsksRun asked held record_name (run_of prepared.bundle steps prepared.opened)
-asks_run {asked} {held} {record_name} {steps} {machine} prepared = record {
+asks_run {asked} {held} {record_name} {steps} {ready} prepared = record {
   steps = steps;
   bundle = prepared.bundle;
   stream = prepared.stream;
@@ -212,26 +237,27 @@ answers_recorded {S} {O} {asked} {name} {before} {mid} {after} {given} {r} asks 
     low_faults records =
     let others : OtherFiles name before.files.held after.files.held = λ other apart. records.others other apart ∙
     reads.held other in
+    let grows : GrowsSome before.output.taken after.output.taken =
+    (records.grows.0, grows_since before mid after records.grows.0 same_output records.grows.1) in
     elim records.outcome [
       | inl all ↦
-          subst (λ (s : Status). Answers asked before after s) (sym all.answer)
-          (answers_stop asked before after r.stop (record {
+          answers_some_stop asked before after given all.some_stop (record {
             record_name = name;
             made = r;
             asks = asks;
-            written = record {
-              status = refl;
-              file = all.file;
-              output = subst (λ (o : Output O). Grows o.taken after.output.taken (shown_bytes (due r))) same_output
-                  all.output;
+            written = λ none. let w = all.written none in record {
+              status = w.status;
+              file = w.file;
+              output = grows_since before mid after (shown_bytes (due r)) same_output w.output;
             };
+            grows = grows;
             others = others;
             nothing_rose = record {
               reading = records.reading ∙ reads.reading;
               writing = all.nothing_rose.writing ∙ reads.writing;
               faults = all.nothing_rose.faults ∙ ap (λ (o : Output O). o.faults) same_output;
             };
-          }))
+          })
       | inr (inl none) ↦
           subst (λ (s : Status). Answers asked before after s) (sym none.answer)
           (inr (inl (record {
@@ -250,16 +276,21 @@ answers_recorded {S} {O} {asked} {name} {before} {mid} {after} {given} {r} asks 
             record_name = name;
             due_run = r;
             asks = asks;
-            cut_off = record {
-              cut = front.cut;
-              file = front.file;
-              output = subst (λ (o : Output O). Grows o.taken after.output.taken
-                  (shown_bytes (pieces_left front.cut))) same_output front.output;
-              fault = failed_above front.cut.piece before after low_writing low_faults
-                  (failed_since front.cut.piece before mid after reads.writing same_output front.fault);
+            cut_off = λ none. let c = front.cut_off none in record {
+              cut = c.cut;
+              file = c.file;
+              output = grows_since before mid after (shown_bytes (pieces_left c.cut)) same_output c.output;
+              fault = failed_above c.cut.piece before after low_writing low_faults
+                  (failed_since c.cut.piece before mid after reads.writing same_output c.fault);
             };
+            grows = grows;
             others = others;
             reading = records.reading ∙ reads.reading;
+            fault = (
+              front.fault.0,
+              failed_above front.fault.0 before after low_writing low_faults
+                  (failed_since front.fault.0 before mid after reads.writing same_output front.fault.1),
+            );
           })))
     ]
 

@@ -1,4 +1,5 @@
 pub mod AnswerFacts
+pub mod ClashFacts
 pub mod FileFacts
 mod NumberFacts
 pub mod OptionFacts

@@ -7,7 +7,7 @@ use Rattle.cloak_base.specs.declared.causes.Stop.{Stop}
 use Rattle.cloak_base.specs.declared.causes.Stop.TheVariants as stop
 use Rattle.cloak_model.specs.declared.image.Bundle.{Bundle}
 use Rattle.cloak_model.specs.declared.item.Item.{Item}
-use Rattle.cloak_model.specs.Exchange.{Piece, recorded, shown, record_magic, item_pieces, Emits}
+use Rattle.cloak_model.specs.Exchange.{Piece, recorded, shown, record_magic, item_pieces, Emits, EmitsSome}
 use Rattle.cloak_model.specs.Opening.{Opened}
 use Rattle.cloak_model.specs.Parts.{Joint}
 use Rattle.cloak_model.specs.Report.{report}
@@ -15,11 +15,12 @@ use Rattle.cloak_model.specs.Joint.{Moment, Turn, joint_step, after_turn, stop_o
 use Rattle.cloak_model.specs.Run.{unless_stopped, turns_from, joint_after, last_stop, turn_pieces, turns_pieces}
 use Rattle.cloak_model.specs.Run.{closing, cause_of, first_moment, run_of, due}
 use Rattle.cloak_machine.specs.declared.machine.Machine.{Machine}
-use Rattle.cloak_machine.specs.Standing.{StandsForMoment, MakesTurn, EndsAs}
+use Rattle.cloak_machine.specs.Standing.{StandsForMoment, ShowsOpening, MakesTurn, EndsAs}
 use Rattle.cloak_machine.specs.Ending.{end_report}
 use Rattle.cloak_machine.specs.declared.end.End.{End}
 use Rattle.cloak_cli.specs.declared.status.Status.{Status}
-use Rattle.cloak_cli.specs.Running.{RunsSteps, EndsRun, WritesRun, last_pieces, moment_behind, status_of}
+use Rattle.cloak_cli.specs.Running.{NoClashYet, RunsSteps, EndsRun, WritesRun, last_pieces, moment_behind, status_of}
+use Rattle.cloak_cli.proofs.ClashFacts.{rest_unclashed, turns_unclashed}
 
 -- Steps behind steps.
 
@@ -97,7 +98,7 @@ pub record GoesOn {E : Type 0} (gave : E → E → List Piece → Type 0) (e e' 
   pub left : turns_from budget m ≡ made ++ turns_from (budget - n) (moment_behind m made)
 
 -- nothing is given
-emits_nothing : {E : Type 0} {gave : E → E → List Piece → Type 0} (e : E) → Emits gave e e []
+pub emits_nothing : {E : Type 0} {gave : E → E → List Piece → Type 0} (e : E) → Emits gave e e []
 emits_nothing {E} {gave} e =
     record { more = λ first before given. subst (λ (ps : List Piece). gave first e ps) (sym (append-nil before)) given }
 
@@ -109,6 +110,11 @@ emits_then {E} {gave} {e} {f} {h} {ps} {qs} first second = record {
       subst (λ (pieces : List Piece). gave start h pieces) (append_assoc before ps qs)
       (second.more start (before ++ ps) (first.more start before given));
 }
+
+-- some pieces, and then others
+pub some_then : {E : Type 0} {gave : E → E → List Piece → Type 0} {e f h : E} →
+    EmitsSome gave e f → EmitsSome gave f h → EmitsSome gave e h
+some_then {E} {gave} {e} {f} {h} first second = (first.0 ++ second.0, emits_then first.1 second.1)
 
 -- the same pieces under another name
 pub emits_as : {E : Type 0} {gave : E → E → List Piece → Type 0} {e f : E} {ps qs : List Piece} → ps ≡ qs →
@@ -167,6 +173,28 @@ is_made {E} gave e f h old new given n budget m on makes within =
           ∙ ap (λ (o : Option Stop). (on.made ++ t ∷ []) ++ unless_stopped o (turns_from (budget - (n + 1)))
           (after_turn here t)) (sym makes.answer);
     }
+
+-- no clash behind the steps that are left: none behind the first of them
+next_unclashed : (n budget : ℕ) (m : Moment) (made : List Turn) →
+    turns_from budget m ≡ made ++ turns_from (budget - n) (moment_behind m made) → n < budget →
+    NoClashYet (joint_after m.joint (turns_from budget m)) →
+    NoClashYet (joint_step (moment_behind m made)).joint
+unfolding joint_after
+next_unclashed n budget m made left within none =
+    let here = moment_behind m made in
+    let t = joint_step here in
+    let rest = unless_stopped (stop_of t) (turns_from (budget - (n + 1))) (after_turn here t) in
+    let behind : joint_after m.joint (turns_from budget m) ≡ joint_after t.joint rest =
+    ap (λ (ts : List Turn). joint_after m.joint ts)
+    (left ∙ ap (λ (ts : List Turn). made ++ ts) (turns_from-next n budget here within))
+    ∙ joint_after-append m.joint made (t ∷ rest) in
+    rest_unclashed (stop_of t) (turns_from (budget - (n + 1))) (after_turn here t)
+    (turns_unclashed (budget - (n + 1)) (after_turn here t)) (subst NoClashYet behind none)
+
+pub unclashed-next : {E : Type 0} (gave : E → E → List Piece → Type 0) (e f : E) (machine : Machine) (n budget : ℕ)
+    (m : Moment) (on : GoesOn gave e f machine n budget m) → n < budget →
+    NoClashYet (joint_after m.joint (turns_from budget m)) → NoClashYet (joint_step (moment_behind m on.made)).joint
+unclashed-next gave e f machine n budget m on within none = next_unclashed n budget m on.made on.left within none
 
 -- one step more that does not stop the run
 goes_on-made : {E : Type 0} (gave : E → E → List Piece → Type 0) (e h : E) (new : Machine) (n budget : ℕ) (m : Moment)
@@ -251,44 +279,39 @@ emits_text : {E : Type 0} {gave : E → E → List Piece → Type 0} {e f : E} {
 emits_text {E} {gave} {e} {f} {x} {y} same emits =
     subst (λ (text : List ℕ). Emits gave e f (shown text ∷ [])) same emits
 
--- the pieces behind the magic of a run that showed nothing as it opened
-pieces_of_run : (b : Bundle) (steps : ℕ) (o : Opened) → o.items ≡ [] →
+-- the pieces of a run
+pieces_of_run : (b : Bundle) (steps : ℕ) (o : Opened) →
     let turns = turns_from steps (first_moment b o.joint) in
     let closed = closing (joint_after o.joint turns) in
-    recorded record_magic ∷ (turns_pieces 1 turns ++ last_pieces (cause_of closed.joint (last_stop None turns))
-    (length turns) closed) ≡ due (run_of b steps o)
+    recorded record_magic ∷ (item_pieces o.items ++ (turns_pieces 1 turns
+    ++ last_pieces (cause_of closed.joint (last_stop None turns)) (length turns) closed)) ≡ due (run_of b steps o)
 unfolding due run_of
-pieces_of_run b steps o none =
-    let turns = turns_from steps (first_moment b o.joint) in
-    let closed = closing (joint_after o.joint turns) in
-    ap (λ (items : List Item). recorded record_magic ∷
-    (item_pieces items ++ (turns_pieces 1 turns ++ last_pieces (cause_of closed.joint (last_stop None turns))
-    (length turns) closed)))
-    (sym none)
+pieces_of_run b steps o = refl
 
 -- a run whose outlet failed before its steps were over, and is given the rest in vain
-pub writes-front : {E : Type 0} (gave : E → E → List Piece → Type 0) (failed : Bool) (e f h : E) (machine : Machine)
-    (stopped : Option Stop) (given : Status) (b : Bundle) (steps : ℕ) (o : Opened) → o.items ≡ [] →
-    Emits gave e f (recorded record_magic ∷ []) → RunsSteps gave failed f h machine stopped (first_moment b o.joint)
+pub writes-front : {E : Type 0} (gave : E → E → List Piece → Type 0) (failed : Bool) (e f g h : E) (opened : Machine)
+    (machine : Machine) (stopped : Option Stop) (given : Status) (b : Bundle) (steps : ℕ) (o : Opened) →
+    Emits gave e f (recorded record_magic ∷ []) → ShowsOpening gave f g opened b o →
+    RunsSteps gave failed g h machine stopped (first_moment b o.joint)
     (turns_from steps (first_moment b o.joint)) → failed ≡ true →
     ((ps : List Piece) → Emits gave h h ps) → WritesRun gave failed e h given (run_of b steps o)
-writes-front gave failed e f h machine stopped given b steps o none_shown first runs broken none = record {
-  emits = emits_as (pieces_of_run b steps o none_shown) (emits_then first (emits_then runs.emits (none _)));
+writes-front gave failed e f g h opened machine stopped given b steps o first opens runs broken none = record {
+  emits = emits_as (pieces_of_run b steps o)
+      (emits_then first (emits_then opens.emits (emits_then runs.emits (none _))));
   status = λ unfailed. absurd (let clash : true ≡ false = sym broken ∙ unfailed in cc);
 }
 
 -- a run whose steps were made, and whose end was written
-pub writes-whole : {E : Type 0} (gave : E → E → List Piece → Type 0) (mid_failed failed : Bool) (e f h i : E)
-    (machine : Machine) (stopped : Option Stop) (cause : Stop) (given : Status) (b : Bundle) (steps : ℕ)
-    (o : Opened) → o.items ≡ [] →
-    Emits gave e f (recorded record_magic ∷ []) →
-    RunsSteps gave mid_failed f h machine stopped (first_moment b o.joint)
+pub writes-whole : {E : Type 0} (gave : E → E → List Piece → Type 0) (mid_failed failed : Bool) (e f g h i : E)
+    (opened machine : Machine) (stopped : Option Stop) (cause : Stop) (given : Status) (b : Bundle) (steps : ℕ)
+    (o : Opened) → Emits gave e f (recorded record_magic ∷ []) → ShowsOpening gave f g opened b o →
+    RunsSteps gave mid_failed g h machine stopped (first_moment b o.joint)
     (turns_from steps (first_moment b o.joint)) → mid_failed ≡ false →
     cause ≡ unwrap_or stopped stop.Budget →
     ((m : Moment) → StandsForMoment machine m → EndsRun gave h i given cause m.steps (closing m.joint)) →
     WritesRun gave failed e i given (run_of b steps o)
 unfolding run_of
-writes-whole {E} gave mid_failed failed e f h i machine stopped cause given b steps o none_shown first runs well
+writes-whole {E} gave mid_failed failed e f g h i opened machine stopped cause given b steps o first opens runs well
     unwrapped ends =
     let turns = turns_from steps (first_moment b o.joint) in
     let all = runs.made well in
@@ -298,9 +321,9 @@ writes-whole {E} gave mid_failed failed e f h i machine stopped cause given b st
     ap (λ (s : Stop). cause_of closed.joint (Some s))
     (unwrapped ∙ ap (λ (s : Option Stop). unwrap_or s stop.Budget) all.last) in
     record {
-      emits = emits_as (pieces_of_run b steps o none_shown) (emits_then first (emits_then runs.emits
+      emits = emits_as (pieces_of_run b steps o) (emits_then first (emits_then opens.emits (emits_then runs.emits
           (emits_as (λ k. last_pieces (same k) ((let e : 0 + length turns ≡ length turns = omega arith in e) k)
-          closed) end.emits)));
+          closed) end.emits))));
       status = λ unfailed. end.status ∙ ap status_of same;
     }
 

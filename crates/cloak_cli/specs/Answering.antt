@@ -8,17 +8,16 @@ use Rattle.cloak_model.specs.declared.outcome.UsageFault.{UsageFault}
 use Rattle.cloak_model.specs.Bundle.{IsBundle, IsInGrammar}
 use Rattle.cloak_model.specs.BundleFault.{bundle_fault}
 use Rattle.cloak_model.specs.Command as spec
-use Rattle.cloak_model.specs.Exchange.{recorded_bytes, shown_bytes}
 use Rattle.cloak_model.specs.Opening.{Lack, NoKey, NoPageDraw, opening}
-use Rattle.cloak_model.specs.Run.{Run, joint_run, due}
+use Rattle.cloak_model.specs.Run.{Run, joint_run}
 use Rattle.cloak_cli.specs.declared.refusal.Refusal.{Refusal}
 use Rattle.cloak_cli.specs.declared.refusal.Refusal.TheVariants as refusal
 use Rattle.cloak_cli.specs.declared.status.Status.{Status}
 use Rattle.cloak_cli.specs.declared.status.Status.TheVariants as status
 use Rattle.cloak_cli.specs.Outside.{Files, Outside, Raised, NothingRose}
-use Rattle.cloak_cli.specs.Outlet.{Cut, pieces_left, FailedAt}
+use Rattle.cloak_cli.specs.Recording.{IsWritten, IsCutOff, GrowsSome, FailedSome}
 use Rattle.cloak_cli.specs.Refusal.{status_of_refusal, refusal_line}
-use Rattle.cloak_cli.specs.Running.{status_of}
+use Rattle.cloak_cli.specs.Running.{NoClash}
 
 -- What is asked for.
 
@@ -75,15 +74,6 @@ pub record IsNotBuilt {S : Type 0} (asked : spec.Asked) (before after : Files S)
   pub not_built : asked ≡ spec.NotBuilt
   pub untouched : after ≡ before
 
--- The file of a run is a bundle with programs.
-pub record HasPrograms {S : Type 0} (asked : spec.Asked) (before after : Files S) : Type 0 where
-  pub bundle_name : List ℕ
-  pub asks : AsksFile asked bundle_name
-  pub bundle : Bundle
-  pub file : IsInFile (before.held bundle_name) bundle
-  pub programs : 0 < length bundle.programs
-  pub reading : after.reading ≡ before.reading
-
 -- The file of a run is no bundle: where its bytes are told, this is their first fault.
 pub record IsBadBundle {S : Type 0} (asked : spec.Asked) (fault : BundleFault) (before after : Files S) : Type 0 where
   pub bundle_name : List ℕ
@@ -114,7 +104,7 @@ pub record IsLack {S : Type 0} (asked : spec.Asked) (lack : Lack) (before after 
   pub reading : after.reading ≡ before.reading
 
 abbrev pub HasCause : {S : Type 0} → spec.Asked → Refusal → Files S → Files S → Type 0
-HasCause asked refusal.NotBuilt before after = IsNotBuilt asked before after ⊎ HasPrograms asked before after
+HasCause asked refusal.NotBuilt before after = IsNotBuilt asked before after
 HasCause asked (refusal.Usage fault) before after = IsUsage asked fault before after
 HasCause asked (refusal.BadBundle fault) before after = IsBadBundle asked fault before after
 HasCause asked refusal.ReadFault before after = IsReadFault asked before after
@@ -138,19 +128,13 @@ pub record IsRefused {S O : Type 0} (asked : spec.Asked) (answer : Status) (befo
 
 -- The run.
 
--- What is due of a run was written whole, and this is the status of its stop.
-pub record IsWritten {S O : Type 0} (r : Run) (record_name : List ℕ) (answer : Status) (before after : Outside S O) :
-    Type 0 where
-  pub status : answer ≡ status_of r.stop
-  pub file : Tells (after.files.held record_name) (recorded_bytes (due r))
-  pub output : Grows before.output.taken after.output.taken (shown_bytes (due r))
-
--- The run was made and written.
+-- The run was made. Where no pages clashed in it, all that is due of it was written.
 pub record HasRun {S O : Type 0} (asked : spec.Asked) (answer : Status) (before after : Outside S O) : Type 0 where
   pub record_name : List ℕ
   pub made : Run
   pub asks : AsksRun asked before.files.held record_name made
-  pub written : IsWritten made record_name answer before after
+  pub written : NoClash made → IsWritten made record_name answer before after
+  pub grows : GrowsSome before.output.taken after.output.taken
   pub others : OtherFiles record_name before.files.held after.files.held
   pub nothing_rose : NothingRose before after
 
@@ -174,22 +158,16 @@ pub record BeginFailed {S O : Type 0} (asked : spec.Asked) (before after : Outsi
   pub writing : Raised before.files.writing after.files.writing
   pub untouched : after.output ≡ before.output
 
--- Of the one list of what is due of a run, record and output have what is left where it is cut at one place, and the
--- count of faults of where the piece there goes rose.
-pub record IsCutOff {S O : Type 0} (r : Run) (record_name : List ℕ) (before after : Outside S O) : Type 0 where
-  pub cut : Cut (due r)
-  pub file : Tells (after.files.held record_name) (recorded_bytes (pieces_left cut))
-  pub output : Grows before.output.taken after.output.taken (shown_bytes (pieces_left cut))
-  pub fault : FailedAt Raised cut.piece before after
-
--- A run broke off.
+-- A run broke off. Where no pages clashed in it, what is due of it was cut off at one place.
 pub record BrokeOff {S O : Type 0} (asked : spec.Asked) (before after : Outside S O) : Type 0 where
   pub record_name : List ℕ
   pub due_run : Run
   pub asks : AsksRun asked before.files.held record_name due_run
-  pub cut_off : IsCutOff due_run record_name before after
+  pub cut_off : NoClash due_run → IsCutOff Raised due_run record_name before after
+  pub grows : GrowsSome before.output.taken after.output.taken
   pub others : OtherFiles record_name before.files.held after.files.held
   pub reading : after.files.reading ≡ before.files.reading
+  pub fault : FailedSome Raised before after
 
 abbrev pub IsWriteFault : {S O : Type 0} → spec.Asked → Outside S O → Outside S O → Type 0
 IsWriteFault asked before after =

@@ -7,6 +7,7 @@ use Rattle.cloak_model.specs.declared.item.Item.TheVariants as item
 use Rattle.cloak_model.specs.Exchange.{Piece, shown, Emits, item_pieces}
 use Rattle.cloak_model.specs.Opening.{Opened}
 use Rattle.cloak_model.specs.Report.{report}
+use Rattle.cloak_model.specs.Parts.{Joint}
 use Rattle.cloak_model.specs.Joint.{Moment, Turn}
 use Rattle.cloak_model.specs.Run.{Run, joint_after, last_stop, turns_pieces, cause_of, due}
 use Rattle.cloak_machine.specs.declared.machine.Machine.{Machine}
@@ -39,12 +40,24 @@ last_pieces cause steps closed =
     item_pieces (item.Close steps ∷ (closed.items ++ item.End ∷ []))
     ++ (shown (codes "\n") ∷ shown (report cause steps closed.joint) ∷ [])
 
+-- Up to now no two different pages that were compared had one digest.
+abbrev pub NoClashYet : Joint → Type 0
+NoClashYet j = j.memory.ledger.clashed ≡ false
+
+-- In the whole run no two different pages that were compared had one digest. (What clashed once stays so.)
+abbrev pub NoClash : Run → Type 0
+NoClash r = NoClashYet r.closed.joint
+
 -- the status of a run that this stopped
 abbrev pub status_of : Stop → Status
 status_of (stop.Halt value) = status.Done
 status_of stop.Budget = status.Done
 status_of (stop.Violation violation) = status.Violation
 status_of stop.NoRandom = status.NoRandom
+
+-- a status that some run has
+abbrev pub IsStatusOfStop : Status → Type 0
+IsStatusOfStop given = (cause : Stop) × (given ≡ status_of cause)
 
 -- The end of a run that this stopped behind so many steps, and that closed so, was given, and its status answered.
 pub record EndsRun {E : Type 0} (gave : E → E → List Piece → Type 0) (e e' : E) (given : Status) (stopped : Stop)

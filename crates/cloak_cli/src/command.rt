@@ -1,8 +1,9 @@
 //! The top call.
 ghost use Rattle.std.specs.Prelude.{◌≡◌, ◌<◌, ◌-◌, ◌^◌, [], map, string_bytes};
+ghost use Rattle.cloak_base.specs.Random.{Random};
 ghost use Rattle.cloak_model.specs.declared.image.Bundle.{Bundle};
 ghost use Rattle.cloak_model.specs.Command as spec;
-ghost use Rattle.cloak_model.specs.Opening.{Opened};
+ghost use Rattle.cloak_model.specs.Opening.{Opened, opening};
 ghost use Rattle.cloak_model.specs.Run.{first_moment, run_of};
 ghost use Rattle.cloak_machine.specs.Standing.{StandsForMoment, steps_made};
 ghost use Rattle.cloak_cli.specs.Answering.{Answers, KeepsFiles};
@@ -12,25 +13,25 @@ ghost use Rattle.cloak_cli.specs.Request.{asked_of_run};
 
 use crate::item_bytes::LONGEST;
 use crate::outlet::Outlet;
-use crate::prepare::prepare;
+use crate::prepare::{Prepared, prepare};
 use crate::refusal::{Refusal, refuse};
 use crate::request::{Request, read_words};
 use crate::run::write_run;
 use crate::run_request::RunRequest;
 use crate::status::Status;
-use cloak_machine::Machine;
 use outside_io::{Shelf, Sink};
 use std::alloc::Global;
 
 /// Begins the record of a run and makes it.
 fn record_run<S: Shelf, O: Sink>(
-    machine: Machine,
+    prepared: Prepared,
     run: &RunRequest<'_>,
     shelf: &mut S,
     out: &mut O,
 ) -> Status
-    requires { steps_made machine ≡ 0 }
-    ensures { (b : Bundle) (o : Opened) → o.items ≡ [] → StandsForMoment machine (first_moment b o.joint) →
+    requires { steps_made prepared.machine ≡ 0 }
+    ensures { (b : Bundle) (stream : Random) (o : Opened) → opening b stream ≡ Ok o → b.programs ≡ prepared.programs →
+        StandsForMoment prepared.machine (first_moment b o.joint) →
         Records run.now.record_name.now
         (outside S.held S.reading_faults S.writing_faults O.taken O.faults shelf.old out.old)
         (outside S.held S.reading_faults S.writing_faults O.taken O.faults shelf.new out.new)
@@ -46,7 +47,8 @@ fn record_run<S: Shelf, O: Sink>(
         failed: false,
         piece: [0; LONGEST],
     };
-    let status = write_run(machine, run.steps, &mut outlet);
+    let Prepared { machine, programs } = prepared;
+    let status = write_run(machine, programs.as_slice(), run.steps, &mut outlet);
     if outlet.failed {
         return Status::WriteFault;
     }
@@ -69,7 +71,7 @@ fn run_command<S: Shelf, O: Sink>(
         (outside S.held S.reading_faults S.writing_faults O.taken O.faults shelf.new out.new) result }
 {
     match prepare(alloc, run, shelf) {
-        Ok(machine) => record_run(machine, run, shelf, out),
+        Ok(prepared) => record_run(prepared, run, shelf, out),
         Err(refusal) => refuse(out, &refusal),
     }
 }

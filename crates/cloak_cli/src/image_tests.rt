@@ -1,13 +1,7 @@
 //! Runs of guest images that are given by the words of their code.
 
-use crate::item_bytes::LONGEST;
-use crate::outlet::Outlet;
-use crate::run::write_run;
 use crate::status::Status;
 use crate::tests::called;
-use cloak_machine::Machine;
-use guest_bundle::read;
-use outside_io::{MemoryShelf, MemorySink, Stream};
 use std::alloc::Global;
 use std::test::*;
 
@@ -164,22 +158,16 @@ regs 00000000 00000000 00000000 00000000 00000000 00000000 00000000 00000000 000
 csrs 00000000 00000000 00000000 00000000 00000000 00000000 00000000 00000000 00000000
 ";
 
-/// The command refuses an image of several harts, so its machine is opened here.
 #[test]
 fn harts_take_their_turns(rt: HostRuntime) -> Result<(), Fail> {
-    let bundle = read(rt.alloc(), &TWO_HARTS)?;
-    assert!(rt; bundle.programs.as_slice().is_empty());
-    let machine = Machine::open(rt.alloc(), &bundle, Stream::numbered(0))?;
-    let mut shelf = MemoryShelf::open(rt.alloc(), Vec::new(rt.alloc()));
-    let mut sink = MemorySink::open(rt.alloc(), Vec::new(rt.alloc()));
-    let mut outlet = Outlet {
-        shelf: &mut shelf,
-        name: "a.r",
-        out: &mut sink,
-        failed: false,
-        piece: [0; LONGEST],
-    };
-    assert_eq!(rt; write_run(machine, 3, &mut outlet), Status::Done);
-    assert_eq!(rt; sink.taken(), TURNS.as_bytes());
+    let left = called(
+        rt.alloc(),
+        "run a.b a.r --steps 3 --number 0",
+        &TWO_HARTS,
+        Vec::new(rt.alloc()),
+        Vec::new(rt.alloc()),
+    )?;
+    assert_eq!(rt; left.status, Status::Done);
+    assert_eq!(rt; left.sink.taken(), TURNS.as_bytes());
     Ok(())
 }

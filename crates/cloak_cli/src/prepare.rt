@@ -1,4 +1,4 @@
-//! The machine of a run, from the files that the words name.
+//! A run that can begin, from the files that the words name.
 ghost use Rattle.std.specs.Prelude.{◌≡◌, ◌<◌, ◌-◌, ◌^◌, true, IfOk, length};
 ghost use Rattle.cloak_machine.specs.Standing.{steps_made};
 ghost use Rattle.outside_io.specs.Told.{SameFiles};
@@ -10,7 +10,7 @@ use crate::files::{file_size, read_front};
 use crate::refusal::Refusal;
 use crate::run_request::{Randomness, RunRequest};
 use cloak_machine::{Machine, OpenFault};
-use cloak_model::Bundle;
+use cloak_model::{Bundle, Program, Sequence};
 use guest_bundle::{BundleFault, read};
 use outside_io::{Shelf, Stream};
 use std::alloc::Global;
@@ -20,6 +20,14 @@ const LARGEST_BUNDLE: u64 = 67_108_864;
 
 /// The most bytes of a file that a run takes for its randomness.
 const LONGEST_STREAM: u64 = 16_777_216;
+
+/// A run that can begin.
+#[derive(Drop)]
+pub struct Prepared {
+    pub machine: Machine,
+    /// The programs of the image, whose pages the kernel is shown first.
+    pub programs: Sequence<Program>,
+}
 
 /// The bundle that a file is.
 fn read_bundle<S: Shelf>(alloc: Global, shelf: &mut S, name: &str) -> Result<Bundle, Refusal>
@@ -64,26 +72,26 @@ fn open_stream<S: Shelf>(
     }
 }
 
-/// The machine of the run that is asked for.
+/// Prepares the run that is asked for.
 pub fn prepare<S: Shelf>(
     alloc: Global,
     run: &RunRequest<'_>,
     shelf: &mut S,
-) -> Result<Machine, Refusal>
+) -> Result<Prepared, Refusal>
     requires settled { S.is_settled shelf.old }
     requires reading { S.reading_faults shelf.old < 2 ^ 64 - 1 }
     ensures prepares { Prepares (asked_of_run run.now)
         (files S.held S.reading_faults S.writing_faults shelf.old)
         (files S.held S.reading_faults S.writing_faults shelf.new) run.now.record_name.now run.now.steps result }
-    ensures fresh { IfOk result (λ machine. steps_made machine ≡ 0) }
+    ensures fresh { IfOk result (λ prepared. steps_made prepared.machine ≡ 0) }
 {
     let bundle = read_bundle(alloc, shelf, run.bundle)?;
-    if !bundle.programs.as_slice().is_empty() {
-        return Err(Refusal::NotBuilt);
-    }
     let stream = open_stream(alloc, shelf, &run.randomness)?;
     match Machine::open(alloc, &bundle, stream) {
-        Ok(machine) => Ok(machine),
+        Ok(machine) => Ok(Prepared {
+            machine,
+            programs: bundle.programs,
+        }),
         Err(OpenFault::NoKey) => Err(Refusal::NoKey),
         Err(OpenFault::NoRandom) => Err(Refusal::NoPageDraw),
         Err(OpenFault::NoMemory) => Err(Refusal::NoMemory),

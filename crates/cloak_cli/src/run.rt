@@ -1,19 +1,21 @@
 //! A run from its first step to its report.
 ghost use Rattle.std.specs.Prelude.{◌≡◌, ◌≤◌, [], Some, false};
+ghost use Rattle.cloak_base.specs.Random.{Random};
 ghost use Rattle.cloak_model.specs.declared.image.Bundle.{Bundle};
 ghost use Rattle.cloak_model.specs.Command.{most_steps};
-ghost use Rattle.cloak_model.specs.Exchange.{Emits};
+ghost use Rattle.cloak_model.specs.Exchange.{Emits, EmitsSome};
 ghost use Rattle.cloak_model.specs.Joint.{Moment};
-ghost use Rattle.cloak_model.specs.Opening.{Opened};
-ghost use Rattle.cloak_model.specs.Run.{cause_of, closing, first_moment, run_of, turns_from};
+ghost use Rattle.cloak_model.specs.Opening.{Opened, opening};
+ghost use Rattle.cloak_model.specs.Run.{cause_of, closing, first_moment, joint_after, run_of, turns_from};
 ghost use Rattle.cloak_machine.specs.Standing.{StandsForMoment, steps_made};
 ghost use Rattle.cloak_cli.specs.Outlet.{Gave};
-ghost use Rattle.cloak_cli.specs.Running.{EndsRun, RunsSteps, WritesRun, status_of};
+ghost use Rattle.cloak_cli.specs.Running.{EndsRun, IsStatusOfStop, NoClash, NoClashYet, RunsSteps, WritesRun, status_of};
 
 use crate::outlet::Outlet;
 use crate::status::Status;
 use cloak_base::Stop;
 use cloak_machine::Machine;
+use cloak_model::Program;
 use outside_io::{Shelf, Sink};
 
 /// Makes up to this many steps, and answers why the last one stopped the run, if it did. Nothing more is
@@ -27,7 +29,9 @@ fn run_steps<S: Shelf, O: Sink>(
     requires few { steps ≤ most_steps }
     ensures same_shelf { outlet.new.shelf.ghost_name ≡ outlet.old.shelf.ghost_name }
     ensures same_out { outlet.new.out.ghost_name ≡ outlet.old.out.ghost_name }
-    ensures runs { (m : Moment) → StandsForMoment machine.old m →
+    ensures emits_some { EmitsSome (Gave S.held S.reading_faults S.writing_faults O.taken O.faults)
+        outlet.old outlet.new }
+    ensures runs { (m : Moment) → StandsForMoment machine.old m → NoClashYet (joint_after m.joint (turns_from steps m)) →
         RunsSteps (Gave S.held S.reading_faults S.writing_faults O.taken O.faults) outlet.new.failed
         outlet.old outlet.new machine.new result m (turns_from steps m) }
 {
@@ -63,6 +67,9 @@ fn write_end<S: Shelf, O: Sink>(
 ) -> Status
     ensures same_shelf { outlet.new.shelf.ghost_name ≡ outlet.old.shelf.ghost_name }
     ensures same_out { outlet.new.out.ghost_name ≡ outlet.old.out.ghost_name }
+    ensures emits_some { EmitsSome (Gave S.held S.reading_faults S.writing_faults O.taken O.faults)
+        outlet.old outlet.new }
+    ensures some_stop { IsStatusOfStop result }
     ensures ends { (m : Moment) → StandsForMoment machine m →
         EndsRun (Gave S.held S.reading_faults S.writing_faults O.taken O.faults)
         outlet.old outlet.new result stop m.steps (closing m.joint) }
@@ -73,9 +80,10 @@ fn write_end<S: Shelf, O: Sink>(
     status(&end.stop)
 }
 
-/// Makes a run whose record is begun, and writes it.
+/// Makes a run of an image with these programs, whose record is begun, and writes it.
 pub fn write_run<S: Shelf, O: Sink>(
     machine: Machine,
+    programs: &[Program],
     steps: u32,
     outlet: &mut Outlet<'_, '_, '_, S, O>,
 ) -> Status
@@ -83,12 +91,17 @@ pub fn write_run<S: Shelf, O: Sink>(
     requires few { steps ≤ most_steps }
     ensures same_shelf { outlet.new.shelf.ghost_name ≡ outlet.old.shelf.ghost_name }
     ensures same_out { outlet.new.out.ghost_name ≡ outlet.old.out.ghost_name }
-    ensures runs { (b : Bundle) (o : Opened) → o.items ≡ [] → StandsForMoment machine (first_moment b o.joint) →
+    ensures emits_some { EmitsSome (Gave S.held S.reading_faults S.writing_faults O.taken O.faults)
+        outlet.old outlet.new }
+    ensures some_stop { outlet.new.failed ≡ false → IsStatusOfStop result }
+    ensures runs { (b : Bundle) (stream : Random) (o : Opened) → opening b stream ≡ Ok o → b.programs ≡ programs.now →
+        StandsForMoment machine (first_moment b o.joint) → NoClash (run_of b steps o) →
         WritesRun (Gave S.held S.reading_faults S.writing_faults O.taken O.faults) outlet.new.failed
         outlet.old outlet.new result (run_of b steps o) }
 {
     let mut machine = machine;
     outlet.append(b"CLOAKREC");
+    machine.opening(programs, outlet);
     let stopped = run_steps(&mut machine, steps, outlet);
     if outlet.failed {
         return Status::WriteFault;

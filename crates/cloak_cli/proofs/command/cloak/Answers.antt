@@ -1,4 +1,4 @@
-use Rattle.std.proofs.Common.{◌∙◌, List, ap, refl, map, string_bytes, inl}
+use Rattle.std.proofs.Common.{◌∙◌, List, ap, refl, map, string_bytes}
 use Rattle.cloak_model.specs.Command as spec
 use Rattle.cloak_cli.specs.declared.refusal.Refusal.TheVariants as refusal
 use Rattle.cloak_cli.proofs.AnswerFacts.{answers_asked, answers_no_run, keeps_files}
@@ -9,7 +9,7 @@ returns-in-NotBuilt-clause-answers g c =
     answers_asked _ _ _ (c.in-NotBuilt.ensures ∙ ap (λ (ws : List _). spec.words_of (map string_bytes ws))
     c.as_slice.ensures.value)
     (answers_no_run {r = refusal.NotBuilt}
-    (record { cause = inl (record { not_built = refl; untouched = refl }); held = λ name. refl; writing = refl })
+    (record { cause = record { not_built = refl; untouched = refl }; held = λ name. refl; writing = refl })
     c.requires.output c.refuse.ensures)
 
 pub returns-in-NotBuilt-clause-kept : goal.returns-in-NotBuilt-clause-kept

@@ -1,6 +1,6 @@
-use Rattle.std.proofs.Common.{◌∙◌, ap, ◌+◌, ℕ, refl, arith}
+use Rattle.std.proofs.Common.{[], ◌∙◌, ap, ◌+◌, ℕ, refl, arith}
 use Rattle.cloak_cli.proofs.OutletFacts.{gave_all, emits_none}
-use Rattle.cloak_cli.proofs.RunFacts.{goes_on-start, goes_on-more, stops-more, runs-all, runs-failed}
+use Rattle.cloak_cli.proofs.RunFacts.{emits_nothing, some_then, unclashed-next, goes_on-start, goes_on-more, stops-more, runs-all, runs-failed}
 use Rattle.cloak_cli.proofs.run.run_steps.Goals as goal
 
 pub loop-made-init : goal.loop-made-init
@@ -8,7 +8,8 @@ loop-made-init g c = record {
   same_shelf = refl;
   same_out = refl;
   made = c.requires.fresh;
-  runs = λ m stands.
+  some = ([], emits_nothing _);
+  runs = λ m stands none.
       goes_on-start _ _ _ _ m stands;
 }
 
@@ -17,26 +18,32 @@ loop-made-preserved g c = let given = gave_all c.step.ensures.emits_some.1 in re
   same_shelf = given.shelf ∙ c.loop-made.invariant.same_shelf;
   same_out = given.output ∙ c.loop-made.invariant.same_out;
   made = c.step.ensures.steps ∙ ap (λ (n : ℕ). n + 1) c.loop-made.invariant.made;
-  runs = λ m stands.
-      let on = c.loop-made.invariant.runs m stands in
-      goes_on-more _ _ _ _ _ _ c.step.result c.loop-made.made _ m on (c.step.ensures.makes _ on.stands)
+  some = some_then c.loop-made.invariant.some c.step.ensures.emits_some;
+  runs = λ m stands none.
+      let on = c.loop-made.invariant.runs m stands none in
+      goes_on-more _ _ _ _ _ _ c.step.result c.loop-made.made _ m on
+      (c.step.ensures.makes _ on.stands (unclashed-next _ _ _ _ _ _ _ on c.loop-made-test.true none))
       c.loop-made-test.true c.in_default.is;
 }
 
 pub returns-then-outlet-clause-runs : goal.returns-then-outlet-clause-runs
-returns-then-outlet-clause-runs g c = λ m stands.
-    runs-failed _ _ _ _ _ _ _ c.loop-made.made m (c.loop-made.invariant.runs m stands) c.if-outlet.true
+returns-then-outlet-clause-runs g c = λ m stands none.
+    runs-failed _ _ _ _ _ _ _ c.loop-made.made m (c.loop-made.invariant.runs m stands none) c.if-outlet.true
     (λ ps. emits_none _ _ _ _ _ _ ps c.if-outlet.true)
 
 pub returns-in-Some-clause-runs : goal.returns-in-Some-clause-runs
-returns-in-Some-clause-runs g c = λ m stands.
-    let on = c.loop-made.invariant.runs m stands in
+returns-in-Some-clause-runs g c = λ m stands none.
+    let on = c.loop-made.invariant.runs m stands none in
     stops-more _ _ _ _ _ _ _ c.step.result c.in-Some.stop c.loop-made.made c.args.steps m on
-    (c.step.ensures.makes _ on.stands) c.in-Some.is c.loop-made-test.true
+    (c.step.ensures.makes _ on.stands (unclashed-next _ _ _ _ _ _ _ on c.loop-made-test.true none)) c.in-Some.is
+    c.loop-made-test.true
+
+pub returns-in-Some-clause-emits_some : goal.returns-in-Some-clause-emits_some
+returns-in-Some-clause-emits_some g c = some_then c.loop-made.invariant.some c.step.ensures.emits_some
 
 pub returns-clause-runs : goal.returns-clause-runs
 returns-clause-runs g c =
-    λ m stands. runs-all _ _ _ _ _ c.args.steps c.loop-made.made m (c.loop-made.invariant.runs m stands)
+    λ m stands none. runs-all _ _ _ _ _ c.args.steps c.loop-made.made m (c.loop-made.invariant.runs m stands none)
     (let low = c.loop-made-test.false in let high = c.loop-made.auto.made-end in omega (arith, low, high))
 
 pub returns-in-Some-clause-same_shelf : goal.returns-in-Some-clause-same_shelf

@@ -1,7 +1,10 @@
 use Rattle.std.proofs.Common.{◌≡◌}
+use Rattle.cloak_model.specs.Exchange.{EmitsSome}
 use Rattle.cloak_model.specs.Joint.{Moment}
+use Rattle.cloak_model.specs.Run.{joint_after, turns_from}
 use Rattle.cloak_machine.specs.Standing.{StandsForMoment, steps_made}
 use Rattle.cloak_cli.specs.Outlet.{Gave}
+use Rattle.cloak_cli.specs.Running.{NoClashYet}
 use Rattle.cloak_cli.proofs.RunFacts.{GoesOn}
 use Rattle.cloak_cli.proofs.run.run_steps.Given as goal
 
@@ -11,7 +14,9 @@ invariant-loop-made g l = record {
   same_shelf : l.outlet.shelf.ghost_name ≡ l.fn.outlet.shelf.ghost_name;
   same_out : l.outlet.out.ghost_name ≡ l.fn.outlet.out.ghost_name;
   made : steps_made l.machine ≡ l.made;
-  runs : (m : Moment) → StandsForMoment l.fn.machine m →
+  some : EmitsSome (Gave g.S.Shelf.held g.S.Shelf.reading_faults g.S.Shelf.writing_faults g.O.Sink.taken g.O.Sink.faults)
+      l.fn.outlet l.outlet;
+  runs : (m : Moment) → StandsForMoment l.fn.machine m → NoClashYet (joint_after m.joint (turns_from l.steps m)) →
       GoesOn (Gave g.S.Shelf.held g.S.Shelf.reading_faults g.S.Shelf.writing_faults g.O.Sink.taken g.O.Sink.faults)
       l.fn.outlet l.outlet l.machine l.made l.steps m;
 }
