@@ -36,7 +36,8 @@ pub fn go_on<E: Emit>(
     ensures emits_some { EmitsSome E.gave e.old e.new }
     ensures goes_on { (j : model.Joint) (number : ℕ) (w : World) → stepped.now.violation ≡ violation_of w →
         AreRoots roots.old j.memory.ledger.root →
-        GoesOn E.gave e.old e.new h.new roots.new result j number (items_of w) (domain_ended j number h.old domain w stepped.now.went) }
+        GoesOn E.gave e.old e.new h.new roots.new result j number (items_of w)
+        (domain_ended j number h.old domain w stepped.now.went) }
 {
     match &stepped.went {
         Went::Stay | Went::Remapped(_) => None,

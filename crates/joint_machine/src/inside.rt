@@ -28,7 +28,8 @@ fn take_interrupt<E: Emit>(h: &mut Hart, d: u8, slot: u32, domain: &mut Domain, 
     ensures resources { (control_of domain.new).resources ≡ (control_of domain.old).resources }
     ensures emits_some { EmitsSome E.gave e.old e.new }
     ensures interrupts { (j : parts.Joint) (number : ℕ) (was : model.Domain) → StandsFor domain.old was →
-        InterruptsIn E.gave e.old e.new h.new domain.new j number d (after_interrupt j number h.old d was (spec.interrupt slot was.control)) }
+        InterruptsIn E.gave e.old e.new h.new domain.new j number d
+        (after_interrupt j number h.old d was (spec.interrupt slot was.control)) }
 {
     e.item(&Item::Timer { domain: d });
     if domain.context(slot).is_some() {
@@ -57,10 +58,11 @@ fn step_context<E: Emit>(
     ensures emits_some { EmitsSome E.gave e.old e.new }
     ensures others { HoldsNoOthers d memory.old.pager memory.new.pager }
     ensures unused { HoldsNoFree d (control_of domain.new).resources memory.new.pager }
-    ensures turns { (j : parts.Joint) (number : ℕ) (was : model.Domain) → StandsFor domain.old was → Holds memory.old j.memory →
-        AreRoots roots.old j.memory.ledger.root →
-        (by_interrupt (interrupt_due h.old.mode h.old.csrs) j number h.old d slot was).joint.memory.ledger.clashed ≡ false →
-        TurnsIn E.gave e.old e.new h.new domain.new roots.new memory.new result j number d (by_interrupt (interrupt_due h.old.mode h.old.csrs) j number h.old d slot was) }
+    ensures turns { (j : parts.Joint) (number : ℕ) (was : model.Domain) →
+        let t = by_interrupt (interrupt_due h.old.mode h.old.csrs) j number h.old d slot was in
+        StandsFor domain.old was → Holds memory.old j.memory → AreRoots roots.old j.memory.ledger.root →
+        t.joint.memory.ledger.clashed ≡ false →
+        TurnsIn E.gave e.old e.new h.new domain.new roots.new memory.new result j number d t }
 {
     if h.csrs.due(h.mode) {
         take_interrupt(h, d, slot, domain, e);
@@ -83,14 +85,16 @@ impl Joint {
     ghost use Rattle.joint_machine.specs.Turning.{EndsTurn};
 
     /// Makes the step of a hart that runs this context: its timer falls, and then its context leaves for the interrupt
-    /// that is due, or makes a step. Where there is no such context, nothing else happens.
+    /// that is due, or makes a step. Where there is no such context, none leaves and none makes a step.
     pub(crate) fn inside<E: Emit>(&mut self, number: usize, ctx: u32, e: &mut E) -> Ended
         requires { number < harts_of self.old }
         ensures harts { harts_of self.new ≡ harts_of self.old }
         ensures emits_some { EmitsSome E.gave e.old e.new }
-        ensures turns { (j : parts.Joint) → StandsForJoint self.old j →
-            (inside_step j number (ticked (hart_in j number)) (domain_of ctx) (slot_of ctx) (slice_get j.domains (domain_of ctx))).joint.memory.ledger.clashed ≡ false →
-            EndsTurn E.gave e.old e.new self.new result (inside_step j number (ticked (hart_in j number)) (domain_of ctx) (slot_of ctx) (slice_get j.domains (domain_of ctx))) }
+        ensures turns { (j : parts.Joint) →
+            let d = domain_of ctx in
+            let t = inside_step j number (ticked (hart_in j number)) d (slot_of ctx) (slice_get j.domains d) in
+            StandsForJoint self.old j → t.joint.memory.ledger.clashed ≡ false →
+            EndsTurn E.gave e.old e.new self.new result t }
     {
         let h = &mut self.harts[number];
         tick(h);

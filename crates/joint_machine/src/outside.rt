@@ -22,7 +22,8 @@ impl Joint {
         ensures harts { harts_of self.new ≡ harts_of self.old }
         ensures emits_some { EmitsSome E.gave e.old e.new }
         ensures steps { (j : parts.Joint) → StandsForJoint self.old j → j.memory.ledger.clashed ≡ false →
-            StepsPlainly E.gave e.old e.new self.new result j number (settled_step (hart_in j number) j.disk (cloak_outside j.memory (hart_in j number))) }
+            StepsPlainly E.gave e.old e.new self.new result j number
+            (settled_step (hart_in j number) j.disk (cloak_outside j.memory (hart_in j number))) }
     {
         outside_step(&mut self.harts[number], &mut self.disk, &mut self.memory, e)
     }

@@ -45,7 +45,8 @@ fn resume_in<E: Emit>(
     ensures emits_some { EmitsSome E.gave e.old e.new }
     ensures resumes { (j : parts.Joint) (was : model.Domain) → slice_get j.domains (domain_of ctx) ≡ Some was →
         StandsFor domain.old was → AreRoots roots.old j.memory.ledger.root →
-        ResumesIn E.gave e.old e.new domain.new roots.new result j (domain_of ctx) (spec.by_domain j hart.0 satp ctx answer (Some was)) }
+        ResumesIn E.gave e.old e.new domain.new roots.new result j (domain_of ctx)
+        (spec.by_domain j hart.0 satp ctx answer (Some was)) }
 {
     let Some(space) = idle_space(domain, ctx % 8) else {
         return Some(Violation::Context { ctx });
@@ -86,7 +87,8 @@ impl Joint {
         ensures harts { harts_of self.new ≡ harts_of self.old }
         ensures emits_some { EmitsSome E.gave e.old e.new }
         ensures resumes { (j : parts.Joint) → StandsForJoint self.old j →
-            Resumes E.gave e.old e.new self.new result (spec.resume j number (satp_of (hart_in j number).csrs) ctx answer) }
+            Resumes E.gave e.old e.new self.new result
+            (spec.resume j number (satp_of (hart_in j number).csrs) ctx answer) }
     {
         let d = (ctx / 8) as usize;
         if d >= self.domains.len() {

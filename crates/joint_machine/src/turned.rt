@@ -36,7 +36,8 @@ impl Joint {
     }
 
     /// Makes the next step of a hart. What it shows and answers is emitted as it comes about, but for the console's
-    /// byte, which is answered. A hart that was left inside by a refused resume counts its timer and does nothing else.
+    /// byte, which is answered. A hart that was left inside by a refused resume may run a context that is not there: it
+    /// counts its timer, and makes no step of one.
     pub fn turn<E: Emit>(&mut self, number: usize, e: &mut E) -> Turned
         requires { number < harts_of self.old }
         ensures harts { harts_of self.new ≡ harts_of self.old }
