@@ -7,7 +7,7 @@ ghost use Rattle.cloak_model.specs.Exchange.{Emits, EmitsSome, shown_each};
 ghost use Rattle.cloak_model.specs.Joint.{Moment, joint_step};
 ghost use Rattle.cloak_model.specs.Opening.{Opened, opening};
 ghost use Rattle.cloak_model.specs.Run.{closing, first_moment};
-ghost use Rattle.joint_machine.specs.Standing.{harts_of, shown_byte};
+ghost use Rattle.joint_machine.specs.Standing.{AllOutside, harts_of, shown_byte};
 ghost use Rattle.cloak_machine.specs.Console.{ConsoleShows};
 
 use crate::console::Console;
@@ -31,6 +31,7 @@ pub struct Machine {
     marker: Item,
     ghost turns: { All (λ h. h < harts_of joint) schedule.turns.items },
     ghost counted: { console.count ≤ steps },
+    ghost outside: { steps ≡ 0 → AllOutside joint },
 }
 
 /// Makes an item the marker of a step.
@@ -89,15 +90,17 @@ impl Machine {
         })
     }
 
-    /// Emits what the kernel is shown as the run begins: each frame that holds a page of a program. Is called before
-    /// the first step, with the programs of the guest image.
+    /// Emits what the kernel is shown as the run begins: each frame that holds a page of a program. Is called with the
+    /// programs of the guest image. Nothing is shown once a step was made.
     pub fn opening<E: Emit>(&mut self, programs: &[Program], e: &mut E)
         ensures steps { steps_made self.new ≡ steps_made self.old }
         ensures emits_some { EmitsSome E.gave e.old e.new }
         ensures shows { (b : Bundle) (s : Random) (o : Opened) → opening b s ≡ Ok o → b.programs ≡ programs.now →
             StandsForMoment self.old (first_moment b o.joint) → ShowsOpening E.gave e.old e.new self.new b o }
     {
-        self.joint.show_opening(programs, e);
+        if self.steps == 0 {
+            self.joint.show_opening(programs, e);
+        }
     }
 
     /// Makes the next step of the schedule, and answers why it stopped the run, if it did.
