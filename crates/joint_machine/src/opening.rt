@@ -97,6 +97,7 @@ impl Joint {
     /// Emits what the kernel is shown as the run begins: each frame that holds a page of a program.
     pub fn show_opening<E: Emit>(&mut self, programs: &[Program], e: &mut E)
         requires outside { AllOutside self.old }
+        ensures outside { AllOutside self.new }
         ensures harts { harts_of self.new ≡ harts_of self.old }
         ensures emits_some { EmitsSome E.gave e.old e.new }
         ensures shows { (b : AnyBundle) (s : Random) (o : Opened) → opening b s ≡ Ok o → b.programs ≡ programs.now →

@@ -2,7 +2,7 @@ use Rattle.std.proofs.Common.{refl}
 use Rattle.cloak_machine.proofs.Stepping.{still_first}
 use Rattle.cloak_machine.proofs.machine.Machine.opening.Goals as goal
 
-pub returns-clause-shows : goal.returns-clause-shows
-returns-clause-shows g c b s o opens programs stands =
+pub returns-then-self-eq0-clause-shows : goal.returns-then-self-eq0-clause-shows
+returns-then-self-eq0-clause-shows g c b s o opens programs stands =
     let shows = c.show_opening.ensures.shows b s o opens programs stands.joint in
     record { emits = shows.emits; stands = still_first _ _ b o stands shows.stands refl refl refl }
