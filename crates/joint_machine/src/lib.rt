@@ -22,3 +22,6 @@ mod turned;
 pub use joint::Joint;
 pub use opened::OpenFault;
 pub use turned::Turned;
+
+#[cfg(test)]
+mod tests;
