@@ -134,24 +134,25 @@ records_all : {S O : Type 0} (name : List ℕ) (before mid after : Outside S O) 
     Tells (mid.files.held name) [] → OtherFiles name before.files.held mid.files.held →
     mid.files.reading ≡ before.files.reading → mid.files.writing ≡ before.files.writing → mid.output ≡ before.output →
     Records name before after given r
-records_all {S} {O} name before mid after given r pieces w all some answer empty others reading writing output = record {
-  reading = w.wrote.reading ∙ reading;
-  others = λ other apart. w.wrote.others other apart ∙ others other apart;
-  grows = (shown_bytes pieces, grows_since before mid after _ output w.wrote.output);
-  outcome = inl (record {
-    some_stop = some;
-    written = λ none. let d = all none in record {
-      status = answer none;
-      file = Tells_after (mid.files.held name) (after.files.held name) [] (recorded_bytes (due r)) empty d.wrote.file;
-      output = grows_since before mid after (shown_bytes (due r)) output d.wrote.output;
-    };
-    nothing_rose = record {
-      reading = w.nothing_rose.reading ∙ reading;
-      writing = w.nothing_rose.writing ∙ writing;
-      faults = w.nothing_rose.faults ∙ ap (λ (o : Output O). o.faults) output;
-    };
-  });
-}
+records_all {S} {O} name before mid after given r pieces w all some answer empty others reading writing output =
+    record {
+      reading = w.wrote.reading ∙ reading;
+      others = λ other apart. w.wrote.others other apart ∙ others other apart;
+      grows = (shown_bytes pieces, grows_since before mid after _ output w.wrote.output);
+      outcome = inl (record {
+        some_stop = some;
+        written = λ none. let d = all none in record {
+          status = answer none;
+          file = Tells_after (mid.files.held name) (after.files.held name) [] (recorded_bytes (due r)) empty d.wrote.file;
+          output = grows_since before mid after (shown_bytes (due r)) output d.wrote.output;
+        };
+        nothing_rose = record {
+          reading = w.nothing_rose.reading ∙ reading;
+          writing = w.nothing_rose.writing ∙ writing;
+          faults = w.nothing_rose.faults ∙ ap (λ (o : Output O). o.faults) output;
+        };
+      });
+    }
 
 pub recorded_front : {S O : Type 0} {held : S → List ℕ → Option (List ℕ)} {reading writing : S → ℕ}
     {taken : O → Option (List ℕ)} {faults : O → ℕ} {first now : Outlet S O} {pieces : List Piece} (old s' : S) (o' : O)
@@ -231,7 +232,8 @@ asks_run {asked} {held} {record_name} {steps} {ready} prepared = record {
 
 pub answers_recorded : {S O : Type 0} {asked : spec.Asked} {name : List ℕ} {before mid after : Outside S O}
     {given : Status} {r : Run} → AsksRun asked before.files.held name r →
-    OnlyRead before.files mid.files → mid.output ≡ before.output → before.files.writing < 2 ^ 64 - 1 → before.output.faults < 2 ^ 64 - 1 → Records name mid after given r →
+    OnlyRead before.files mid.files → mid.output ≡ before.output → before.files.writing < 2 ^ 64 - 1 →
+    before.output.faults < 2 ^ 64 - 1 → Records name mid after given r →
     Answers asked before after given
 answers_recorded {S} {O} {asked} {name} {before} {mid} {after} {given} {r} asks reads same_output low_writing
     low_faults records =

@@ -1,5 +1,6 @@
 -- The front of a file that was read so far.
-use Rattle.std.proofs.Common.{◌≡◌, ◌<◌, ◌≤◌, ℕ, ◌+◌, ◌-◌, List, ◌++◌, length, take, drop, ◌∙◌, ap, sym, subst, arith, length-append}
+use Rattle.std.proofs.Common.{◌≡◌, ◌<◌, ◌≤◌, ℕ, ◌+◌, ◌-◌, List, ◌++◌, length, take, drop, ◌∙◌, ap, sym, subst, arith}
+use Rattle.std.proofs.Common.{length-append}
 use Rattle.std.proofs.Common.{length-take, length-take-le, take-take, take-add, Option, Some, None, IfSome}
 use Rattle.std.proofs.lemmas.List.{take-append-le}
 use Rattle.outside_io.specs.Told.{IsCopied}
@@ -26,7 +27,8 @@ front_grows bytes items more piece old at count m here copied few front grown =
     let long : length (take m (drop at bytes)) ≡ m =
     length-take-le m (drop at bytes) (omega (arith, within, few)) in
     let size : length more ≡ length items + m =
-    ap (λ (x : List ℕ). length x) (grown ∙ ap (λ (x : List ℕ). items ++ x) (taken bytes piece old at count m copied few))
+    ap (λ (x : List ℕ). length x)
+    (grown ∙ ap (λ (x : List ℕ). items ++ x) (taken bytes piece old at count m copied few))
     ∙ length-append items (take m (drop at bytes)) ∙ ap (λ n. length items + n) long in
     whole ∙ ap (λ n. take n bytes) (sym size)
 

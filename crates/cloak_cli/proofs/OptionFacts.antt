@@ -1,5 +1,6 @@
 -- The options among the words.
-use Rattle.std.proofs.Common.{◌≡◌, ◌≤◌, ◌-◌, ℕ, false, List, [], ◌∷◌, length, map, take, drop, take_all, get_or, refl, sym, ◌∙◌, ap, arith}
+use Rattle.std.proofs.Common.{◌≡◌, ◌≤◌, ◌-◌, ℕ, false, List, [], ◌∷◌, length, map, take, drop, take_all, get_or, refl}
+use Rattle.std.proofs.Common.{sym, ◌∙◌, ap, arith}
 use Rattle.std.proofs.Common.{Option, Some}
 use Rattle.cloak_model.specs.Command.{Options, is_option, with_option, options_from}
 

@@ -1,5 +1,6 @@
 -- What is read of the files of a run.
-use Rattle.std.proofs.Common.{◌≡◌, ◌<◌, ℕ, min, true, List, length, take, ◌∙◌, ap, refl, subst, arith, Option, Some, None}
+use Rattle.std.proofs.Common.{◌≡◌, ◌<◌, ℕ, min, true, List, length, take, ◌∙◌, ap, refl, subst, arith, Option, Some}
+use Rattle.std.proofs.Common.{None}
 use Rattle.std.proofs.Common.{IfSome}
 use Rattle.std.proofs.lemmas.Bool.Decides.{nat_tests}
 use Rattle.std.proofs.lemmas.List.{take_min}

@@ -15,6 +15,8 @@ mod number;
 mod outlet;
 mod prepare;
 mod program;
+#[cfg(test)]
+mod program_tests;
 mod refusal;
 mod request;
 mod run;

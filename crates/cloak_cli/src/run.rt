@@ -9,7 +9,8 @@ ghost use Rattle.cloak_model.specs.Opening.{Opened, opening};
 ghost use Rattle.cloak_model.specs.Run.{cause_of, closing, first_moment, joint_after, run_of, turns_from};
 ghost use Rattle.cloak_machine.specs.Standing.{StandsForMoment, steps_made};
 ghost use Rattle.cloak_cli.specs.Outlet.{Gave};
-ghost use Rattle.cloak_cli.specs.Running.{EndsRun, IsStatusOfStop, NoClash, NoClashYet, RunsSteps, WritesRun, status_of};
+ghost use Rattle.cloak_cli.specs.Running.{EndsRun, IsStatusOfStop, NoClash, NoClashYet, RunsSteps, WritesRun};
+ghost use Rattle.cloak_cli.specs.Running.{status_of};
 
 use crate::outlet::Outlet;
 use crate::status::Status;
@@ -31,7 +32,8 @@ fn run_steps<S: Shelf, O: Sink>(
     ensures same_out { outlet.new.out.ghost_name ≡ outlet.old.out.ghost_name }
     ensures emits_some { EmitsSome (Gave S.held S.reading_faults S.writing_faults O.taken O.faults)
         outlet.old outlet.new }
-    ensures runs { (m : Moment) → StandsForMoment machine.old m → NoClashYet (joint_after m.joint (turns_from steps m)) →
+    ensures runs { (m : Moment) → StandsForMoment machine.old m →
+        NoClashYet (joint_after m.joint (turns_from steps m)) →
         RunsSteps (Gave S.held S.reading_faults S.writing_faults O.taken O.faults) outlet.new.failed
         outlet.old outlet.new machine.new result m (turns_from steps m) }
 {

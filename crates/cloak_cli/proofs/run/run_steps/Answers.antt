@@ -1,6 +1,7 @@
 use Rattle.std.proofs.Common.{[], ◌∙◌, ap, ◌+◌, ℕ, refl, arith}
 use Rattle.cloak_cli.proofs.OutletFacts.{gave_all, emits_none}
-use Rattle.cloak_cli.proofs.RunFacts.{emits_nothing, some_then, unclashed-next, goes_on-start, goes_on-more, stops-more, runs-all, runs-failed}
+use Rattle.cloak_cli.proofs.RunFacts.{emits_nothing, some_then, unclashed-next, goes_on-start, goes_on-more, stops-more}
+use Rattle.cloak_cli.proofs.RunFacts.{runs-all, runs-failed}
 use Rattle.cloak_cli.proofs.run.run_steps.Goals as goal
 
 pub loop-made-init : goal.loop-made-init
