@@ -108,7 +108,13 @@ fn loads(rt: HostRuntime) -> Result<(), Fail> {
         (5, 0x800, Ok(0xff80), 0xff80, "lhu"),
         (2, 0x800, Ok(0x017f_ff80), 0x017f_ff80, "lw"),
         (0, 0x801, Ok(0xff), 0xffff_ffff, "lb of another byte"),
-        (1, 0x802, Ok(0x017f), 0x017f, "lh of a number that is not negative"),
+        (
+            1,
+            0x802,
+            Ok(0x017f),
+            0x017f,
+            "lh of a number that is not negative",
+        ),
         (1, 0x801, Err(4), 9, "lh at an odd address"),
         (2, 0x802, Err(4), 9, "lw at no multiple of 4"),
     ] {
