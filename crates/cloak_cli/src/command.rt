@@ -11,7 +11,7 @@ ghost use Rattle.cloak_cli.specs.Outside.{outside};
 ghost use Rattle.cloak_cli.specs.Recording.{Records};
 ghost use Rattle.cloak_cli.specs.Request.{asked_of_run};
 
-use crate::item_bytes::LONGEST;
+use exchange_log::LONGEST;
 use crate::outlet::Outlet;
 use crate::prepare::{Prepared, prepare};
 use crate::refusal::{Refusal, refuse};

@@ -10,7 +10,6 @@ mod command;
 mod files;
 #[cfg(test)]
 mod image_tests;
-mod item_bytes;
 mod number;
 mod outlet;
 mod prepare;

@@ -7,7 +7,7 @@ ghost use Rattle.cloak_model.specs.Exchange.{Emits, EmitsSome, shown_each};
 ghost use Rattle.cloak_model.specs.Joint.{Moment, joint_step};
 ghost use Rattle.cloak_model.specs.Opening.{Opened, opening};
 ghost use Rattle.cloak_model.specs.Run.{closing, first_moment};
-ghost use Rattle.joint_machine.specs.Standing.{AllOutside, harts_of, shown_byte};
+ghost use Rattle.joint_machine.specs.Standing.{AllOutside, LendsPager, harts_of, shown_byte};
 ghost use Rattle.cloak_machine.specs.Console.{ConsoleShows};
 
 use crate::console::Console;
@@ -16,6 +16,7 @@ use crate::end::{End, KernelLines};
 use crate::schedule::Schedule;
 use cloak_base::Stop;
 use cloak_model::{Bundle, Emit, Item, Program};
+use cloak_pager::Pager;
 use joint_machine::{Joint, JointParts, OpenFault};
 use outside_io::Stream;
 use std::alloc::Global;
@@ -119,6 +120,13 @@ impl Machine {
         let turned = self.joint.turn(number, e);
         show(&mut self.console, turned.console, e);
         turned.stop
+    }
+
+    /// The machine's own pager.
+    pub fn pager(&self) -> &Pager
+        ensures { (m : Moment) → StandsForMoment self.now m → LendsPager result.now m.joint.memory }
+    {
+        self.joint.pager()
     }
 
     /// Makes the closing of a run that this stopped.

@@ -13,3 +13,4 @@ pub mod Places
 pub mod Turns
 pub mod Resumed
 pub mod Clashed
+pub mod Lent

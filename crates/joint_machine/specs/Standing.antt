@@ -1,5 +1,5 @@
 -- What a joint machine stands for, and what its calls make of it.
-use Rattle.std.specs.Prelude.{ℕ, ◌≡◌, List, [], ◌∷◌, length, Option, Some, None, Result, Ok, Err}
+use Rattle.std.specs.Prelude.{ℕ, ◌≡◌, Bool, false, List, [], ◌∷◌, length, Option, Some, None, Result, Ok, Err}
 use Rattle.cloak_base.specs.Random.{Random}
 use Rattle.cloak_base.specs.declared.names.SpaceId.{SpaceId}
 use Rattle.cloak_model.specs.declared.image.Bundle.{Bundle}
@@ -9,7 +9,10 @@ use Rattle.cloak_model.specs.Parts as model
 use Rattle.cloak_model.specs.Joint.{Turn, hart_in, turn_of, stop_of}
 use Rattle.cloak_model.specs.Opening.{Opened, NoKey, NoPageDraw, opening}
 use Rattle.thread_context.specs.Recorded.{root_at}
-use Rattle.cloak_pager.specs.State.{held_in}
+use Rattle.cloak_base.specs.declared.names.PageId.{PageId}
+use Rattle.cloak_model.specs.Cloaking.{CloakedMemory}
+use Rattle.cloak_pager.specs.State.{PagerState, held_in}
+use Rattle.cloak_pager.specs.Relation.{StandsForMemory}
 use Rattle.cloaked_side.specs.Holding.{Holds}
 use Rattle.hypercalls.specs.declared.domain.Domain.{Domain}
 use Rattle.hypercalls.specs.Standing.{StandsFor}
@@ -77,3 +80,9 @@ pub record ShowsAs {E : Type 0} (gave : E → E → List Piece → Type 0) (e e'
 -- every frame is as the kernel sees it
 abbrev pub AllOutside : Joint → Type 0
 AllOutside joint = (k : ℕ) → held_in joint.memory.pager k ≡ None
+
+-- The pager is that of this memory. The newest bytes of a page are lost only where a draw was missing.
+pub record LendsPager (pager : PagerState) (m : CloakedMemory) : Type 0 where
+  pub wiped : PageId → Bool
+  pub stands : StandsForMemory pager wiped m
+  pub whole : m.ledger.missed ≡ false → (q : PageId) → wiped q ≡ false

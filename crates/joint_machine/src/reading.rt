@@ -1,4 +1,5 @@
 use crate::joint::Joint;
+use cloak_pager::Pager;
 use cloaked_side::Memory;
 use host_calls::{Disk, Hart};
 use hypercalls::Domain;
@@ -15,6 +16,16 @@ pub struct JointParts {
 
 impl Joint {
     ghost use Rattle.std.specs.Prelude.{◌≡◌, ◌≤◌, length};
+    ghost use Rattle.cloak_model.specs.Parts as model;
+    ghost use Rattle.joint_machine.specs.Standing.{LendsPager, StandsForJoint};
+
+    /// The pager with the frames of the machine and the pages of its programs.
+    #[tactic(auto, using(crate::proofs::Lent::lends_pager))]
+    pub fn pager(&self) -> &Pager
+        ensures { (j : model.Joint) → StandsForJoint self.now j → LendsPager result.now j.memory }
+    {
+        &self.memory.pager
+    }
 
     /// Ends the machine, and gives its parts.
     pub fn into_parts(self) -> JointParts

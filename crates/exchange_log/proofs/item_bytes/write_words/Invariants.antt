@@ -1,7 +1,7 @@
 use Rattle.std.proofs.Common.{◌≡◌, ◌+◌, ◌*◌, ◌++◌, take}
 use Rattle.std.specs.List.{flat_map}
 use Rattle.cloak_model.specs.Bits.{word}
-use Rattle.cloak_cli.proofs.item_bytes.write_words.Given as goal
+use Rattle.exchange_log.proofs.item_bytes.write_words.Given as goal
 
 -- the words so far stand there
 abbrev pub invariant-loop-word : goal.invariant-loop-word

@@ -1,0 +1,9 @@
+//! The record of a run, `CLOAKREC` and items (`cloak_model`, `specs/Exchange`): its items in bytes.
+//!
+//! The layer above may rely on this: `write_item` and `write_cipher` write exactly the bytes of an item, at most
+//! `LONGEST`, into a buffer of the caller, and copy a page once. No call fails or takes memory.
+#![tactic(auto)]
+
+mod item_bytes;
+
+pub use item_bytes::{LONGEST, write_cipher, write_item};
