@@ -11,7 +11,6 @@ ghost use Rattle.cloak_cli.specs.Outside.{outside};
 ghost use Rattle.cloak_cli.specs.Recording.{Records};
 ghost use Rattle.cloak_cli.specs.Request.{asked_of_run};
 
-use exchange_log::LONGEST;
 use crate::outlet::Outlet;
 use crate::prepare::{Prepared, prepare};
 use crate::refusal::{Refusal, refuse};
@@ -19,6 +18,7 @@ use crate::request::{Request, read_words};
 use crate::run::write_run;
 use crate::run_request::RunRequest;
 use crate::status::Status;
+use exchange_log::LONGEST;
 use outside_io::{Shelf, Sink};
 use std::alloc::Global;
 

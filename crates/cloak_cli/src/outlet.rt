@@ -4,10 +4,10 @@ ghost use Rattle.outside_io.specs.Told.{Counts, Grows, GrowsByFront, OtherFiles}
 ghost use Rattle.cloak_model.specs.Exchange.{recorded, shown, Emits};
 ghost use Rattle.cloak_machine.specs.Ending.{end_report};
 
-use exchange_log::{LONGEST, write_cipher, write_item};
 use cloak_base::Failed;
 use cloak_machine::End;
 use cloak_model::{Emit, Item};
+use exchange_log::{LONGEST, write_cipher, write_item};
 use outside_io::{Shelf, Sink, put_all};
 
 /// Writes pieces up to the first that fails.
