@@ -10,8 +10,8 @@ use Rattle.std.proofs.lemmas.Slice.Eq.{bytes_eq-Decides}
 use Rattle.std.proofs.lemmas.List.{length-take-le, drop_at}
 use Rattle.std.proofs.lemmas.List.Elements.{All-take, All-drop, All-append}
 use Rattle.aes_block.specs.Bytes.{IsBytes}
-use Rattle.aes_block.proofs.Blocks.{IsBytes-block_sum}
-use Rattle.aes_block.proofs.Rounds.{IsBytes-encrypted}
+use Rattle.aes_block.proofs.Blocks.{IsBytes-block_sum, IsBytes-round_key, IsBytes-shift_rows, IsBytes-sub_bytes}
+use Rattle.aes_block.proofs.Rounds.{IsBytes-after_rounds}
 use Rattle.cloak_model.specs.Bits.{has_bit}
 use Rattle.cloak_model.specs.KernelStep.{extended}
 use Rattle.cloak_model.specs.Memory.{value_in, with_value_in}
@@ -50,6 +50,12 @@ length-record_of items =
     rw (length-append record_magic (flat_map item_bytes items), length-flat_map item_bytes items) refl
 
 -- The ciphertext of bytes is bytes.
+
+IsBytes-encrypted : (key s : List ℕ) → IsBytes 16 key → IsBytes 16 s → IsBytes 16 (encrypted key s)
+unfolding encrypted
+IsBytes-encrypted key s k b =
+    IsBytes-block_sum _ _ (IsBytes-shift_rows _ (IsBytes-sub_bytes _ (IsBytes-after_rounds key s k b 9)))
+    (IsBytes-round_key key k 10)
 
 block_bytes : (s : List ℕ) → 16 ≤ length s → All (λ b. b < 256) s → IsBytes 16 (take 16 s)
 block_bytes s long bytes = record { long = length-take-le 16 s long; bytes = All-take (λ b. b < 256) 16 s bytes }
