@@ -8,7 +8,7 @@ use Rattle.outside_io.specs.Told.{Tells, Puts, Grows, GrowsByFront, Counts, Othe
 use Rattle.outside_io.proofs.ToldFacts.{Grows-none, Grows-append, GrowsByFront-none, GrowsByFront-whole, Rose-after}
 use Rattle.cloak_model.specs.Exchange.{Piece, recorded, shown, recorded_bytes, shown_bytes, Emits}
 use Rattle.cloak_cli.specs.declared.outlet.Outlet.{Outlet}
-use Rattle.cloak_cli.specs.Outside.{Files, Output, Outside, files, output, outside}
+use Rattle.cloak_cli.specs.Outside.{FilesOutside, Output, Outside, files, output, outside}
 use Rattle.cloak_cli.specs.Outlet.{Wrote, WroteAll, WroteFront, Writes, Gave}
 
 -- Bytes of pieces.
@@ -95,11 +95,11 @@ wrote_shown : {S O : Type 0} (name : List ℕ) (before mid after : Outside S O) 
     Wrote name before after (ps ++ shown bytes ∷ [])
 wrote_shown {S} {O} name before mid after ps bytes w grows files = record {
   file = subst (λ (l : List ℕ). Grows (before.files.held name) (after.files.held name) l) (recorded_same ps bytes)
-      (subst (λ (f : Files S). Grows (before.files.held name) (f.held name) (recorded_bytes ps)) (sym files) w.file);
+      (subst (λ (f : FilesOutside S). Grows (before.files.held name) (f.held name) (recorded_bytes ps)) (sym files) w.file);
   output = subst (λ (l : List ℕ). Grows before.output.taken after.output.taken l) (shown_one ps bytes)
       (Grows-append before.output.taken mid.output.taken after.output.taken (shown_bytes ps) bytes w.output grows);
-  others = subst (λ (f : Files S). OtherFiles name before.files.held f.held) (sym files) w.others;
-  reading = ap (λ (f : Files S). f.reading) files ∙ w.reading;
+  others = subst (λ (f : FilesOutside S). OtherFiles name before.files.held f.held) (sym files) w.others;
+  reading = ap (λ (f : FilesOutside S). f.reading) files ∙ w.reading;
 }
 
 writes_recorded : {S O : Type 0} (r : Result Unit Failed) (name : List ℕ) (before mid after : Outside S O)
@@ -133,8 +133,8 @@ writes_shown : {S O A : Type 0} (r : Result A Failed) (name : List ℕ) (before 
 writes_shown {S} {O} {A} (Ok u) name before mid after ps bytes w call = record {
   wrote = wrote_shown name before mid after ps bytes w.wrote call.ok call.files;
   nothing_rose = record {
-    reading = ap (λ (f : Files S). f.reading) call.files ∙ w.nothing_rose.reading;
-    writing = ap (λ (f : Files S). f.writing) call.files ∙ w.nothing_rose.writing;
+    reading = ap (λ (f : FilesOutside S). f.reading) call.files ∙ w.nothing_rose.reading;
+    writing = ap (λ (f : FilesOutside S). f.writing) call.files ∙ w.nothing_rose.writing;
     faults = call.faults ∙ w.nothing_rose.faults;
   };
 }
@@ -144,7 +144,7 @@ writes_shown {S} {O} {A} (Err e) name before mid after ps bytes w call =
       cut = record { whole = ps; piece = shown bytes; rest = []; place = refl; bytes = front.0 };
       wrote = wrote_shown name before mid after ps (take front.0 bytes) w.wrote front.1 call.files;
       fault = (
-        ap (λ (f : Files S). f.writing) call.files ∙ w.nothing_rose.writing,
+        ap (λ (f : FilesOutside S). f.writing) call.files ∙ w.nothing_rose.writing,
         Rose-after _ _ _
             w.nothing_rose.faults call.faults,
       );

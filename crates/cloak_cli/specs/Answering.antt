@@ -14,7 +14,7 @@ use Rattle.cloak_cli.specs.declared.refusal.Refusal.{Refusal}
 use Rattle.cloak_cli.specs.declared.refusal.Refusal.TheVariants as refusal
 use Rattle.cloak_cli.specs.declared.status.Status.{Status}
 use Rattle.cloak_cli.specs.declared.status.Status.TheVariants as status
-use Rattle.cloak_cli.specs.Outside.{Files, Outside, Raised, NothingRose}
+use Rattle.cloak_cli.specs.Outside.{FilesOutside, Outside, Raised, NothingRose}
 use Rattle.cloak_cli.specs.Recording.{IsWritten, IsCutOff, GrowsSome, FailedSome}
 use Rattle.cloak_cli.specs.Refusal.{status_of_refusal, refusal_line}
 use Rattle.cloak_cli.specs.Running.{NoClash}
@@ -65,36 +65,36 @@ pub record AsksRun (asked : spec.Asked) (held : List ℕ → Option (List ℕ)) 
 -- Why there is no run.
 
 -- The words are faulty; no file is asked for anything.
-pub record IsUsage {S : Type 0} (asked : spec.Asked) (fault : UsageFault) (before after : Files S) : Type 0 where
+pub record IsUsage {S : Type 0} (asked : spec.Asked) (fault : UsageFault) (before after : FilesOutside S) : Type 0 where
   pub faulty : asked ≡ spec.Faulty fault
   pub untouched : after ≡ before
 
 -- The words ask for what is not built; no file is asked for anything.
-pub record IsNotBuilt {S : Type 0} (asked : spec.Asked) (before after : Files S) : Type 0 where
+pub record IsNotBuilt {S : Type 0} (asked : spec.Asked) (before after : FilesOutside S) : Type 0 where
   pub not_built : asked ≡ spec.NotBuilt
   pub untouched : after ≡ before
 
 -- The file of a run is no bundle: where its bytes are told, this is their first fault.
-pub record IsBadBundle {S : Type 0} (asked : spec.Asked) (fault : BundleFault) (before after : Files S) : Type 0 where
+pub record IsBadBundle {S : Type 0} (asked : spec.Asked) (fault : BundleFault) (before after : FilesOutside S) : Type 0 where
   pub bundle_name : List ℕ
   pub asks : AsksFile asked bundle_name
   pub first_fault : IfSome (before.held bundle_name) (λ bytes. bundle_fault bytes ≡ Some fault)
   pub reading : after.reading ≡ before.reading
 
 -- A call that reads the files of a run failed.
-pub record IsReadFault {S : Type 0} (asked : spec.Asked) (before after : Files S) : Type 0 where
+pub record IsReadFault {S : Type 0} (asked : spec.Asked) (before after : FilesOutside S) : Type 0 where
   pub bundle_name : List ℕ
   pub asks : AsksFile asked bundle_name
   pub reading : Raised before.reading after.reading
 
 -- A growth was refused in opening the machine of a run. (What refused it, no clause can name.)
-pub record IsNoMemory {S : Type 0} (asked : spec.Asked) (before after : Files S) : Type 0 where
+pub record IsNoMemory {S : Type 0} (asked : spec.Asked) (before after : FilesOutside S) : Type 0 where
   pub bundle_name : List ℕ
   pub asks : AsksFile asked bundle_name
   pub reading : after.reading ≡ before.reading
 
 -- The opening of a run finds too few random bytes.
-pub record IsLack {S : Type 0} (asked : spec.Asked) (lack : Lack) (before after : Files S) : Type 0 where
+pub record IsLack {S : Type 0} (asked : spec.Asked) (lack : Lack) (before after : FilesOutside S) : Type 0 where
   pub record_name : List ℕ
   pub steps : ℕ
   pub bundle : Bundle
@@ -103,7 +103,7 @@ pub record IsLack {S : Type 0} (asked : spec.Asked) (lack : Lack) (before after 
   pub lacks : opening bundle stream ≡ Err lack
   pub reading : after.reading ≡ before.reading
 
-abbrev pub HasCause : {S : Type 0} → spec.Asked → Refusal → Files S → Files S → Type 0
+abbrev pub HasCause : {S : Type 0} → spec.Asked → Refusal → FilesOutside S → FilesOutside S → Type 0
 HasCause asked refusal.NotBuilt before after = IsNotBuilt asked before after
 HasCause asked (refusal.Usage fault) before after = IsUsage asked fault before after
 HasCause asked (refusal.BadBundle fault) before after = IsBadBundle asked fault before after
@@ -113,7 +113,7 @@ HasCause asked refusal.NoKey before after = IsLack asked NoKey before after
 HasCause asked refusal.NoPageDraw before after = IsLack asked NoPageDraw before after
 
 -- There is no run for this reason, and no file was written.
-pub record NoRun {S : Type 0} (asked : spec.Asked) (refused : Refusal) (before after : Files S) : Type 0 where
+pub record NoRun {S : Type 0} (asked : spec.Asked) (refused : Refusal) (before after : FilesOutside S) : Type 0 where
   pub cause : HasCause asked refused before after
   pub held : SameFiles before.held after.held
   pub writing : after.writing ≡ before.writing

@@ -3,7 +3,7 @@ use Rattle.std.specs.Prelude.{ℕ, ◌≡◌, ◌<◌, List, Option}
 use Rattle.outside_io.specs.Told.{Rose, SameFiles}
 
 -- a shelf, the bytes of its files by their names as far as it tells them, and how often reading and writing them failed
-pub record Files (S : Type 0) : Type 0 where
+pub record FilesOutside (S : Type 0) : Type 0 where
   pub shelf : S
   pub held : List ℕ → Option (List ℕ)
   pub reading : ℕ
@@ -16,12 +16,12 @@ pub record Output (O : Type 0) : Type 0 where
   pub faults : ℕ
 
 pub record Outside (S O : Type 0) : Type 0 where
-  pub files : Files S
+  pub files : FilesOutside S
   pub output : Output O
 
 -- what this shelf and this output tell
 
-abbrev pub files : {S : Type 0} → (S → List ℕ → Option (List ℕ)) → (S → ℕ) → (S → ℕ) → S → Files S
+abbrev pub files : {S : Type 0} → (S → List ℕ → Option (List ℕ)) → (S → ℕ) → (S → ℕ) → S → FilesOutside S
 files held reading writing shelf = record {
   shelf = shelf;
   held = held shelf;
@@ -45,7 +45,7 @@ pub record Raised (before now : ℕ) : Type 0 where
   pub by_call : Rose before now
 
 -- the files keep their bytes, and no call on them failed
-pub record OnlyRead {S : Type 0} (before after : Files S) : Type 0 where
+pub record OnlyRead {S : Type 0} (before after : FilesOutside S) : Type 0 where
   pub held : SameFiles before.held after.held
   pub reading : after.reading ≡ before.reading
   pub writing : after.writing ≡ before.writing

@@ -12,7 +12,7 @@ use Rattle.cloak_cli.specs.declared.refusal.Refusal.{Refusal}
 use Rattle.cloak_cli.specs.declared.refusal.Refusal.TheVariants as refusal
 use Rattle.cloak_cli.specs.Answering.{AsksBundle, IsInFile, IsStream, NoRun}
 use Rattle.cloak_cli.specs.Files.{ReadsFile}
-use Rattle.cloak_cli.specs.Outside.{Files, OnlyRead}
+use Rattle.cloak_cli.specs.Outside.{FilesOutside, OnlyRead}
 
 -- the bundle that a file is, or why it is none; and what became of the count of reading faults
 abbrev pub ReadsBundle : Option (List ℕ) → ℕ → ℕ → Result Bundle Refusal → Type 0
@@ -38,7 +38,7 @@ pub record IsPrepared (asked : spec.Asked) (held : List ℕ → Option (List ℕ
   pub programs : bundle.programs ≡ prepared.programs
 
 -- a run that can begin, or why there is none; the files were at most read
-abbrev pub Prepares : {S : Type 0} → spec.Asked → Files S → Files S → List ℕ → ℕ → Result Prepared Refusal → Type 0
+abbrev pub Prepares : {S : Type 0} → spec.Asked → FilesOutside S → FilesOutside S → List ℕ → ℕ → Result Prepared Refusal → Type 0
 Prepares asked before after record_name steps (Ok prepared) =
     OnlyRead before after × IsPrepared asked before.held record_name steps prepared
 Prepares asked before after record_name steps (Err refused) = NoRun asked refused before after

@@ -38,14 +38,14 @@ pub record StandsForMoment (machine : Machine) (m : Moment) : Type 0 where
   pub loads : HaveFewLoads m.steps m.joint.domains
 
 -- a run opens so, and the machine is that of its first moment
-pub record OpensAs (b : Bundle) (stream : Random) (machine : Machine) : Type 0 where
+pub record OpensMachine (b : Bundle) (stream : Random) (machine : Machine) : Type 0 where
   pub opened : Opened
   pub opens : opening b stream ≡ Ok opened
   pub stands : StandsForMoment machine (first_moment b opened.joint)
 
 -- what an opening answers: the machine of the run's opening, or what it lacks
 abbrev pub Opens : Bundle → Random → Result Machine OpenFault → Type 0
-Opens b stream (Ok machine) = OpensAs b stream machine
+Opens b stream (Ok machine) = OpensMachine b stream machine
 Opens b stream (Err fault.NoKey) = opening b stream ≡ Err NoKey
 Opens b stream (Err fault.NoRandom) = opening b stream ≡ Err NoPageDraw
 Opens b stream (Err fault.NoMemory) = Unit {0}

@@ -50,10 +50,12 @@ fn end_settled<M: PageSide>(
     requires unused { AreUnused (M.is_unused m.old) r.old }
     requires last { list_any (spec.is_of_space space) (end_at slot c.old) ≡ false }
     requires cleared { settled ≡ Answer.Ok → AreCleared (M.is_cleared m.old) (spec.marked space r.old) }
-    ensures follows { Follows M.stands_for m.old m.new (left.ending result c.new r.new) (spec.end_cleared domain slot space r.old c.old settled) }
+    ensures follows { Follows M.stands_for m.old m.new (left.ending result c.new r.new)
+        (spec.end_cleared domain slot space r.old c.old settled) }
     ensures not_kept { result ≢ Ended.Kept }
     ensures gone { (n : ℕ) → result ≡ Ended.SpaceGone n → n ≡ space }
-    ensures gone_leaves { (n : ℕ) → result ≡ Ended.SpaceGone n → left.spaces c.new r.new ≡ left.spaces (end_at slot c.old) (drop_space n r.old) }
+    ensures gone_leaves { (n : ℕ) → result ≡ Ended.SpaceGone n → left.spaces c.new r.new ≡ left.spaces
+        (end_at slot c.old) (drop_space n r.old) }
     ensures stopped_unchanged { result ≡ Ended.Stopped → left.spaces c.new r.new ≡ left.spaces c.old r.old }
     ensures keeps { Keeps M.kept m.old m.new }
     ensures unused { AreUnused (M.is_unused m.new) r.new }
@@ -85,11 +87,13 @@ fn end_in_space<M: PageSide>(
     requires in_use { IsInUse r.old space }
     requires domain { domain ≡ M.serves m.old }
     requires unused { AreUnused (M.is_unused m.old) r.old }
-    ensures follows { Follows M.stands_for m.old m.new (left.ending result c.new r.new) (spec.end_context domain slot space r.old c.old) }
+    ensures follows { Follows M.stands_for m.old m.new (left.ending result c.new r.new)
+        (spec.end_context domain slot space r.old c.old) }
     ensures kept { (result ≡ Ended.Kept) ↔ IsTrue (list_any (spec.is_of_space space) (end_at slot c.old)) }
     ensures kept_leaves { result ≡ Ended.Kept → left.spaces c.new r.new ≡ left.spaces (end_at slot c.old) r.old }
     ensures gone { (n : ℕ) → result ≡ Ended.SpaceGone n → n ≡ space }
-    ensures gone_leaves { (n : ℕ) → result ≡ Ended.SpaceGone n → left.spaces c.new r.new ≡ left.spaces (end_at slot c.old) (drop_space n r.old) }
+    ensures gone_leaves { (n : ℕ) → result ≡ Ended.SpaceGone n → left.spaces c.new r.new ≡ left.spaces
+        (end_at slot c.old) (drop_space n r.old) }
     ensures stopped_unchanged { result ≡ Ended.Stopped → left.spaces c.new r.new ≡ left.spaces c.old r.old }
     ensures keeps { Keeps M.kept m.old m.new }
     ensures unused { AreUnused (M.is_unused m.new) r.new }
@@ -117,11 +121,15 @@ pub fn end_context<M: PageSide>(
     requires in_use { ForSome (context_at c.old slot) (λ x. IsInUse r.old x.space) }
     requires domain { domain ≡ M.serves m.old }
     requires unused { AreUnused (M.is_unused m.old) r.old }
-    ensures follows { IfSome (context_at c.old slot) (λ x. Follows M.stands_for m.old m.new (left.ending result c.new r.new) (spec.end_context domain slot x.space r.old c.old)) }
-    ensures kept { IfSome (context_at c.old slot) (λ x. (result ≡ Ended.Kept) ↔ IsTrue (list_any (spec.is_of_space x.space) (end_at slot c.old))) }
+    ensures follows { IfSome (context_at c.old slot)
+        (λ x. Follows M.stands_for m.old m.new (left.ending result c.new r.new) (spec.end_context domain slot x.space
+        r.old c.old)) }
+    ensures kept { IfSome (context_at c.old slot)
+        (λ x. (result ≡ Ended.Kept) ↔ IsTrue (list_any (spec.is_of_space x.space) (end_at slot c.old))) }
     ensures kept_leaves { result ≡ Ended.Kept → left.spaces c.new r.new ≡ left.spaces (end_at slot c.old) r.old }
     ensures gone { IfSome (context_at c.old slot) (λ x. (n : ℕ) → result ≡ Ended.SpaceGone n → n ≡ x.space) }
-    ensures gone_leaves { (n : ℕ) → result ≡ Ended.SpaceGone n → left.spaces c.new r.new ≡ left.spaces (end_at slot c.old) (drop_space n r.old) }
+    ensures gone_leaves { (n : ℕ) → result ≡ Ended.SpaceGone n → left.spaces c.new r.new ≡ left.spaces
+        (end_at slot c.old) (drop_space n r.old) }
     ensures stopped_unchanged { result ≡ Ended.Stopped → left.spaces c.new r.new ≡ left.spaces c.old r.old }
     ensures keeps { Keeps M.kept m.old m.new }
     ensures unused { AreUnused (M.is_unused m.new) r.new }

@@ -1,5 +1,6 @@
 //! Forking: a context's space is copied, with the context.
-ghost use Rattle.std.specs.Prelude.{◌≡◌, ◌≢◌, ◌<◌, ◌↔◌, ℕ, None, Some, Ok, Err, true, false, slice_index_or, IsSome, IsNone, IfSome, IfErr, OnErr, IfOk, IsOk, IsTrue};
+ghost use Rattle.std.specs.Prelude.{◌≡◌, ◌≢◌, ◌<◌, ◌↔◌, ℕ, None, Some, Ok, Err, true, false, slice_index_or, IsSome};
+ghost use Rattle.std.specs.Prelude.{IsNone, IfSome, IfErr, OnErr, IfOk, IsOk, IsTrue};
 ghost use Rattle.std.specs.Option.{ForSome};
 ghost use Rattle.cloak_base.specs.declared.names.CtxId.{CtxId};
 ghost use Rattle.cloak_model.specs.Asking.{Follows, Keeps};
@@ -106,7 +107,8 @@ fn fork_settled<M: PageSide>(
     requires domain { domain ≡ M.serves m.old }
     requires unused { AreUnused (M.is_unused m.old) r.old }
     requires cleared { settled ≡ Answer.Ok → AreCleared (M.is_cleared m.old) (spec.marked caller.now.space r.old) }
-    ensures follows { Follows M.stands_for m.old m.new (left.made_fork (Ok result) c.new r.new) (spec.fork_cleared domain caller.now (left.lowest c.old) (left.lowest r.old.spaces) r.old c.old settled) }
+    ensures follows { Follows M.stands_for m.old m.new (left.made_fork (Ok result) c.new r.new)
+        (spec.fork_cleared domain caller.now (left.lowest c.old) (left.lowest r.old.spaces) r.old c.old settled) }
     ensures made { IfSome result (λ made. made ≡ left.new_context_number domain c.old) }
     ensures copied { IsSome result → left.spaces c.new r.new ≡ left.forked_spaces caller.now r.old c.old }
     ensures stopped_unchanged { IsNone result → left.spaces c.new r.new ≡ left.spaces c.old r.old }
@@ -137,9 +139,11 @@ fn fork_caller<M: PageSide>(
     requires in_use { IsInUse r.old caller.now.space }
     requires domain { domain ≡ M.serves m.old }
     requires unused { AreUnused (M.is_unused m.old) r.old }
-    ensures follows { Follows M.stands_for m.old m.new (left.made_fork result c.new r.new) (spec.fork domain caller.now r.old c.old) }
+    ensures follows { Follows M.stands_for m.old m.new (left.made_fork result c.new r.new)
+        (spec.fork domain caller.now r.old c.old) }
     ensures number { (n : CtxId) → result ≡ Ok (Some n) → n ≡ left.new_context_number domain c.old }
-    ensures forked { (n : CtxId) → result ≡ Ok (Some n) → left.spaces c.new r.new ≡ left.forked_spaces caller.now r.old c.old }
+    ensures forked { (n : CtxId) → result ≡ Ok (Some n) → left.spaces c.new r.new ≡ left.forked_spaces caller.now
+        r.old c.old }
     ensures full { (result ≡ Err MapFault.Full) ↔ (spec.fork_fits caller.now.space r.old c.old ≡ Err MapFault.Full) }
     ensures only_full { IfErr result (λ fault. fault ≡ MapFault.Full) }
     ensures refused_unchanged { OnErr result (left.spaces c.new r.new ≡ left.spaces c.old r.old) }
@@ -172,10 +176,13 @@ pub fn fork_space<M: PageSide>(
     requires in_use { ForSome (context_at c.old slot) (λ x. IsInUse r.old x.space) }
     requires domain { domain ≡ M.serves m.old }
     requires unused { AreUnused (M.is_unused m.old) r.old }
-    ensures follows { IfSome (context_at c.old slot) (λ x. Follows M.stands_for m.old m.new (left.made_fork result c.new r.new) (spec.fork domain x r.old c.old)) }
+    ensures follows { IfSome (context_at c.old slot)
+        (λ x. Follows M.stands_for m.old m.new (left.made_fork result c.new r.new) (spec.fork domain x r.old c.old)) }
     ensures number { (n : CtxId) → result ≡ Ok (Some n) → n ≡ left.new_context_number domain c.old }
-    ensures forked { IfSome (context_at c.old slot) (λ x. (n : CtxId) → result ≡ Ok (Some n) → left.spaces c.new r.new ≡ left.forked_spaces x r.old c.old) }
-    ensures full { IfSome (context_at c.old slot) (λ x. (result ≡ Err MapFault.Full) ↔ (spec.fork_fits x.space r.old c.old ≡ Err MapFault.Full)) }
+    ensures forked { IfSome (context_at c.old slot)
+        (λ x. (n : CtxId) → result ≡ Ok (Some n) → left.spaces c.new r.new ≡ left.forked_spaces x r.old c.old) }
+    ensures full { IfSome (context_at c.old slot)
+        (λ x. (result ≡ Err MapFault.Full) ↔ (spec.fork_fits x.space r.old c.old ≡ Err MapFault.Full)) }
     ensures only_full { IfErr result (λ fault. fault ≡ MapFault.Full) }
     ensures refused_unchanged { OnErr result (left.spaces c.new r.new ≡ left.spaces c.old r.old) }
     ensures stopped_unchanged { result ≡ Ok None → left.spaces c.new r.new ≡ left.spaces c.old r.old }

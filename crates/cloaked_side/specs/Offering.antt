@@ -14,9 +14,9 @@ abbrev pub behind : List (ℕ × List ℕ) → AfterOffer → AfterOffer
 behind ciphers o = record { memory = o.memory; ciphers = ciphers ++ o.ciphers; answer = o.answer }
 
 -- what remains of an offer once there is room; it has ended where a draw was missing
-abbrev pub rest_of : Bool → PageId → ℕ → Bool → CloakedMemory → AfterOffer
-rest_of true q g write m = offer q g write m
-rest_of false q g write m = record { memory = m; ciphers = []; answer = Missed }
+abbrev pub offer_left : Bool → PageId → ℕ → Bool → CloakedMemory → AfterOffer
+offer_left true q g write m = offer q g write m
+offer_left false q g write m = record { memory = m; ciphers = []; answer = Missed }
 
 -- the memory behind it, what was shown on the way, and that the offer comes to what remains of it
 pub record Rooms {E : Type 0} (gave : E → E → List Piece → Type 0) (e e' : E) (new : Memory) (room : Bool)
@@ -25,7 +25,7 @@ pub record Rooms {E : Type 0} (gave : E → E → List Piece → Type 0) (e e' :
   pub ciphers : List (ℕ × List ℕ)
   pub holds : Holds new memory
   pub emits : Emits gave e e' (item_pieces (cipher_items ciphers))
-  pub offers : (write : Bool) → offer q g write m ≡ behind ciphers (rest_of room q g write memory)
+  pub offers : (write : Bool) → offer q g write m ≡ behind ciphers (offer_left room q g write memory)
 
 -- how an offer ends
 abbrev pub offer_of : Ended → Offer

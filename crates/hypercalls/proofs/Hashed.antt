@@ -6,21 +6,21 @@ use Rattle.std.proofs.lemmas.List.{append-nil, take_more, take_all}
 use Rattle.std.proofs.lemmas.List.Concat.{flat_map-append}
 use Rattle.sha2.specs.Hashers.{Holds256}
 use Rattle.sha2.specs.declared.Sha256.{Sha256}
-use Rattle.hypercalls.specs.Hashing.{Takes}
+use Rattle.hypercalls.specs.Hashing.{TakesIn}
 
 -- one piece after another
-pub then : {a b c : Sha256} {x y : List ℕ} → Takes a b x → Takes b c y → Takes a c (x ++ y)
+pub then : {a b c : Sha256} {x y : List ℕ} → TakesIn a b x → TakesIn b c y → TakesIn a c (x ++ y)
 then {a} {b} {c} {x} {y} first second = record {
   holds = λ message held. subst (λ (whole : List ℕ). Holds256 c whole) (append_assoc message x y) (second.holds (message ++ x) (first.holds message held));
 }
 
 -- nothing
-pub Takes-none : (a : Sha256) → Takes a a []
+pub Takes-none : (a : Sha256) → TakesIn a a []
 Takes-none a = record { holds = λ message held. subst (λ (whole : List ℕ). Holds256 a whole) (sym (append-nil message)) held }
 
 -- the same bytes under another name
-pub bytes_are : {a b : Sha256} {x y : List ℕ} → Takes a b x → x ≡ y → Takes a b y
-bytes_are {a} {b} {x} {y} takes same = subst (λ (bytes : List ℕ). Takes a b bytes) same takes
+pub bytes_are : {a b : Sha256} {x y : List ℕ} → TakesIn a b x → x ≡ y → TakesIn a b y
+bytes_are {a} {b} {x} {y} takes same = subst (λ (bytes : List ℕ). TakesIn a b bytes) same takes
 
 -- one element more
 pub flat_map-take_more : {X : Type 0} (f : X → List ℕ) (xs : List X) (i : ℕ) (d : X) → i < length xs → flat_map f (take i xs) ++ f (slice_index_or xs i d) ≡ flat_map f (take (i + 1) xs)
@@ -33,7 +33,7 @@ pub flat_map-take_all : {X : Type 0} (f : X → List ℕ) (xs : List X) (n : ℕ
 flat_map-take_all f xs n is = ap (flat_map f) (take_all n xs (subst (λ m. m ≤ n) (sym is) (le_refl n)))
 
 -- what a hasher holds that has taken nothing before
-pub all_taken : {a b : Sha256} {x : List ℕ} → Holds256 a [] → Takes a b x → Holds256 b x
+pub all_taken : {a b : Sha256} {x : List ℕ} → Holds256 a [] → TakesIn a b x → Holds256 b x
 all_taken empty takes = takes.holds [] empty
 
 -- all but the first element

@@ -10,12 +10,12 @@ use Rattle.cloak_model.specs.DomainState.{owner_bytes}
 use Rattle.cloak_model.specs.declared.resource.Owner.{Owner}
 
 -- behind whatever the hasher held it took these bytes
-pub record Takes (old new : Sha256) (bytes : List ℕ) : Type 0 where
+pub record TakesIn (old new : Sha256) (bytes : List ℕ) : Type 0 where
   pub holds : (message : List ℕ) → Holds256 old message → Holds256 new (message ++ bytes)
 
 -- behind whatever the hasher held it took the bytes of the first n elements; and once it took any, their count is known
 pub record TakesFirst {X : Type 0} (bytes_of : X → List ℕ) (xs : List X) (count n : ℕ) (old new : Sha256) : Type 0 where
-  pub takes : Takes old new (flat_map bytes_of (take n xs))
+  pub takes : TakesIn old new (flat_map bytes_of (take n xs))
   pub counted : 0 < n → length xs ≡ count
 
 -- a hart, if there is one, has a number of one byte, which is not that of none

@@ -60,7 +60,8 @@ impl Control {
     #[tactic(auto, using(crate::proofs::Fitted::fits_with, crate::proofs::Freed::frees), unfolding(cloak_model::specs::Hypercalls::new_call))]
     fn new_call(&mut self, slot: u32) -> Went
         requires { IsSome (context_at self.old.contexts slot) }
-        ensures steps { record { control = self.new; went = result } ≡ spec.new_call slot (context_of self.old slot) self.old }
+        ensures steps { record { control = self.new; went = result } ≡ spec.new_call slot (context_of self.old slot)
+            self.old }
         ensures goes_on { result ≢ Went.Stopped }
         ensures number { self.new.number ≡ self.old.number }
         ensures freed { (n : ℕ) → resource_at self.new.resources n ≡ None → resource_at self.old.resources n ≡ None }
@@ -76,7 +77,8 @@ impl Control {
     #[tactic(auto, unfolding(cloak_model::specs::Hypercalls::remapped))]
     fn remapped(&mut self, slot: u32, done: Result<(), MapFault>) -> Went
         requires { IsSome (context_at self.old.contexts slot) }
-        ensures steps { record { control = self.new; went = result } ≡ spec.remapped slot (context_of self.old slot) done self.old }
+        ensures steps { record { control = self.new; went = result } ≡ spec.remapped slot (context_of self.old slot)
+            done self.old }
         ensures goes_on { result ≢ Went.Stopped }
         ensures number { self.new.number ≡ self.old.number }
         ensures resources { self.new.resources ≡ self.old.resources }
@@ -95,7 +97,8 @@ impl Control {
     #[tactic(auto, using(crate::proofs::Fitted::fits_with, crate::proofs::Freed::frees), unfolding(cloak_model::specs::Hypercalls::map_call))]
     fn map_call(&mut self, slot: u32) -> Went
         requires { IsSome (context_at self.old.contexts slot) }
-        ensures steps { record { control = self.new; went = result } ≡ spec.map_call slot (context_of self.old slot) self.old }
+        ensures steps { record { control = self.new; went = result } ≡ spec.map_call slot (context_of self.old slot)
+            self.old }
         ensures goes_on { result ≢ Went.Stopped }
         ensures number { self.new.number ≡ self.old.number }
         ensures freed { (n : ℕ) → resource_at self.new.resources n ≡ None → resource_at self.old.resources n ≡ None }
@@ -116,7 +119,8 @@ impl Control {
     #[tactic(auto, using(crate::proofs::Fitted::fits_with, crate::proofs::Freed::frees), unfolding(cloak_model::specs::Hypercalls::unmap_call))]
     fn unmap_call(&mut self, slot: u32) -> Went
         requires { IsSome (context_at self.old.contexts slot) }
-        ensures steps { record { control = self.new; went = result } ≡ spec.unmap_call slot (context_of self.old slot) self.old }
+        ensures steps { record { control = self.new; went = result } ≡ spec.unmap_call slot (context_of self.old slot)
+            self.old }
         ensures goes_on { result ≢ Went.Stopped }
         ensures number { self.new.number ≡ self.old.number }
         ensures freed { (n : ℕ) → resource_at self.new.resources n ≡ None → resource_at self.old.resources n ≡ None }
@@ -132,7 +136,8 @@ impl Control {
     #[tactic(auto, using(crate::proofs::Fitted::fits_with, crate::proofs::Freed::frees), unfolding(cloak_model::specs::Hypercalls::file_call))]
     fn file_call(&mut self, slot: u32) -> Went
         requires { IsSome (context_at self.old.contexts slot) }
-        ensures steps { record { control = self.new; went = result } ≡ spec.file_call slot (context_of self.old slot) self.old }
+        ensures steps { record { control = self.new; went = result } ≡ spec.file_call slot (context_of self.old slot)
+            self.old }
         ensures goes_on { result ≢ Went.Stopped }
         ensures number { self.new.number ≡ self.old.number }
         ensures freed { (n : ℕ) → resource_at self.new.resources n ≡ None → resource_at self.old.resources n ≡ None }
@@ -148,7 +153,8 @@ impl Control {
     #[tactic(auto, using(crate::proofs::Stepping::other_slot, crate::proofs::Fitted::fits_slot), unfolding(cloak_model::specs::Hypercalls::thread_call, cloak_model::specs::Hypercalls::thread_at))]
     fn thread_call(&mut self, slot: u32) -> Went
         requires { IsSome (context_at self.old.contexts slot) }
-        ensures steps { record { control = self.new; went = result } ≡ spec.thread_call slot (context_of self.old slot) self.old }
+        ensures steps { record { control = self.new; went = result } ≡ spec.thread_call slot
+            (context_of self.old slot) self.old }
         ensures goes_on { result ≢ Went.Stopped }
         ensures number { self.new.number ≡ self.old.number }
         ensures resources { self.new.resources ≡ self.old.resources }
@@ -172,7 +178,8 @@ impl Control {
     #[tactic(auto, using(crate::proofs::Fitted::changes), unfolding(cloak_model::specs::Hypercalls::kernel_call, cloak_model::specs::Hypercalls::call_begun))]
     fn kernel_call(&mut self, slot: u32) -> Went
         requires { IsSome (context_at self.old.contexts slot) }
-        ensures steps { record { control = self.new; went = result } ≡ spec.kernel_call slot (context_of self.old slot) self.old }
+        ensures steps { record { control = self.new; went = result } ≡ spec.kernel_call slot
+            (context_of self.old slot) self.old }
         ensures goes_on { result ≢ Went.Stopped }
         ensures number { self.new.number ≡ self.old.number }
         ensures resources { self.new.resources ≡ self.old.resources }
@@ -196,7 +203,8 @@ impl Control {
         requires used { IsSome (context_at self.old.contexts slot) }
         requires domain { self.old.number ≡ M.serves m.old }
         requires unused { AreUnused (M.is_unused m.old) self.old.resources }
-        ensures follows { Follows M.stands_for m.old m.new (record { control = self.new; went = result }) (spec.fork_call slot (context_of self.old slot) self.old) }
+        ensures follows { Follows M.stands_for m.old m.new (record { control = self.new; went = result })
+            (spec.fork_call slot (context_of self.old slot) self.old) }
         ensures stopped_unchanged { result ≡ Went.Stopped → self.new ≡ self.old }
         ensures unused { AreUnused (M.is_unused m.new) self.new.resources }
         ensures keeps { Keeps M.kept m.old m.new }
@@ -222,7 +230,8 @@ impl Control {
         requires used { IsSome (context_at self.old.contexts slot) }
         requires domain { self.old.number ≡ M.serves m.old }
         requires unused { AreUnused (M.is_unused m.old) self.old.resources }
-        ensures follows { Follows M.stands_for m.old m.new (record { control = self.new; went = result }) (spec.exit_call slot (context_of self.old slot) self.old) }
+        ensures follows { Follows M.stands_for m.old m.new (record { control = self.new; went = result })
+            (spec.exit_call slot (context_of self.old slot) self.old) }
         ensures stopped_unchanged { result ≡ Went.Stopped → self.new ≡ self.old }
         ensures unused { AreUnused (M.is_unused m.new) self.new.resources }
         ensures keeps { Keeps M.kept m.old m.new }
@@ -249,7 +258,8 @@ impl Control {
         requires used { IsSome (context_at self.old.contexts slot) }
         requires domain { self.old.number ≡ M.serves m.old }
         requires unused { AreUnused (M.is_unused m.old) self.old.resources }
-        ensures follows { Follows M.stands_for m.old m.new (record { control = self.new; went = result }) (spec.hypercall (spec.hypercall_of (context_of self.old slot)) slot (context_of self.old slot) self.old) }
+        ensures follows { Follows M.stands_for m.old m.new (record { control = self.new; went = result })
+            (spec.hypercall (spec.hypercall_of (context_of self.old slot)) slot (context_of self.old slot) self.old) }
         ensures stopped_unchanged { result ≡ Went.Stopped → self.new ≡ self.old }
         ensures unused { AreUnused (M.is_unused m.new) self.new.resources }
         ensures keeps { Keeps M.kept m.old m.new }

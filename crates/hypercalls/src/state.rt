@@ -6,7 +6,7 @@ ghost use Rattle.std.specs.Option.{ForSome};
 ghost use Rattle.sha2.specs.Sha256.{sha256};
 ghost use Rattle.cloak_model.specs.Bits.{word};
 ghost use Rattle.cloak_model.specs.DomainState as spec;
-ghost use Rattle.hypercalls.specs.Hashing.{Takes, HasHart, told_bytes};
+ghost use Rattle.hypercalls.specs.Hashing.{TakesIn, HasHart, told_bytes};
 
 use crate::control::Control;
 use cloak_base::HartId;
@@ -16,19 +16,19 @@ use sha2::{Digest, Sha256};
 use thread_context::Context;
 
 fn put_byte(h: &mut Sha256, byte: u8)
-    ensures { Takes h.old h.new (byte ∷ []) }
+    ensures { TakesIn h.old h.new (byte ∷ []) }
 {
     h.update([byte].as_slice());
 }
 
 fn put_word(h: &mut Sha256, w: u32)
-    ensures { Takes h.old h.new (word w) }
+    ensures { TakesIn h.old h.new (word w) }
 {
     h.update(w.to_le_bytes().as_slice());
 }
 
 fn put_words(h: &mut Sha256, words: &[u32])
-    ensures { Takes h.old h.new (flat_map word words.now) }
+    ensures { TakesIn h.old h.new (flat_map word words.now) }
 {
     for w in words {
         put_word(h, *w);
@@ -59,7 +59,7 @@ fn phase_numbers(phase: &Phase) -> (u8, u32, u32)
 }
 
 fn put_phase(h: &mut Sha256, phase: &Phase)
-    ensures { Takes h.old h.new (spec.phase_bytes phase.now) }
+    ensures { TakesIn h.old h.new (spec.phase_bytes phase.now) }
 {
     let (number, done, total) = phase_numbers(phase);
     put_byte(h, number);
@@ -70,7 +70,7 @@ fn put_phase(h: &mut Sha256, phase: &Phase)
 /// A context: its hart, phase, space, program counter and registers but x0.
 fn put_context(h: &mut Sha256, c: &Context)
     requires { HasHart c.now.on }
-    ensures { Takes h.old h.new (spec.slot_bytes (Some c.now)) }
+    ensures { TakesIn h.old h.new (spec.slot_bytes (Some c.now)) }
 {
     put_byte(h, 1);
     put_byte(h, hart_byte(c.on));
@@ -81,7 +81,7 @@ fn put_context(h: &mut Sha256, c: &Context)
 
 fn put_slot(h: &mut Sha256, slot: &Option<Context>)
     requires { ForSome slot.now (λ c. HasHart c.on) }
-    ensures { Takes h.old h.new (spec.slot_bytes slot.now) }
+    ensures { TakesIn h.old h.new (spec.slot_bytes slot.now) }
 {
     match slot {
         None => put_byte(h, 0),
@@ -91,7 +91,7 @@ fn put_slot(h: &mut Sha256, slot: &Option<Context>)
 
 fn put_slots(h: &mut Sha256, slots: &[Option<Context>])
     requires { All (λ slot. ForSome slot (λ c. HasHart c.on)) slots.now }
-    ensures { Takes h.old h.new (flat_map spec.slot_bytes slots.now) }
+    ensures { TakesIn h.old h.new (flat_map spec.slot_bytes slots.now) }
 {
     for slot in slots {
         put_slot(h, slot);
@@ -99,13 +99,13 @@ fn put_slots(h: &mut Sha256, slots: &[Option<Context>])
 }
 
 fn put_region(h: &mut Sha256, g: &Region)
-    ensures { Takes h.old h.new (spec.region_bytes g.now) }
+    ensures { TakesIn h.old h.new (spec.region_bytes g.now) }
 {
     put_words(h, &[g.start, g.pages, g.resource, g.first]);
 }
 
 fn put_regions(h: &mut Sha256, regions: &[Region])
-    ensures { Takes h.old h.new (flat_map spec.region_bytes regions.now) }
+    ensures { TakesIn h.old h.new (flat_map spec.region_bytes regions.now) }
 {
     for g in regions {
         put_region(h, g);
@@ -115,7 +115,7 @@ fn put_regions(h: &mut Sha256, regions: &[Region])
 /// A space: 0 where it is free, and else its regions.
 fn put_space(h: &mut Sha256, regions: Option<&[Region]>)
     requires { ForSome regions (λ list. length list.now < 2 ^ 32) }
-    ensures { Takes h.old h.new (spec.space_bytes (option_map (λ list. list.now) regions.entry)) }
+    ensures { TakesIn h.old h.new (spec.space_bytes (option_map (λ list. list.now) regions.entry)) }
 {
     match regions {
         None => put_byte(h, 0),
@@ -128,7 +128,7 @@ fn put_space(h: &mut Sha256, regions: Option<&[Region]>)
 }
 
 fn put_spaces(h: &mut Sha256, r: &Resources)
-    ensures { Takes h.old h.new (flat_map spec.space_bytes r.now.spaces) }
+    ensures { TakesIn h.old h.new (flat_map spec.space_bytes r.now.spaces) }
 {
     for space in 0..8 {
         put_space(h, r.region_list(space));
@@ -137,7 +137,7 @@ fn put_spaces(h: &mut Sha256, r: &Resources)
 
 /// Whose a resource is.
 fn put_owner(h: &mut Sha256, owner: Owner)
-    ensures { Takes h.old h.new (spec.owner_bytes owner) }
+    ensures { TakesIn h.old h.new (spec.owner_bytes owner) }
 {
     match owner {
         Owner::Space(number) => {
@@ -153,7 +153,7 @@ fn put_owner(h: &mut Sha256, owner: Owner)
 
 /// A resource: 0 where its number is free, and else its owner and pages.
 fn put_resource(h: &mut Sha256, held: Option<(Owner, u32)>)
-    ensures { Takes h.old h.new (told_bytes held) }
+    ensures { TakesIn h.old h.new (told_bytes held) }
 {
     match held {
         None => put_byte(h, 0),
@@ -165,7 +165,7 @@ fn put_resource(h: &mut Sha256, held: Option<(Owner, u32)>)
 }
 
 fn put_resources(h: &mut Sha256, r: &Resources)
-    ensures { Takes h.old h.new (flat_map spec.resource_bytes r.now.held) }
+    ensures { TakesIn h.old h.new (flat_map spec.resource_bytes r.now.held) }
 {
     for n in 0..16 {
         put_resource(h, r.resource(n));

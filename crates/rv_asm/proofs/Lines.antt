@@ -6,7 +6,7 @@ use Rattle.rv_asm.specs.declared.item.Item.{Item}
 use Rattle.rv_asm.specs.declared.labels.Mark.{Mark}
 use Rattle.rv_asm.specs.declared.fault.AsmFault.{AsmFault}
 use Rattle.rv_asm.specs.declared.fault.AsmFault.TheVariants.{UnknownWord, BadOperand, BadLabel, OutOfReach, TooLong, NoMemory}
-use Rattle.rv_asm.specs.Assembly.{◌>>=◌, lines_of, line_items, items_from, Fails}
+use Rattle.rv_asm.specs.Assembly.{◌>>=◌, lines_of, line_items, items_from, FailsAs}
 use Rattle.std.proofs.Common.{Option}
 
 abbrev pub feed : ℕ → Bool
@@ -63,7 +63,7 @@ goes_on find front line text items total pos h so_far =
     rw (next_line text pos, h, length-append front items) (regroup front items (items_from find (line + 1) (length front + length items) (lines_of (others text)))) in
     sym one ∙ so_far
 
-pub fails : {Y : Type 0} (e : AsmFault) (read : Result Y AsmFault) → read ≡ Err e → Fails e read
+pub fails : {Y : Type 0} (e : AsmFault) (read : Result Y AsmFault) → read ≡ Err e → FailsAs e read
 fails NoMemory read h = tt
 fails (UnknownWord n) read h = h
 fails (BadOperand n) read h = h
@@ -72,7 +72,7 @@ fails (OutOfReach n) read h = h
 fails TooLong read h = h
 
 pub ends : (e : AsmFault) (find : List ℕ → Option Mark) (front : List Item) (line : ℕ) (text : List ℕ) (total : Result (List Item) AsmFault) → 0 < length text
-    → line_items find (line + 1) (length front) (first text) ≡ Err e → with_front front (items_from find line (length front) (lines_of text)) ≡ total → Fails e total
+    → line_items find (line + 1) (length front) (first text) ≡ Err e → with_front front (items_from find line (length front) (lines_of text)) ≡ total → FailsAs e total
 ends e find front line text total pos h so_far =
     let one : with_front front (items_from find line (length front) (lines_of text)) ≡ Err e = rw (next_line text pos, h) refl in
     fails e total (sym so_far ∙ one)

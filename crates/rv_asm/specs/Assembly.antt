@@ -61,8 +61,8 @@ find_in labels name = lookup (bytes_eq name) labels
 -- ---- the words of a statement
 
 -- the bytes from one word to another, forward by fewer words than the reach, or back by at most as many
-unfoldable pub offset : ℕ → ℕ → ℕ → Result ℤ Kind
-offset reach here there =
+unfoldable pub offset_between : ℕ → ℕ → ℕ → Result ℤ Kind
+offset_between reach here there =
     if nat_le here there
     then (if nat_lt (there - here) reach then Ok (pos (4 * (there - here))) else Err kinds.OutOfReach)
     else (if nat_le (here - there) reach then Ok (neg_ℤ (pos (4 * (here - there)))) else Err kinds.OutOfReach)
@@ -73,21 +73,21 @@ relative here there = (there + (2 ^ 30 - here % 2 ^ 30)) % 2 ^ 30 * 4
 
 -- what stands for the words of a statement, by its line and place. A branch reaches -4096 to 4094 bytes, a jump
 -- -1048576 to 1048574
-abbrev pub items_of : (List ℕ → Option Mark) → ℕ → ℕ → Meaning → Result (List Item) Kind
-items_of find line here Nothing = Ok []
-items_of find line here (Label name) = do
+abbrev pub items_of_line : (List ℕ → Option Mark) → ℕ → ℕ → Meaning → Result (List Item) Kind
+items_of_line find line here Nothing = Ok []
+items_of_line find line here (Label name) = do
   m ← ok_or (find name) kinds.BadLabel
   if m.line == line then Ok [] else Err kinds.BadLabel
-items_of find line here (Fixed items) = Ok items
-items_of find line here (Branch op rs1 rs2 name) = do
+items_of_line find line here (Fixed items) = Ok items
+items_of_line find line here (Branch op rs1 rs2 name) = do
   m ← ok_or (find name) kinds.BadLabel
-  imm ← offset 1024 here m.place
+  imm ← offset_between 1024 here m.place
   Ok (Instruction (branch_instruction op rs1 rs2 imm) ∷ [])
-items_of find line here (Jump rd name) = do
+items_of_line find line here (Jump rd name) = do
   m ← ok_or (find name) kinds.BadLabel
-  imm ← offset 262144 here m.place
+  imm ← offset_between 262144 here m.place
   Ok (Instruction (instr.Jal rd imm) ∷ [])
-items_of find line here (Address rd name) = do
+items_of_line find line here (Address rd name) = do
   m ← ok_or (find name) kinds.BadLabel
   let v = relative here m.place
   Ok (Instruction (instr.Auipc rd (upper_part v)) ∷ Instruction (instr.Addi rd rd (lower_part v)) ∷ [])
@@ -106,7 +106,7 @@ at_line line (Err kind) = Err (fault_at line kind)
 
 -- the items of a line by its number and place, or its fault
 unfoldable pub line_items : (List ℕ → Option Mark) → ℕ → ℕ → List ℕ → Result (List Item) AsmFault
-line_items find line here text = at_line line (statement text >>= items_of find line here)
+line_items find line here text = at_line line (statement text >>= items_of_line find line here)
 
 -- the items of lines, behind so many lines and words, or the fault of the first faulty line
 abbrev pub items_from : (List ℕ → Option Mark) → ℕ → ℕ → List (List ℕ) → Result (List Item) AsmFault
@@ -123,28 +123,28 @@ assembled text = do
   if nat_lt 65536 (length items) then Err TooLong else Ok items
 
 -- the word of an instruction is that which the instruction table gives it
-abbrev pub IsWord : Item → ℕ → Type 0
-IsWord (Instruction i) w = (w < 2 ^ 32) × (instruction w ≡ Some i)
-IsWord (Data n) w = w ≡ n
+abbrev pub SpellsItem : Item → ℕ → Type 0
+SpellsItem (Instruction i) w = (w < 2 ^ 32) × (instruction w ≡ Some i)
+SpellsItem (Data n) w = w ≡ n
 
 abbrev pub AreWords : List Item → List ℕ → Type 0
 AreWords [] [] = Unit {0}
 AreWords [] (w ∷ ws) = ⊥
 AreWords (i ∷ is) [] = ⊥
-AreWords (i ∷ is) (w ∷ ws) = IsWord i w × AreWords is ws
+AreWords (i ∷ is) (w ∷ ws) = SpellsItem i w × AreWords is ws
 
 -- a fault is the text's, but for want of memory
-abbrev pub Fails : {Y : Type 0} → AsmFault → Result Y AsmFault → Type 0
-Fails NoMemory given = Unit {0}
-Fails (UnknownWord n) given = given ≡ Err (UnknownWord n)
-Fails (BadOperand n) given = given ≡ Err (BadOperand n)
-Fails (BadLabel n) given = given ≡ Err (BadLabel n)
-Fails (OutOfReach n) given = given ≡ Err (OutOfReach n)
-Fails TooLong given = given ≡ Err TooLong
+abbrev pub FailsAs : {Y : Type 0} → AsmFault → Result Y AsmFault → Type 0
+FailsAs NoMemory given = Unit {0}
+FailsAs (UnknownWord n) given = given ≡ Err (UnknownWord n)
+FailsAs (BadOperand n) given = given ≡ Err (BadOperand n)
+FailsAs (BadLabel n) given = given ≡ Err (BadLabel n)
+FailsAs (OutOfReach n) given = given ≡ Err (OutOfReach n)
+FailsAs TooLong given = given ≡ Err TooLong
 
 -- what a function returned, seen by view, is what the definition gives, unless memory ran out
-abbrev pub Gives : {X Y : Type 0} → (X → Y) → Result X AsmFault → Result Y AsmFault → Type 0
-Gives view result given = MatchResult result (λ x. given ≡ Ok (view x)) (λ e. Fails e given)
+abbrev pub AnswersAs : {X Y : Type 0} → (X → Y) → Result X AsmFault → Result Y AsmFault → Type 0
+AnswersAs view result given = MatchResult result (λ x. given ≡ Ok (view x)) (λ e. FailsAs e given)
 
 -- ---- a map of the code
 

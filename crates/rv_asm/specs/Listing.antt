@@ -5,7 +5,7 @@ use Rattle.rv_asm.specs.declared.item.Item.{Item}
 use Rattle.rv_asm.specs.declared.item.Item.TheVariants.{Instruction}
 use Rattle.rv_asm.specs.declared.assembler.Items.{Items}
 use Rattle.rv_asm.specs.declared.assembler.Items.TheVariants as lists
-use Rattle.rv_asm.specs.Statements.{IsItem}
+use Rattle.rv_asm.specs.Statements.{IsItemInRange}
 
 abbrev pub listed : Items → List Item
 listed lists.None = []
@@ -15,5 +15,5 @@ listed (lists.Two i j) = Instruction i ∷ Instruction j ∷ []
 -- a word can hold each
 abbrev pub AreItems : Items → Type 0
 AreItems lists.None = Unit {0}
-AreItems (lists.One item) = IsItem item
+AreItems (lists.One item) = IsItemInRange item
 AreItems (lists.Two i j) = InRange i × InRange j

@@ -24,7 +24,7 @@ use Rattle.rv_asm.specs.declared.fault.Kind.{Kind}
 use Rattle.rv_asm.specs.declared.fault.Kind.TheVariants.{UnknownWord, BadOperand}
 use Rattle.rv_asm.specs.declared.statement.Statement as code
 use Rattle.rv_asm.specs.declared.statement.Statement.TheVariants as shape
-use Rattle.rv_asm.specs.Words.{◌>>=◌, is_blank, cut, first_word, sole_word, register, number, is_name}
+use Rattle.rv_asm.specs.Words.{◌>>=◌, is_blank, cut, leading_word, sole_word, register_named, numeral, is_name}
 use Rattle.rv_asm.specs.Operations.{operation, register_instruction, immediate_instruction, shift_instruction, upper_instruction, load_instruction, store_instruction, csr_instruction, csr_immediate_instruction}
 
 -- ---- operands
@@ -36,10 +36,10 @@ three text = do
   Some (a.0, b.0, b.1)
 
 unfoldable pub register_operand : List ℕ → Option ℕ
-register_operand text = sole_word text >>= register
+register_operand text = sole_word text >>= register_named
 
 unfoldable pub number_operand : List ℕ → Option Numeral
-number_operand text = sole_word text >>= number
+number_operand text = sole_word text >>= numeral
 
 -- 0 to limit - 1
 unfoldable pub unsigned : ℕ → Numeral → Option ℕ
@@ -72,9 +72,9 @@ memory_operand text = do
   word ← sole_word text
   offset ← cut 40 word
   base ← cut 41 offset.1
-  n ← number offset.0
+  n ← numeral offset.0
   imm ← immediate n
-  rs1 ← register base.0
+  rs1 ← register_named base.0
   if length base.1 == 0 then Some (imm, rs1) else None
 
 unfoldable pub name_operand : List ℕ → Option (List ℕ)
@@ -260,7 +260,7 @@ line_with None None text = Err UnknownWord
 -- the statement of a line, whose comment begins at `#`
 unfoldable pub statement : List ℕ → Result Meaning Kind
 statement line =
-    let word = first_word (before_first (λ b. b == 35) line) in
+    let word = leading_word (before_first (λ b. b == 35) line) in
     if length word.0 == 0 then Ok Nothing else line_with (label_word word.0) (operation word.0) word.1
 
 -- ---- a statement of the code
@@ -276,18 +276,18 @@ read (shape.Jump rd to) = Jump rd to.now
 read (shape.Address rd to) = Address rd to.now
 
 -- a word can hold the fields
-abbrev pub IsItem : Item → Type 0
-IsItem (Instruction i) = InRange i
-IsItem (Data n) = n < 2 ^ 32
+abbrev pub IsItemInRange : Item → Type 0
+IsItemInRange (Instruction i) = InRange i
+IsItemInRange (Data n) = n < 2 ^ 32
 
-abbrev pub IsReady : code.Statement → Type 0
-IsReady shape.Nothing = Unit {0}
-IsReady (shape.Label name) = Unit {0}
-IsReady (shape.Single i) = IsItem i
-IsReady (shape.Pair i j) = InRange i × InRange j
-IsReady (shape.Branch op rs1 rs2 to) = (rs1 < 32) × (rs2 < 32)
-IsReady (shape.Jump rd to) = rd < 32
-IsReady (shape.Address rd to) = rd < 32
+abbrev pub IsLineReady : code.Statement → Type 0
+IsLineReady shape.Nothing = Unit {0}
+IsLineReady (shape.Label name) = Unit {0}
+IsLineReady (shape.Single i) = IsItemInRange i
+IsLineReady (shape.Pair i j) = InRange i × InRange j
+IsLineReady (shape.Branch op rs1 rs2 to) = (rs1 < 32) × (rs2 < 32)
+IsLineReady (shape.Jump rd to) = rd < 32
+IsLineReady (shape.Address rd to) = rd < 32
 
 -- what a function returned, seen by view, is what the definition gives
 abbrev pub Reads : {X Y : Type 0} → (X → Y) → Result X Kind → Result Y Kind → Type 0

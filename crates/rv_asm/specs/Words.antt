@@ -9,8 +9,8 @@ abbrev pub ◌>>=◌ : {A B : Type 0} → Option A → (A → Option B) → Opti
 o >>= f = option_and_then f o
 
 -- what a function returned, seen by view, is what the definition gives
-abbrev pub Shows : {X Y : Type 0} → (X → Y) → Option X → Option Y → Type 0
-Shows view result given = MatchOption result (given ≡ None) (λ x. given ≡ Some (view x))
+abbrev pub FindsAs : {X Y : Type 0} → (X → Y) → Option X → Option Y → Type 0
+FindsAs view result given = MatchOption result (given ≡ None) (λ x. given ≡ Some (view x))
 
 -- a space or a tab
 abbrev pub is_blank : ℕ → Bool
@@ -30,21 +30,21 @@ unfoldable pub from_word : List ℕ → List ℕ
 from_word text = drop (prefix_len is_blank text) text
 
 -- the first word of a text, empty where there is none, and what stands behind it
-unfoldable pub first_word : List ℕ → List ℕ × List ℕ
-first_word text = let word = from_word text in (before_first is_blank word, after_first is_blank word)
+unfoldable pub leading_word : List ℕ → List ℕ × List ℕ
+leading_word text = let word = from_word text in (before_first is_blank word, after_first is_blank word)
 
 -- the one word of a text that has no other
 unfoldable pub sole_word : List ℕ → Option (List ℕ)
-sole_word text = let word = first_word text in if list_all is_blank word.1 then Some word.0 else None
+sole_word text = let word = leading_word text in if list_all is_blank word.1 then Some word.0 else None
 
 -- ---- registers
 
-unfoldable pub register : List ℕ → Option ℕ
-register (x ∷ d ∷ []) = if (x == 120) && is_digit d then Some (d - 48) else None
-register (x ∷ d ∷ e ∷ []) =
+unfoldable pub register_named : List ℕ → Option ℕ
+register_named (x ∷ d ∷ []) = if (x == 120) && is_digit d then Some (d - 48) else None
+register_named (x ∷ d ∷ e ∷ []) =
     if (x == 120) && (nat_le 49 d && (nat_le d 51 && is_digit e)) && nat_lt (10 * (d - 48) + (e - 48)) 32
     then Some (10 * (d - 48) + (e - 48)) else None
-register _ = None
+register_named _ = None
 
 -- ---- numbers
 
@@ -74,13 +74,13 @@ unfoldable pub magnitude : List ℕ → Option ℕ
 magnitude (o ∷ x ∷ bs) = if (o == 48) && (x == 120) then value 16 bs else value 10 (o ∷ x ∷ bs)
 magnitude bs = value 10 bs
 
-abbrev pub signed : Bool → ℕ → Option Numeral
-signed negative n = Some (record { negative = negative; magnitude = n })
+abbrev pub signed_numeral : Bool → ℕ → Option Numeral
+signed_numeral negative n = Some (record { negative = negative; magnitude = n })
 
 -- a magnitude, behind a `-` where it is negative. No operand takes one of more than 32 bits
-unfoldable pub number : List ℕ → Option Numeral
-number (sign ∷ bs) = if sign == 45 then magnitude bs >>= signed true else magnitude (sign ∷ bs) >>= signed false
-number [] = None
+unfoldable pub numeral : List ℕ → Option Numeral
+numeral (sign ∷ bs) = if sign == 45 then magnitude bs >>= signed_numeral true else magnitude (sign ∷ bs) >>= signed_numeral false
+numeral [] = None
 
 -- ---- names of labels
 

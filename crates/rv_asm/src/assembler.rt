@@ -1,11 +1,13 @@
 //! A text in two passes: where the labels are, and what stands for each word.
 
-ghost use Rattle.std.specs.Prelude.{◌≡◌, ℕ, ◌+◌, ◌*◌, ◌-◌, ◌<◌, ◌≤◌, ◌^◌, length, List, ◌++◌, IfOk, IfErr, OnOk, MatchResult, All, Ok};
+ghost use Rattle.std.specs.Prelude.{◌≡◌, ℕ, ◌+◌, ◌*◌, ◌-◌, ◌<◌, ◌≤◌, ◌^◌, length, List, ◌++◌, IfOk, IfErr, OnOk};
+ghost use Rattle.std.specs.Prelude.{MatchResult, All, Ok};
 ghost use Rattle.rv_isa.specs.Range.{FitsSigned, IsEven};
 ghost use Rattle.rv_asm.specs.declared.fault.AsmFault.TheVariants as faults;
 ghost use Rattle.rv_asm.specs.declared.item.Item.{Item};
-ghost use Rattle.rv_asm.specs.Statements.{Reads, read, IsReady, IsItem};
-ghost use Rattle.rv_asm.specs.Assembly.{lines_of, offset, relative, items_of, line_items, items_from, assembled, IsWord, AreWords, Fails, Gives, table};
+ghost use Rattle.rv_asm.specs.Statements.{Reads, read, IsLineReady, IsItemInRange};
+ghost use Rattle.rv_asm.specs.Assembly.{lines_of, offset_between, relative, items_of_line, line_items, items_from};
+ghost use Rattle.rv_asm.specs.Assembly.{assembled, SpellsItem, AreWords, FailsAs, AnswersAs, table};
 ghost use Rattle.rv_asm.specs.Listing.{listed, AreItems};
 
 use crate::fault::{AsmFault, Kind, fault_at};
@@ -27,10 +29,10 @@ pub enum Items {
 }
 
 /// The bytes from one word to another, forward by fewer words than the reach, or back by at most as many.
-#[tactic(auto, unfolding(crate::specs::Assembly::offset))]
+#[tactic(auto, unfolding(crate::specs::Assembly::offset_between))]
 fn offset(reach: u32, here: u64, there: u64) -> Result<i32, Kind>
     requires { reach ≤ 262144 }
-    ensures value { result ≡ offset reach here there }
+    ensures value { result ≡ offset_between reach here there }
     ensures even { IfOk result IsEven }
     ensures branch { reach ≡ 1024 → IfOk result (λ i. FitsSigned 13 i) }
     ensures jump { IfOk result (λ i. FitsSigned 21 i) }
@@ -67,8 +69,8 @@ fn resolve(
     here: u64,
     statement: Statement<'_>,
 ) -> Result<Items, Kind>
-    requires { IsReady statement }
-    ensures value { Reads listed result (items_of (table marks.now) line here (read statement.entry)) }
+    requires { IsLineReady statement }
+    ensures value { Reads listed result (items_of_line (table marks.now) line here (read statement.entry)) }
     ensures ready { IfOk result AreItems }
 {
     match statement {
@@ -119,7 +121,8 @@ fn line_items(
     here: u64,
     text: &[u8],
 ) -> Result<Items, AsmFault>
-    ensures value { MatchResult result (λ x. line_items (table marks.now) line here text.now ≡ Ok (listed x)) (λ e. line_items (table marks.now) line here text.now ≡ Err e) }
+    ensures value { MatchResult result (λ x. line_items (table marks.now) line here text.now ≡ Ok (listed x))
+        (λ e. line_items (table marks.now) line here text.now ≡ Err e) }
     ensures ready { IfOk result AreItems }
 {
     let statement = match parse(text) {
@@ -135,7 +138,7 @@ fn line_items(
 fn append(out: &mut Vec<Item>, items: Items) -> Result<(), AsmFault>
     requires { AreItems items }
     ensures items { OnOk result (out.new.items ≡ out.old.items ++ listed items) }
-    ensures ready { All IsItem out.old.items → OnOk result (All IsItem out.new.items) }
+    ensures ready { All IsItemInRange out.old.items → OnOk result (All IsItemInRange out.new.items) }
     ensures err { IfErr result (λ e. e ≡ faults.NoMemory) }
 {
     match items {
@@ -156,8 +159,8 @@ fn all_items(
     text: &[u8],
 ) -> Result<Vec<Item>, AsmFault>
     requires { length text.now < 2 ^ 32 }
-    ensures value { Gives (λ v. v.items) result (items_from (table marks.now) 0 0 (lines_of text.now)) }
-    ensures ready { IfOk result (λ v. All IsItem v.items) }
+    ensures value { AnswersAs (λ v. v.items) result (items_from (table marks.now) 0 0 (lines_of text.now)) }
+    ensures ready { IfOk result (λ v. All IsItemInRange v.items) }
 {
     let mut out = Vec::new(alloc);
     let mut rest = text;
@@ -172,8 +175,8 @@ fn all_items(
 }
 
 fn word_of(item: &Item) -> u32
-    requires { IsItem item.now }
-    ensures { IsWord item.now result }
+    requires { IsItemInRange item.now }
+    ensures { SpellsItem item.now result }
 {
     match item {
         Item::Instruction(i) => encode(i),
@@ -182,7 +185,7 @@ fn word_of(item: &Item) -> u32
 }
 
 fn words_of(alloc: Global, items: &[Item]) -> Result<Vec<u32>, AllocError>
-    requires { All IsItem items.now }
+    requires { All IsItemInRange items.now }
     ensures { IfOk result (λ v. AreWords items.now v.items) }
 {
     let mut words = Vec::new(alloc);
@@ -196,7 +199,8 @@ fn words_of(alloc: Global, items: &[Item]) -> Result<Vec<u32>, AllocError>
 #[tactic(auto, unfolding(crate::specs::Assembly::assembled))]
 pub fn assemble(alloc: Global, text: &str) -> Result<Vec<u32>, AsmFault>
     requires { length text.now < 2 ^ 32 }
-    ensures { MatchResult result (λ v. (items : List Item) × (assembled text.now ≡ Ok items) × AreWords items v.items) (λ e. Fails e (assembled text.now)) }
+    ensures { MatchResult result (λ v. (items : List Item) × (assembled text.now ≡ Ok items) × AreWords items v.items)
+        (λ e. FailsAs e (assembled text.now)) }
 {
     let text = text.as_bytes();
     let marks = labels(alloc, text)?;

@@ -2,7 +2,8 @@
 
 ghost use Rattle.std.specs.Prelude.{◌≡◌, IfSome};
 ghost use Rattle.rv_isa.specs.Range.{InRange};
-ghost use Rattle.rv_asm.specs.Statements.{register_form, immediate_form, shift_form, upper_form, load_form, store_form, csr_form, csr_immediate_form, fence_form};
+ghost use Rattle.rv_asm.specs.Statements.{register_form, immediate_form, shift_form, upper_form, load_form};
+ghost use Rattle.rv_asm.specs.Statements.{store_form, csr_form, csr_immediate_form, fence_form};
 
 use crate::operand::{
     immediate_operand, memory_operand, register_operand, three, unsigned_operand,

@@ -1,6 +1,7 @@
 //! Where labels are.
 
-ghost use Rattle.std.specs.Prelude.{◌≡◌, ℕ, List, ◌+◌, ◌<◌, ◌≤◌, ◌^◌, length, IfOk, IfErr, OnOk, if◌then◌else◌, Some, None};
+ghost use Rattle.std.specs.Prelude.{◌≡◌, ℕ, List, ◌+◌, ◌<◌, ◌≤◌, ◌^◌, length, IfOk, IfErr, OnOk, if◌then◌else◌, Some};
+ghost use Rattle.std.specs.Prelude.{None};
 ghost use Rattle.std.specs.Option.{ok_or};
 ghost use Rattle.std.specs.Str.{bytes_eq};
 ghost use Rattle.rv_asm.specs.declared.fault.Kind.TheVariants as kinds;
@@ -34,7 +35,9 @@ pub fn find(marks: &BTreeMap<&[u8], Mark>, name: &[u8]) -> Result<Mark, Kind>
 
 /// Adds a mark where the name has none.
 fn add<'a>(marks: &mut BTreeMap<&'a [u8], Mark>, name: &'a [u8], mark: Mark) -> Result<(), AsmFault>
-    ensures added { OnOk result ((q : List ℕ) → table marks.new q ≡ or_else (table marks.old q) (if bytes_eq q name.now then Some mark else None)) }
+    ensures added { OnOk result
+        ((q : List ℕ) → table marks.new q ≡ or_else (table marks.old q) (if bytes_eq q name.now then Some mark else
+        None)) }
     ensures err { IfErr result (λ e. e ≡ faults.NoMemory) }
 {
     if !marks.contains_key(name) {
@@ -53,7 +56,9 @@ fn mark_line<'a>(
 ) -> Result<u64, AsmFault>
     ensures words { IfOk result (λ n. n ≡ size (statement text.now)) }
     ensures few { IfOk result (λ n. n ≤ 2) }
-    ensures marked { OnOk result ((q : List ℕ) → table marks.new q ≡ or_else (table marks.old q) (find_in (mark line place (statement text.now)) q)) }
+    ensures marked { OnOk result
+        ((q : List ℕ) → table marks.new q ≡ or_else (table marks.old q) (find_in
+        (mark line place (statement text.now)) q)) }
     ensures err { IfErr result (λ e. e ≡ faults.NoMemory) }
 {
     match parse(text) {
@@ -74,7 +79,8 @@ fn mark_line<'a>(
 /// Where each label of a text is first defined.
 pub fn labels<'a>(alloc: Global, text: &'a [u8]) -> Result<BTreeMap<&'a [u8], Mark>, AsmFault>
     requires { length text.now < 2 ^ 32 }
-    ensures found { IfOk result (λ marks. (q : List ℕ) → table marks q ≡ find_in (labels_of 0 0 (lines_of text.now)) q) }
+    ensures found { IfOk result
+        (λ marks. (q : List ℕ) → table marks q ≡ find_in (labels_of 0 0 (lines_of text.now)) q) }
     ensures err { IfErr result (λ e. e ≡ faults.NoMemory) }
 {
     let mut marks = BTreeMap::new(alloc);

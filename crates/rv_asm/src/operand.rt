@@ -2,15 +2,17 @@
 
 ghost use Rattle.std.specs.Prelude.{◌≡◌, ◌<◌, ◌≤◌, ◌^◌, IfSome};
 ghost use Rattle.rv_isa.specs.Range.{FitsSigned};
-ghost use Rattle.rv_asm.specs.Words.{Shows};
-ghost use Rattle.rv_asm.specs.Statements.{three, register_operand, number_operand, unsigned, immediate, modular, unsigned_operand, immediate_operand, modular_operand, memory_operand, name_operand};
+ghost use Rattle.rv_asm.specs.Words.{FindsAs};
+ghost use Rattle.rv_asm.specs.Statements.{three, register_operand, number_operand, unsigned, immediate, modular};
+ghost use Rattle.rv_asm.specs.Statements.{unsigned_operand, immediate_operand, modular_operand, memory_operand};
+ghost use Rattle.rv_asm.specs.Statements.{name_operand};
 
 use crate::words::{Numeral, cut, is_name, number, register, sole_word};
 
 /// The texts of three operands.
 #[tactic(auto, unfolding(crate::specs::Statements::three))]
 pub fn three(text: &[u8]) -> Option<(&[u8], &[u8], &[u8])>
-    ensures { Shows (λ x. (x.0.now, x.1.now, x.2.now)) result (three text.now) }
+    ensures { FindsAs (λ x. (x.0.now, x.1.now, x.2.now)) result (three text.now) }
 {
     let (a, rest) = cut(text, b',')?;
     let (b, c) = cut(rest, b',')?;
@@ -123,7 +125,7 @@ pub fn memory_operand(text: &[u8]) -> Option<(i32, u32)>
 
 #[tactic(auto, unfolding(crate::specs::Statements::name_operand))]
 pub fn name_operand(text: &[u8]) -> Option<&[u8]>
-    ensures { Shows (λ x. x.now) result (name_operand text.now) }
+    ensures { FindsAs (λ x. x.now) result (name_operand text.now) }
 {
     let name = sole_word(text)?;
     if is_name(name) { Some(name) } else { None }

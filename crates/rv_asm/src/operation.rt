@@ -2,7 +2,11 @@
 
 ghost use Rattle.std.specs.Prelude.{◌≡◌, ◌<◌, ◌%◌, IfSome};
 ghost use Rattle.rv_isa.specs.Range.{InRange, FitsSigned, IsEven};
-ghost use Rattle.rv_asm.specs.Operations.{register_op, register_instruction, immediate_op, immediate_instruction, shift_op, shift_instruction, upper_op, upper_instruction, load_op, load_instruction, store_op, store_instruction, branch_op, branch_instruction, csr_op, csr_instruction, csr_immediate_op, csr_immediate_instruction, bare, single, operation, IsInRange};
+ghost use Rattle.rv_asm.specs.Operations.{register_op, register_instruction, immediate_op, immediate_instruction};
+ghost use Rattle.rv_asm.specs.Operations.{shift_op, shift_instruction, upper_op, upper_instruction, load_op};
+ghost use Rattle.rv_asm.specs.Operations.{load_instruction, store_op, store_instruction, branch_op};
+ghost use Rattle.rv_asm.specs.Operations.{branch_instruction, csr_op, csr_instruction, csr_immediate_op};
+ghost use Rattle.rv_asm.specs.Operations.{csr_immediate_instruction, bare, single, operation, IsInRange};
 
 use rv_isa::Instr;
 

@@ -3,9 +3,11 @@
 ghost use Rattle.std.specs.Prelude.{◌≡◌, ◌==◌, ◌+◌, ◌<◌, ◌%◌, ◌^◌, IfSome, IfOk};
 ghost use Rattle.std.specs.List.{before_first, after_first, position_or_len};
 ghost use Rattle.rv_isa.specs.Range.{InRange, FitsSigned};
-ghost use Rattle.rv_asm.specs.Words.{Shows};
+ghost use Rattle.rv_asm.specs.Words.{FindsAs};
 ghost use Rattle.rv_asm.specs.Operations.{IsInRange};
-ghost use Rattle.rv_asm.specs.Statements.{upper_part, lower_part, wrapped, bare_statement, branch_statement, jal_statement, j_statement, li_statement, la_statement, word_statement, statement_of, label_word, statement, read, IsReady, Reads};
+ghost use Rattle.rv_asm.specs.Statements.{upper_part, lower_part, wrapped, bare_statement, branch_statement};
+ghost use Rattle.rv_asm.specs.Statements.{jal_statement, j_statement, li_statement, la_statement, word_statement};
+ghost use Rattle.rv_asm.specs.Statements.{statement_of, label_word, statement, read, IsLineReady, Reads};
 
 use crate::fault::Kind;
 use crate::form::{
@@ -70,8 +72,8 @@ pub fn lower_part(v: u32) -> i32
 #[tactic(auto, unfolding(crate::specs::Statements::bare_statement))]
 fn bare_statement<'a>(i: Instr, text: &'a [u8]) -> Option<Statement<'a>>
     requires { InRange i }
-    ensures value { Shows read result (bare_statement i text.now) }
-    ensures ready { IfSome result IsReady }
+    ensures value { FindsAs read result (bare_statement i text.now) }
+    ensures ready { IfSome result IsLineReady }
 {
     if is_all_blank(text) {
         Some(Statement::Single(Item::Instruction(i)))
@@ -82,8 +84,8 @@ fn bare_statement<'a>(i: Instr, text: &'a [u8]) -> Option<Statement<'a>>
 
 #[tactic(auto, unfolding(crate::specs::Statements::branch_statement))]
 fn branch_statement<'a>(op: BranchOp, text: &'a [u8]) -> Option<Statement<'a>>
-    ensures value { Shows read result (branch_statement op text.now) }
-    ensures ready { IfSome result IsReady }
+    ensures value { FindsAs read result (branch_statement op text.now) }
+    ensures ready { IfSome result IsLineReady }
 {
     let (rs1, rs2, to) = three(text)?;
     let rs1 = register_operand(rs1)?;
@@ -94,8 +96,8 @@ fn branch_statement<'a>(op: BranchOp, text: &'a [u8]) -> Option<Statement<'a>>
 
 #[tactic(auto, unfolding(crate::specs::Statements::jal_statement))]
 fn jal_statement<'a>(text: &'a [u8]) -> Option<Statement<'a>>
-    ensures value { Shows read result (jal_statement text.now) }
-    ensures ready { IfSome result IsReady }
+    ensures value { FindsAs read result (jal_statement text.now) }
+    ensures ready { IfSome result IsLineReady }
 {
     let (rd, to) = cut(text, b',')?;
     let rd = register_operand(rd)?;
@@ -105,8 +107,8 @@ fn jal_statement<'a>(text: &'a [u8]) -> Option<Statement<'a>>
 
 #[tactic(auto, unfolding(crate::specs::Statements::j_statement))]
 fn j_statement<'a>(text: &'a [u8]) -> Option<Statement<'a>>
-    ensures value { Shows read result (j_statement text.now) }
-    ensures ready { IfSome result IsReady }
+    ensures value { FindsAs read result (j_statement text.now) }
+    ensures ready { IfSome result IsLineReady }
 {
     let to = name_operand(text)?;
     Some(Statement::Jump { rd: 0, to })
@@ -114,8 +116,8 @@ fn j_statement<'a>(text: &'a [u8]) -> Option<Statement<'a>>
 
 #[tactic(auto, unfolding(crate::specs::Statements::li_statement))]
 fn li_statement<'a>(text: &'a [u8]) -> Option<Statement<'a>>
-    ensures value { Shows read result (li_statement text.now) }
-    ensures ready { IfSome result IsReady }
+    ensures value { FindsAs read result (li_statement text.now) }
+    ensures ready { IfSome result IsLineReady }
 {
     let (rd, v) = cut(text, b',')?;
     let rd = register_operand(rd)?;
@@ -134,8 +136,8 @@ fn li_statement<'a>(text: &'a [u8]) -> Option<Statement<'a>>
 
 #[tactic(auto, unfolding(crate::specs::Statements::la_statement))]
 fn la_statement<'a>(text: &'a [u8]) -> Option<Statement<'a>>
-    ensures value { Shows read result (la_statement text.now) }
-    ensures ready { IfSome result IsReady }
+    ensures value { FindsAs read result (la_statement text.now) }
+    ensures ready { IfSome result IsLineReady }
 {
     let (rd, to) = cut(text, b',')?;
     let rd = register_operand(rd)?;
@@ -145,8 +147,8 @@ fn la_statement<'a>(text: &'a [u8]) -> Option<Statement<'a>>
 
 #[tactic(auto, unfolding(crate::specs::Statements::word_statement))]
 fn word_statement<'a>(text: &'a [u8]) -> Option<Statement<'a>>
-    ensures value { Shows read result (word_statement text.now) }
-    ensures ready { IfSome result IsReady }
+    ensures value { FindsAs read result (word_statement text.now) }
+    ensures ready { IfSome result IsLineReady }
 {
     let v = modular_operand(text)?;
     Some(Statement::Single(Item::Data(v)))
@@ -155,8 +157,8 @@ fn word_statement<'a>(text: &'a [u8]) -> Option<Statement<'a>>
 /// The statement of an operation with the text of its operands, if they are those that it takes.
 fn statement_of<'a>(op: Operation, text: &'a [u8]) -> Option<Statement<'a>>
     requires { IsInRange op }
-    ensures value { Shows read result (statement_of op text.now) }
-    ensures ready { IfSome result IsReady }
+    ensures value { FindsAs read result (statement_of op text.now) }
+    ensures ready { IfSome result IsLineReady }
 {
     let i = match op {
         Operation::Register(op) => register_form(op, text)?,
@@ -182,7 +184,7 @@ fn statement_of<'a>(op: Operation, text: &'a [u8]) -> Option<Statement<'a>>
 /// The name of a label with its colon.
 #[tactic(auto, unfolding(crate::specs::Statements::label_word))]
 fn label_word(word: &[u8]) -> Option<&[u8]>
-    ensures { Shows (λ x. x.now) result (label_word word.now) }
+    ensures { FindsAs (λ x. x.now) result (label_word word.now) }
 {
     let (name, rest) = cut(word, b':')?;
     if is_name(name) && rest.is_empty() {
@@ -196,7 +198,7 @@ fn label_word(word: &[u8]) -> Option<&[u8]>
 #[tactic(auto, unfolding(crate::specs::Statements::statement))]
 pub fn parse<'a>(line: &'a [u8]) -> Result<Statement<'a>, Kind>
     ensures value { Reads read result (statement line.now) }
-    ensures ready { IfOk result IsReady }
+    ensures ready { IfOk result IsLineReady }
 {
     let (word, text) = first_word(before(line, b'#'));
     if word.is_empty() {

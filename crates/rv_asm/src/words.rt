@@ -2,7 +2,8 @@
 
 ghost use Rattle.std.specs.Prelude.{◌≡◌, ◌==◌, ◌<◌, ◌^◌, ◌*◌, ◌+◌, ◌≤◌, length, IfSome};
 ghost use Rattle.std.specs.List.{prefix_len, position_or_len, position, list_all, before_first, after_first};
-ghost use Rattle.rv_asm.specs.Words.{Shows, cut, from_word, first_word, sole_word, register, digit, digits, narrow, value, magnitude, number, is_name, is_blank, is_digit, is_name_byte};
+ghost use Rattle.rv_asm.specs.Words.{FindsAs, cut, from_word, leading_word, sole_word, register_named, digit, digits};
+ghost use Rattle.rv_asm.specs.Words.{narrow, value, magnitude, numeral, is_name, is_blank, is_digit, is_name_byte};
 
 /// A number as it is written.
 #[derive(Clone, Copy)]
@@ -27,7 +28,7 @@ fn first_at(text: &[u8], c: u8) -> Option<usize>
 /// What stands before and behind the first byte `c`.
 #[tactic(auto, unfolding(crate::specs::Words::cut))]
 pub fn cut(text: &[u8], c: u8) -> Option<(&[u8], &[u8])>
-    ensures { Shows (λ x. (x.0.now, x.1.now)) result (cut c text.now) }
+    ensures { FindsAs (λ x. (x.0.now, x.1.now)) result (cut c text.now) }
 {
     let at = first_at(text, c)?;
     Some((&text[..at], &text[at + 1..]))
@@ -54,10 +55,10 @@ fn word_len(text: &[u8]) -> usize
 }
 
 /// The first word, empty where there is none, and what stands behind it.
-#[tactic(auto, unfolding(crate::specs::Words::first_word))]
+#[tactic(auto, unfolding(crate::specs::Words::leading_word))]
 pub fn first_word(text: &[u8]) -> (&[u8], &[u8])
-    ensures word { result.0.now ≡ (first_word text.now).0 }
-    ensures behind { result.1.now ≡ (first_word text.now).1 }
+    ensures word { result.0.now ≡ (leading_word text.now).0 }
+    ensures behind { result.1.now ≡ (leading_word text.now).1 }
 {
     let text = from_word(text);
     let end = word_len(text);
@@ -103,7 +104,7 @@ pub fn behind(text: &[u8], c: u8) -> &[u8]
 /// The one word of a text that has no other.
 #[tactic(auto, unfolding(crate::specs::Words::sole_word))]
 pub fn sole_word(text: &[u8]) -> Option<&[u8]>
-    ensures { Shows (λ x. x.now) result (sole_word text.now) }
+    ensures { FindsAs (λ x. x.now) result (sole_word text.now) }
 {
     let (word, behind) = first_word(text);
     if is_all_blank(behind) {
@@ -113,9 +114,9 @@ pub fn sole_word(text: &[u8]) -> Option<&[u8]>
     }
 }
 
-#[tactic(auto, unfolding(crate::specs::Words::register))]
+#[tactic(auto, unfolding(crate::specs::Words::register_named))]
 pub fn register(word: &[u8]) -> Option<u32>
-    ensures value { result ≡ register word.now }
+    ensures value { result ≡ register_named word.now }
     ensures range { IfSome result (λ r. r < 32) }
 {
     match word {
@@ -174,9 +175,9 @@ fn magnitude(text: &[u8]) -> Option<u32>
     }
 }
 
-#[tactic(auto, unfolding(crate::specs::Words::number))]
+#[tactic(auto, unfolding(crate::specs::Words::numeral))]
 pub fn number(word: &[u8]) -> Option<Numeral>
-    ensures { result ≡ number word.now }
+    ensures { result ≡ numeral word.now }
 {
     match word {
         [] => None,

@@ -17,7 +17,8 @@ use thread_context::Context;
 
 /// The space's regions do not fit the call any more: it is over.
 fn refuse(c: &mut Context) -> Copied
-    ensures refused { spec.copy c.new result ≡ spec.copy (context.in_phase Phase.Plain (context.set_word c.old 10 0xFFFFFFFE)) Copied.Refused }
+    ensures refused { spec.copy c.new result ≡ spec.copy
+        (context.in_phase Phase.Plain (context.set_word c.old 10 0xFFFFFFFE)) Copied.Refused }
     ensures same_space { c.new.space ≡ c.old.space }
     ensures same_hart { c.new.on ≡ c.old.on }
 {
@@ -36,7 +37,8 @@ fn copy_in_step<M: PageSide>(
     m: &mut M,
 ) -> Copied
     requires { domain ≡ M.serves m.old }
-    ensures follows { FollowsWhere (HasPages domain r.now c.old.space) M.stands_for m.old m.new (spec.copy c.new result) (spec.copy_in_step domain r.now c.old done) }
+    ensures follows { FollowsWhere (HasPages domain r.now c.old.space) M.stands_for m.old m.new
+        (spec.copy c.new result) (spec.copy_in_step domain r.now c.old done) }
     ensures refused { (result ≡ Copied.Refused) ↔ ((done < spec.call_length c.old) × IsMisplaced r.now c.old done) }
     ensures refused_asks_nothing { result ≡ Copied.Refused → m.new ≡ m.old }
     ensures stopped_unchanged { result ≡ Copied.Stopped → c.new ≡ c.old }
@@ -95,7 +97,8 @@ fn store_byte<M: PageSide>(
     requires domain { q.domain ≡ M.serves m.old }
     requires resource { q.resource < 16 }
     requires page { q.page < 1024 }
-    ensures follows { FollowsWhere (HasPage (spec.byte_address (spec.buffer c.old) done) q) M.stands_for m.old m.new (spec.copy c.new result) (spec.out_got c.old q done total (Answer.Word byte)) }
+    ensures follows { FollowsWhere (HasPage (spec.byte_address (spec.buffer c.old) done) q) M.stands_for m.old m.new
+        (spec.copy c.new result) (spec.out_got c.old q done total (Answer.Word byte)) }
     ensures not_refused { result ≢ Copied.Refused }
     ensures stopped_unchanged { result ≡ Copied.Stopped → c.new ≡ c.old }
     ensures same_space { c.new.space ≡ c.old.space }
@@ -134,7 +137,8 @@ fn copy_out_byte<M: PageSide>(
     requires domain { q.domain ≡ M.serves m.old }
     requires resource { q.resource < 16 }
     requires page { q.page < 1024 }
-    ensures follows { FollowsWhere (HasPage (spec.byte_address (spec.buffer c.old) done) q) M.stands_for m.old m.new (spec.copy c.new result) (spec.out_placed c.old done total (Some q) false) }
+    ensures follows { FollowsWhere (HasPage (spec.byte_address (spec.buffer c.old) done) q) M.stands_for m.old m.new
+        (spec.copy c.new result) (spec.out_placed c.old done total (Some q) false) }
     ensures not_refused { result ≢ Copied.Refused }
     ensures stopped_unchanged { result ≡ Copied.Stopped → c.new ≡ c.old }
     ensures same_space { c.new.space ≡ c.old.space }
@@ -164,7 +168,8 @@ fn copy_out_step<M: PageSide>(
     m: &mut M,
 ) -> Copied
     requires { domain ≡ M.serves m.old }
-    ensures follows { FollowsWhere (HasPages domain r.now c.old.space) M.stands_for m.old m.new (spec.copy c.new result) (spec.copy_out_step domain r.now c.old done total) }
+    ensures follows { FollowsWhere (HasPages domain r.now c.old.space) M.stands_for m.old m.new
+        (spec.copy c.new result) (spec.copy_out_step domain r.now c.old done total) }
     ensures refused { (result ≡ Copied.Refused) ↔ ((done < total) × IsMisplaced r.now c.old done) }
     ensures refused_asks_nothing { result ≡ Copied.Refused → m.new ≡ m.old }
     ensures stopped_unchanged { result ≡ Copied.Stopped → c.new ≡ c.old }
@@ -196,7 +201,8 @@ fn copy_out_step<M: PageSide>(
 pub fn copy_step<M: PageSide>(c: &mut Context, domain: u32, r: &Resources, m: &mut M) -> Copied
     requires { domain ≡ M.serves m.old }
 
-    ensures copies { FollowsWhere (HasPages domain r.now c.old.space) M.stands_for m.old m.new (spec.copy c.new result) (next_copy c.old.phase domain r.now c.old) }
+    ensures copies { FollowsWhere (HasPages domain r.now c.old.space) M.stands_for m.old m.new
+        (spec.copy c.new result) (next_copy c.old.phase domain r.now c.old) }
 
     ensures refused { (result ≡ Copied.Refused) ↔ NoLongerFits c.old.phase r.now c.old }
     ensures refused_asks_nothing { result ≡ Copied.Refused → m.new ≡ m.old }

@@ -27,7 +27,7 @@ use Rattle.cloak_model.specs.Contexts.{Context, admit}
 use Rattle.cloak_model.specs.DomainState.{Domain, started_domain, state_bytes}
 use Rattle.cloak_model.specs.DomainStep.{DomainStepped, domain_step, interrupt}
 use Rattle.worked_rows.specs.Images.{program_start, words_page, share_words, page_with}
-use Rattle.worked_rows.specs.Runs.{ProgramRun, run, alone, one_page, AllUsed, running, registers, registers_from, call_registers, with_first, with_child, resumed_first, context_of, answer_and_pc, phase_of, small, ecalls, at_ecall, made_hypercall}
+use Rattle.worked_rows.specs.Runs.{ProgramRun, run, alone, one_page, AllUsed, running, registers, registers_from, call_registers, with_first, with_child, resumed_first, context_in_slot, answer_and_pc, phase_of, small, ecalls, at_ecall, made_hypercall}
 
 -- What a context shows as it leaves.
 
@@ -234,15 +234,15 @@ HypercallRefuses number arguments word d = made_hypercall number arguments (told
 }
 
 -- a program of one page behind a hypercall
-abbrev pub behind : ℕ → List ℕ → Domain → Domain
-behind number arguments d = (made_hypercall number arguments (told.Ok ∷ []) d).answer.domain
+abbrev pub program_behind : ℕ → List ℕ → Domain → Domain
+program_behind number arguments d = (made_hypercall number arguments (told.Ok ∷ []) d).answer.domain
 
 abbrev pub one_page_domain : Domain
 one_page_domain = started_domain 0 (small 1)
 
 -- with a resource 1 of 1023 pages
 abbrev pub two_resources : Domain
-two_resources = behind 0x4F560001 (1023 ∷ []) one_page_domain
+two_resources = program_behind 0x4F560001 (1023 ∷ []) one_page_domain
 
 -- NEW of 0 or of 1025 pages, and of 1024 where the domain has one page already; of 1023 it gives resource 1.
 pub record NewRefused : Type 0 where
@@ -260,7 +260,7 @@ pub record MapRefused : Type 0 where
   pub overlap : HypercallRefuses 0x4F560002 (1 ∷ 0x00400000 ∷ 0 ∷ 1 ∷ []) 0xFFFFFFFD two_resources
   pub unknown : HypercallRefuses 0x4F560002 (9 ∷ 0x00500000 ∷ 0 ∷ 1 ∷ []) 0xFFFFFFFC two_resources
   pub unknown_first : HypercallRefuses 0x4F560002 (9 ∷ 0x00001001 ∷ 0 ∷ 1 ∷ []) 0xFFFFFFFC two_resources
-  pub mapped : answer_and_pc 0 (behind 0x4F560002 (1 ∷ 0x00500000 ∷ 0 ∷ 1023 ∷ []) two_resources) ≡ (0, 0x00400004)
+  pub mapped : answer_and_pc 0 (program_behind 0x4F560002 (1 ∷ 0x00500000 ∷ 0 ∷ 1023 ∷ []) two_resources) ≡ (0, 0x00400004)
 
 -- UNMAP where no region starts; a number that is no hypercall, also that of resuming.
 pub record OthersRefused : Type 0 where
@@ -272,16 +272,16 @@ pub record OthersRefused : Type 0 where
 
 -- with file 4 of one page
 abbrev pub filed : Domain
-filed = behind 0x4F560004 (4 ∷ 1 ∷ []) one_page_domain
+filed = program_behind 0x4F560004 (4 ∷ 1 ∷ []) one_page_domain
 
 -- FILE gives a resource, the same one again, and refuses another size. Another number is another resource. A file has
 -- pages, and no more than are left.
 pub record FileRows : Type 0 where
   pub made : answer_and_pc 0 filed ≡ (1, 0x00400004)
-  pub again : answer_and_pc 0 (behind 0x4F560004 (4 ∷ 1 ∷ []) filed) ≡ (1, 0x00400004)
-  pub same : (behind 0x4F560004 (4 ∷ 1 ∷ []) filed).control.resources ≡ filed.control.resources
+  pub again : answer_and_pc 0 (program_behind 0x4F560004 (4 ∷ 1 ∷ []) filed) ≡ (1, 0x00400004)
+  pub same : (program_behind 0x4F560004 (4 ∷ 1 ∷ []) filed).control.resources ≡ filed.control.resources
   pub other_size : HypercallRefuses 0x4F560004 (4 ∷ 2 ∷ []) 0xFFFFFFFE filed
-  pub other_number : answer_and_pc 0 (behind 0x4F560004 (5 ∷ 1022 ∷ []) filed) ≡ (2, 0x00400004)
+  pub other_number : answer_and_pc 0 (program_behind 0x4F560004 (5 ∷ 1022 ∷ []) filed) ≡ (2, 0x00400004)
   pub no_page : HypercallRefuses 0x4F560004 (5 ∷ 0 ∷ []) 0xFFFFFFFE filed
   pub full : HypercallRefuses 0x4F560004 (5 ∷ 1023 ∷ []) 0xFFFFFFFF filed
 
@@ -299,7 +299,7 @@ new_thread = 0x00400000 ∷ 5 ∷ 6 ∷ []
 -- n times, one after another
 abbrev pub threads : ℕ → Domain
 threads zero = filed
-threads (suc n) = behind 0x4F560005 new_thread (threads n)
+threads (suc n) = program_behind 0x4F560005 new_thread (threads n)
 
 -- a domain whose first context was told that it has n threads now
 abbrev pub with_threads : ℕ → Domain
@@ -350,7 +350,7 @@ pub record OtherExit : Type 0 where
 
 -- three pages at 0x00400000, and file 4 of one page at 0x00500000
 abbrev pub parent : Domain
-parent = behind 0x4F560002 (1 ∷ 0x00500000 ∷ 0 ∷ 1 ∷ []) (behind 0x4F560004 (4 ∷ 1 ∷ []) (started_domain 0 (small 3)))
+parent = program_behind 0x4F560002 (1 ∷ 0x00500000 ∷ 0 ∷ 1 ∷ []) (program_behind 0x4F560004 (4 ∷ 1 ∷ []) (started_domain 0 (small 3)))
 
 abbrev pub fork_made : Told DomainStepped
 fork_made = made_hypercall 0x4F560006 [] (told.Ok ∷ told.Ok ∷ []) parent
@@ -407,17 +407,17 @@ child_loaded =
 pub record SharedFile : Type 0 where
   pub stored : AllUsed parent_stored.world
   pub loaded : AllUsed child_loaded.world
-  pub word : register (context_of 1 child_loaded.domain).regs 11 ≡ 1
+  pub word : register (context_in_slot 1 child_loaded.domain).regs 11 ≡ 1
   pub loads : child_loaded.domain.loads ≡ (0x00500000, 1) ∷ []
 
 -- a program of one page with n more resources of one page
 abbrev pub with_news : ℕ → Domain
 with_news zero = one_page_domain
-with_news (suc n) = behind 0x4F560001 (1 ∷ []) (with_news n)
+with_news (suc n) = program_behind 0x4F560001 (1 ∷ []) (with_news n)
 
 -- a program of one page with a resource of n pages
 abbrev pub with_pages : ℕ → Domain
-with_pages n = behind 0x4F560001 (n ∷ []) one_page_domain
+with_pages n = program_behind 0x4F560001 (n ∷ []) one_page_domain
 
 -- a domain behind a fork that is granted
 abbrev pub behind_fork : Domain → Domain

@@ -82,15 +82,15 @@ with_child c d = record d { control = record d.control { contexts = with_context
 abbrev pub resumed_first : ℕ → ℕ → Domain → Domain
 resumed_first hart answer d = record d { control = (resume_slot 0 hart answer d.control).control }
 
-abbrev pub context_of : ℕ → Domain → Context
-context_of slot d = unwrap_or (context_at d.control.contexts slot) (running 0 [])
+abbrev pub context_in_slot : ℕ → Domain → Context
+context_in_slot slot d = unwrap_or (context_at d.control.contexts slot) (running 0 [])
 
 -- x10 and pc of the context of a slot
 abbrev pub answer_and_pc : ℕ → Domain → ℕ × ℕ
-answer_and_pc slot d = (register (context_of slot d).regs 10, (context_of slot d).pc)
+answer_and_pc slot d = (register (context_in_slot slot d).regs 10, (context_in_slot slot d).pc)
 
 abbrev pub phase_of : ℕ → Domain → Phase
-phase_of slot d = (context_of slot d).phase
+phase_of slot d = (context_in_slot slot d).phase
 
 -- Programs.
 
