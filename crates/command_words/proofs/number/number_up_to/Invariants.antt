@@ -1,7 +1,7 @@
 use Rattle.std.proofs.Common.{◌≡◌, ◌≤◌, ◌+◌, ◌-◌, ◌*◌, drop, fold}
 use Rattle.std.specs.Str.{all_ascii_digits}
-use Rattle.cloak_model.specs.Command.{decimal_value}
-use Rattle.cloak_cli.proofs.number.number_up_to.Given as goal
+use Rattle.command_words.specs.Command.{decimal_value}
+use Rattle.command_words.proofs.number.number_up_to.Given as goal
 
 -- the digits so far were digits, and their value is no larger than the limit
 abbrev pub invariant-loop-digit : goal.invariant-loop-digit

@@ -1,5 +1,5 @@
 ghost use Rattle.std.specs.Prelude.{◌≤◌};
-ghost use Rattle.cloak_model.specs.Command.{most_steps};
+ghost use Rattle.cloak_model.specs.Run.{most_steps};
 
 /// Where a run takes its randomness.
 #[derive(Clone, Copy)]

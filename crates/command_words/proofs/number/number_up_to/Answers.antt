@@ -1,6 +1,6 @@
 use Rattle.std.proofs.Common.{arith}
-use Rattle.cloak_cli.proofs.NumberFacts.{past_limit}
-use Rattle.cloak_cli.proofs.number.number_up_to.Goals as goal
+use Rattle.command_words.proofs.NumberFacts.{past_limit}
+use Rattle.command_words.proofs.number.number_up_to.Goals as goal
 
 pub returns-in_default : goal.returns-in_default
 returns-in_default c = past_limit _ c.loop-digit.value c.loop-digit.digit-index _ _ c.as_bytes-digits.ensures.value

@@ -4,7 +4,7 @@ use Rattle.std.proofs.Common.{fold, get_or, drop, drop-cons, add-one, refl, sym,
 use Rattle.std.proofs.Common.{if◌then◌else◌}
 use Rattle.std.proofs.lemmas.Bool.Decides.{nat_tests}
 use Rattle.std.specs.Str.{all_ascii_digits}
-use Rattle.cloak_model.specs.Command.{decimal_value, number_up_to}
+use Rattle.command_words.specs.Command.{decimal_value, number_up_to}
 
 -- the value of digits is at least that of those in front
 fold_le : (value : ℕ) (digits : List ℕ) → value ≤ fold (λ n c. 10 * n + (c - 48)) value digits

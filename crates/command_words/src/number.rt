@@ -1,6 +1,6 @@
 //! Numbers among the words.
 ghost use Rattle.std.specs.Prelude.{◌≡◌};
-ghost use Rattle.cloak_model.specs.Command as spec;
+ghost use Rattle.command_words.specs.Command as spec;
 
 /// The value of 1 to 20 decimal digits, where it is at most `limit`.
 pub fn number_up_to(word: &str, limit: u64) -> Option<u64>

@@ -2,7 +2,7 @@
 use Rattle.std.proofs.Common.{◌≡◌, ◌≤◌, ◌-◌, ℕ, false, List, [], ◌∷◌, length, map, take, drop, take_all, get_or, refl}
 use Rattle.std.proofs.Common.{sym, ◌∙◌, ap, arith}
 use Rattle.std.proofs.Common.{Option, Some}
-use Rattle.cloak_model.specs.Command.{Options, is_option, with_option, options_from}
+use Rattle.command_words.specs.Command.{Options, is_option, with_option, options_from}
 
 -- an option and its value, and the words behind them
 next : (o more : Options) (words : List (List ℕ)) (name value : List ℕ) → is_option value ≡ false →

@@ -1,8 +1,8 @@
 use Rattle.std.proofs.Common.{◌∙◌, ap, sym, string_bytes, List, ℕ}
-use Rattle.cloak_model.specs.Command.{is_option}
-use Rattle.cloak_cli.specs.Request.{texts_of}
-use Rattle.cloak_cli.proofs.OptionFacts.{options-next}
-use Rattle.cloak_cli.proofs.request.+options_from.Goals as goal
+use Rattle.command_words.specs.Command.{is_option}
+use Rattle.command_words.specs.Request.{texts_of}
+use Rattle.command_words.proofs.OptionFacts.{options-next}
+use Rattle.command_words.proofs.request.+options_from.Goals as goal
 
 pub returns-in_ok-with_option-in-len2-up : goal.returns-in_ok-with_option-in-len2-up
 returns-in_ok-with_option-in-len2-up t c =

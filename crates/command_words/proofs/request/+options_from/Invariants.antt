@@ -1,5 +1,5 @@
 use Rattle.std.proofs.Common.{length}
-use Rattle.cloak_cli.proofs.request.+options_from.Given as goal
+use Rattle.command_words.proofs.request.+options_from.Given as goal
 
 abbrev pub decreases-options_from : goal.decreases-options_from
 decreases-options_from l = length l.words.now

@@ -1,0 +1,16 @@
+//! The words of a command line: what they ask for, or the first thing that is wrong with them.
+//!
+//! `specs/Command` is this project's own rule (`docs/MACHINE.md`, "Words"). The layer above may rely on this: `read_words`
+//! gives exactly what the words ask for, and takes no memory.
+#![tactic(auto)]
+
+mod number;
+mod record_request;
+mod request;
+mod run_request;
+mod usage_fault;
+
+pub use record_request::{RecordRequest, SoloRequest};
+pub use request::{Request, read_words};
+pub use run_request::{Randomness, RunRequest};
+pub use usage_fault::UsageFault;

@@ -1,0 +1,12 @@
+/// What is wrong with the words of a command line. Where several hold, the first of this order is meant.
+#[derive(Clone, Copy, Debug, PartialEq, Eq)]
+pub enum UsageFault {
+    NoCommand,
+    UnknownCommand,
+    WrongWords,
+    /// Of the two options that name the random stream not exactly one is given.
+    NoRandomness,
+    WrongNumber,
+    /// The bundle has no program of this number.
+    NoSuchDomain,
+}
