@@ -2,12 +2,12 @@
 use Rattle.std.proofs.Common.{◌≡◌, ◌∙◌, ◌⊎◌, Bool, true, false, refl, sym, inl, inr, Result, is_err}
 use Rattle.cloak_base.specs.declared.causes.Failed.{Failed}
 use Rattle.outside_io.specs.Told.{Counts, SameFiles}
-use Rattle.cloak_cli.specs.declared.status.Status.{Status}
-use Rattle.cloak_cli.specs.declared.status.Status.TheVariants as status
+use Rattle.program_parts.specs.declared.status.Status.{Status}
+use Rattle.program_parts.specs.declared.status.Status.TheVariants as status
 use Rattle.cloak_cli.specs.declared.words.Words.{Words}
-use Rattle.cloak_cli.specs.Outside.{Outside}
+use Rattle.program_parts.specs.Outside.{Outside}
 use Rattle.cloak_cli.specs.Program.{AnswersWords, Exits, FlushFailed}
-use Rattle.cloak_cli.proofs.AnswerFacts.{counted, risen}
+use Rattle.run_command.proofs.AnswerFacts.{counted, risen}
 
 -- two calls wrote out what is gathered, that for the files and that for the output
 pub record Flushes {S O : Type 0} (files shown : Result Unit Failed) (done after : Outside S O) : Type 0 where

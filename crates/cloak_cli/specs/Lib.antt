@@ -1,11 +1,2 @@
 pub mod Answering
-pub mod Files
-pub mod Outlet
-pub mod Outside
-pub mod Preparing
-pub mod Recording
-pub mod Refusal
-pub mod Request
-pub mod Running
-pub mod Status
 pub mod Program

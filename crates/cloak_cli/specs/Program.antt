@@ -1,16 +1,16 @@
 -- What the program answers as it ends.
 use Rattle.std.specs.Prelude.{◌≡◌, ◌⊎◌, map, string_bytes}
 use Rattle.outside_io.specs.Told.{Rose, SameFiles}
-use Rattle.cloak_model.specs.declared.outcome.UsageFault.TheVariants.{WrongWords}
-use Rattle.cloak_model.specs.Command as spec
-use Rattle.cloak_cli.specs.declared.refusal.Refusal.TheVariants as refusal
-use Rattle.cloak_cli.specs.declared.status.Status.{Status}
-use Rattle.cloak_cli.specs.declared.status.Status.TheVariants as status
+use Rattle.command_words.specs.declared.usage_fault.UsageFault.TheVariants.{WrongWords}
+use Rattle.command_words.specs.Command as spec
+use Rattle.program_parts.specs.declared.refusal.Refusal.TheVariants as refusal
+use Rattle.program_parts.specs.declared.status.Status.{Status}
+use Rattle.program_parts.specs.declared.status.Status.TheVariants as status
 use Rattle.cloak_cli.specs.declared.words.Words.{Words}
 use Rattle.cloak_cli.specs.declared.words.Words.TheVariants as words
-use Rattle.cloak_cli.specs.Answering.{Answers, KeepsFiles}
-use Rattle.cloak_cli.specs.Outside.{Outside, NothingRose}
-use Rattle.cloak_cli.specs.Recording.{Refuses}
+use Rattle.run_command.specs.Answering.{Answers, KeepsFiles}
+use Rattle.program_parts.specs.Outside.{Outside, NothingRose}
+use Rattle.program_parts.specs.Refusing.{Refuses}
 
 -- the status comes by its cause, and all files but the record of a run keep their bytes
 pub record AnswersAsked {S O : Type 0} (asked : spec.Asked) (before after : Outside S O) (answer : Status) : Type 0

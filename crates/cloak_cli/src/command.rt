@@ -2,14 +2,14 @@
 ghost use Rattle.std.specs.Prelude.{◌≡◌, ◌<◌, ◌-◌, ◌^◌, [], map, string_bytes};
 ghost use Rattle.cloak_base.specs.Random.{Random};
 ghost use Rattle.cloak_model.specs.declared.image.Bundle.{Bundle};
-ghost use Rattle.cloak_model.specs.Command as spec;
+ghost use Rattle.command_words.specs.Command as spec;
 ghost use Rattle.cloak_model.specs.Opening.{Opened, opening};
 ghost use Rattle.cloak_model.specs.Run.{first_moment, run_of};
 ghost use Rattle.cloak_machine.specs.Standing.{StandsForMoment, steps_made};
-ghost use Rattle.cloak_cli.specs.Answering.{Answers, KeepsFiles};
-ghost use Rattle.cloak_cli.specs.Outside.{outside};
-ghost use Rattle.cloak_cli.specs.Recording.{Records};
-ghost use Rattle.cloak_cli.specs.Request.{asked_of_run};
+ghost use Rattle.run_command.specs.Answering.{Answers, KeepsFiles};
+ghost use Rattle.program_parts.specs.Outside.{outside};
+ghost use Rattle.run_command.specs.Recording.{Records};
+ghost use Rattle.command_words.specs.Request.{asked_of_run};
 
 use crate::outlet::Outlet;
 use crate::prepare::{Prepared, prepare};
@@ -21,60 +21,6 @@ use crate::status::Status;
 use exchange_log::LONGEST;
 use outside_io::{Shelf, Sink};
 use std::alloc::Global;
-
-/// Begins the record of a run and makes it.
-fn record_run<S: Shelf, O: Sink>(
-    prepared: Prepared,
-    run: &RunRequest<'_>,
-    shelf: &mut S,
-    out: &mut O,
-) -> Status
-    requires { steps_made prepared.machine ≡ 0 }
-    ensures { (b : Bundle) (stream : Random) (o : Opened) → opening b stream ≡ Ok o → b.programs ≡ prepared.programs →
-        StandsForMoment prepared.machine (first_moment b o.joint) →
-        Records run.now.record_name.now
-        (outside S.held S.reading_faults S.writing_faults O.taken O.faults shelf.old out.old)
-        (outside S.held S.reading_faults S.writing_faults O.taken O.faults shelf.new out.new)
-        result (run_of b run.now.steps o) }
-{
-    if shelf.begin(run.record_name).is_err() {
-        return Status::WriteFault;
-    }
-    let mut outlet = Outlet {
-        shelf,
-        name: run.record_name,
-        out,
-        failed: false,
-        piece: [0; LONGEST],
-    };
-    let Prepared { machine, programs } = prepared;
-    let status = write_run(machine, programs.as_slice(), run.steps, &mut outlet);
-    if outlet.failed {
-        return Status::WriteFault;
-    }
-    status
-}
-
-/// Makes the run that is asked for.
-fn run_command<S: Shelf, O: Sink>(
-    alloc: Global,
-    run: &RunRequest<'_>,
-    shelf: &mut S,
-    out: &mut O,
-) -> Status
-    requires settled { S.is_settled shelf.old }
-    requires reading { S.reading_faults shelf.old < 2 ^ 64 - 1 }
-    requires writing { S.writing_faults shelf.old < 2 ^ 64 - 1 }
-    requires output { O.faults out.old < 2 ^ 64 - 1 }
-    ensures { Answers (asked_of_run run.now)
-        (outside S.held S.reading_faults S.writing_faults O.taken O.faults shelf.old out.old)
-        (outside S.held S.reading_faults S.writing_faults O.taken O.faults shelf.new out.new) result }
-{
-    match prepare(alloc, run, shelf) {
-        Ok(prepared) => record_run(prepared, run, shelf, out),
-        Err(refusal) => refuse(out, &refusal),
-    }
-}
 
 /// Does what the words ask for, with the files of a shelf on which nothing is gathered, and shows it.
 pub fn cloak<S: Shelf, O: Sink>(

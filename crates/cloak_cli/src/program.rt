@@ -1,6 +1,6 @@
 //! All that the program does, over any files and any output.
 ghost use Rattle.std.specs.Prelude.{◌≡◌, ◌≢◌, ◌<◌, ◌-◌, ◌^◌};
-ghost use Rattle.cloak_cli.specs.Outside.{outside};
+ghost use Rattle.program_parts.specs.Outside.{outside};
 ghost use Rattle.cloak_cli.specs.Program.{AnswersWords, Exits};
 
 use crate::command::cloak;

@@ -3,7 +3,7 @@
 use Rattle.std.specs.Prelude.{ℕ, ◌+◌, ◌-◌, ◌*◌, ◌==◌, nat_lt, nat_le, Bool, ◌&&◌, ◌||◌, List, [], ◌∷◌, length, slice_index, fold, codes, Option, Some, None, is_some, option_map, option_and_then, if◌then◌else◌}
 use Rattle.cloak_model.specs.Run.{most_steps}
 use Rattle.command_words.specs.declared.usage_fault.UsageFault.{UsageFault}
-use Rattle.command_words.specs.declared.usage_fault.UsageFault.TheVariants.{NoCommand, UnknownCommand, WrongWords, NoRandomness, WrongNumber, NoSuchDomain}
+use Rattle.command_words.specs.declared.usage_fault.UsageFault.TheVariants.{NoCommand, UnknownCommand, WrongWords, NoRandomness, WrongNumber}
 use Rattle.std.specs.Str.{bytes_eq, all_ascii_digits}
 
 -- the line that says what is wrong with the words
@@ -13,7 +13,6 @@ usage_line UnknownCommand = codes "usage: unknown command\n"
 usage_line WrongWords = codes "usage: words\n"
 usage_line NoRandomness = codes "usage: randomness\n"
 usage_line WrongNumber = codes "usage: number\n"
-usage_line NoSuchDomain = codes "usage: no such domain\n"
 
 -- where a run takes its randomness: the stream of a number, or the bytes of a file
 pub data Randomness : Type 0 where

@@ -7,6 +7,4 @@ pub enum UsageFault {
     /// Of the two options that name the random stream not exactly one is given.
     NoRandomness,
     WrongNumber,
-    /// The bundle has no program of this number.
-    NoSuchDomain,
 }

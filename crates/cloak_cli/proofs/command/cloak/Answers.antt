@@ -1,7 +1,7 @@
 use Rattle.std.proofs.Common.{◌∙◌, List, ap, refl, map, string_bytes}
-use Rattle.cloak_model.specs.Command as spec
-use Rattle.cloak_cli.specs.declared.refusal.Refusal.TheVariants as refusal
-use Rattle.cloak_cli.proofs.AnswerFacts.{answers_asked, answers_no_run, keeps_files}
+use Rattle.command_words.specs.Command as spec
+use Rattle.program_parts.specs.declared.refusal.Refusal.TheVariants as refusal
+use Rattle.run_command.proofs.AnswerFacts.{answers_asked, answers_no_run, keeps_files}
 use Rattle.cloak_cli.proofs.command.cloak.Goals as goal
 
 pub returns-in-NotBuilt-clause-answers : goal.returns-in-NotBuilt-clause-answers

@@ -1,8 +1,8 @@
 use Rattle.std.proofs.Common.{refl}
-use Rattle.cloak_model.specs.declared.outcome.UsageFault.TheVariants.{WrongWords}
-use Rattle.cloak_model.specs.Command.{Faulty}
-use Rattle.cloak_cli.specs.declared.refusal.Refusal.TheVariants as refusal
-use Rattle.cloak_cli.proofs.AnswerFacts.{answers_no_run, keeps_files}
+use Rattle.command_words.specs.declared.usage_fault.UsageFault.TheVariants.{WrongWords}
+use Rattle.command_words.specs.Command.{Faulty}
+use Rattle.program_parts.specs.declared.refusal.Refusal.TheVariants as refusal
+use Rattle.run_command.proofs.AnswerFacts.{answers_no_run, keeps_files}
 use Rattle.cloak_cli.proofs.program.obey.Goals as goal
 
 pub returns-in-Taken : goal.returns-in-Taken

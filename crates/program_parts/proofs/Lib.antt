@@ -1,0 +1,4 @@
+pub mod BundleFacts
+pub mod FaultFacts
+pub mod FileFacts
+pub mod RefusalFacts

@@ -1,0 +1,12 @@
+-- What reading a file does to the count of reading faults.
+use Rattle.std.specs.Prelude.{ℕ, ◌≡◌, Result, Ok, Err}
+use Rattle.outside_io.specs.Told.{Rose}
+use Rattle.program_parts.specs.declared.refusal.Refusal.{Refusal}
+use Rattle.program_parts.specs.declared.refusal.Refusal.TheVariants.{ReadFault, NoMemory}
+
+-- A fault of reading is answered exactly where the count rose. Beside it only memory may lack.
+abbrev pub ReadsFile : {A : Type 0} → ℕ → ℕ → Result A Refusal → Type 0
+ReadsFile before now (Ok a) = now ≡ before
+ReadsFile before now (Err ReadFault) = Rose before now
+ReadsFile before now (Err NoMemory) = now ≡ before
+ReadsFile before now (Err _) = ⊥

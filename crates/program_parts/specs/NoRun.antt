@@ -1,0 +1,132 @@
+-- Why a command does nothing but show one line: each reason with its cause.
+use Rattle.std.specs.Prelude.{ℕ, ◌≡◌, ◌≤◌, List, length, take, Option, Some, None, IfSome, Err}
+use Rattle.cloak_base.specs.Random.{Random, handed, numbered}
+use Rattle.outside_io.specs.Told.{Grows, GrowsByFront, SameFiles}
+use Rattle.cloak_model.specs.declared.fault.BundleFault.{BundleFault}
+use Rattle.cloak_model.specs.declared.image.Bundle.{Bundle}
+use Rattle.cloak_model.specs.BundleFault.{bundle_fault}
+use Rattle.cloak_model.specs.Opening.{Lack, NoKey, NoPageDraw, opening}
+use Rattle.command_words.specs.declared.usage_fault.UsageFault.{UsageFault}
+use Rattle.command_words.specs.Command as spec
+use Rattle.program_parts.specs.declared.refusal.Refusal.{Refusal}
+use Rattle.program_parts.specs.declared.refusal.Refusal.TheVariants as refusal
+use Rattle.program_parts.specs.declared.status.Status.{Status}
+use Rattle.program_parts.specs.Bundles.{IsInFile}
+use Rattle.program_parts.specs.Outside.{FilesOutside, Outside, Raised}
+use Rattle.program_parts.specs.Refusal.{status_of_refusal, refusal_line}
+
+-- What is asked for.
+
+-- the file of the bundle that the words name
+abbrev pub bundle_named : spec.Asked → Option (List ℕ)
+bundle_named spec.NotBuilt = None
+bundle_named (spec.Faulty fault) = None
+bundle_named (spec.Run bundle record_name steps randomness) = Some bundle
+bundle_named (spec.View bundle record_name) = Some bundle
+bundle_named (spec.Solo domain bundle record_name) = Some bundle
+
+abbrev pub AsksFile : spec.Asked → List ℕ → Type 0
+AsksFile asked bundle_name = bundle_named asked ≡ Some bundle_name
+
+-- a stream of the first bytes of a file, where they are told
+pub record IsOfFile (told : Option (List ℕ)) (stream : Random) : Type 0 where
+  pub bytes : List ℕ
+  pub handed_in : stream ≡ handed bytes
+  pub few : length bytes ≤ spec.longest_stream
+  pub front : IfSome told (λ file. bytes ≡ take spec.longest_stream file)
+
+abbrev pub IsStream : (List ℕ → Option (List ℕ)) → spec.Randomness → Random → Type 0
+IsStream held (spec.Numbered number) stream = stream ≡ numbered number
+IsStream held (spec.FromFile name) stream = IsOfFile (held name) stream
+
+-- The words ask for the run of this bundle under this random stream.
+pub record AsksBundle (asked : spec.Asked) (held : List ℕ → Option (List ℕ)) (record_name : List ℕ) (steps : ℕ)
+    (bundle : Bundle) (stream : Random) : Type 0 where
+  pub bundle_name : List ℕ
+  pub randomness : spec.Randomness
+  pub run : asked ≡ spec.Run bundle_name record_name steps randomness
+  pub file : IsInFile (held bundle_name) bundle
+  pub source : IsStream held randomness stream
+
+-- Why there is no run.
+
+-- The words are faulty; no file is asked for anything.
+pub record IsUsage {S : Type 0} (asked : spec.Asked) (fault : UsageFault) (before after : FilesOutside S) : Type 0 where
+  pub faulty : asked ≡ spec.Faulty fault
+  pub untouched : after ≡ before
+
+-- The words ask for what is not built; no file is asked for anything.
+pub record IsNotBuilt {S : Type 0} (asked : spec.Asked) (before after : FilesOutside S) : Type 0 where
+  pub not_built : asked ≡ spec.NotBuilt
+  pub untouched : after ≡ before
+
+-- The file of the bundle is none: where its bytes are told, this is their first fault.
+pub record IsBadBundle {S : Type 0} (asked : spec.Asked) (fault : BundleFault) (before after : FilesOutside S) : Type 0 where
+  pub bundle_name : List ℕ
+  pub asks : AsksFile asked bundle_name
+  pub first_fault : IfSome (before.held bundle_name) (λ bytes. bundle_fault bytes ≡ Some fault)
+  pub reading : after.reading ≡ before.reading
+
+-- A call that reads a file failed, before anything was written.
+pub record IsReadFault {S : Type 0} (asked : spec.Asked) (before after : FilesOutside S) : Type 0 where
+  pub bundle_name : List ℕ
+  pub asks : AsksFile asked bundle_name
+  pub reading : Raised before.reading after.reading
+
+-- A growth was refused before anything was written. (What refused it, no clause can name.)
+pub record IsNoMemory {S : Type 0} (asked : spec.Asked) (before after : FilesOutside S) : Type 0 where
+  pub bundle_name : List ℕ
+  pub asks : AsksFile asked bundle_name
+  pub reading : after.reading ≡ before.reading
+
+-- The opening of a run finds too few random bytes.
+pub record IsLack {S : Type 0} (asked : spec.Asked) (lack : Lack) (before after : FilesOutside S) : Type 0 where
+  pub record_name : List ℕ
+  pub steps : ℕ
+  pub bundle : Bundle
+  pub stream : Random
+  pub asks : AsksBundle asked before.held record_name steps bundle stream
+  pub lacks : opening bundle stream ≡ Err lack
+  pub reading : after.reading ≡ before.reading
+
+-- The bundle has no program of the number that the words name.
+pub record IsNoSuchDomain {S : Type 0} (asked : spec.Asked) (before after : FilesOutside S) : Type 0 where
+  pub domain : ℕ
+  pub bundle_name : List ℕ
+  pub record_name : List ℕ
+  pub solo : asked ≡ spec.Solo domain bundle_name record_name
+  pub bundle : Bundle
+  pub file : IsInFile (before.held bundle_name) bundle
+  pub too_few : length bundle.programs ≤ domain
+  pub reading : after.reading ≡ before.reading
+
+abbrev pub HasCause : {S : Type 0} → spec.Asked → Refusal → FilesOutside S → FilesOutside S → Type 0
+HasCause asked refusal.NotBuilt before after = IsNotBuilt asked before after
+HasCause asked (refusal.Usage fault) before after = IsUsage asked fault before after
+HasCause asked (refusal.BadBundle fault) before after = IsBadBundle asked fault before after
+HasCause asked refusal.ReadFault before after = IsReadFault asked before after
+HasCause asked refusal.NoMemory before after = IsNoMemory asked before after
+HasCause asked refusal.NoKey before after = IsLack asked NoKey before after
+HasCause asked refusal.NoPageDraw before after = IsLack asked NoPageDraw before after
+HasCause asked refusal.NoSuchDomain before after = IsNoSuchDomain asked before after
+
+-- There is no run for this reason, and no file was written.
+pub record NoRun {S : Type 0} (asked : spec.Asked) (refused : Refusal) (before after : FilesOutside S) : Type 0 where
+  pub cause : HasCause asked refused before after
+  pub held : SameFiles before.held after.held
+  pub writing : after.writing ≡ before.writing
+
+-- For a reason of this status there is no run; its line was shown, and nothing else was done.
+pub record IsRefused {S O : Type 0} (asked : spec.Asked) (answer : Status) (before after : Outside S O) : Type 0 where
+  pub refused : Refusal
+  pub status : answer ≡ status_of_refusal refused
+  pub no_run : NoRun asked refused before.files after.files
+  pub line : Grows before.output.taken after.output.taken (refusal_line refused)
+  pub faults : after.output.faults ≡ before.output.faults
+
+-- A front of the line of a status that refuses was shown.
+pub record LineFailed {S O : Type 0} (asked : spec.Asked) (before after : Outside S O) : Type 0 where
+  pub refused : Refusal
+  pub no_run : NoRun asked refused before.files after.files
+  pub line : GrowsByFront before.output.taken after.output.taken (refusal_line refused)
+  pub faults : Raised before.output.faults after.output.faults

@@ -1,0 +1,129 @@
+//! Why there is no run, and the line that says so.
+ghost use Rattle.std.specs.Prelude.{◌≡◌, decimal};
+ghost use Rattle.outside_io.specs.Told.{Puts};
+ghost use Rattle.command_words.specs.Command.{usage_line};
+ghost use Rattle.program_parts.specs.Outside.{output};
+ghost use Rattle.program_parts.specs.Refusing.{Refuses};
+ghost use Rattle.program_parts.specs.Refusal.{bundle_line, numbered_line, refusal_line, status_of_refusal};
+
+use crate::status::Status;
+use cloak_base::Failed;
+use cloak_model::BundleFault;
+use command_words::UsageFault;
+use outside_io::{Sink, put_all};
+
+/// Why there is no run.
+#[derive(Clone, Copy, Debug, PartialEq, Eq)]
+pub enum Refusal {
+    /// What is asked for is not built.
+    NotBuilt,
+    Usage(UsageFault),
+    BadBundle(BundleFault),
+    /// A file could not be read.
+    ReadFault,
+    NoMemory,
+    /// The random stream holds no key.
+    NoKey,
+    /// A page of a program found no draw.
+    NoPageDraw,
+    /// The bundle has no program of the number that is asked for.
+    NoSuchDomain,
+}
+
+/// The status that a refusal is answered with.
+fn status(refusal: &Refusal) -> Status
+    ensures { result ≡ status_of_refusal refusal.now }
+{
+    match *refusal {
+        Refusal::NotBuilt => Status::Unbuilt,
+        Refusal::Usage(_) | Refusal::NoSuchDomain => Status::Usage,
+        Refusal::BadBundle(_) => Status::BadBundle,
+        Refusal::ReadFault => Status::ReadFault,
+        Refusal::NoMemory => Status::NoMemory,
+        Refusal::NoKey | Refusal::NoPageDraw => Status::NoRandom,
+    }
+}
+
+/// Shows a text.
+fn show<O: Sink>(out: &mut O, text: &[u8]) -> Result<(), Failed>
+    ensures { Puts (O.taken out.old) (O.taken out.new) (O.faults out.old) (O.faults out.new) text.now result }
+{
+    put_all(out, text)
+}
+
+/// Shows a number in decimal digits.
+pub fn show_decimal<O: Sink>(out: &mut O, number: u64) -> Result<(), Failed>
+    ensures { Puts (O.taken out.old) (O.taken out.new) (O.faults out.old) (O.faults out.new) (decimal number) result }
+{
+    let mut digits = itoa::Buffer::new();
+    show(out, digits.format(number).as_bytes())
+}
+
+/// Shows a line that ends with a number.
+pub fn show_numbered<O: Sink>(out: &mut O, text: &[u8], number: u64) -> Result<(), Failed>
+    ensures { Puts (O.taken out.old) (O.taken out.new) (O.faults out.old) (O.faults out.new)
+        (numbered_line text.now number) result }
+{
+    show(out, text)?;
+    show_decimal(out, number)?;
+    show(out, b"\n")
+}
+
+/// Shows what is wrong with the words.
+fn show_usage<O: Sink>(out: &mut O, fault: UsageFault) -> Result<(), Failed>
+    ensures { Puts (O.taken out.old) (O.taken out.new) (O.faults out.old) (O.faults out.new)
+        (usage_line fault) result }
+{
+    match fault {
+        UsageFault::NoCommand => show(out, b"usage: no command\n"),
+        UsageFault::UnknownCommand => show(out, b"usage: unknown command\n"),
+        UsageFault::WrongWords => show(out, b"usage: words\n"),
+        UsageFault::NoRandomness => show(out, b"usage: randomness\n"),
+        UsageFault::WrongNumber => show(out, b"usage: number\n"),
+    }
+}
+
+/// Shows why a file is no bundle.
+fn show_bundle_fault<O: Sink>(out: &mut O, fault: BundleFault) -> Result<(), Failed>
+    ensures { Puts (O.taken out.old) (O.taken out.new) (O.faults out.old) (O.faults out.new)
+        (bundle_line fault) result }
+{
+    match fault {
+        BundleFault::Short(at) => show_numbered(out, b"bundle: short at ", at),
+        BundleFault::BadMagic => show(out, b"bundle: magic\n"),
+        BundleFault::BadVersion(version) => show_numbered(out, b"bundle: version ", version as u64),
+        BundleFault::BadCount(at) => show_numbered(out, b"bundle: count at ", at),
+        BundleFault::TooLarge(at) => show_numbered(out, b"bundle: too large at ", at),
+        BundleFault::BadRange(at) => show_numbered(out, b"bundle: range at ", at),
+        BundleFault::Extra(at) => show_numbered(out, b"bundle: extra at ", at),
+        BundleFault::NoMemory => show(out, b"no memory\n"),
+    }
+}
+
+/// Shows the line of a refusal.
+#[tactic(auto, unfolding(crate::specs::Refusal::refusal_line))]
+fn show_line<O: Sink>(out: &mut O, refusal: &Refusal) -> Result<(), Failed>
+    ensures { Puts (O.taken out.old) (O.taken out.new) (O.faults out.old) (O.faults out.new)
+        (refusal_line refusal.now) result }
+{
+    match *refusal {
+        Refusal::NotBuilt => show(out, b"unbuilt 0\n"),
+        Refusal::Usage(fault) => show_usage(out, fault),
+        Refusal::BadBundle(fault) => show_bundle_fault(out, fault),
+        Refusal::ReadFault => show(out, b"read fault\n"),
+        Refusal::NoMemory => show(out, b"no memory\n"),
+        Refusal::NoKey => show(out, b"random: no key\n"),
+        Refusal::NoPageDraw => show(out, b"random: opening\n"),
+        Refusal::NoSuchDomain => show(out, b"usage: no such domain\n"),
+    }
+}
+
+/// Shows the line of a refusal, and answers its status, or the write fault.
+pub fn refuse<O: Sink>(out: &mut O, refusal: &Refusal) -> Status
+    ensures { Refuses (output O.taken O.faults out.old) (output O.taken O.faults out.new) refusal.now result }
+{
+    match show_line(out, refusal) {
+        Ok(()) => status(refusal),
+        Err(_) => Status::WriteFault,
+    }
+}

@@ -1,0 +1,329 @@
+-- What an outlet wrote, piece by piece.
+use Rattle.std.proofs.Common.{◌≡◌, ◌≤◌, ◌<◌, ℕ, Bool, true, false, List, [], ◌∷◌, ◌++◌, length, take, refl, sym, ◌∙◌}
+use Rattle.std.proofs.Common.{ap, subst, append_assoc, arith, length-append, Option, Some, None, Result, Ok, Err, IfOk}
+use Rattle.std.proofs.Common.{OnOk, OnErr, is_err}
+use Rattle.std.proofs.lemmas.List.{append-nil}
+use Rattle.cloak_base.specs.declared.causes.Failed.{Failed}
+use Rattle.outside_io.specs.Told.{Tells, Puts, Grows, GrowsByFront, Counts, OtherFiles}
+use Rattle.outside_io.proofs.ToldFacts.{Grows-none, Grows-append, GrowsByFront-none, GrowsByFront-whole, Rose-after}
+use Rattle.cloak_model.specs.Exchange.{Piece, recorded, shown, recorded_bytes, shown_bytes, Emits}
+use Rattle.run_command.specs.declared.outlet.Outlet.{Outlet}
+use Rattle.program_parts.specs.Outside.{FilesOutside, Output, Outside, files, output, outside}
+use Rattle.run_command.specs.Outlet.{Wrote, WroteAll, WroteFront, Writes, Gave}
+
+-- Bytes of pieces.
+
+pub recorded_bytes-append : (ps qs : List Piece) → recorded_bytes (ps ++ qs) ≡ recorded_bytes ps ++ recorded_bytes qs
+recorded_bytes-append [] qs = refl
+recorded_bytes-append (recorded bytes ∷ ps) qs =
+    ap (λ (l : List ℕ). bytes ++ l) (recorded_bytes-append ps qs) ∙ sym
+    (append_assoc bytes (recorded_bytes ps) (recorded_bytes qs))
+recorded_bytes-append (shown bytes ∷ ps) qs = recorded_bytes-append ps qs
+
+pub shown_bytes-append : (ps qs : List Piece) → shown_bytes (ps ++ qs) ≡ shown_bytes ps ++ shown_bytes qs
+shown_bytes-append [] qs = refl
+shown_bytes-append (recorded bytes ∷ ps) qs = shown_bytes-append ps qs
+shown_bytes-append (shown bytes ∷ ps) qs =
+    ap (λ (l : List ℕ). bytes ++ l) (shown_bytes-append ps qs) ∙ sym
+    (append_assoc bytes (shown_bytes ps) (shown_bytes qs))
+
+recorded_one : (ps : List Piece) (bytes : List ℕ) →
+    recorded_bytes ps ++ bytes ≡ recorded_bytes (ps ++ recorded bytes ∷ [])
+recorded_one ps bytes = ap (λ (l : List ℕ). recorded_bytes ps ++ l) (sym (append-nil bytes)) ∙ sym
+    (recorded_bytes-append ps (recorded bytes ∷ []))
+
+recorded_same : (ps : List Piece) (bytes : List ℕ) → recorded_bytes ps ≡ recorded_bytes (ps ++ shown bytes ∷ [])
+recorded_same ps bytes = sym (append-nil (recorded_bytes ps)) ∙ sym (recorded_bytes-append ps (shown bytes ∷ []))
+
+shown_one : (ps : List Piece) (bytes : List ℕ) → shown_bytes ps ++ bytes ≡ shown_bytes (ps ++ shown bytes ∷ [])
+shown_one ps bytes = ap (λ (l : List ℕ). shown_bytes ps ++ l) (sym (append-nil bytes)) ∙ sym
+    (shown_bytes-append ps (shown bytes ∷ []))
+
+shown_same : (ps : List Piece) (bytes : List ℕ) → shown_bytes ps ≡ shown_bytes (ps ++ recorded bytes ∷ [])
+shown_same ps bytes = sym (append-nil (shown_bytes ps)) ∙ sym (shown_bytes-append ps (recorded bytes ∷ []))
+
+-- A front that was written has one length, whatever stood before it.
+fixed_front : (old new : Option (List ℕ)) (piece : List ℕ) → GrowsByFront old new piece →
+    (n : ℕ) × Grows old new (take n piece)
+fixed_front (Some x) new piece front = let f = front x refl in
+    (f.0, λ before told. subst (λ (l : List ℕ). Tells new (l ++ take f.0 piece)) told f.2)
+fixed_front None None piece front = (0, λ before told. tt)
+fixed_front None (Some y) piece front =
+    let f = front (y ++ 0 ∷ []) tt in
+    absurd (let long = ap (λ (l : List ℕ). length l) f.2 in let one = length-append y (0 ∷ []) in let more =
+    length-append (y ++ 0 ∷ []) (take f.0 piece) in omega (arith, long, one, more))
+
+-- The calls.
+
+-- what an append to this file did
+pub record Appends {S O : Type 0} (r : Result Unit Failed) (name bytes : List ℕ) (mid after : Outside S O) : Type 0
+  where
+    pub ok : OnOk r (Grows (mid.files.held name) (after.files.held name) bytes)
+    pub err : OnErr r (GrowsByFront (mid.files.held name) (after.files.held name) bytes)
+    pub others : OtherFiles name mid.files.held after.files.held
+    pub writing : Counts mid.files.writing after.files.writing r
+    pub reading : after.files.reading ≡ mid.files.reading
+    pub output : after.output ≡ mid.output
+
+-- what putting to the output did
+pub record Shows {S O A : Type 0} (r : Result A Failed) (bytes : List ℕ) (mid after : Outside S O) : Type 0 where
+  pub ok : OnOk r (Grows mid.output.taken after.output.taken bytes)
+  pub err : OnErr r (GrowsByFront mid.output.taken after.output.taken bytes)
+  pub faults : Counts mid.output.faults after.output.faults r
+  pub files : after.files ≡ mid.files
+
+-- these pieces, and one more of the record
+wrote_recorded : {S O : Type 0} (name : List ℕ) (before mid after : Outside S O) (ps : List Piece) (bytes : List ℕ) →
+    Wrote name before mid ps →
+    Grows (mid.files.held name) (after.files.held name) bytes → OtherFiles name mid.files.held after.files.held →
+    after.files.reading ≡ mid.files.reading → after.output ≡ mid.output →
+    Wrote name before after (ps ++ recorded bytes ∷ [])
+wrote_recorded {S} {O} name before mid after ps bytes w grows others reading output = record {
+  file = subst (λ (l : List ℕ). Grows (before.files.held name) (after.files.held name) l) (recorded_one ps bytes)
+      (Grows-append (before.files.held name) (mid.files.held name) (after.files.held name) (recorded_bytes ps) bytes
+      w.file grows);
+  output = subst (λ (l : List ℕ). Grows before.output.taken after.output.taken l) (shown_same ps bytes)
+      (subst (λ (o : Output O). Grows before.output.taken o.taken (shown_bytes ps)) (sym output) w.output);
+  others = λ other apart. others other apart ∙ w.others other apart;
+  reading = reading ∙ w.reading;
+}
+
+-- these pieces, and one more of the output
+wrote_shown : {S O : Type 0} (name : List ℕ) (before mid after : Outside S O) (ps : List Piece) (bytes : List ℕ) →
+    Wrote name before mid ps →
+    Grows mid.output.taken after.output.taken bytes → after.files ≡ mid.files →
+    Wrote name before after (ps ++ shown bytes ∷ [])
+wrote_shown {S} {O} name before mid after ps bytes w grows files = record {
+  file = subst (λ (l : List ℕ). Grows (before.files.held name) (after.files.held name) l) (recorded_same ps bytes)
+      (subst (λ (f : FilesOutside S). Grows (before.files.held name) (f.held name) (recorded_bytes ps)) (sym files) w.file);
+  output = subst (λ (l : List ℕ). Grows before.output.taken after.output.taken l) (shown_one ps bytes)
+      (Grows-append before.output.taken mid.output.taken after.output.taken (shown_bytes ps) bytes w.output grows);
+  others = subst (λ (f : FilesOutside S). OtherFiles name before.files.held f.held) (sym files) w.others;
+  reading = ap (λ (f : FilesOutside S). f.reading) files ∙ w.reading;
+}
+
+writes_recorded : {S O : Type 0} (r : Result Unit Failed) (name : List ℕ) (before mid after : Outside S O)
+    (ps : List Piece) (bytes : List ℕ) →
+    WroteAll name before mid ps → Appends r name bytes mid after →
+    Writes (is_err r) name before after (ps ++ recorded bytes ∷ [])
+writes_recorded {S} {O} (Ok u) name before mid after ps bytes w call = record {
+  wrote = wrote_recorded name before mid after ps bytes w.wrote call.ok call.others call.reading call.output;
+  nothing_rose = record {
+    reading = call.reading ∙ w.nothing_rose.reading;
+    writing = call.writing ∙ w.nothing_rose.writing;
+    faults = ap (λ (o : Output O). o.faults) call.output ∙ w.nothing_rose.faults;
+  };
+}
+writes_recorded {S} {O} (Err e) name before mid after ps bytes w call =
+    let front = fixed_front _ _ bytes call.err in
+    record {
+      cut = record { whole = ps; piece = recorded bytes; rest = []; place = refl; bytes = front.0 };
+      wrote = wrote_recorded name before mid after ps (take front.0 bytes) w.wrote front.1 call.others call.reading
+          call.output;
+      fault = (
+        Rose-after _ _ _ w.nothing_rose.writing call.writing,
+        ap (λ (o : Output O). o.faults) call.output ∙
+            w.nothing_rose.faults,
+      );
+    }
+
+writes_shown : {S O A : Type 0} (r : Result A Failed) (name : List ℕ) (before mid after : Outside S O)
+    (ps : List Piece) (bytes : List ℕ) →
+    WroteAll name before mid ps → Shows r bytes mid after → Writes (is_err r) name before after (ps ++ shown bytes ∷ [])
+writes_shown {S} {O} {A} (Ok u) name before mid after ps bytes w call = record {
+  wrote = wrote_shown name before mid after ps bytes w.wrote call.ok call.files;
+  nothing_rose = record {
+    reading = ap (λ (f : FilesOutside S). f.reading) call.files ∙ w.nothing_rose.reading;
+    writing = ap (λ (f : FilesOutside S). f.writing) call.files ∙ w.nothing_rose.writing;
+    faults = call.faults ∙ w.nothing_rose.faults;
+  };
+}
+writes_shown {S} {O} {A} (Err e) name before mid after ps bytes w call =
+    let front = fixed_front _ _ bytes call.err in
+    record {
+      cut = record { whole = ps; piece = shown bytes; rest = []; place = refl; bytes = front.0 };
+      wrote = wrote_shown name before mid after ps (take front.0 bytes) w.wrote front.1 call.files;
+      fault = (
+        ap (λ (f : FilesOutside S). f.writing) call.files ∙ w.nothing_rose.writing,
+        Rose-after _ _ _
+            w.nothing_rose.faults call.faults,
+      );
+    }
+
+-- after a fault nothing is written any more of what comes
+writes_none : {S O : Type 0} (name : List ℕ) (before after : Outside S O) (ps qs : List Piece) →
+    WroteFront name before after ps → WroteFront name before after (ps ++ qs)
+writes_none name before after ps qs w = record {
+  cut = record {
+    whole = w.cut.whole;
+    piece = w.cut.piece;
+    rest = w.cut.rest ++ qs;
+    place = ap (λ (l : List Piece). l ++ qs) w.cut.place ∙ append_assoc w.cut.whole (w.cut.piece ∷ w.cut.rest) qs;
+    bytes = w.cut.bytes;
+  };
+  wrote = w.wrote;
+  fault = w.fault;
+}
+
+-- The outlet.
+
+-- an outlet that failed takes pieces and does nothing
+pub emits_none : {S O : Type 0} (held : S → List ℕ → Option (List ℕ)) (reading_faults writing_faults : S → ℕ)
+    (taken : O → Option (List ℕ)) (faults : O → ℕ) (o : Outlet S O) (ps : List Piece) →
+    o.failed ≡ true → Emits (Gave held reading_faults writing_faults taken faults) o o ps
+emits_none {S} {O} held reading_faults writing_faults taken faults o ps failed = record {
+  more = λ first before gave.
+      let at = λ (x : Outlet S O). outside held reading_faults writing_faults taken faults x.shelf.now x.out.now in
+      record {
+        shelf = gave.shelf;
+        output = gave.output;
+        name = gave.name;
+        wrote = λ fresh.
+            subst (λ (b : Bool). Writes b first.name.now (at first) (at o) (before ++ ps)) (sym failed)
+            (writes_none first.name.now (at first) (at o) before ps
+            (subst (λ (b : Bool). Writes b first.name.now (at first) (at o) before) failed (gave.wrote fresh)));
+      };
+}
+
+-- a piece that was appended to the record
+pub emits_recorded : {S O : Type 0} (held : S → List ℕ → Option (List ℕ)) (reading_faults writing_faults : S → ℕ)
+    (taken : O → Option (List ℕ)) (faults : O → ℕ) (old new : Outlet S O) (bytes : List ℕ) (r : Result Unit Failed) →
+    old.failed ≡ false → new.failed ≡ is_err r → new.shelf.ghost_name ≡ old.shelf.ghost_name → new.out ≡ old.out →
+    new.name ≡ old.name →
+    OnOk r (Grows (held old.shelf.now old.name.now) (held new.shelf.now old.name.now) bytes) →
+    OnErr r (GrowsByFront (held old.shelf.now old.name.now) (held new.shelf.now old.name.now) bytes) →
+    OtherFiles old.name.now (held old.shelf.now) (held new.shelf.now) →
+    Counts (writing_faults old.shelf.now) (writing_faults new.shelf.now) r →
+    reading_faults new.shelf.now ≡ reading_faults old.shelf.now →
+    Emits (Gave held reading_faults writing_faults taken faults) old new (recorded bytes ∷ [])
+emits_recorded {S} {O} held reading_faults writing_faults taken faults old new bytes r fresh failed shelf out name ok
+    err others writing reading = record {
+      more = λ first before gave.
+          let at = λ (x : Outlet S O). outside held reading_faults writing_faults taken faults x.shelf.now x.out.now in
+          let same : old.name.now ≡ first.name.now = ap (λ (n : _). n.now) gave.name in
+          let call : Appends r old.name.now bytes (at old) (at new) = record {
+            ok = ok;
+            err = err;
+            others = others;
+            writing = writing;
+            reading = reading;
+            output = ap (λ (o : _). output taken faults o.now) out;
+          } in
+          record {
+            shelf = shelf ∙ gave.shelf;
+            output = ap (λ (o : _). o.ghost_name) out ∙ gave.output;
+            name = name ∙ gave.name;
+            wrote = λ begun.
+                subst (λ (b : Bool). Writes b first.name.now (at first) (at new) (before ++ recorded bytes ∷ []))
+                (sym failed)
+                (writes_recorded r first.name.now (at first) (at old) (at new) before bytes
+                (subst (λ (b : Bool). Writes b first.name.now (at first) (at old) before) fresh (gave.wrote begun))
+                (subst (λ (n : List ℕ). Appends r n bytes (at old) (at new)) same call));
+          };
+    }
+
+-- a piece that was put to the output
+pub emits_shown : {S O A : Type 0} (held : S → List ℕ → Option (List ℕ)) (reading_faults writing_faults : S → ℕ)
+    (taken : O → Option (List ℕ)) (faults : O → ℕ) (old new : Outlet S O) (bytes : List ℕ) (r : Result A Failed) →
+    old.failed ≡ false → new.failed ≡ is_err r → new.out.ghost_name ≡ old.out.ghost_name → new.shelf ≡ old.shelf →
+    new.name ≡ old.name →
+    OnOk r (Grows (taken old.out.now) (taken new.out.now) bytes) →
+    OnErr r (GrowsByFront (taken old.out.now) (taken new.out.now) bytes) →
+    Counts (faults old.out.now) (faults new.out.now) r →
+    Emits (Gave held reading_faults writing_faults taken faults) old new (shown bytes ∷ [])
+emits_shown {S} {O} {A} held reading_faults writing_faults taken faults old new bytes r fresh failed out shelf name ok
+    err counts = record {
+      more = λ first before gave.
+          let at = λ (x : Outlet S O). outside held reading_faults writing_faults taken faults x.shelf.now x.out.now in
+          let call : Shows r bytes (at old) (at new) = record {
+            ok = ok;
+            err = err;
+            faults = counts;
+            files = ap (λ (s : _). files held reading_faults writing_faults s.now) shelf;
+          } in
+          record {
+            shelf = ap (λ (s : _). s.ghost_name) shelf ∙ gave.shelf;
+            output = out ∙ gave.output;
+            name = name ∙ gave.name;
+            wrote = λ begun.
+                subst (λ (b : Bool). Writes b first.name.now (at first) (at new) (before ++ shown bytes ∷ []))
+                (sym failed)
+                (writes_shown r first.name.now (at first) (at old) (at new) before bytes
+                (subst (λ (b : Bool). Writes b first.name.now (at first) (at old) before) fresh (gave.wrote begun))
+                call);
+          };
+    }
+
+-- the parts of what a text that was put did
+pub Puts-parts : (old new : Option (List ℕ)) (before now : ℕ) (text : List ℕ) (r : Result Unit Failed) →
+    Puts old new before now text r →
+    OnOk r (Grows old new text) × OnErr r (GrowsByFront old new text) × Counts before now r
+Puts-parts old new before now text (Ok u) puts = (puts.0, tt, puts.1)
+Puts-parts old new before now text (Err e) puts = (tt, puts.0, puts.1)
+
+-- one byte that was put: it was taken, or nothing was
+
+pub put_one : (r : Result ℕ Failed) (old new : Option (List ℕ)) (b : ℕ) → IfOk r (λ n. n ≤ 1) →
+    IfOk r (λ n. 0 < 1 → 0 < n) → IfOk r (λ n. Grows old new (take n (b ∷ []))) → OnOk r (Grows old new (b ∷ []))
+put_one (Ok n) old new b within progress grows =
+    subst (λ (k : ℕ). Grows old new (take k (b ∷ [])))
+    (let some : 0 < n = progress (omega arith) in let e : n ≡ 1 = omega (arith, within, some) in e) grows
+put_one (Err e) old new b within progress grows = tt
+
+pub put_none : (r : Result ℕ Failed) (old new : Option (List ℕ)) (bytes : List ℕ) → OnErr r (new ≡ old) →
+    OnErr r (GrowsByFront old new bytes)
+put_none (Ok n) old new bytes same = tt
+put_none (Err e) old new bytes same = GrowsByFront-none old new bytes same
+
+-- A piece that was appended, before all is written out: it stays whole.
+
+pub flushed_whole : (r : Result Unit Failed) (old mid new : Option (List ℕ)) (piece : List ℕ) → Grows old mid piece →
+    new ≡ mid → OnOk r (Grows old new piece)
+flushed_whole (Ok u) old mid new piece grows same =
+    subst (λ (t : Option (List ℕ)). Grows old t piece) (sym same) grows
+flushed_whole (Err e) old mid new piece grows same = tt
+
+pub flushed_front : (r : Result Unit Failed) (old mid new : Option (List ℕ)) (piece : List ℕ) → Grows old mid piece →
+    new ≡ mid → OnErr r (GrowsByFront old new piece)
+flushed_front (Ok u) old mid new piece grows same = tt
+flushed_front (Err e) old mid new piece grows same =
+    GrowsByFront-whole old new piece (subst (λ (t : Option (List ℕ)). Grows old t piece) (sym same) grows)
+
+pub Counts-since : (before mid now : ℕ) (r : Result Unit Failed) → mid ≡ before → Counts mid now r →
+    Counts before now r
+Counts-since before mid now r same counts = subst (λ (n : ℕ). Counts n now r) same counts
+
+-- an outlet to which nothing was given yet
+gave_start : {S O : Type 0} (held : S → List ℕ → Option (List ℕ)) (reading_faults writing_faults : S → ℕ)
+    (taken : O → Option (List ℕ)) (faults : O → ℕ) (o : Outlet S O) →
+    Gave held reading_faults writing_faults taken faults o o []
+gave_start held reading_faults writing_faults taken faults o = record {
+  shelf = refl;
+  output = refl;
+  name = refl;
+  wrote = λ fresh.
+      let at = outside held reading_faults writing_faults taken faults o.shelf.now o.out.now in
+      subst (λ (b : Bool). Writes b o.name.now at at []) (sym fresh) (record {
+        wrote = record {
+          file = Grows-none (held o.shelf.now o.name.now);
+          output = Grows-none (taken o.out.now);
+          others = λ other apart. refl;
+          reading = refl;
+        };
+        nothing_rose = record { reading = refl; writing = refl; faults = refl };
+      });
+}
+
+-- what was given to an outlet from its start on
+pub gave_all : {S O : Type 0} {held : S → List ℕ → Option (List ℕ)} {reading_faults writing_faults : S → ℕ}
+    {taken : O → Option (List ℕ)} {faults : O → ℕ} {old new : Outlet S O} {pieces : List Piece} →
+    Emits (Gave held reading_faults writing_faults taken faults) old new pieces →
+    Gave held reading_faults writing_faults taken faults old new pieces
+gave_all {S} {O} {held} {reading_faults} {writing_faults} {taken} {faults} {old} {new} {pieces} emits =
+    emits.more old [] (gave_start held reading_faults writing_faults taken faults old)
+
+-- a piece of the record under another name
+pub recorded_as : {E : Type 0} {gave : E → E → List Piece → Type 0} {e f : E} {x y : List ℕ} → x ≡ y →
+    Emits gave e f (recorded x ∷ []) → Emits gave e f (recorded y ∷ [])
+recorded_as {E} {gave} {e} {f} {x} {y} same emits =
+    subst (λ (bytes : List ℕ). Emits gave e f (recorded bytes ∷ [])) same emits

@@ -1,0 +1,340 @@
+-- The steps of a run, one after another, and its end.
+use Rattle.std.proofs.Common.{◌≡◌, ◌<◌, ℕ, suc, ◌+◌, ◌-◌, Bool, true, false, List, [], ◌∷◌, ◌++◌, length}
+use Rattle.std.proofs.Common.{refl, sym, ◌∙◌, ap, subst, append_assoc, length-append, arith, Option, Some, None}
+use Rattle.std.specs.Prelude.{unwrap_or, codes}
+use Rattle.std.proofs.lemmas.List.{append-nil}
+use Rattle.cloak_base.specs.declared.causes.Stop.{Stop}
+use Rattle.cloak_base.specs.declared.causes.Stop.TheVariants as stop
+use Rattle.cloak_model.specs.declared.image.Bundle.{Bundle}
+use Rattle.cloak_model.specs.declared.item.Item.{Item}
+use Rattle.cloak_model.specs.Exchange.{Piece, recorded, shown, record_magic, item_pieces, Emits, EmitsSome}
+use Rattle.cloak_model.specs.Opening.{Opened}
+use Rattle.cloak_model.specs.Parts.{Joint}
+use Rattle.cloak_model.specs.Report.{report}
+use Rattle.cloak_model.specs.Joint.{Moment, Turn, joint_step, after_turn, stop_of}
+use Rattle.cloak_model.specs.Run.{unless_stopped, turns_from, joint_after, last_stop, turn_pieces, turns_pieces}
+use Rattle.cloak_model.specs.Run.{closing, cause_of, first_moment, run_of, due}
+use Rattle.cloak_machine.specs.declared.machine.Machine.{Machine}
+use Rattle.cloak_machine.specs.Standing.{StandsForMoment, ShowsOpening, MakesTurn, EndsAs}
+use Rattle.cloak_machine.specs.Ending.{end_report}
+use Rattle.cloak_machine.specs.declared.end.End.{End}
+use Rattle.program_parts.specs.declared.status.Status.{Status}
+use Rattle.run_command.specs.Running.{NoClashYet, RunsSteps, EndsRun, WritesRun, last_pieces, moment_behind, status_of}
+use Rattle.run_command.proofs.ClashFacts.{rest_unclashed, turns_unclashed}
+
+-- Steps behind steps.
+
+turns_pieces-append : (number : ℕ) (ts us : List Turn) →
+    turns_pieces number (ts ++ us) ≡ turns_pieces number ts ++ turns_pieces (number + length ts) us
+unfolding turns_pieces
+turns_pieces-append number [] us = ap (λ n. turns_pieces n us) (let e : number ≡ number + 0 = omega arith in e)
+turns_pieces-append number (t ∷ ts) us =
+    ap (λ (ps : List Piece). turn_pieces number t ++ ps)
+    (turns_pieces-append (suc number) ts us ∙ ap (λ n. turns_pieces (suc number) ts ++ turns_pieces n us)
+    (let e : suc number + length ts ≡ number + suc (length ts) = omega arith in e))
+    ∙ sym (append_assoc (turn_pieces number t) (turns_pieces (suc number) ts)
+    (turns_pieces (number + suc (length ts)) us))
+
+turns_pieces-last : (number : ℕ) (ts : List Turn) (t : Turn) →
+    turns_pieces number ts ++ turn_pieces (number + length ts) t ≡ turns_pieces number (ts ++ t ∷ [])
+unfolding turns_pieces
+turns_pieces-last number ts t =
+    ap (λ (ps : List Piece). turns_pieces number ts ++ ps) (sym (append-nil (turn_pieces (number + length ts) t)))
+    ∙ sym (turns_pieces-append number ts (t ∷ []))
+
+joint_after-append : (j : Joint) (ts us : List Turn) → joint_after j (ts ++ us) ≡ joint_after (joint_after j ts) us
+unfolding joint_after
+joint_after-append j [] us = refl
+joint_after-append j (t ∷ ts) us = joint_after-append t.joint ts us
+
+last_stop-append : (so_far : Option Stop) (ts us : List Turn) →
+    last_stop so_far (ts ++ us) ≡ last_stop (last_stop so_far ts) us
+unfolding last_stop
+last_stop-append so_far [] us = refl
+last_stop-append so_far (t ∷ ts) us = last_stop-append (stop_of t) ts us
+
+last_stop-last : (so_far : Option Stop) (ts : List Turn) (t : Turn) → last_stop so_far (ts ++ t ∷ []) ≡ stop_of t
+unfolding last_stop
+last_stop-last so_far ts t = last_stop-append so_far ts (t ∷ [])
+
+behind_none : (m : Moment) → moment_behind m [] ≡ m
+unfolding joint_after
+behind_none m i = record {
+  schedule = m.schedule;
+  steps = (let e : m.steps + 0 ≡ m.steps = omega arith in e) i;
+  joint = m.joint;
+}
+
+behind_last : (m : Moment) (ts : List Turn) (t : Turn) →
+    after_turn (moment_behind m ts) t ≡ moment_behind m (ts ++ t ∷ [])
+unfolding joint_after
+behind_last m ts t i = record {
+  schedule = m.schedule;
+  steps = (let long = length-append ts (t ∷ []) in let e : m.steps + length ts + 1 ≡ m.steps + length (ts ++ t ∷ []) =
+      omega (arith, long) in e) i;
+  joint = sym (joint_after-append m.joint ts (t ∷ [])) i;
+}
+
+-- the next of the steps that are left
+turns_from-next : (n budget : ℕ) (m : Moment) → n < budget →
+    turns_from (budget - n) m ≡ joint_step m ∷ unless_stopped (stop_of (joint_step m)) (turns_from (budget - (n + 1)))
+    (after_turn m (joint_step m))
+unfolding turns_from
+turns_from-next n budget m within =
+    ap (λ k. turns_from k m) (let e : budget - n ≡ suc (budget - (n + 1)) = omega (arith, within) in e)
+
+turns_from-none : (n budget : ℕ) (m : Moment) → n ≡ budget → turns_from (budget - n) m ≡ []
+unfolding turns_from
+turns_from-none n budget m all = ap (λ k. turns_from k m) (let e : budget - n ≡ 0 = omega (arith, all) in e)
+
+-- These steps were emitted, none stopped the run, the machine stands behind them, and those that are left follow.
+pub record GoesOn {E : Type 0} (gave : E → E → List Piece → Type 0) (e e' : E) (machine : Machine) (n budget : ℕ)
+    (m : Moment) : Type 0 where
+  pub made : List Turn
+  pub count : length made ≡ n
+  pub emits : Emits gave e e' (turns_pieces (suc m.steps) made)
+  pub on : last_stop None made ≡ None
+  pub stands : StandsForMoment machine (moment_behind m made)
+  pub left : turns_from budget m ≡ made ++ turns_from (budget - n) (moment_behind m made)
+
+-- nothing is given
+pub emits_nothing : {E : Type 0} {gave : E → E → List Piece → Type 0} (e : E) → Emits gave e e []
+emits_nothing {E} {gave} e =
+    record { more = λ first before given. subst (λ (ps : List Piece). gave first e ps) (sym (append-nil before)) given }
+
+-- pieces, and then others
+pub emits_then : {E : Type 0} {gave : E → E → List Piece → Type 0} {e f h : E} {ps qs : List Piece} →
+    Emits gave e f ps → Emits gave f h qs → Emits gave e h (ps ++ qs)
+emits_then {E} {gave} {e} {f} {h} {ps} {qs} first second = record {
+  more = λ start before given.
+      subst (λ (pieces : List Piece). gave start h pieces) (append_assoc before ps qs)
+      (second.more start (before ++ ps) (first.more start before given));
+}
+
+-- some pieces, and then others
+pub some_then : {E : Type 0} {gave : E → E → List Piece → Type 0} {e f h : E} →
+    EmitsSome gave e f → EmitsSome gave f h → EmitsSome gave e h
+some_then {E} {gave} {e} {f} {h} first second = (first.0 ++ second.0, emits_then first.1 second.1)
+
+-- the same pieces under another name
+pub emits_as : {E : Type 0} {gave : E → E → List Piece → Type 0} {e f : E} {ps qs : List Piece} → ps ≡ qs →
+    Emits gave e f ps → Emits gave e f qs
+emits_as {E} {gave} {e} {f} {ps} {qs} same emits = subst (λ (pieces : List Piece). Emits gave e f pieces) same emits
+
+-- no step yet
+pub goes_on-start : {E : Type 0} (gave : E → E → List Piece → Type 0) (e : E) (machine : Machine) (budget : ℕ)
+    (m : Moment) → StandsForMoment machine m → GoesOn gave e e machine 0 budget m
+unfolding turns_pieces last_stop
+goes_on-start gave e machine budget m stands = record {
+  made = [];
+  count = refl;
+  emits = emits_nothing e;
+  on = refl;
+  stands = subst (λ (x : Moment). StandsForMoment machine x) (sym (behind_none m)) stands;
+  left = (λ i. turns_from ((let same : budget ≡ budget - 0 = omega arith in same) i) (sym (behind_none m) i));
+}
+
+-- What one step more comes to, by why it stopped the run.
+record IsMade {E : Type 0} (gave : E → E → List Piece → Type 0) (e e' : E) (machine : Machine) (n budget : ℕ)
+    (m : Moment) (given : Option Stop) : Type 0 where
+  made : List Turn
+  now : Moment
+  now_is : now ≡ moment_behind m made
+  count : length made ≡ n + 1
+  emits : Emits gave e e' (turns_pieces (suc m.steps) made)
+  last : last_stop None made ≡ given
+  stands : StandsForMoment machine now
+  left : turns_from budget m ≡ made ++ unless_stopped given (turns_from (budget - (n + 1))) now
+
+is_made : {E : Type 0} (gave : E → E → List Piece → Type 0) (e f h : E) (old new : Machine) (given : Option Stop)
+    (n budget : ℕ) (m : Moment) (on : GoesOn gave e f old n budget m) →
+    MakesTurn gave f h new given (moment_behind m on.made) (joint_step (moment_behind m on.made)) → n < budget →
+    IsMade gave e h new n budget m given
+is_made {E} gave e f h old new given n budget m on makes within =
+    let here = moment_behind m on.made in
+    let t = joint_step here in
+    record {
+      made = on.made ++ t ∷ [];
+      now = after_turn here t;
+      now_is = behind_last m on.made t;
+      count = (let long = length-append on.made (t ∷ []) in let so_far = on.count in omega (arith, long, so_far));
+      emits = emits_as
+          (ap (λ k. turns_pieces (suc m.steps) on.made ++ turn_pieces k t)
+          (let e : m.steps + length on.made + 1 ≡ suc m.steps + length on.made = omega arith in e) ∙ turns_pieces-last
+          (suc m.steps) on.made t)
+          (emits_then on.emits makes.emits);
+      last = last_stop-last None on.made t ∙ sym makes.answer;
+      stands = makes.stands;
+      left =
+          on.left
+          ∙ ap (λ (ts : List Turn). on.made ++ ts) (turns_from-next n budget here within)
+          ∙ sym (append_assoc on.made (t ∷ [])
+          (unless_stopped (stop_of t) (turns_from (budget - (n + 1))) (after_turn here t)))
+          ∙ ap (λ (o : Option Stop). (on.made ++ t ∷ []) ++ unless_stopped o (turns_from (budget - (n + 1)))
+          (after_turn here t)) (sym makes.answer);
+    }
+
+-- no clash behind the steps that are left: none behind the first of them
+next_unclashed : (n budget : ℕ) (m : Moment) (made : List Turn) →
+    turns_from budget m ≡ made ++ turns_from (budget - n) (moment_behind m made) → n < budget →
+    NoClashYet (joint_after m.joint (turns_from budget m)) →
+    NoClashYet (joint_step (moment_behind m made)).joint
+unfolding joint_after
+next_unclashed n budget m made left within none =
+    let here = moment_behind m made in
+    let t = joint_step here in
+    let rest = unless_stopped (stop_of t) (turns_from (budget - (n + 1))) (after_turn here t) in
+    let behind : joint_after m.joint (turns_from budget m) ≡ joint_after t.joint rest =
+    ap (λ (ts : List Turn). joint_after m.joint ts)
+    (left ∙ ap (λ (ts : List Turn). made ++ ts) (turns_from-next n budget here within))
+    ∙ joint_after-append m.joint made (t ∷ rest) in
+    rest_unclashed (stop_of t) (turns_from (budget - (n + 1))) (after_turn here t)
+    (turns_unclashed (budget - (n + 1)) (after_turn here t)) (subst NoClashYet behind none)
+
+pub unclashed-next : {E : Type 0} (gave : E → E → List Piece → Type 0) (e f : E) (machine : Machine) (n budget : ℕ)
+    (m : Moment) (on : GoesOn gave e f machine n budget m) → n < budget →
+    NoClashYet (joint_after m.joint (turns_from budget m)) → NoClashYet (joint_step (moment_behind m on.made)).joint
+unclashed-next gave e f machine n budget m on within none = next_unclashed n budget m on.made on.left within none
+
+-- one step more that does not stop the run
+goes_on-made : {E : Type 0} (gave : E → E → List Piece → Type 0) (e h : E) (new : Machine) (n budget : ℕ) (m : Moment)
+    (given : Option Stop) → given ≡ None →
+    IsMade gave e h new n budget m given → GoesOn gave e h new (n + 1) budget m
+goes_on-made {E} gave e h new n budget m given goes made = record {
+  made = made.made;
+  count = made.count;
+  emits = made.emits;
+  on = made.last ∙ goes;
+  stands = subst (λ (x : Moment). StandsForMoment new x) made.now_is made.stands;
+  left =
+      made.left
+      ∙ ap (λ (o : Option Stop). made.made ++ unless_stopped o (turns_from (budget - (n + 1))) made.now) goes
+      ∙ ap (λ (x : Moment). made.made ++ turns_from (budget - (n + 1)) x) made.now_is;
+}
+
+pub goes_on-more : {E : Type 0} (gave : E → E → List Piece → Type 0) (e f h : E) (old new : Machine)
+    (given : Option Stop) (n budget : ℕ) (m : Moment) (on : GoesOn gave e f old n budget m) →
+    MakesTurn gave f h new given (moment_behind m on.made) (joint_step (moment_behind m on.made)) → n < budget →
+    given ≡ None → GoesOn gave e h new (n + 1) budget m
+goes_on-more gave e f h old new given n budget m on makes within goes =
+    goes_on-made gave e h new n budget m given goes (is_made gave e f h old new given n budget m on makes within)
+
+-- one step more that stops the run
+stops-made : {E : Type 0} (gave : E → E → List Piece → Type 0) (failed : Bool) (e h : E) (new : Machine)
+    (n budget : ℕ) (m : Moment) (given : Option Stop) (cause : Stop) → given ≡ Some cause →
+    IsMade gave e h new n budget m given → RunsSteps gave failed e h new (Some cause) m (turns_from budget m)
+stops-made {E} gave failed e h new n budget m given cause stopped made =
+    let all : turns_from budget m ≡ made.made =
+    made.left
+    ∙ ap (λ (o : Option Stop). made.made ++ unless_stopped o (turns_from (budget - (n + 1))) made.now) stopped
+    ∙ append-nil made.made in
+    subst (λ (ts : List Turn). RunsSteps gave failed e h new (Some cause) m ts) (sym all) (record {
+      emits = made.emits;
+      made = λ unfailed. record {
+        last = sym stopped ∙ sym made.last;
+        stands = subst (λ (x : Moment). StandsForMoment new x) made.now_is made.stands;
+      };
+    })
+
+pub stops-more : {E : Type 0} (gave : E → E → List Piece → Type 0) (failed : Bool) (e f h : E) (old new : Machine)
+    (given : Option Stop) (cause : Stop) (n budget : ℕ) (m : Moment) (on : GoesOn gave e f old n budget m) →
+    MakesTurn gave f h new given (moment_behind m on.made) (joint_step (moment_behind m on.made)) →
+    given ≡ Some cause → n < budget → RunsSteps gave failed e h new (Some cause) m (turns_from budget m)
+stops-more gave failed e f h old new given cause n budget m on makes stopped within =
+    stops-made gave failed e h new n budget m given cause stopped
+    (is_made gave e f h old new given n budget m on makes within)
+
+-- all steps of the budget, of which none stopped the run
+pub runs-all : {E : Type 0} (gave : E → E → List Piece → Type 0) (failed : Bool) (e f : E) (machine : Machine)
+    (budget n : ℕ) (m : Moment) →
+    GoesOn gave e f machine n budget m → n ≡ budget → RunsSteps gave failed e f machine None m (turns_from budget m)
+runs-all {E} gave failed e f machine budget n m on whole =
+    let all : turns_from budget m ≡ on.made =
+    on.left ∙ ap (λ (ts : List Turn). on.made ++ ts)
+    (turns_from-none n budget (moment_behind m on.made) whole) ∙ append-nil on.made in
+    subst (λ (ts : List Turn). RunsSteps gave failed e f machine None m ts) (sym all) (record {
+      emits = on.emits;
+      made = λ unfailed. record { last = sym on.on; stands = on.stands };
+    })
+
+-- as many steps as there were until the outlet failed, which is then given the others in vain
+pub runs-failed : {E : Type 0} (gave : E → E → List Piece → Type 0) (failed : Bool) (e f : E) (machine : Machine)
+    (given : Option Stop) (budget n : ℕ) (m : Moment) →
+    GoesOn gave e f machine n budget m → failed ≡ true → ((ps : List Piece) → Emits gave f f ps) →
+    RunsSteps gave failed e f machine given m (turns_from budget m)
+runs-failed {E} gave failed e f machine given budget n m on broken none =
+    let rest = turns_from (budget - n) (moment_behind m on.made) in
+    record {
+      emits = emits_as (sym (turns_pieces-append (suc m.steps) on.made rest) ∙ ap
+          (λ (ts : List Turn). turns_pieces (suc m.steps) ts) (sym on.left))
+          (emits_then on.emits (none (turns_pieces (suc m.steps + length on.made) rest)));
+      made = λ unfailed. absurd (let clash : true ≡ false = sym broken ∙ unfailed in cc);
+    }
+
+-- The end.
+
+-- the text of a report under another name
+emits_text : {E : Type 0} {gave : E → E → List Piece → Type 0} {e f : E} {x y : List ℕ} → x ≡ y →
+    Emits gave e f (shown x ∷ []) → Emits gave e f (shown y ∷ [])
+emits_text {E} {gave} {e} {f} {x} {y} same emits =
+    subst (λ (text : List ℕ). Emits gave e f (shown text ∷ [])) same emits
+
+-- the pieces of a run
+pieces_of_run : (b : Bundle) (steps : ℕ) (o : Opened) →
+    let turns = turns_from steps (first_moment b o.joint) in
+    let closed = closing (joint_after o.joint turns) in
+    recorded record_magic ∷ (item_pieces o.items ++ (turns_pieces 1 turns
+    ++ last_pieces (cause_of closed.joint (last_stop None turns)) (length turns) closed)) ≡ due (run_of b steps o)
+unfolding due run_of
+pieces_of_run b steps o = refl
+
+-- a run whose outlet failed before its steps were over, and is given the rest in vain
+pub writes-front : {E : Type 0} (gave : E → E → List Piece → Type 0) (failed : Bool) (e f g h : E) (opened : Machine)
+    (machine : Machine) (stopped : Option Stop) (given : Status) (b : Bundle) (steps : ℕ) (o : Opened) →
+    Emits gave e f (recorded record_magic ∷ []) → ShowsOpening gave f g opened b o →
+    RunsSteps gave failed g h machine stopped (first_moment b o.joint)
+    (turns_from steps (first_moment b o.joint)) → failed ≡ true →
+    ((ps : List Piece) → Emits gave h h ps) → WritesRun gave failed e h given (run_of b steps o)
+writes-front gave failed e f g h opened machine stopped given b steps o first opens runs broken none = record {
+  emits = emits_as (pieces_of_run b steps o)
+      (emits_then first (emits_then opens.emits (emits_then runs.emits (none _))));
+  status = λ unfailed. absurd (let clash : true ≡ false = sym broken ∙ unfailed in cc);
+}
+
+-- a run whose steps were made, and whose end was written
+pub writes-whole : {E : Type 0} (gave : E → E → List Piece → Type 0) (mid_failed failed : Bool) (e f g h i : E)
+    (opened machine : Machine) (stopped : Option Stop) (cause : Stop) (given : Status) (b : Bundle) (steps : ℕ)
+    (o : Opened) → Emits gave e f (recorded record_magic ∷ []) → ShowsOpening gave f g opened b o →
+    RunsSteps gave mid_failed g h machine stopped (first_moment b o.joint)
+    (turns_from steps (first_moment b o.joint)) → mid_failed ≡ false →
+    cause ≡ unwrap_or stopped stop.Budget →
+    ((m : Moment) → StandsForMoment machine m → EndsRun gave h i given cause m.steps (closing m.joint)) →
+    WritesRun gave failed e i given (run_of b steps o)
+unfolding run_of
+writes-whole {E} gave mid_failed failed e f g h i opened machine stopped cause given b steps o first opens runs well
+    unwrapped ends =
+    let turns = turns_from steps (first_moment b o.joint) in
+    let all = runs.made well in
+    let end = ends (moment_behind (first_moment b o.joint) turns) all.stands in
+    let closed = closing (joint_after o.joint turns) in
+    let same : cause_of closed.joint (Some cause) ≡ cause_of closed.joint (last_stop None turns) =
+    ap (λ (s : Stop). cause_of closed.joint (Some s))
+    (unwrapped ∙ ap (λ (s : Option Stop). unwrap_or s stop.Budget) all.last) in
+    record {
+      emits = emits_as (pieces_of_run b steps o) (emits_then first (emits_then opens.emits (emits_then runs.emits
+          (emits_as (λ k. last_pieces (same k) ((let e : 0 + length turns ≡ length turns = omega arith in e) k)
+          closed) end.emits))));
+      status = λ unfailed. end.status ∙ ap status_of same;
+    }
+
+-- the end of a run, by what the machine's end emits and says
+pub ends_run : {E : Type 0} {gave : E → E → List Piece → Type 0} {e f g h : E} {end : End} {stopped : Stop}
+    {m : Moment} {closed : Opened} {given : Status} →
+    EndsAs gave e f end stopped m closed → Emits gave f g (shown (codes "\n") ∷ []) →
+    Emits gave g h (shown (end_report end) ∷ []) → given ≡ status_of end.stop →
+    EndsRun gave e h given stopped m.steps closed
+ends_run {E} {gave} {e} {f} {g} {h} {end} {stopped} {m} {closed} {given} ends line lines is = record {
+  emits = emits_then ends.emits
+      (emits_then line (emits_text (ends.report ∙ ap (λ (s : Stop). report s m.steps closed.joint) ends.stop) lines));
+  status = is ∙ ap status_of ends.stop;
+}

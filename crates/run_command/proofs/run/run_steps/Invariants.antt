@@ -1,0 +1,23 @@
+use Rattle.std.proofs.Common.{◌≡◌}
+use Rattle.cloak_model.specs.Exchange.{EmitsSome}
+use Rattle.cloak_model.specs.Joint.{Moment}
+use Rattle.cloak_model.specs.Run.{joint_after, turns_from}
+use Rattle.cloak_machine.specs.Standing.{StandsForMoment, steps_made}
+use Rattle.run_command.specs.Outlet.{Gave}
+use Rattle.run_command.specs.Running.{NoClashYet}
+use Rattle.run_command.proofs.RunFacts.{GoesOn}
+use Rattle.run_command.proofs.run.run_steps.Given as goal
+
+-- the steps so far were emitted, and none stopped the run
+abbrev pub invariant-loop-made : goal.invariant-loop-made
+invariant-loop-made g l = record {
+  same_shelf : l.outlet.shelf.ghost_name ≡ l.fn.outlet.shelf.ghost_name;
+  same_out : l.outlet.out.ghost_name ≡ l.fn.outlet.out.ghost_name;
+  made : steps_made l.machine ≡ l.made;
+  some : EmitsSome
+      (Gave g.S.Shelf.held g.S.Shelf.reading_faults g.S.Shelf.writing_faults g.O.Sink.taken g.O.Sink.faults)
+      l.fn.outlet l.outlet;
+  runs : (m : Moment) → StandsForMoment l.fn.machine m → NoClashYet (joint_after m.joint (turns_from l.steps m)) →
+      GoesOn (Gave g.S.Shelf.held g.S.Shelf.reading_faults g.S.Shelf.writing_faults g.O.Sink.taken g.O.Sink.faults)
+      l.fn.outlet l.outlet l.machine l.made l.steps m;
+}

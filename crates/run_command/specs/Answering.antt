@@ -1,0 +1,86 @@
+-- What a run answers, each status with its cause.
+use Rattle.std.specs.Prelude.{ℕ, ◌≡◌, ◌⊎◌, List, [], Option, Ok}
+use Rattle.cloak_base.specs.Random.{Random}
+use Rattle.outside_io.specs.Told.{Tells, SameFiles, OtherFiles}
+use Rattle.cloak_model.specs.declared.image.Bundle.{Bundle}
+use Rattle.cloak_model.specs.Run.{Run, joint_run}
+use Rattle.command_words.specs.Command as spec
+use Rattle.program_parts.specs.declared.status.Status.{Status}
+use Rattle.program_parts.specs.declared.status.Status.TheVariants as status
+use Rattle.program_parts.specs.NoRun.{AsksBundle, IsRefused, LineFailed}
+use Rattle.program_parts.specs.Outside.{Outside, Raised, NothingRose}
+use Rattle.run_command.specs.Recording.{IsWritten, IsCutOff, GrowsSome, FailedSome}
+use Rattle.run_command.specs.Running.{NoClash}
+
+-- The words ask for this joint run.
+pub record AsksRun (asked : spec.Asked) (held : List ℕ → Option (List ℕ)) (record_name : List ℕ) (r : Run) : Type 0
+  where
+    pub steps : ℕ
+    pub bundle : Bundle
+    pub stream : Random
+    pub asks : AsksBundle asked held record_name steps bundle stream
+    pub joint : joint_run bundle stream steps ≡ Ok r
+
+-- The run.
+
+-- The run was made. Where no pages clashed in it, all that is due of it was written.
+pub record HasRun {S O : Type 0} (asked : spec.Asked) (answer : Status) (before after : Outside S O) : Type 0 where
+  pub record_name : List ℕ
+  pub made : Run
+  pub asks : AsksRun asked before.files.held record_name made
+  pub written : NoClash made → IsWritten made record_name answer before after
+  pub grows : GrowsSome before.output.taken after.output.taken
+  pub others : OtherFiles record_name before.files.held after.files.held
+  pub nothing_rose : NothingRose before after
+
+-- Faults of writing.
+
+-- The record of a run could not be begun: it is empty or has its bytes, and nothing was done to the output.
+pub record BeginFailed {S O : Type 0} (asked : spec.Asked) (before after : Outside S O) : Type 0 where
+  pub record_name : List ℕ
+  pub due_run : Run
+  pub asks : AsksRun asked before.files.held record_name due_run
+  pub file : (after.files.held record_name ≡ before.files.held record_name) ⊎ Tells (after.files.held record_name) []
+  pub others : OtherFiles record_name before.files.held after.files.held
+  pub reading : after.files.reading ≡ before.files.reading
+  pub writing : Raised before.files.writing after.files.writing
+  pub untouched : after.output ≡ before.output
+
+-- A run broke off. Where no pages clashed in it, what is due of it was cut off at one place.
+pub record BrokeOff {S O : Type 0} (asked : spec.Asked) (before after : Outside S O) : Type 0 where
+  pub record_name : List ℕ
+  pub due_run : Run
+  pub asks : AsksRun asked before.files.held record_name due_run
+  pub cut_off : NoClash due_run → IsCutOff Raised due_run record_name before after
+  pub grows : GrowsSome before.output.taken after.output.taken
+  pub others : OtherFiles record_name before.files.held after.files.held
+  pub reading : after.files.reading ≡ before.files.reading
+  pub fault : FailedSome Raised before after
+
+abbrev pub IsWriteFault : {S O : Type 0} → spec.Asked → Outside S O → Outside S O → Type 0
+IsWriteFault asked before after =
+    LineFailed asked before after ⊎ (BeginFailed asked before after ⊎ BrokeOff asked before after)
+
+-- What each status says. Its causes exclude each other, so each status comes exactly there; only want of
+-- memory may stand in the place of another, before anything is written.
+abbrev pub RunAnswers : {S O : Type 0} → spec.Asked → Outside S O → Outside S O → Status → Type 0
+RunAnswers asked before after status.Done = HasRun asked status.Done before after
+RunAnswers asked before after status.Violation = HasRun asked status.Violation before after
+RunAnswers asked before after status.Usage = IsRefused asked status.Usage before after
+RunAnswers asked before after status.BadBundle = IsRefused asked status.BadBundle before after
+RunAnswers asked before after status.ReadFault = IsRefused asked status.ReadFault before after
+RunAnswers asked before after status.WriteFault = IsWriteFault asked before after
+RunAnswers asked before after status.NoMemory = IsRefused asked status.NoMemory before after
+RunAnswers asked before after status.NoRandom =
+    IsRefused asked status.NoRandom before after ⊎ HasRun asked status.NoRandom before after
+RunAnswers asked before after status.BadRecord = ⊥
+RunAnswers asked before after status.Unbuilt = IsRefused asked status.Unbuilt before after
+
+-- Every file keeps its bytes, save the record's of a run that was begun, or might have been. (A write fault and want
+-- of randomness say by their causes which.)
+abbrev pub KeepsFiles : spec.Asked → Status → (List ℕ → Option (List ℕ)) → (List ℕ → Option (List ℕ)) → Type 0
+KeepsFiles (spec.Run bundle record_name steps from) status.Done held held' = OtherFiles record_name held held'
+KeepsFiles (spec.Run bundle record_name steps from) status.Violation held held' = OtherFiles record_name held held'
+KeepsFiles (spec.Run bundle record_name steps from) status.WriteFault held held' = OtherFiles record_name held held'
+KeepsFiles (spec.Run bundle record_name steps from) status.NoRandom held held' = OtherFiles record_name held held'
+KeepsFiles asked answer held held' = SameFiles held held'

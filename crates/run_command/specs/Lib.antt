@@ -1,0 +1,5 @@
+pub mod Outlet
+pub mod Running
+pub mod Recording
+pub mod Preparing
+pub mod Answering

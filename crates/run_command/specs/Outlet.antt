@@ -1,0 +1,66 @@
+-- What an outlet wrote.
+use Rattle.std.specs.Prelude.{ℕ, ◌≡◌, Bool, true, false, List, [], ◌∷◌, ◌++◌, take, Option}
+use Rattle.outside_io.specs.Told.{Grows, Rose, OtherFiles}
+use Rattle.cloak_model.specs.Exchange.{Piece, recorded, shown, recorded_bytes, shown_bytes}
+use Rattle.program_parts.specs.Outside.{Outside, NothingRose, outside}
+use Rattle.run_command.specs.declared.outlet.Outlet.{Outlet}
+
+-- a front of a piece
+abbrev pub front_of : ℕ → Piece → Piece
+front_of n (recorded bytes) = recorded (take n bytes)
+front_of n (shown bytes) = shown (take n bytes)
+
+-- One list of pieces is cut at one place: those before it are whole, of the piece there a front is left, and nothing of
+-- those behind it.
+pub record Cut (pieces : List Piece) : Type 0 where
+  pub whole : List Piece
+  pub piece : Piece
+  pub rest : List Piece
+  pub place : pieces ≡ whole ++ piece ∷ rest
+  -- the bytes of the front
+  pub bytes : ℕ
+
+-- the pieces that are left
+abbrev pub pieces_left : {pieces : List Piece} → Cut pieces → List Piece
+pieces_left cut = cut.whole ++ front_of cut.bytes cut.piece ∷ []
+
+-- the count of faults of where the piece goes rose so, and no other
+abbrev pub FailedAt : {S O : Type 0} → (ℕ → ℕ → Type 0) → Piece → Outside S O → Outside S O → Type 0
+FailedAt rose (recorded bytes) before after =
+    rose before.files.writing after.files.writing × (after.output.faults ≡ before.output.faults)
+FailedAt rose (shown bytes) before after =
+    (after.files.writing ≡ before.files.writing) × rose before.output.faults after.output.faults
+
+-- these pieces were written, those for the record to the file of this name, and nothing else was done
+pub record Wrote {S O : Type 0} (name : List ℕ) (before after : Outside S O) (pieces : List Piece) : Type 0 where
+  pub file : Grows (before.files.held name) (after.files.held name) (recorded_bytes pieces)
+  pub output : Grows before.output.taken after.output.taken (shown_bytes pieces)
+  pub others : OtherFiles name before.files.held after.files.held
+  pub reading : after.files.reading ≡ before.files.reading
+
+-- all of these pieces were written
+pub record WroteAll {S O : Type 0} (name : List ℕ) (before after : Outside S O) (pieces : List Piece) : Type 0 where
+  pub wrote : Wrote name before after pieces
+  pub nothing_rose : NothingRose before after
+
+-- of these pieces was written what is left where they are cut at a fault
+pub record WroteFront {S O : Type 0} (name : List ℕ) (before after : Outside S O) (pieces : List Piece) : Type 0 where
+  pub cut : Cut pieces
+  pub wrote : Wrote name before after (pieces_left cut)
+  pub fault : FailedAt Rose cut.piece before after
+
+-- what was written, by whether the outlet failed
+abbrev pub Writes : {S O : Type 0} → Bool → List ℕ → Outside S O → Outside S O → List Piece → Type 0
+Writes false name before after pieces = WroteAll name before after pieces
+Writes true name before after pieces = WroteFront name before after pieces
+
+-- From an earlier state of an outlet to a later one these pieces were given to it: it writes to the same
+-- places, and wrote them.
+pub record Gave {S O : Type 0} (held : S → List ℕ → Option (List ℕ)) (reading_faults writing_faults : S → ℕ)
+    (taken : O → Option (List ℕ)) (faults : O → ℕ) (first now : Outlet S O) (pieces : List Piece) : Type 0 where
+  pub shelf : now.shelf.ghost_name ≡ first.shelf.ghost_name
+  pub output : now.out.ghost_name ≡ first.out.ghost_name
+  pub name : now.name ≡ first.name
+  pub wrote : first.failed ≡ false → Writes now.failed first.name.now
+      (outside held reading_faults writing_faults taken faults first.shelf.now first.out.now)
+      (outside held reading_faults writing_faults taken faults now.shelf.now now.out.now) pieces

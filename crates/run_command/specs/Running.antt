@@ -1,0 +1,72 @@
+-- A run over an outlet.
+use Rattle.std.specs.Prelude.{ℕ, suc, ◌≡◌, ◌+◌, Bool, false, List, [], ◌∷◌, ◌++◌, length, codes, Option, Some}
+use Rattle.std.specs.Prelude.{None}
+use Rattle.cloak_base.specs.declared.causes.Stop.{Stop}
+use Rattle.cloak_base.specs.declared.causes.Stop.TheVariants as stop
+use Rattle.cloak_model.specs.declared.item.Item.TheVariants as item
+use Rattle.cloak_model.specs.Exchange.{Piece, shown, Emits, item_pieces}
+use Rattle.cloak_model.specs.Opening.{Opened}
+use Rattle.cloak_model.specs.Report.{report}
+use Rattle.cloak_model.specs.Parts.{Joint}
+use Rattle.cloak_model.specs.Joint.{Moment, Turn}
+use Rattle.cloak_model.specs.Run.{Run, joint_after, last_stop, turns_pieces, cause_of, due}
+use Rattle.cloak_machine.specs.declared.machine.Machine.{Machine}
+use Rattle.cloak_machine.specs.Standing.{StandsForMoment}
+use Rattle.program_parts.specs.declared.status.Status.{Status}
+use Rattle.program_parts.specs.declared.status.Status.TheVariants as status
+
+-- the moment behind these steps
+abbrev pub moment_behind : Moment → List Turn → Moment
+moment_behind m turns = record {
+  schedule = m.schedule;
+  steps = m.steps + length turns;
+  joint = joint_after m.joint turns;
+}
+
+-- all of these steps were made, and the last of them stopped the run for this cause, if it did
+pub record MadeAll (machine : Machine) (stopped : Option Stop) (m : Moment) (turns : List Turn) : Type 0 where
+  pub last : stopped ≡ last_stop None turns
+  pub stands : StandsForMoment machine (moment_behind m turns)
+
+-- the pieces of these steps were given, and all of them were made unless the outlet failed
+pub record RunsSteps {E : Type 0} (gave : E → E → List Piece → Type 0) (failed : Bool) (e e' : E) (machine : Machine)
+    (stopped : Option Stop) (m : Moment) (turns : List Turn) : Type 0 where
+  pub emits : Emits gave e e' (turns_pieces (suc m.steps) turns)
+  pub made : failed ≡ false → MadeAll machine stopped m turns
+
+-- the pieces behind the steps of a run that ended so
+abbrev pub last_pieces : Stop → ℕ → Opened → List Piece
+last_pieces cause steps closed =
+    item_pieces (item.Close steps ∷ (closed.items ++ item.End ∷ []))
+    ++ (shown (codes "\n") ∷ shown (report cause steps closed.joint) ∷ [])
+
+-- Up to now no two different pages that were compared had one digest.
+abbrev pub NoClashYet : Joint → Type 0
+NoClashYet j = j.memory.ledger.clashed ≡ false
+
+-- In the whole run no two different pages that were compared had one digest. (What clashed once stays so.)
+abbrev pub NoClash : Run → Type 0
+NoClash r = NoClashYet r.closed.joint
+
+-- the status of a run that this stopped
+abbrev pub status_of : Stop → Status
+status_of (stop.Halt value) = status.Done
+status_of stop.Budget = status.Done
+status_of (stop.Violation violation) = status.Violation
+status_of stop.NoRandom = status.NoRandom
+
+-- a status that some run has
+abbrev pub IsStatusOfStop : Status → Type 0
+IsStatusOfStop given = (cause : Stop) × (given ≡ status_of cause)
+
+-- The end of a run that this stopped behind so many steps, and that closed so, was given, and its status answered.
+pub record EndsRun {E : Type 0} (gave : E → E → List Piece → Type 0) (e e' : E) (given : Status) (stopped : Stop)
+    (steps : ℕ) (closed : Opened) : Type 0 where
+  pub emits : Emits gave e e' (last_pieces (cause_of closed.joint (Some stopped)) steps closed)
+  pub status : given ≡ status_of (cause_of closed.joint (Some stopped))
+
+-- what is due of a run was given, and the answer is its status unless the outlet failed
+pub record WritesRun {E : Type 0} (gave : E → E → List Piece → Type 0) (failed : Bool) (e e' : E) (given : Status)
+    (r : Run) : Type 0 where
+  pub emits : Emits gave e e' (due r)
+  pub status : failed ≡ false → given ≡ status_of r.stop

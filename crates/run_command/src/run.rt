@@ -1,0 +1,112 @@
+//! A run from its first step to its report.
+ghost use Rattle.std.specs.Prelude.{◌≡◌, ◌≤◌, [], Some, false};
+ghost use Rattle.cloak_base.specs.Random.{Random};
+ghost use Rattle.cloak_model.specs.declared.image.Bundle.{Bundle};
+ghost use Rattle.cloak_model.specs.Run.{most_steps};
+ghost use Rattle.cloak_model.specs.Exchange.{Emits, EmitsSome};
+ghost use Rattle.cloak_model.specs.Joint.{Moment};
+ghost use Rattle.cloak_model.specs.Opening.{Opened, opening};
+ghost use Rattle.cloak_model.specs.Run.{cause_of, closing, first_moment, joint_after, run_of, turns_from};
+ghost use Rattle.cloak_machine.specs.Standing.{StandsForMoment, steps_made};
+ghost use Rattle.run_command.specs.Outlet.{Gave};
+ghost use Rattle.run_command.specs.Running.{EndsRun, IsStatusOfStop, NoClash, NoClashYet, RunsSteps, WritesRun};
+ghost use Rattle.run_command.specs.Running.{status_of};
+
+use crate::outlet::Outlet;
+use cloak_base::Stop;
+use cloak_machine::Machine;
+use cloak_model::Program;
+use outside_io::{Shelf, Sink};
+use program_parts::Status;
+
+/// Makes up to this many steps, and answers why the last one stopped the run, if it did. Nothing more is
+/// done once the outlet failed.
+fn run_steps<S: Shelf, O: Sink>(
+    machine: &mut Machine,
+    steps: u32,
+    outlet: &mut Outlet<'_, '_, '_, S, O>,
+) -> Option<Stop>
+    requires fresh { steps_made machine.old ≡ 0 }
+    requires few { steps ≤ most_steps }
+    ensures same_shelf { outlet.new.shelf.ghost_name ≡ outlet.old.shelf.ghost_name }
+    ensures same_out { outlet.new.out.ghost_name ≡ outlet.old.out.ghost_name }
+    ensures emits_some { EmitsSome (Gave S.held S.reading_faults S.writing_faults O.taken O.faults)
+        outlet.old outlet.new }
+    ensures runs { (m : Moment) → StandsForMoment machine.old m →
+        NoClashYet (joint_after m.joint (turns_from steps m)) →
+        RunsSteps (Gave S.held S.reading_faults S.writing_faults O.taken O.faults) outlet.new.failed
+        outlet.old outlet.new machine.new result m (turns_from steps m) }
+{
+    for made in 0..steps {
+        let _ = made;
+        if outlet.failed {
+            return None;
+        }
+        if let Some(stop) = machine.step(outlet) {
+            return Some(stop);
+        }
+    }
+    None
+}
+
+/// The status of a run that this stopped.
+fn status(stop: &Stop) -> Status
+    ensures { result ≡ status_of stop.now }
+{
+    match *stop {
+        Stop::Halt(_) | Stop::Budget => Status::Done,
+        Stop::Violation(_) => Status::Violation,
+        Stop::NoRandom => Status::NoRandom,
+    }
+}
+
+/// Writes the closing of the record, the rest of the console's line, and the report of a run that this
+/// stopped, and answers its status.
+fn write_end<S: Shelf, O: Sink>(
+    machine: Machine,
+    stop: Stop,
+    outlet: &mut Outlet<'_, '_, '_, S, O>,
+) -> Status
+    ensures same_shelf { outlet.new.shelf.ghost_name ≡ outlet.old.shelf.ghost_name }
+    ensures same_out { outlet.new.out.ghost_name ≡ outlet.old.out.ghost_name }
+    ensures emits_some { EmitsSome (Gave S.held S.reading_faults S.writing_faults O.taken O.faults)
+        outlet.old outlet.new }
+    ensures some_stop { IsStatusOfStop result }
+    ensures ends { (m : Moment) → StandsForMoment machine m →
+        EndsRun (Gave S.held S.reading_faults S.writing_faults O.taken O.faults)
+        outlet.old outlet.new result stop m.steps (closing m.joint) }
+{
+    let end = machine.finish(stop, outlet);
+    outlet.show(b"\n");
+    outlet.report(&end);
+    status(&end.stop)
+}
+
+/// Makes a run of an image with these programs, whose record is begun, and writes it.
+pub fn write_run<S: Shelf, O: Sink>(
+    machine: Machine,
+    programs: &[Program],
+    steps: u32,
+    outlet: &mut Outlet<'_, '_, '_, S, O>,
+) -> Status
+    requires fresh { steps_made machine ≡ 0 }
+    requires few { steps ≤ most_steps }
+    ensures same_shelf { outlet.new.shelf.ghost_name ≡ outlet.old.shelf.ghost_name }
+    ensures same_out { outlet.new.out.ghost_name ≡ outlet.old.out.ghost_name }
+    ensures emits_some { EmitsSome (Gave S.held S.reading_faults S.writing_faults O.taken O.faults)
+        outlet.old outlet.new }
+    ensures some_stop { outlet.new.failed ≡ false → IsStatusOfStop result }
+    ensures runs { (b : Bundle) (stream : Random) (o : Opened) → opening b stream ≡ Ok o → b.programs ≡ programs.now →
+        StandsForMoment machine (first_moment b o.joint) → NoClash (run_of b steps o) →
+        WritesRun (Gave S.held S.reading_faults S.writing_faults O.taken O.faults) outlet.new.failed
+        outlet.old outlet.new result (run_of b steps o) }
+{
+    let mut machine = machine;
+    outlet.append(b"CLOAKREC");
+    machine.opening(programs, outlet);
+    let stopped = run_steps(&mut machine, steps, outlet);
+    if outlet.failed {
+        return Status::WriteFault;
+    }
+    write_end(machine, stopped.unwrap_or(Stop::Budget), outlet)
+}
