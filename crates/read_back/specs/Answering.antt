@@ -1,0 +1,116 @@
+-- What `view` and `solo` answer, each status with its cause.
+use Rattle.std.specs.Prelude.{ℕ, ◌≡◌, ◌⊎◌, List, Option, Some, slice_get}
+use Rattle.outside_io.specs.Told.{SameFiles}
+use Rattle.cloak_model.specs.declared.image.Bundle.{Bundle}
+use Rattle.cloak_model.specs.declared.image.KernelImage.{KernelImage}
+use Rattle.cloak_model.specs.declared.image.Program.{Program}
+use Rattle.cloak_model.specs.declared.item.Item.{Item}
+use Rattle.cloak_model.specs.KernelAlone.{kernel_alone}
+use Rattle.cloak_model.specs.DomainAlone.{domain_alone}
+use Rattle.command_words.specs.Command as spec
+use Rattle.program_parts.specs.declared.status.Status.{Status}
+use Rattle.program_parts.specs.declared.status.Status.TheVariants as status
+use Rattle.program_parts.specs.Bundles.{IsInFile}
+use Rattle.program_parts.specs.NoRun.{IsRefused, LineFailed}
+use Rattle.program_parts.specs.Outside.{Outside, Raised}
+use Rattle.read_back.specs.Reading.{ReadsBack, BreaksOff}
+use Rattle.read_back.specs.Text.{view_text, solo_text}
+use Rattle.read_back.specs.declared.ending.Ending.{Ending}
+
+-- The machines.
+
+abbrev pub kernel_unfit : KernelImage → List Item → Option ℕ
+kernel_unfit k items = (kernel_alone k items).unfit
+
+abbrev pub kernel_text : KernelImage → List Item → Option Ending → List ℕ
+kernel_text k items ended = view_text (kernel_alone k items).kernel ended
+
+abbrev pub program_unfit : ℕ → KernelImage → Program → List Item → Option ℕ
+program_unfit d k p items = (domain_alone d k.schedule p items).unfit
+
+abbrev pub program_text : ℕ → KernelImage → Program → List Item → Option Ending → List ℕ
+program_text d k p items ended = solo_text (domain_alone d k.schedule p items).part ended
+
+-- What is asked for.
+
+-- The words ask for what the kernel of this bundle makes of a record, or what one of its programs does.
+pub record AsksView (asked : spec.Asked) (held : List ℕ → Option (List ℕ)) (record_name : List ℕ) (bundle : Bundle) :
+    Type 0 where
+  pub bundle_name : List ℕ
+  pub view : asked ≡ spec.View bundle_name record_name
+  pub file : IsInFile (held bundle_name) bundle
+
+pub record AsksSolo (asked : spec.Asked) (held : List ℕ → Option (List ℕ)) (record_name : List ℕ) (bundle : Bundle)
+    (d : ℕ) (p : Program) : Type 0 where
+  pub bundle_name : List ℕ
+  pub solo : asked ≡ spec.Solo d bundle_name record_name
+  pub file : IsInFile (held bundle_name) bundle
+  pub program : slice_get bundle.programs d ≡ Some p
+
+-- no file was changed
+pub record OnlyShows {S O : Type 0} (before after : Outside S O) : Type 0 where
+  pub held : SameFiles before.files.held after.files.held
+  pub writing : after.files.writing ≡ before.files.writing
+
+-- The answers.
+
+pub record HasView {S O : Type 0} (asked : spec.Asked) (answer : Status) (before after : Outside S O) : Type 0 where
+  pub record_name : List ℕ
+  pub bundle : Bundle
+  pub asks : AsksView asked before.files.held record_name bundle
+  pub reads : ReadsBack (kernel_unfit bundle.kernel) (kernel_text bundle.kernel) record_name answer before after
+  pub only : OnlyShows before after
+
+pub record BreaksView {S O : Type 0} (asked : spec.Asked) (before after : Outside S O) : Type 0 where
+  pub record_name : List ℕ
+  pub bundle : Bundle
+  pub asks : AsksView asked before.files.held record_name bundle
+  pub breaks : BreaksOff Raised (kernel_unfit bundle.kernel) (kernel_text bundle.kernel) record_name before after
+  pub only : OnlyShows before after
+
+pub record HasSolo {S O : Type 0} (asked : spec.Asked) (answer : Status) (before after : Outside S O) : Type 0 where
+  pub record_name : List ℕ
+  pub bundle : Bundle
+  pub d : ℕ
+  pub p : Program
+  pub asks : AsksSolo asked before.files.held record_name bundle d p
+  pub reads : ReadsBack (program_unfit d bundle.kernel p) (program_text d bundle.kernel p) record_name answer before after
+  pub only : OnlyShows before after
+
+pub record BreaksSolo {S O : Type 0} (asked : spec.Asked) (before after : Outside S O) : Type 0 where
+  pub record_name : List ℕ
+  pub bundle : Bundle
+  pub d : ℕ
+  pub p : Program
+  pub asks : AsksSolo asked before.files.held record_name bundle d p
+  pub breaks : BreaksOff Raised (program_unfit d bundle.kernel p) (program_text d bundle.kernel p) record_name before after
+  pub only : OnlyShows before after
+
+-- What each status says of `view`. Its causes exclude each other, so each comes exactly there; only want of memory may
+-- stand in the place of another, before the record is read.
+abbrev pub ViewAnswers : {S O : Type 0} → spec.Asked → Outside S O → Outside S O → Status → Type 0
+ViewAnswers asked before after status.Done = HasView asked status.Done before after
+ViewAnswers asked before after status.Violation = ⊥
+ViewAnswers asked before after status.Usage = ⊥
+ViewAnswers asked before after status.BadBundle = IsRefused asked status.BadBundle before after
+ViewAnswers asked before after status.ReadFault =
+    IsRefused asked status.ReadFault before after ⊎ HasView asked status.ReadFault before after
+ViewAnswers asked before after status.WriteFault = LineFailed asked before after ⊎ BreaksView asked before after
+ViewAnswers asked before after status.NoMemory = IsRefused asked status.NoMemory before after
+ViewAnswers asked before after status.NoRandom = ⊥
+ViewAnswers asked before after status.BadRecord = HasView asked status.BadRecord before after
+ViewAnswers asked before after status.Unbuilt = ⊥
+
+-- The same of `solo`, for which the bundle may lack the program.
+abbrev pub SoloAnswers : {S O : Type 0} → spec.Asked → Outside S O → Outside S O → Status → Type 0
+SoloAnswers asked before after status.Done = HasSolo asked status.Done before after
+SoloAnswers asked before after status.Violation = ⊥
+SoloAnswers asked before after status.Usage = IsRefused asked status.Usage before after
+SoloAnswers asked before after status.BadBundle = IsRefused asked status.BadBundle before after
+SoloAnswers asked before after status.ReadFault =
+    IsRefused asked status.ReadFault before after ⊎ HasSolo asked status.ReadFault before after
+SoloAnswers asked before after status.WriteFault = LineFailed asked before after ⊎ BreaksSolo asked before after
+SoloAnswers asked before after status.NoMemory = IsRefused asked status.NoMemory before after
+SoloAnswers asked before after status.NoRandom = ⊥
+SoloAnswers asked before after status.BadRecord = HasSolo asked status.BadRecord before after
+SoloAnswers asked before after status.Unbuilt = ⊥

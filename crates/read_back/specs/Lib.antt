@@ -1,0 +1,5 @@
+pub mod Reading
+pub mod Text
+pub mod Screen
+pub mod Viewing
+pub mod Answering

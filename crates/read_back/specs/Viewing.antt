@@ -1,0 +1,30 @@
+-- How far a record is read by a machine, and what the machine and the screen then are.
+use Rattle.std.specs.Prelude.{ℕ, ◌≡◌, true, List, Option, None}
+use Rattle.cloak_model.specs.declared.image.KernelImage.{KernelImage}
+use Rattle.cloak_model.specs.declared.image.Program.{Program}
+use Rattle.cloak_model.specs.declared.item.Item.{Item}
+use Rattle.cloak_model.specs.Exchange.{Piece, Emits, shown_each}
+use Rattle.cloak_model.specs.KernelAlone.{kernel_alone}
+use Rattle.cloak_model.specs.DomainAlone.{domain_alone}
+use Rattle.alone_views.specs.declared.kernel.KernelAlone.{KernelAlone}
+use Rattle.alone_views.specs.declared.domain.DomainAlone.{DomainAlone}
+use Rattle.alone_views.specs.KernelStanding.{StandsForKernel}
+use Rattle.alone_views.specs.DomainStanding.{StandsForDomain}
+use Rattle.read_back.specs.declared.ending.Ending.{Ending}
+use Rattle.read_back.specs.Reading.{IsReadTo}
+use Rattle.read_back.specs.Answering.{kernel_unfit, program_unfit}
+
+-- the kernel alone was given the items of a record, and showed its console
+pub record ViewsTo {E : Type 0} (gave : E → E → List Piece → Type 0) (e e' : E) (k : KernelImage) (machine : KernelAlone)
+    (told : Option (List ℕ)) (reading reads : ℕ) (ended : Option Ending) : Type 0 where
+  pub items : List Item
+  pub read : IsReadTo (kernel_unfit k) told reading reads items ended
+  pub stands : StandsForKernel machine (kernel_alone k items)
+  pub shows : Emits gave e e' (shown_each (kernel_alone k items).kernel.console)
+
+-- a program alone was given the items of a record
+pub record SolosTo (d : ℕ) (k : KernelImage) (p : Program) (machine : DomainAlone) (told : Option (List ℕ))
+    (reading reads : ℕ) (ended : Option Ending) : Type 0 where
+  pub items : List Item
+  pub read : IsReadTo (program_unfit d k p) told reading reads items ended
+  pub stands : StandsForDomain machine (domain_alone d k.schedule p items)

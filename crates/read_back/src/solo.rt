@@ -1,0 +1,101 @@
+//! The command `solo`.
+ghost use Rattle.std.specs.Prelude.{◌≡◌, ◌<◌, ◌-◌, ◌^◌, Some, None, Ok, IfOk};
+ghost use Rattle.outside_io.specs.Told.{Puts, SameFiles};
+ghost use Rattle.cloak_model.specs.declared.image.KernelImage.{KernelImage};
+ghost use Rattle.cloak_model.specs.declared.image.Program.{Program};
+ghost use Rattle.cloak_model.specs.DomainAlone as model;
+ghost use Rattle.command_words.specs.Request.{asked_of_solo};
+ghost use Rattle.alone_views.specs.DomainStanding.{StandsForDomain, number_in, schedule_in};
+ghost use Rattle.program_parts.specs.Outside.{outside};
+ghost use Rattle.read_back.specs.Answering.{SoloAnswers};
+ghost use Rattle.read_back.specs.Viewing.{SolosTo};
+
+use crate::ending::{Ending, show_fault, status};
+use alone_views::DomainAlone;
+use cloak_base::Failed;
+use command_words::SoloRequest;
+use exchange_log::{NextFault, Reader};
+use outside_io::{Shelf, Sink};
+use program_parts::{Refusal, Status, read_bundle, refuse};
+use std::alloc::Global;
+
+/// Gives the items of a record to a program that runs alone, up to the first that does not fit or the first fault, and
+/// answers how reading ended.
+fn read_program<S: Shelf>(program: &mut DomainAlone, name: &str, shelf: &mut S) -> Ending
+    requires settled { S.is_settled shelf.old }
+    ensures solos { (d : ℕ) (k : KernelImage) (p : Program) → StandsForDomain program.old (model.opened_domain d p) →
+        number_in program.old ≡ d → schedule_in program.old ≡ k.schedule →
+        SolosTo d k p program.new (S.held shelf.old name.now)
+        (S.reading_faults shelf.old) (S.reading_faults shelf.new) (Some result) }
+    ensures files { SameFiles (S.held shelf.old) (S.held shelf.new) }
+    ensures writing { S.writing_faults shelf.new ≡ S.writing_faults shelf.old }
+{
+    let mut reader = Reader::open(name);
+    loop {
+        match reader.next(shelf) {
+            Ok(Some(item)) => {
+                if let Err(unfit) = program.take(&item) {
+                    return Ending::Unfit(unfit.step);
+                }
+            }
+            Ok(None) => return Ending::Whole,
+            Err(NextFault::Read) => return Ending::Unread,
+            Err(NextFault::Record(fault)) => return Ending::Fault(fault),
+        }
+    }
+}
+
+/// Shows the program's line, or why reading ended.
+fn show_end<O: Sink>(program: DomainAlone, ending: &Ending, out: &mut O) -> Result<(), Failed> {
+    match ending {
+        Ending::Whole => program.report(out),
+        _ => show_fault(out, ending),
+    }
+}
+
+/// Reads a record back with a program that runs alone.
+fn solo_record<S: Shelf, O: Sink>(
+    program: DomainAlone,
+    name: &str,
+    shelf: &mut S,
+    out: &mut O,
+) -> Status
+    requires settled { S.is_settled shelf.old }
+    requires output { O.faults out.old < 2 ^ 64 - 1 }
+{
+    let mut program = program;
+    let ending = read_program(&mut program, name, shelf);
+    match show_end(program, &ending, out) {
+        Ok(()) => status(&ending),
+        Err(_) => Status::WriteFault,
+    }
+}
+
+/// Shows what a program of a bundle makes of a record by itself, with the files of a shelf on which nothing is gathered.
+pub fn solo_command<S: Shelf, O: Sink>(
+    alloc: Global,
+    solo: &SoloRequest<'_>,
+    shelf: &mut S,
+    out: &mut O,
+) -> Status
+    requires settled { S.is_settled shelf.old }
+    requires reading { S.reading_faults shelf.old < 2 ^ 64 - 1 }
+    requires output { O.faults out.old < 2 ^ 64 - 1 }
+    ensures answers { SoloAnswers (asked_of_solo solo.now)
+        (outside S.held S.reading_faults S.writing_faults O.taken O.faults shelf.old out.old)
+        (outside S.held S.reading_faults S.writing_faults O.taken O.faults shelf.new out.new) result }
+    ensures files { SameFiles (S.held shelf.old) (S.held shelf.new) }
+    ensures writing { S.writing_faults shelf.new ≡ S.writing_faults shelf.old }
+{
+    let bundle = match read_bundle(alloc, shelf, solo.files.bundle) {
+        Ok(bundle) => bundle,
+        Err(refusal) => return refuse(out, &refusal),
+    };
+    let Some(program) = bundle.programs.as_slice().get(solo.domain as usize) else {
+        return refuse(out, &Refusal::NoSuchDomain);
+    };
+    match DomainAlone::open(alloc, &bundle.kernel, solo.domain, program) {
+        Ok(program) => solo_record(program, solo.files.record_name, shelf, out),
+        Err(_) => refuse(out, &Refusal::NoMemory),
+    }
+}

@@ -1,0 +1,116 @@
+//! The command `view`.
+ghost use Rattle.std.specs.Prelude.{◌≡◌, ◌<◌, ◌-◌, ◌^◌, true, false, Some, None, Ok, IfOk};
+ghost use Rattle.outside_io.specs.Told.{Puts, SameFiles};
+ghost use Rattle.cloak_model.specs.declared.image.KernelImage.{KernelImage};
+ghost use Rattle.cloak_model.specs.KernelAlone as model;
+ghost use Rattle.command_words.specs.Request.{asked_of_view};
+ghost use Rattle.alone_views.specs.KernelStanding.{StandsForKernel, schedule_of};
+ghost use Rattle.program_parts.specs.Outside.{Raised, outside};
+ghost use Rattle.read_back.specs.Answering.{ViewAnswers, kernel_text, kernel_unfit};
+ghost use Rattle.read_back.specs.Reading.{BreaksOff, ReadsBack};
+ghost use Rattle.read_back.specs.Screen.{GaveScreen};
+ghost use Rattle.read_back.specs.Viewing.{ViewsTo};
+
+use crate::ending::{Ending, show_fault, status};
+use crate::screen::Screen;
+use alone_views::KernelAlone;
+use cloak_base::Failed;
+use command_words::RecordRequest;
+use exchange_log::{NextFault, Reader};
+use outside_io::{Shelf, Sink, put_all};
+use program_parts::{Refusal, Status, read_bundle, refuse};
+use std::alloc::Global;
+
+/// Gives the items of a record to a kernel that runs alone, up to the first that does not fit or the first fault, and
+/// answers how reading ended. There is no ending where the screen failed before.
+fn read_kernel<S: Shelf, O: Sink>(
+    kernel: &mut KernelAlone,
+    name: &str,
+    shelf: &mut S,
+    screen: &mut Screen<'_, O>,
+) -> Option<Ending>
+    requires settled { S.is_settled shelf.old }
+    ensures views { (k : KernelImage) → StandsForKernel kernel.old (model.opened_kernel k) →
+        schedule_of kernel.old ≡ k.schedule →
+        ViewsTo (GaveScreen O.taken O.faults) screen.old screen.new k kernel.new (S.held shelf.old name.now)
+        (S.reading_faults shelf.old) (S.reading_faults shelf.new) result }
+    ensures failed { result ≡ None → screen.new.failed ≡ true }
+    ensures same_out { screen.new.out.ghost_name ≡ screen.old.out.ghost_name }
+    ensures files { SameFiles (S.held shelf.old) (S.held shelf.new) }
+    ensures writing { S.writing_faults shelf.new ≡ S.writing_faults shelf.old }
+{
+    let mut reader = Reader::open(name);
+    while !screen.failed {
+        match reader.next(shelf) {
+            Ok(Some(item)) => {
+                if let Err(unfit) = kernel.take(&item, screen) {
+                    return Some(Ending::Unfit(unfit.step));
+                }
+            }
+            Ok(None) => return Some(Ending::Whole),
+            Err(NextFault::Read) => return Some(Ending::Unread),
+            Err(NextFault::Record(fault)) => return Some(Ending::Fault(fault)),
+        }
+    }
+    None
+}
+
+/// Shows the rest of the console's line, and the kernel's lines or why reading ended.
+fn show_end<O: Sink>(kernel: KernelAlone, ending: &Ending, out: &mut O) -> Result<(), Failed> {
+    put_all(out, b"\n")?;
+    match ending {
+        Ending::Whole => kernel.report(out),
+        _ => show_fault(out, ending),
+    }
+}
+
+/// Reads a record back with a kernel that runs alone.
+fn view_record<S: Shelf, O: Sink>(
+    kernel: KernelAlone,
+    name: &str,
+    shelf: &mut S,
+    out: &mut O,
+) -> Status
+    requires settled { S.is_settled shelf.old }
+    requires output { O.faults out.old < 2 ^ 64 - 1 }
+{
+    let mut kernel = kernel;
+    let mut screen = Screen { out, failed: false };
+    let ended = read_kernel(&mut kernel, name, shelf, &mut screen);
+    if screen.failed {
+        return Status::WriteFault;
+    }
+    match ended {
+        Some(ending) => match show_end(kernel, &ending, out) {
+            Ok(()) => status(&ending),
+            Err(_) => Status::WriteFault,
+        },
+        None => Status::WriteFault,
+    }
+}
+
+/// Shows what the kernel of a bundle makes of a record by itself, with the files of a shelf on which nothing is gathered.
+pub fn view_command<S: Shelf, O: Sink>(
+    alloc: Global,
+    files: &RecordRequest<'_>,
+    shelf: &mut S,
+    out: &mut O,
+) -> Status
+    requires settled { S.is_settled shelf.old }
+    requires reading { S.reading_faults shelf.old < 2 ^ 64 - 1 }
+    requires output { O.faults out.old < 2 ^ 64 - 1 }
+    ensures answers { ViewAnswers (asked_of_view files.now)
+        (outside S.held S.reading_faults S.writing_faults O.taken O.faults shelf.old out.old)
+        (outside S.held S.reading_faults S.writing_faults O.taken O.faults shelf.new out.new) result }
+    ensures files { SameFiles (S.held shelf.old) (S.held shelf.new) }
+    ensures writing { S.writing_faults shelf.new ≡ S.writing_faults shelf.old }
+{
+    let bundle = match read_bundle(alloc, shelf, files.bundle) {
+        Ok(bundle) => bundle,
+        Err(refusal) => return refuse(out, &refusal),
+    };
+    match KernelAlone::open(alloc, &bundle.kernel) {
+        Ok(kernel) => view_record(kernel, files.record_name, shelf, out),
+        Err(_) => refuse(out, &Refusal::NoMemory),
+    }
+}
