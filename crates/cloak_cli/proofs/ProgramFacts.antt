@@ -7,7 +7,7 @@ use Rattle.program_parts.specs.declared.status.Status.TheVariants as status
 use Rattle.cloak_cli.specs.declared.words.Words.{Words}
 use Rattle.program_parts.specs.Outside.{Outside}
 use Rattle.cloak_cli.specs.Program.{AnswersWords, Exits, FlushFailed}
-use Rattle.run_command.proofs.AnswerFacts.{counted, risen}
+use Rattle.program_parts.proofs.FaultFacts.{counted, risen}
 
 -- two calls wrote out what is gathered, that for the files and that for the output
 pub record Flushes {S O : Type 0} (files shown : Result Unit Failed) (done after : Outside S O) : Type 0 where

@@ -1,25 +1,15 @@
 //! The top call.
-ghost use Rattle.std.specs.Prelude.{◌≡◌, ◌<◌, ◌-◌, ◌^◌, [], map, string_bytes};
-ghost use Rattle.cloak_base.specs.Random.{Random};
-ghost use Rattle.cloak_model.specs.declared.image.Bundle.{Bundle};
+ghost use Rattle.std.specs.Prelude.{◌<◌, ◌-◌, ◌^◌, map, string_bytes};
 ghost use Rattle.command_words.specs.Command as spec;
-ghost use Rattle.cloak_model.specs.Opening.{Opened, opening};
-ghost use Rattle.cloak_model.specs.Run.{first_moment, run_of};
-ghost use Rattle.cloak_machine.specs.Standing.{StandsForMoment, steps_made};
-ghost use Rattle.run_command.specs.Answering.{Answers, KeepsFiles};
+ghost use Rattle.cloak_cli.specs.Answering.{Answers};
 ghost use Rattle.program_parts.specs.Outside.{outside};
-ghost use Rattle.run_command.specs.Recording.{Records};
-ghost use Rattle.command_words.specs.Request.{asked_of_run};
+ghost use Rattle.run_command.specs.Answering.{KeepsFiles};
 
-use crate::outlet::Outlet;
-use crate::prepare::{Prepared, prepare};
-use crate::refusal::{Refusal, refuse};
-use crate::request::{Request, read_words};
-use crate::run::write_run;
-use crate::run_request::RunRequest;
-use crate::status::Status;
-use exchange_log::LONGEST;
+use command_words::{Request, read_words};
 use outside_io::{Shelf, Sink};
+use program_parts::{Refusal, Status, refuse};
+use read_back::{solo_command, view_command};
+use run_command::run_command;
 use std::alloc::Global;
 
 /// Does what the words ask for, with the files of a shelf on which nothing is gathered, and shows it.
@@ -43,5 +33,7 @@ pub fn cloak<S: Shelf, O: Sink>(
         Request::NotBuilt => refuse(out, &Refusal::NotBuilt),
         Request::Faulty(fault) => refuse(out, &Refusal::Usage(fault)),
         Request::Run(run) => run_command(alloc, &run, shelf, out),
+        Request::View(files) => view_command(alloc, &files, shelf, out),
+        Request::Solo(solo) => solo_command(alloc, &solo, shelf, out),
     }
 }

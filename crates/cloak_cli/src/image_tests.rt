@@ -1,7 +1,7 @@
 //! Runs of guest images that are given by the words of their code.
 
-use crate::status::Status;
 use crate::tests::called;
+use program_parts::Status;
 use std::alloc::Global;
 use std::test::*;
 

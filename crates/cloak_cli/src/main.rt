@@ -7,29 +7,20 @@
 #![tactic(auto)]
 
 mod command;
-mod files;
 #[cfg(test)]
 mod image_tests;
-mod number;
-mod outlet;
-mod prepare;
 mod program;
 #[cfg(test)]
 mod program_tests;
-mod refusal;
-mod request;
-mod run;
-mod run_request;
-mod status;
 #[cfg(test)]
 mod tests;
 mod words;
 
 use crate::program::run_program;
-use crate::status::Status;
 use crate::words::Words;
 use cloak_base::NoMemory;
 use outside_io::{FileShelf, StdSink};
+use program_parts::Status;
 use std::fs::{File, OpenOptions};
 use std::process::ExitCode;
 use std::{env, io};

@@ -4,11 +4,10 @@ ghost use Rattle.program_parts.specs.Outside.{outside};
 ghost use Rattle.cloak_cli.specs.Program.{AnswersWords, Exits};
 
 use crate::command::cloak;
-use crate::refusal::{Refusal, refuse};
-use crate::status::Status;
 use crate::words::Words;
-use cloak_model::UsageFault;
+use command_words::UsageFault;
 use outside_io::{Shelf, Sink};
+use program_parts::{Refusal, Status, refuse};
 use std::alloc::Global;
 
 /// Does what the words ask for.

@@ -1,10 +1,10 @@
 //! Runs of a guest image with one program, of one page in frame 8.
 
 use crate::program::run_program;
-use crate::status::Status;
 use crate::tests::Left;
 use crate::words::Words;
 use outside_io::{MemoryShelf, MemorySink};
+use program_parts::Status;
 use std::alloc::Global;
 use std::test::*;
 

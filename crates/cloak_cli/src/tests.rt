@@ -1,7 +1,7 @@
 use crate::program::run_program;
-use crate::status::Status;
 use crate::words::Words;
 use outside_io::{MemoryShelf, MemorySink};
+use program_parts::Status;
 use std::alloc::{AllocError, Global};
 use std::test::*;
 

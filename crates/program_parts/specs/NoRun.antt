@@ -1,5 +1,5 @@
 -- Why a command does nothing but show one line: each reason with its cause.
-use Rattle.std.specs.Prelude.{ℕ, ◌≡◌, ◌≤◌, List, length, take, Option, Some, None, IfSome, Err}
+use Rattle.std.specs.Prelude.{ℕ, ◌≡◌, ◌≤◌, ◌⊎◌, List, length, take, Option, Some, None, IfSome, Err}
 use Rattle.cloak_base.specs.Random.{Random, handed, numbered}
 use Rattle.outside_io.specs.Told.{Grows, GrowsByFront, SameFiles}
 use Rattle.cloak_model.specs.declared.fault.BundleFault.{BundleFault}
@@ -11,6 +11,7 @@ use Rattle.command_words.specs.Command as spec
 use Rattle.program_parts.specs.declared.refusal.Refusal.{Refusal}
 use Rattle.program_parts.specs.declared.refusal.Refusal.TheVariants as refusal
 use Rattle.program_parts.specs.declared.status.Status.{Status}
+use Rattle.program_parts.specs.declared.status.Status.TheVariants as status
 use Rattle.program_parts.specs.Bundles.{IsInFile}
 use Rattle.program_parts.specs.Outside.{FilesOutside, Outside, Raised}
 use Rattle.program_parts.specs.Refusal.{status_of_refusal, refusal_line}
@@ -130,3 +131,8 @@ pub record LineFailed {S O : Type 0} (asked : spec.Asked) (before after : Outsid
   pub no_run : NoRun asked refused before.files after.files
   pub line : GrowsByFront before.output.taken after.output.taken (refusal_line refused)
   pub faults : Raised before.output.faults after.output.faults
+
+-- Nothing was done but to show the line of a reason, or a front of it.
+abbrev pub OnlyRefuses : {S O : Type 0} → spec.Asked → Outside S O → Outside S O → Status → Type 0
+OnlyRefuses asked before after answer =
+    IsRefused asked answer before after ⊎ ((answer ≡ status.WriteFault) × LineFailed asked before after)

@@ -2,7 +2,7 @@ use Rattle.std.proofs.Common.{refl}
 use Rattle.command_words.specs.declared.usage_fault.UsageFault.TheVariants.{WrongWords}
 use Rattle.command_words.specs.Command.{Faulty}
 use Rattle.program_parts.specs.declared.refusal.Refusal.TheVariants as refusal
-use Rattle.run_command.proofs.AnswerFacts.{answers_no_run, keeps_files}
+use Rattle.program_parts.proofs.Refused.{only_refuses}
 use Rattle.cloak_cli.proofs.program.obey.Goals as goal
 
 pub returns-in-Taken : goal.returns-in-Taken
@@ -11,12 +11,12 @@ returns-in-Taken g c =
 
 pub returns-in-NotText : goal.returns-in-NotText
 returns-in-NotText g c =
-    let answers = answers_no_run {asked = Faulty WrongWords} {r = refusal.Usage WrongWords} (record {
+    let answers = only_refuses {asked = Faulty WrongWords} {r = refusal.Usage WrongWords} (record {
       cause = record { faulty = refl; untouched = refl };
       held = λ name. refl;
       writing = refl;
     }) c.requires.output c.refuse.ensures in
-    rw c.in-NotText.is (record { answers = answers; kept = keeps_files _ _ _ _ answers })
+    rw c.in-NotText.is (record { answers = answers; kept = λ name. refl })
 
 pub returns-in-NoMemory : goal.returns-in-NoMemory
 returns-in-NoMemory g c = rw c.in-NoMemory.is (record { line = c.refuse-in-NoMemory.ensures; untouched = refl })
