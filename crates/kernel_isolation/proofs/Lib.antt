@@ -1,0 +1,4 @@
+pub mod Ignoring
+pub mod Between
+pub mod Shown
+pub mod OutsideSteps
