@@ -2,3 +2,15 @@ pub mod Ignoring
 pub mod Between
 pub mod Shown
 pub mod OutsideSteps
+pub mod Settlings
+pub mod Items
+pub mod InsideSteps
+pub mod Leading
+pub mod Accounts
+pub mod InstructionAccounts
+pub mod CopyAccounts
+pub mod StepAccounts
+pub mod Numbers
+pub mod Turns
+pub mod Closed
+pub mod Opened
