@@ -14,3 +14,4 @@ pub mod Numbers
 pub mod Turns
 pub mod Closed
 pub mod Opened
+pub mod Isolated

@@ -4,9 +4,15 @@
 //! unfit. So what a program's pages hold, and what the ledger keeps, reaches the kernel by the outward items alone.
 #![tactic(auto)]
 
-ghost use Rattle.kernel_isolation.specs.Isolation.{OutwardHalfSuffices};
+ghost use Rattle.kernel_isolation.specs.Isolation.{KernelEndsAlone, KernelIsAlone, OutwardHalfSuffices};
 
 /// The kernel alone ignores inward items, forged ones too. It does nothing: its contract is the law.
 pub fn law_of_outward_halves()
     ensures { OutwardHalfSuffices }
+{}
+
+/// The kernel's part of a run is that of the kernel alone. It does nothing: its contract is the law.
+pub fn law_of_kernel_isolation()
+    ensures steps { KernelIsAlone }
+    ensures end { KernelEndsAlone }
 {}
