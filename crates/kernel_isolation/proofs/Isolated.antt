@@ -26,14 +26,11 @@ use Rattle.kernel_isolation.proofs.Opened.{IsOpened, is_opened}
 use Rattle.kernel_isolation.proofs.Closed.{IsClosed, is_closed}
 
 -- The kernel alone has read the items up to this state of the joint machine.
-record IsRead (s : KernelAlone) (j : Joint) : Type 0 where
+pub record IsRead (s : KernelAlone) (j : Joint) : Type 0 where
   pub steps : ℕ
   pub stops : Bool
   pub read : HasRead s steps (kernel_part j) stops
   pub steady : IsSteady j
-
-items_of_turns : List Turn → List (List Item)
-items_of_turns turns = map (λ (t : Turn). t.items) turns
 
 -- the steps behind one: none where that stopped the run
 steps_behind : (o : Option Stop) (schedule : List ℕ) (k n : ℕ) (later : Moment → List Turn) (m : Moment) (s : KernelAlone) →
@@ -88,7 +85,7 @@ opening_read b o opened =
     (subst (λ (p : KernelPart). HasRead s 0 p false) (sym opened.part) rests)
 
 -- the opening and the first n steps
-until_read : (b : Bundle) (stream : Random) (budget : ℕ) (o : Opened) → opening b stream ≡ Ok o → (n : ℕ) →
+pub until_read : (b : Bundle) (stream : Random) (budget : ℕ) (o : Opened) → opening b stream ≡ Ok o → (n : ℕ) →
     n ≤ length (turns_from budget (first_moment b o.joint)) →
     let ts = take n (turns_from budget (first_moment b o.joint)) in
     IsRead (kernel_taken b.kernel.schedule (opened_kernel b.kernel) (o.items ++ steps_items 1 (map (λ (t : Turn). t.items) ts)))
@@ -173,7 +170,7 @@ ends_alone b stream budget o opens =
     (closing_read b.kernel.schedule _ _ j read)
 
 -- a joint run is one that was opened
-of_opened : (b : Bundle) (budget : ℕ) (P : Run → Type 0) (opens : Result Opened Lack) (r : Run) →
+pub of_opened : (b : Bundle) (budget : ℕ) (P : Run → Type 0) (opens : Result Opened Lack) (r : Run) →
     result_map_both (run_of b budget) (λ (lack : Lack). lack) opens ≡ Ok r → ((o : Opened) → opens ≡ Ok o → P (run_of b budget o)) → P r
 of_opened b budget P (Err lack) r is of = absurd cc
 of_opened b budget P (Ok o) r is of = (let same : run_of b budget o ≡ r = cc in subst P same (of o refl))

@@ -11,7 +11,9 @@ pub mod InstructionAccounts
 pub mod CopyAccounts
 pub mod StepAccounts
 pub mod Numbers
+pub mod Markers
 pub mod Turns
 pub mod Closed
 pub mod Opened
 pub mod Isolated
+pub mod Halves

@@ -37,6 +37,7 @@ use Rattle.kernel_isolation.proofs.OutsideSteps.{AreInward, HaltsAsStops, shown_
 use Rattle.kernel_isolation.proofs.Settlings.{HasPlaces, ShownBy, touched_shown}
 use Rattle.kernel_isolation.proofs.Items.{AreWithin, with_items}
 use Rattle.kernel_isolation.proofs.InsideSteps.{after_inside, ticked_hart, staying_step_is_alone, leaving_step_is_alone}
+use Rattle.kernel_isolation.proofs.Markers.{AreOfStep, of_step-append, ciphers_of_step, inward_of_step, within_of_step}
 use Rattle.kernel_isolation.proofs.Accounts.{IsJointWorld, is_joint, Account}
 use Rattle.kernel_isolation.proofs.StepAccounts.{accounts_domain_step}
 use Rattle.kernel_isolation.proofs.Numbers.{AreFrom, ShowsContext, KeepsNumber, number_of_context, number_at, set_number, numbers_step, numbers_interrupt, resume_number}
@@ -49,6 +50,8 @@ pub record IsSteady (j : Joint) : Type 0 where
 -- A step is the kernel alone's.
 pub record TurnIsAlone (schedule : List ℕ) (n : ℕ) (j : Joint) (t : Turn) : Type 0 where
   pub alone : KernelStepIsAlone schedule n (kernel_part j) t.items (kernel_part t.joint) (is_some (stop_of t))
+  -- none of its items is a marker
+  pub items : AreOfStep t.items
   pub steady : IsSteady t.joint
 
 -- the same step, told in other words
@@ -172,6 +175,8 @@ outside_by schedule n j number s same steady outside shown =
     record {
       alone = told_as schedule n k (items ++ e.others) t.items _ (kernel_part t.joint) stops e.written part
           (outside_for schedule n k s.ciphers e.others stops number same outside shown.frames e.inward halts);
+      items = subst AreOfStep (sym e.written)
+          (of_step-append items e.others (ciphers_of_step s.ciphers) (inward_of_step e.others e.inward));
       steady = e.steady;
     }
 
@@ -222,6 +227,7 @@ staying schedule n j j' number ctx items t inside reached written joint =
     (λ in'. staying_step_is_alone schedule n ctx k items stops in' reached.within) inside.inside in
     record {
       alone = told_as schedule n k items t.items _ (kernel_part t.joint) stops written part step;
+      items = subst AreOfStep (sym written) (within_of_step j.memory.ram items reached.within);
       steady = subst IsSteady (sym joint) (record { places = reached.steady.places; programs = reached.steady.programs });
     }
 
@@ -241,6 +247,8 @@ leaving schedule n j j' number ctx items s t inside reached same written joint =
     inside.turn (λ low in'. leaving_step_is_alone schedule n k items s stops low in' reached.within) lt in_ctx in
     record {
       alone = told_as schedule n k (items ++ item.Leave s ∷ []) t.items _ (kernel_part t.joint) stops written part step;
+      items = subst AreOfStep (sym written)
+          (of_step-append items (item.Leave s ∷ []) (within_of_step j.memory.ram items reached.within) (refl, tt));
       steady = subst IsSteady (sym joint) (record { places = reached.steady.places; programs = reached.steady.programs });
     }
 

@@ -10,6 +10,7 @@ use Rattle.cloak_model.specs.Halves.{outward_half}
 use Rattle.cloak_model.specs.Joint.{Turn}
 use Rattle.cloak_model.specs.KernelAlone.{KernelAlone, kernel_alone}
 use Rattle.cloak_model.specs.Parts.{Joint, KernelPart, kernel_part}
+use Rattle.cloak_model.specs.Record.{IsExchange}
 use Rattle.cloak_model.specs.Run.{Run, joint_run, joint_after, exchange, run_outward_half}
 
 -- what a run wrote in its opening and its first n steps, with their markers, and a Close behind it
@@ -39,6 +40,25 @@ abbrev pub KernelEndsAlone : Type 0
 KernelEndsAlone =
     (b : Bundle) (stream : Random) (budget : ℕ) (r : Run) → joint_run b stream budget ≡ Ok r →
     HasKernel (kernel_alone b.kernel (exchange r)) (kernel_part r.closed.joint)
+
+-- Two runs agree in the kernel: they made as many steps, and after each of them, and as they were closed, the kernel's
+-- part is one.
+pub record AgreeInKernel (r r' : Run) : Type 0 where
+  pub steps : length r'.turns ≡ length r.turns
+  pub after : (n : ℕ) → n ≤ length r.turns → kernel_part (joint_until n r') ≡ kernel_part (joint_until n r)
+  pub closed : kernel_part r'.closed.joint ≡ kernel_part r.closed.joint
+
+-- Whatever programs, streams and budgets they have, runs with one kernel image and one outward half do.
+abbrev pub KernelDependsOnHalf : Type 0
+KernelDependsOnHalf =
+    (b b' : Bundle) (stream stream' : Random) (budget budget' : ℕ) (r r' : Run) → joint_run b stream budget ≡ Ok r →
+    joint_run b' stream' budget' ≡ Ok r' → b'.kernel ≡ b.kernel → run_outward_half r' ≡ run_outward_half r →
+    AgreeInKernel r r'
+
+-- The items of a run are in the order of an exchange.
+abbrev pub WritesAnExchange : Type 0
+WritesAnExchange =
+    (b : Bundle) (stream : Random) (budget : ℕ) (r : Run) → joint_run b stream budget ≡ Ok r → IsExchange (exchange r)
 
 -- The kernel alone ignores inward items.
 abbrev pub OutwardHalfSuffices : Type 0

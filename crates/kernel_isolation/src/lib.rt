@@ -4,7 +4,7 @@
 //! unfit. So what a program's pages hold, and what the ledger keeps, reaches the kernel by the outward items alone.
 #![tactic(auto)]
 
-ghost use Rattle.kernel_isolation.specs.Isolation.{KernelEndsAlone, KernelIsAlone, OutwardHalfSuffices};
+ghost use Rattle.kernel_isolation.specs.Isolation.{KernelDependsOnHalf, KernelEndsAlone, KernelIsAlone, OutwardHalfSuffices, WritesAnExchange};
 
 /// The kernel alone ignores inward items, forged ones too. It does nothing: its contract is the law.
 pub fn law_of_outward_halves()
@@ -15,4 +15,10 @@ pub fn law_of_outward_halves()
 pub fn law_of_kernel_isolation()
     ensures steps { KernelIsAlone }
     ensures end { KernelEndsAlone }
+    ensures half { KernelDependsOnHalf }
+{}
+
+/// What a run writes is in the order of an exchange. It does nothing: its contract is the law.
+pub fn law_of_exchanges()
+    ensures { WritesAnExchange }
 {}
