@@ -1,5 +1,5 @@
 -- What a program's questions write into the exchange accounts for RAM: it is then what the items say.
-use Rattle.std.proofs.Common.{◌≡◌, ◌∙◌, ℕ, zero, suc, ◌+◌, ◌*◌, ◌%◌, ◌^◌, Bool, true, false, cond, ◌&&◌, List, [], ◌∷◌, ◌++◌, length, Option, None, Some, Result, Ok, Err, slice_set, refl, sym, ap, subst, append_assoc}
+use Rattle.std.proofs.Common.{◌≡◌, ◌∙◌, ℕ, zero, suc, ◌+◌, ◌*◌, ◌%◌, ◌^◌, Bool, true, false, cond, List, [], ◌∷◌, ◌++◌, length, Result, Ok, Err, refl, sym, ap, append_assoc}
 use Rattle.std.specs.Prelude.{◌==◌}
 use Rattle.std.proofs.lemmas.Bool.{false≢true, and_from}
 use Rattle.std.proofs.lemmas.List.{append-nil, length-set}
@@ -12,14 +12,14 @@ use Rattle.cloak_model.specs.declared.answer.Answer.TheVariants as answer
 use Rattle.cloak_model.specs.declared.item.Item.{Item}
 use Rattle.cloak_model.specs.declared.item.Item.TheVariants as item
 use Rattle.cloak_model.specs.Ask.{ask_word, ask_second, ask_after, ask_first, ask_walk, ask_inside, ask_translate, ask_value}
-use Rattle.cloak_model.specs.AskPages.{answer_item, replies, if_drawn, ask_inside_address, offered_by, ask_offer, reached, reach_by_table, got, get_by_table, put_at, stored_inside, put_by_table, settled_if_marked, clear_from, next_answer, ask_reach, ask_read, ask_write, ask_get, ask_put, ask_clear, ask_copy, ask_forget}
+use Rattle.cloak_model.specs.AskPages.{answer_item, replies, if_drawn, ask_inside_address, offered_by, ask_offer, reached, reach_by_table, got, get_by_table, put_at, stored_inside, put_by_table, settled_if_marked, clear_from, ask_reach, ask_read, ask_write, ask_get, ask_put, ask_clear, ask_copy, ask_forget}
 use Rattle.cloak_model.specs.Asking.{Told, Asking}
-use Rattle.cloak_model.specs.Cloaking.{CloakedMemory, Offer, Ready, Mismatch, Missed, offer, settle}
+use Rattle.cloak_model.specs.Cloaking.{Offer, Ready, Mismatch, Missed, offer, settle}
 use Rattle.cloak_model.specs.Effect.{IsWidth}
 use Rattle.cloak_model.specs.Memory.{frame_of, is_in_ram}
 use Rattle.cloak_model.specs.PageMoves.{copy_pages, drop_pages}
 use Rattle.cloak_model.specs.Walk.{Walk, FirstWord, Ends, GoesOn, first_entry}
-use Rattle.cloak_model.specs.World.{World, Cloak, Flat, Cloaked, Alone, Handed, ram_of, owed_of, items_of, view_of, written, settled, with_plain, cipher_items}
+use Rattle.cloak_model.specs.World.{World, Cloak, Flat, Cloaked, Alone, Handed, ram_of, owed_of, items_of, settled, cipher_items}
 use Rattle.kernel_isolation.proofs.Items.{AreWithin, with_items, with_items-append, length-with_items, within_stays, within-append, ciphers_within, with_ciphers}
 use Rattle.kernel_isolation.proofs.Settlings.{ShownBy, settle_shown, offer_shown}
 use Rattle.kernel_isolation.proofs.Leading.{LeadsInside, leads_inside, low_bytes_stored, is_aligned}

@@ -1,5 +1,5 @@
 -- The kernel alone between two steps.
-use Rattle.std.proofs.Common.{◌≡◌, ◌∙◌, ℕ, suc, ◌-◌, ◌%◌, Bool, false, List, [], ◌∷◌, ◌++◌, length, slice_index, None, refl, sym, ap, subst}
+use Rattle.std.proofs.Common.{◌≡◌, ◌∙◌, ℕ, suc, ◌-◌, ◌%◌, Bool, false, List, ◌∷◌, length, slice_index, None, refl, sym, ap, subst}
 use Rattle.cloak_model.specs.declared.item.Item.{Item}
 use Rattle.cloak_model.specs.declared.item.Item.TheVariants as item
 use Rattle.cloak_model.specs.KernelAlone.{KernelAlone, KernelPlace, Between, Outside, Inside, Left, kernel_takes, take_kernel_item, take_kernel_step, kernel_step_ended, plain_step, kernel_taken}

@@ -1,13 +1,13 @@
 -- What the kernel is shown as a run is closed.
-use Rattle.std.proofs.Common.{◌≡◌, ◌∙◌, ℕ, zero, suc, List, [], ◌∷◌, ◌++◌, length, map, None, refl, sym, ap, subst, append_assoc}
+use Rattle.std.proofs.Common.{◌≡◌, ◌∙◌, ℕ, zero, suc, List, [], ◌++◌, length, refl, sym, ap, append_assoc}
 use Rattle.std.proofs.lemmas.List.{append-nil, map-append}
 use Rattle.cloak_model.specs.declared.item.Item.{Item}
 use Rattle.cloak_model.specs.declared.item.Item.TheVariants as item
-use Rattle.cloak_model.specs.Cloaking.{CloakedMemory, settle}
+use Rattle.cloak_model.specs.Cloaking.{settle}
 use Rattle.cloak_model.specs.Joint.{cloak_outside, hart_in}
-use Rattle.cloak_model.specs.Parts.{Joint, KernelPart, kernel_part}
+use Rattle.cloak_model.specs.Parts.{Joint, kernel_part}
 use Rattle.cloak_model.specs.Run.{closing, settled_below}
-use Rattle.cloak_model.specs.World.{Cloak, cipher_items, settled_in}
+use Rattle.cloak_model.specs.World.{Cloak, cipher_items}
 use Rattle.kernel_isolation.proofs.Settlings.{HasPlaces, ShownBy, ShownBy-none, ShownBy-append, settle_shown}
 
 -- A memory after frames were settled, and what was written.

@@ -69,4 +69,3 @@ accounts_out_step false domain r c done total w = accounts_out_placed c done tot
 pub accounts_copy_out_step : (domain : ℕ) (r : Resources) (c : Context) (done total : ℕ) (w : World) → Accounts w (copy_out_step domain r c done total w).world
 unfolding copy_out_step
 accounts_copy_out_step domain r c done total w = accounts_out_step _ domain r c done total w
-

@@ -9,21 +9,21 @@ use Rattle.cloak_model.specs.declared.image.Bundle.{Bundle}
 use Rattle.cloak_model.specs.declared.image.KernelImage.{KernelImage}
 use Rattle.cloak_model.specs.declared.item.Item.{Item}
 use Rattle.cloak_model.specs.declared.item.Item.TheVariants as item
-use Rattle.cloak_model.specs.Exchange.{steps_items, items_in_order}
+use Rattle.cloak_model.specs.Exchange.{steps_items}
 use Rattle.cloak_model.specs.Halves.{is_outward, outward_half}
 use Rattle.cloak_model.specs.Joint.{Moment, Turn, joint_step, after_turn, stop_of}
 use Rattle.cloak_model.specs.KernelAlone.{KernelAlone, kernel_alone}
 use Rattle.cloak_model.specs.Opening.{Opened, opening}
 use Rattle.cloak_model.specs.Parts.{KernelPart, kernel_part}
-use Rattle.cloak_model.specs.Record.{IsCipher, IsExchange}
-use Rattle.cloak_model.specs.Run.{Run, unless_stopped, turns_from, first_moment, joint_after, closing, run_of, joint_run, exchange, run_outward_half}
-use Rattle.kernel_isolation.specs.Isolation.{items_until, joint_until, HasKernel, AgreeInKernel, KernelDependsOnHalf, WritesAnExchange}
+use Rattle.cloak_model.specs.Record.{IsCipher}
+use Rattle.cloak_model.specs.Run.{Run, unless_stopped, turns_from, first_moment, joint_after, run_of, joint_run, exchange, run_outward_half}
+use Rattle.kernel_isolation.specs.Isolation.{items_until, HasKernel, KernelDependsOnHalf, WritesAnExchange}
 use Rattle.kernel_isolation.proofs.Ignoring.{outward_half_suffices}
 use Rattle.kernel_isolation.proofs.Turns.{IsSteady, turn_is_alone}
-use Rattle.kernel_isolation.proofs.Opened.{IsOpened, is_opened}
-use Rattle.kernel_isolation.proofs.Closed.{IsClosed, is_closed}
+use Rattle.kernel_isolation.proofs.Opened.{is_opened}
+use Rattle.kernel_isolation.proofs.Closed.{is_closed}
 use Rattle.kernel_isolation.proofs.Markers.{AreOfStep, ciphers_are_ciphers, before_step, before_step_is, closes_at, closes_at_is}
-use Rattle.kernel_isolation.proofs.Isolated.{of_opened, IsRead, until_read, kernel_is_alone, kernel_ends_alone}
+use Rattle.kernel_isolation.proofs.Isolated.{of_opened, until_read, kernel_is_alone, kernel_ends_alone}
 
 -- The items of a run.
 

@@ -1,5 +1,5 @@
 -- What one instruction of a program writes accounts for RAM.
-use Rattle.std.proofs.Common.{◌≡◌, ℕ, ◌%◌, ◌⊎◌, inl, inr, Bool, true, false, cond, not, nat_lt, eqb, List, Option, Some, None, ℤ, refl, subst}
+use Rattle.std.proofs.Common.{◌≡◌, ℕ, ◌%◌, inl, inr, Bool, true, false, cond, List, Option, Some, None, ℤ, refl, subst}
 use Rattle.std.specs.Prelude.{◌==◌}
 use Rattle.std.proofs.lemmas.Bool.{cond_both, eqb-true}
 use Rattle.cloak_base.specs.declared.names.PageId.{PageId}

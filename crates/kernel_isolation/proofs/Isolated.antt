@@ -1,29 +1,27 @@
 -- The steps of a run one after another, its closing, and the laws.
-use Rattle.std.proofs.Common.{◌≡◌, ◌∙◌, ◌≤◌, ℕ, zero, suc, ◌+◌, Bool, true, false, List, [], ◌∷◌, ◌++◌, length, map, take, Option, Some, None, Result, Ok, Err, is_some, refl, sym, ap, subst, arith, take_all, append_assoc}
+use Rattle.std.proofs.Common.{◌≡◌, ◌∙◌, ◌≤◌, ℕ, zero, suc, Bool, true, false, List, [], ◌∷◌, ◌++◌, length, map, take, Option, Some, None, Result, Ok, Err, is_some, refl, sym, ap, subst, arith, take_all, append_assoc}
 use Rattle.std.specs.Result.{result_map_both}
-use Rattle.std.proofs.lemmas.List.{length-map}
 use Rattle.cloak_base.specs.declared.causes.Stop.{Stop}
 use Rattle.cloak_base.specs.Random.{Random}
 use Rattle.cloak_model.specs.declared.image.Bundle.{Bundle}
-use Rattle.cloak_model.specs.declared.image.KernelImage.{KernelImage}
 use Rattle.cloak_model.specs.declared.item.Item.{Item}
 use Rattle.cloak_model.specs.declared.item.Item.TheVariants as item
 use Rattle.cloak_model.specs.Ahead.{with_shown}
-use Rattle.cloak_model.specs.Exchange.{steps_items, items_in_order}
+use Rattle.cloak_model.specs.Exchange.{steps_items}
 use Rattle.cloak_model.specs.Halves.{outward_half}
 use Rattle.cloak_model.specs.Joint.{Moment, Turn, joint_step, after_turn, stop_of}
-use Rattle.cloak_model.specs.KernelAlone.{KernelAlone, Between, Left, opened_kernel, kernel_takes, take_kernel_item, kernel_step_ended, kernel_taken, kernel_alone}
+use Rattle.cloak_model.specs.KernelAlone.{KernelAlone, Between, Left, opened_kernel, kernel_takes, kernel_step_ended, kernel_taken, kernel_alone}
 use Rattle.cloak_model.specs.Opening.{Lack, Opened, opening, started_kernel}
 use Rattle.cloak_model.specs.Parts.{Joint, KernelPart, kernel_part}
-use Rattle.cloak_model.specs.Run.{Run, unless_stopped, turns_from, joint_after, closing, first_moment, run_of, joint_run, exchange}
+use Rattle.cloak_model.specs.Run.{Run, unless_stopped, turns_from, joint_after, closing, first_moment, run_of, exchange}
 use Rattle.cloak_model.specs.World.{cipher_items}
 use Rattle.kernel_isolation.specs.Isolation.{items_until, joint_until, HasKernel, KernelIsAlone, KernelEndsAlone}
 use Rattle.kernel_isolation.proofs.Ignoring.{kernel_append, taken_fit, outward_half_suffices}
-use Rattle.kernel_isolation.proofs.Between.{KernelRests, KernelGoesOn, HasRead, ended_between, next_read, close_taken}
+use Rattle.kernel_isolation.proofs.Between.{HasRead, next_read, close_taken}
 use Rattle.kernel_isolation.proofs.Shown.{AreFrames, with_ram, ciphers_taken}
 use Rattle.kernel_isolation.proofs.Turns.{IsSteady, turn_is_alone}
 use Rattle.kernel_isolation.proofs.Opened.{IsOpened, is_opened}
-use Rattle.kernel_isolation.proofs.Closed.{IsClosed, is_closed}
+use Rattle.kernel_isolation.proofs.Closed.{is_closed}
 
 -- The kernel alone has read the items up to this state of the joint machine.
 pub record IsRead (s : KernelAlone) (j : Joint) : Type 0 where

@@ -1,21 +1,20 @@
 -- An address of a program's store leads to one in RAM that is as far from a multiple of 4; and what a Put says is what
 -- is stored.
-use Rattle.std.proofs.Common.{◌≡◌, ◌∙◌, ◌⊎◌, inl, inr, ℕ, ◌+◌, ◌*◌, ◌/◌, ◌%◌, ◌^◌, Bool, true, false, cond, ◌&&◌, not, eqb, List, [], ◌∷◌, ◌++◌, take, drop, Option, None, Some, Result, Ok, Err, refl, sym, ap, subst, arith, slice_set, slice_index_or}
-use Rattle.std.specs.Prelude.{◌==◌, if◌then◌else◌}
+use Rattle.std.proofs.Common.{◌≡◌, ◌∙◌, inl, inr, ℕ, ◌+◌, ◌*◌, ◌/◌, ◌%◌, ◌^◌, Bool, true, false, cond, not, List, [], ◌∷◌, ◌++◌, take, drop, Option, None, Some, Result, Ok, Err, refl, sym, ap, subst, arith, slice_set, slice_index_or}
+use Rattle.std.specs.Prelude.{◌==◌}
 use Rattle.std.specs.Int.{w32, to_le_bytes}
 use Rattle.std.proofs.lemmas.Bool.{eq-eqb}
-use Rattle.std.proofs.Math.Pow.{field, mod-mod-pow}
+use Rattle.std.proofs.Math.Pow.{mod-mod-pow}
 use Rattle.rv_isa.specs.Fields.{bits}
 use Rattle.cloak_base.specs.declared.names.Kind.{Kind}
-use Rattle.cloak_base.specs.declared.names.Mode.TheVariants.{U}
 use Rattle.cloak_model.specs.declared.access.Access.{Access}
 use Rattle.cloak_model.specs.declared.access.Walked.{Walked}
 use Rattle.cloak_model.specs.Ask.{ask_word, ask_second, ask_after, ask_first, ask_walk, ask_inside, ask_translate}
 use Rattle.cloak_model.specs.AskPages.{ask_inside_address}
 use Rattle.cloak_model.specs.Asking.{Told}
 use Rattle.cloak_model.specs.Effect.{IsWidth}
-use Rattle.cloak_model.specs.Memory.{frame_of, place_of, is_in_ram, with_value_in, with_value_at}
-use Rattle.cloak_model.specs.Walk.{Walk, FirstWord, Ends, GoesOn, first_entry, has_paging, is_valid, is_pointer, is_plain_pointer, first_leaf, second_leaf, first_word, second_word, second_entry}
+use Rattle.cloak_model.specs.Memory.{frame_of, place_of, is_in_ram, with_value_at}
+use Rattle.cloak_model.specs.Walk.{Walk, FirstWord, Ends, GoesOn, first_entry, has_paging, is_valid, is_pointer, is_plain_pointer, first_leaf, second_leaf, first_word, second_word}
 use Rattle.cloak_model.specs.World.{World, ram_of}
 
 -- An access leads to an address with the lowest two bits of its own.

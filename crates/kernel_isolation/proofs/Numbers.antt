@@ -1,6 +1,5 @@
 -- A program keeps its number, and what a context shows as it leaves has the number of the context.
-use Rattle.std.proofs.Common.{◌≡◌, ◌∙◌, ℕ, suc, zero, ◌+◌, ◌*◌, ◌/◌, ◌%◌, Bool, true, false, cond, List, [], ◌∷◌, Option, Some, None, Result, Ok, Err, slice_get, slice_set, refl, sym, ap, subst, arith}
-use Rattle.cloak_base.specs.declared.causes.Shown.{Shown}
+use Rattle.std.proofs.Common.{◌≡◌, ◌∙◌, ℕ, suc, zero, ◌+◌, Bool, true, false, cond, List, [], ◌∷◌, Option, Some, None, Result, Ok, Err, slice_get, slice_set, refl, sym, ap, arith}
 use Rattle.cloak_base.specs.declared.names.CtxId.{CtxId}
 use Rattle.cloak_model.specs.declared.context.Phase.{Phase}
 use Rattle.cloak_model.specs.declared.context.Phase.TheVariants.{Plain, CopyIn, Waiting, CopyOut}
@@ -20,7 +19,7 @@ use Rattle.cloak_model.specs.declared.inside.Went.TheVariants as went
 use Rattle.cloak_model.specs.declared.resource.MapFault.{MapFault}
 use Rattle.cloak_model.specs.Contexts.{Context, context_number, domain_of, slot_of, shown}
 use Rattle.cloak_model.specs.DomainState.{Control, Domain}
-use Rattle.cloak_model.specs.DomainStep.{DomainStepped, instruction_ended, copy_ended, phase_step, step_if, domain_step, interrupt_if, interrupt, Resumes, answer_taken, resume_told, resume_slot}
+use Rattle.cloak_model.specs.DomainStep.{DomainStepped, instruction_ended, copy_ended, phase_step, step_if, domain_step, interrupt_if, interrupt, answer_taken, resume_told, resume_slot}
 use Rattle.cloak_model.specs.Hypercalls.{Stepped, remapped, new_call, map_call, unmap_call, file_call, thread_at, thread_call, fork_told, fork_call, end_told, exit_call, call_begun, kernel_call, leaves, Hypercall, New, Map, Unmap, File, Thread, ForkSpace, Exit, Call, Unknown, hypercall}
 use Rattle.cloak_model.specs.World.{World}
 

@@ -1,12 +1,12 @@
 -- What the kernel is shown by settling and by offers: RAM is then as it was shown, and a frame that was shown is there.
-use Rattle.std.proofs.Common.{◌≡◌, ◌∙◌, ℕ, zero, suc, ◌<◌, ◌≤◌, Bool, true, false, cond, List, [], ◌∷◌, ◌++◌, length, Option, None, Some, is_some, slice_set, slice_index_or, refl, sym, ap, subst, inl, inr}
-use Rattle.std.specs.List.{find, AllByRecursion}
+use Rattle.std.proofs.Common.{◌≡◌, ◌∙◌, ℕ, zero, suc, ◌<◌, Bool, true, false, cond, List, [], ◌∷◌, ◌++◌, length, Option, None, Some, slice_set, slice_index_or, refl, sym, ap, subst, inl, inr}
+use Rattle.std.specs.List.{find}
 use Rattle.std.specs.Str.{bytes_eq}
 use Rattle.std.proofs.lemmas.Bool.{cases_lt}
-use Rattle.std.proofs.lemmas.List.{length-set, get_or_past, append-nil}
+use Rattle.std.proofs.lemmas.List.{length-set, get_or_past}
 use Rattle.cloak_base.specs.declared.names.PageId.{PageId}
 use Rattle.cloak_base.specs.Random.{Random}
-use Rattle.cloak_model.specs.Ahead.{unsettled, then_settle, is_owed, settle_found, settle_first, settle_while, settle_touched, with_shown}
+use Rattle.cloak_model.specs.Ahead.{is_owed, settle_found, settle_while, settle_touched, with_shown}
 use Rattle.cloak_model.specs.Cloaking.{CloakedMemory, AfterSettling, AfterOffer, owed_in, settle_owed, settle_if, settle, settle_frame_if, owing_frame, owes, with_owed, with_comparison, taken, Ready, Mismatch, compared, unless_missed, offer}
 use Rattle.cloak_model.specs.Hart.{Hart}
 use Rattle.cloak_model.specs.Ledger.{vector_of}

@@ -99,4 +99,3 @@ accounts_step_if (Some c) slot d w = accounts_phase_step c.phase slot c d w
 pub accounts_domain_step : (slot : ℕ) (d : Domain) (w : World) → Accounts w (domain_step slot d w).world
 unfolding domain_step
 accounts_domain_step slot d w = accounts_step_if _ slot d w
-

@@ -17,14 +17,13 @@ use Rattle.cloak_model.specs.Ahead.{settle_touched, settled_step, made_after, wi
 use Rattle.cloak_model.specs.Asking.{Told}
 use Rattle.cloak_model.specs.Cloaking.{CloakedMemory, AfterSettling}
 use Rattle.cloak_model.specs.Contexts.{Admitted, context_at, context_number, domain_of, slot_of}
-use Rattle.cloak_model.specs.Csr.{satp_of, interrupt_due}
+use Rattle.cloak_model.specs.Csr.{satp_of}
 use Rattle.cloak_model.specs.DomainState.{Control, Domain}
-use Rattle.cloak_model.specs.DomainStep.{DomainStepped, domain_step, interrupt}
+use Rattle.cloak_model.specs.DomainStep.{DomainStepped}
 use Rattle.cloak_model.specs.Hart.{Hart, started}
-use Rattle.cloak_model.specs.HostCalls.{After}
 use Rattle.cloak_model.specs.Hypercalls.{Stepped}
 use Rattle.cloak_model.specs.Joint.{Moment, Turn, next_hart, hart_in, with_hart, cloak_of, cloak_outside, memory_of, outside_ended, after_outside, outside_step, domain_ended, with_domain, after_domain_step, pages_for, interrupt_ended, after_interrupt, by_interrupt, inside_step, turn_of, joint_step, stop_of}
-use Rattle.cloak_model.specs.KernelAlone.{KernelAlone, kernel_hart, with_kernel_hart, console_byte, has_halted, after_plain_step}
+use Rattle.cloak_model.specs.KernelAlone.{kernel_hart, with_kernel_hart, console_byte, has_halted}
 use Rattle.cloak_model.specs.KernelStep.{kernel_step, ticked}
 use Rattle.cloak_model.specs.Leaving.{leave}
 use Rattle.cloak_model.specs.Parts.{Joint, KernelPart, kernel_part}
@@ -33,14 +32,14 @@ use Rattle.cloak_model.specs.World.{World, Cloak, Flat, Cloaked, Alone, ram_of, 
 use Rattle.settling_ahead.proofs.Touching.{writes_touched_alone}
 use Rattle.kernel_isolation.proofs.Between.{KernelStepIsAlone, hart_behind}
 use Rattle.kernel_isolation.proofs.Shown.{AreFrames}
-use Rattle.kernel_isolation.proofs.OutsideSteps.{AreInward, HaltsAsStops, shown_part, plain_told, plain_part, outside_step_is_alone}
+use Rattle.kernel_isolation.proofs.OutsideSteps.{AreInward, HaltsAsStops, shown_part, plain_part, outside_step_is_alone}
 use Rattle.kernel_isolation.proofs.Settlings.{HasPlaces, ShownBy, touched_shown}
 use Rattle.kernel_isolation.proofs.Items.{AreWithin, with_items}
 use Rattle.kernel_isolation.proofs.InsideSteps.{after_inside, ticked_hart, staying_step_is_alone, leaving_step_is_alone}
 use Rattle.kernel_isolation.proofs.Markers.{AreOfStep, of_step-append, ciphers_of_step, inward_of_step, within_of_step}
 use Rattle.kernel_isolation.proofs.Accounts.{IsJointWorld, is_joint, Account}
 use Rattle.kernel_isolation.proofs.StepAccounts.{accounts_domain_step}
-use Rattle.kernel_isolation.proofs.Numbers.{AreFrom, ShowsContext, KeepsNumber, number_of_context, number_at, set_number, numbers_step, numbers_interrupt, resume_number}
+use Rattle.kernel_isolation.proofs.Numbers.{AreFrom, ShowsContext, number_of_context, number_at, set_number, numbers_step, numbers_interrupt, resume_number}
 
 -- What each step keeps of the joint machine.
 pub record IsSteady (j : Joint) : Type 0 where
