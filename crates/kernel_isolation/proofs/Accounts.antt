@@ -55,7 +55,8 @@ Account-trans u v w p q = record {
   items = p.items ++ q.items;
   written = q.written ∙ (ap (λ (l : List Item). l ++ q.items) p.written ∙ append_assoc (items_of u) p.items q.items);
   within = within-append (ram_of u) p.items q.items p.within
-      (within_stays (ram_of v) (ram_of u) q.items (sym (ap length p.ram ∙ length-with_items p.items (ram_of u))) q.within);
+      (within_stays (ram_of v) (ram_of u) q.items
+      (sym (ap length p.ram ∙ length-with_items p.items (ram_of u))) q.within);
   ram = q.ram ∙ (ap (with_items q.items) p.ram ∙ sym (with_items-append p.items q.items (ram_of u)));
   joint = q.joint;
 }
@@ -150,11 +151,44 @@ accounts_value pa width w = Accounts-settled (frame_of pa) w
 
 -- Answers.
 
-inward_account : (c : Cloak) (d : ℕ) (a : Answer) → Accounts (Cloaked c) (Cloaked (record c { items = c.items ++ answer_item d a ∷ [] }))
-inward_account c d answer.Ok = record { by = λ joint. record { items = item.Ok d ∷ []; written = refl; within = (refl, tt); ram = refl; joint = record { form = refl; places = joint.places } } }
-inward_account c d (answer.Absent cause) = record { by = λ joint. record { items = item.Absent d cause ∷ []; written = refl; within = (refl, tt); ram = refl; joint = record { form = refl; places = joint.places } } }
-inward_account c d (answer.Word value) = record { by = λ joint. record { items = item.Word d value ∷ []; written = refl; within = (refl, tt); ram = refl; joint = record { form = refl; places = joint.places } } }
-inward_account c d answer.Stopped = record { by = λ joint. record { items = item.Stopped d ∷ []; written = refl; within = (refl, tt); ram = refl; joint = record { form = refl; places = joint.places } } }
+inward_account : (c : Cloak) (d : ℕ) (a : Answer) →
+    Accounts (Cloaked c) (Cloaked (record c { items = c.items ++ answer_item d a ∷ [] }))
+inward_account c d answer.Ok = record {
+  by = λ joint. record {
+    items = item.Ok d ∷ [];
+    written = refl;
+    within = (refl, tt);
+    ram = refl;
+    joint = record { form = refl; places = joint.places };
+  };
+}
+inward_account c d (answer.Absent cause) = record {
+  by = λ joint. record {
+    items = item.Absent d cause ∷ [];
+    written = refl;
+    within = (refl, tt);
+    ram = refl;
+    joint = record { form = refl; places = joint.places };
+  };
+}
+inward_account c d (answer.Word value) = record {
+  by = λ joint. record {
+    items = item.Word d value ∷ [];
+    written = refl;
+    within = (refl, tt);
+    ram = refl;
+    joint = record { form = refl; places = joint.places };
+  };
+}
+inward_account c d answer.Stopped = record {
+  by = λ joint. record {
+    items = item.Stopped d ∷ [];
+    written = refl;
+    within = (refl, tt);
+    ram = refl;
+    joint = record { form = refl; places = joint.places };
+  };
+}
 
 accounts_replies : (a : Answer) (w : World) → Accounts w (replies a w).world
 unfolding replies
@@ -188,7 +222,8 @@ offer_account q g write c = record {
 accounts_offer : (q : PageId) (g : ℕ) (write : Bool) (w : World) → Accounts w (ask_offer q g write w).world
 unfolding ask_offer
 accounts_offer q g write (Flat ram) = no_flat ram _
-accounts_offer q g write (Cloaked c) = Accounts-trans _ (Cloaked _) _ (offer_account q g write c) (accounts_offered q g _ _)
+accounts_offer q g write (Cloaked c) =
+    Accounts-trans _ (Cloaked _) _ (offer_account q g write c) (accounts_offered q g _ _)
 accounts_offer q g write (Alone h) = no_alone h _
 
 accounts_reached : (q : PageId) (kind : Kind) (to : Result ℕ ℕ) (w : World) → Accounts w (reached q kind to w).world
@@ -196,7 +231,8 @@ unfolding reached
 accounts_reached q kind (Err cause) w = accounts_replies _ w
 accounts_reached q kind (Ok pa) w = accounts_offer q _ _ w
 
-accounts_reach_by_table : (q : PageId) (va : ℕ) (kind : Kind) (w : World) → Accounts w (reach_by_table q va kind w).world
+accounts_reach_by_table : (q : PageId) (va : ℕ) (kind : Kind) (w : World) →
+    Accounts w (reach_by_table q va kind w).world
 unfolding reach_by_table
 accounts_reach_by_table q va kind w =
     Accounts-trans _ _ _ (accounts_inside_address va kind w) (accounts_drawn _ _ (accounts_reached q kind _ _))
@@ -214,7 +250,8 @@ accounts_get_by_table va width w =
 
 -- Stores.
 
-put_account : (pa width value : ℕ) (c : Cloak) → is_in_ram c.memory.ram pa ≡ true → (pa % width == 0) ≡ true → IsWidth width →
+put_account : (pa width value : ℕ) (c : Cloak) → is_in_ram c.memory.ram pa ≡ true → (pa % width == 0) ≡ true →
+    IsWidth width →
     Accounts (Cloaked c) (put_at pa width value (Cloaked c)).world
 unfolding put_at replies
 put_account pa width value c inside aligned is = record {
@@ -227,14 +264,16 @@ put_account pa width value c inside aligned is = record {
   };
 }
 
-accounts_put_at : (pa width value : ℕ) (w : World) → is_in_ram (ram_of w) pa ≡ true → (pa % width == 0) ≡ true → IsWidth width →
+accounts_put_at : (pa width value : ℕ) (w : World) → is_in_ram (ram_of w) pa ≡ true → (pa % width == 0) ≡ true →
+    IsWidth width →
     Accounts w (put_at pa width value w).world
 accounts_put_at pa width value (Flat ram) inside aligned is = no_flat ram _
 accounts_put_at pa width value (Cloaked c) inside aligned is = put_account pa width value c inside aligned is
 accounts_put_at pa width value (Alone h) inside aligned is = no_alone h _
 
 -- a store at a settled address
-settled_put : (pa width value : ℕ) (w : World) → is_in_ram (ram_of w) pa ≡ true → (pa % width == 0) ≡ true → IsWidth width →
+settled_put : (pa width value : ℕ) (w : World) → is_in_ram (ram_of w) pa ≡ true → (pa % width == 0) ≡ true →
+    IsWidth width →
     Accounts w (if_drawn (put_at pa width value) (settled (frame_of pa) w)).world
 settled_put pa width value w inside aligned is = record {
   by = λ joint.
@@ -245,7 +284,8 @@ settled_put pa width value w inside aligned is = record {
       (Accounts-trans w v _ first (accounts_drawn _ v (accounts_put_at pa width value v inside' aligned is))).by joint;
 }
 
-accounts_stored : (va width value : ℕ) (told : Told (Result ℕ ℕ)) → LeadsInside va told → va % width ≡ 0 → IsWidth width →
+accounts_stored : (va width value : ℕ) (told : Told (Result ℕ ℕ)) → LeadsInside va told → va % width ≡ 0 →
+    IsWidth width →
     Accounts told.world (stored_inside width value told.answer told.world).world
 unfolding stored_inside
 accounts_stored va width value told leads at is = by told.answer refl
@@ -270,11 +310,13 @@ either_world : (b : Bool) (w v : World) → Accounts w v → Accounts w (cond b 
 either_world true w v later = later
 either_world false w v later = Accounts-refl w
 
-accounts_if_marked : (domain : ℕ) (marked : List Bool) (f : ℕ) (w : World) → Accounts w (settled_if_marked domain marked f w)
+accounts_if_marked : (domain : ℕ) (marked : List Bool) (f : ℕ) (w : World) →
+    Accounts w (settled_if_marked domain marked f w)
 unfolding settled_if_marked
 accounts_if_marked domain marked f w = either_world _ w (settled f w) (Accounts-settled f w)
 
-accounts_clear_from : (domain : ℕ) (marked : List Bool) (f n : ℕ) (w : World) → Accounts w (clear_from domain marked f n w).world
+accounts_clear_from : (domain : ℕ) (marked : List Bool) (f n : ℕ) (w : World) →
+    Accounts w (clear_from domain marked f n w).world
 unfolding clear_from
 accounts_clear_from domain marked f zero w = accounts_replies _ w
 accounts_clear_from domain marked f (suc n) w =
@@ -305,7 +347,8 @@ accounts_get va width (Flat ram) = no_flat ram _
 accounts_get va width (Cloaked c) = accounts_get_by_table va width (Cloaked c)
 accounts_get va width (Alone h) = no_alone h _
 
-pub accounts_put : (va width value : ℕ) (w : World) → va % width ≡ 0 → IsWidth width → Accounts w (ask_put va width value w).world
+pub accounts_put : (va width value : ℕ) (w : World) → va % width ≡ 0 → IsWidth width →
+    Accounts w (ask_put va width value w).world
 unfolding ask_put
 accounts_put va width value (Flat ram) at is = no_flat ram _
 accounts_put va width value (Cloaked c) at is = accounts_put_by_table va width value (Cloaked c) at is

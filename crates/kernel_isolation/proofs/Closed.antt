@@ -27,7 +27,8 @@ below (suc n) c places =
       ciphers = b.ciphers ++ more;
       items = ap (λ (l : List Item). l ++ cipher_items more) b.items
           ∙ (append_assoc c.items (cipher_items b.ciphers) (cipher_items more)
-          ∙ ap (λ (l : List Item). c.items ++ l) (sym (map-append (λ (x : ℕ × List ℕ). item.Cipher x.0 x.1) b.ciphers more)));
+          ∙ ap (λ (l : List Item). c.items ++ l)
+          (sym (map-append (λ (x : ℕ × List ℕ). item.Cipher x.0 x.1) b.ciphers more)));
       shown = ShownBy-append c.memory c'.memory _ b.ciphers more b.shown (settle_shown n c'.memory b.shown.places);
     }
 

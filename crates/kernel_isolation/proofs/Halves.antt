@@ -39,8 +39,11 @@ unfolding turns_from
 steps_of_step zero m steady = tt
 steps_of_step (suc budget) m steady =
     let t : Turn = joint_step m in
-    let turn = turn_is_alone m steady in
-    (turn.items, turns_of_step (stop_of t) (turns_from budget) (after_turn m t) (steps_of_step budget (after_turn m t) turn.steady))
+    let turn = turn_is_alone m steady in (
+      turn.items,
+      turns_of_step (stop_of t) (turns_from budget) (after_turn m t)
+          (steps_of_step budget (after_turn m t) turn.steady),
+    )
 
 -- of the opening and the closing, and of each step
 record WritesAsExchange (r : Run) : Type 0 where
@@ -48,7 +51,8 @@ record WritesAsExchange (r : Run) : Type 0 where
   pub steps : AllByRecursion AreOfStep (map (λ (t : Turn). t.items) r.turns)
   pub closing : AllByRecursion IsCipher r.closed.items
 
-writes_of : (b : Bundle) (stream : Random) (budget : ℕ) (o : Opened) → opening b stream ≡ Ok o → WritesAsExchange (run_of b budget o)
+writes_of : (b : Bundle) (stream : Random) (budget : ℕ) (o : Opened) → opening b stream ≡ Ok o →
+    WritesAsExchange (run_of b budget o)
 unfolding run_of
 writes_of b stream budget o opens =
     let opened = is_opened b stream o opens in
@@ -93,15 +97,18 @@ opening_of_step (i ∷ items) all = ((one_cipher i all.0).0, opening_of_step ite
 abbrev until_from : ℕ → List Item → List Item
 until_from n half = before_step n half ++ item.Close n ∷ []
 
-half_until : (r : Run) → WritesAsExchange r → (n : ℕ) → n ≤ length r.turns → outward_half (items_until n r) ≡ until_from n (run_outward_half r)
+half_until : (r : Run) → WritesAsExchange r → (n : ℕ) → n ≤ length r.turns →
+    outward_half (items_until n r) ≡ until_from n (run_outward_half r)
 half_until r w n le =
     let steps : List (List Item) = map (λ (t : Turn). t.items) r.turns in
     let first : List Item = steps_items 1 (map (λ (t : Turn). t.items) (take n r.turns)) in
     let rest : List Item = r.closed.items ++ item.End ∷ [] in
     let count : length steps ≡ length r.turns = length-map r.turns (λ (t : Turn). t.items) in
     let same : before_step n (run_outward_half r) ≡ outward_half (r.opened.items ++ first) =
-    before_step_is n r.opened.items steps (length steps) rest (opening_of_step r.opened.items w.opening) w.steps (omega (arith, count, le))
-    ∙ ap (λ (l : List (List Item)). outward_half (r.opened.items ++ steps_items 1 l)) (take-map (λ (t : Turn). t.items) n r.turns) in
+    before_step_is n r.opened.items steps (length steps) rest (opening_of_step r.opened.items w.opening) w.steps
+    (omega (arith, count, le))
+    ∙ ap (λ (l : List (List Item)). outward_half (r.opened.items ++ steps_items 1 l))
+    (take-map (λ (t : Turn). t.items) n r.turns) in
     ap outward_half (sym (append_assoc r.opened.items first (item.Close n ∷ [])))
     ∙ (filter-append is_outward (r.opened.items ++ first) (item.Close n ∷ [])
     ∙ ap (λ (l : List Item). l ++ item.Close n ∷ []) (sym same))
@@ -109,7 +116,8 @@ half_until r w n le =
 steps_told : (r : Run) → WritesAsExchange r → closes_at (run_outward_half r) ≡ length r.turns
 steps_told r w =
     let steps : List (List Item) = map (λ (t : Turn). t.items) r.turns in
-    closes_at_is r.opened.items steps (length steps) (r.closed.items ++ item.End ∷ []) (opening_of_step r.opened.items w.opening) w.steps
+    closes_at_is r.opened.items steps (length steps) (r.closed.items ++ item.End ∷ [])
+    (opening_of_step r.opened.items w.opening) w.steps
     ∙ length-map r.turns (λ (t : Turn). t.items)
 
 -- Two runs.
@@ -136,6 +144,8 @@ kernel_depends_on_half b b' stream stream' budget budget' r r' is is' image half
           (half_until r' w' n le' ∙ (ap (until_from n) half ∙ sym (half_until r w n le)))
           (kernel_is_alone b stream budget r is n le) (kernel_is_alone b' stream' budget' r' is' n le');
       closed = same_kernel b.kernel b'.kernel (run_outward_half r) (run_outward_half r') _ _ image half
-          (subst (λ (s : KernelAlone). HasKernel s (kernel_part r.closed.joint)) (sym (outward_half_suffices b.kernel (exchange r))) ends)
-          (subst (λ (s : KernelAlone). HasKernel s (kernel_part r'.closed.joint)) (sym (outward_half_suffices b'.kernel (exchange r'))) ends');
+          (subst (λ (s : KernelAlone). HasKernel s (kernel_part r.closed.joint))
+          (sym (outward_half_suffices b.kernel (exchange r))) ends)
+          (subst (λ (s : KernelAlone). HasKernel s (kernel_part r'.closed.joint))
+          (sym (outward_half_suffices b'.kernel (exchange r'))) ends');
     }

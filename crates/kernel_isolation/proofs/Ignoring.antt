@@ -36,7 +36,8 @@ ignores schedule s (item.Stopped domain) is = refl
 ignores schedule s i is = absurd cc
 
 -- an inward item leaves all
-inward_kept : (schedule : List ℕ) (s : KernelAlone) (i : Item) → is_outward i ≡ false → take_kernel_item schedule s i ≡ s
+inward_kept : (schedule : List ℕ) (s : KernelAlone) (i : Item) → is_outward i ≡ false →
+    take_kernel_item schedule s i ≡ s
 unfolding take_kernel_item
 inward_kept schedule s i is =
     either_same (is_some s.unfit) s (kernel_takes schedule i s) (ignores schedule s i is)

@@ -26,7 +26,12 @@ ticked_hart hart k = ticked (kernel_hart k hart)
 -- a step of a hart inside begins
 abbrev begun_inside : ℕ → ℕ → ℕ → KernelAlone → KernelAlone
 begun_inside hart ctx n s =
-    record s { kernel = with_kernel_hart hart (ticked_hart hart s.kernel) s.kernel; steps = suc n; place = Inside hart ctx }
+    record s {
+      kernel = with_kernel_hart hart (ticked_hart hart s.kernel) s.kernel;
+      steps = suc n;
+      place =
+          Inside hart ctx;
+    }
 
 begins : (schedule : List ℕ) (n ctx : ℕ) (s : KernelAlone) (inside : Option ℕ) (halted : Bool) → halted ≡ false →
     inside ≡ Some ctx →
@@ -34,7 +39,8 @@ begins : (schedule : List ℕ) (n ctx : ℕ) (s : KernelAlone) (inside : Option 
     ≡ begun_inside (hart_behind schedule n) ctx n s
 unfolding kernel_step_begun
 begins schedule n ctx s None false h i = absurd cc
-begins schedule n ctx s (Some c) false h i = (let same : c ≡ ctx = cc in ap (λ x. begun_inside (hart_behind schedule n) x n s) same)
+begins schedule n ctx s (Some c) false h i =
+    (let same : c ≡ ctx = cc in ap (λ x. begun_inside (hart_behind schedule n) x n s) same)
 begins schedule n ctx s inside true h i = absurd cc
 
 step_taken : (schedule : List ℕ) (n ctx : ℕ) (s : KernelAlone) → s.unfit ≡ None → s.place ≡ Between → s.halted ≡ false →
@@ -57,13 +63,16 @@ inside_taken : (schedule : List ℕ) (n ctx : ℕ) (s : KernelAlone) (items : Li
 unfolding kernel_taken
 inside_taken schedule n ctx s items none place halted inside all =
     ap (λ t. kernel_taken schedule t items) (step_taken schedule n ctx s none place halted inside)
-    ∙ items_taken schedule (hart_behind schedule n) ctx items (begun_inside (hart_behind schedule n) ctx n s) none refl all
+    ∙ items_taken schedule (hart_behind schedule n) ctx items
+    (begun_inside (hart_behind schedule n) ctx n s) none refl all
 
 -- A step that stays.
 
-staying_ends : (hart n ctx : ℕ) (s : KernelAlone) (items : List Item) (stops : Bool) → s.unfit ≡ None → s.halted ≡ false →
+staying_ends : (hart n ctx : ℕ) (s : KernelAlone) (items : List Item) (stops : Bool) → s.unfit ≡ None →
+    s.halted ≡ false →
     let t = behind_items hart ctx n items s in
-    KernelGoesOn (kernel_step_ended t.place t) (suc n) (after_inside hart (ticked_hart hart s.kernel) items s.kernel) stops
+    KernelGoesOn (kernel_step_ended t.place t) (suc n)
+    (after_inside hart (ticked_hart hart s.kernel) items s.kernel) stops
 unfolding kernel_step_ended
 staying_ends hart n ctx s items stops none halted =
     record { rests = record { same = refl; steps = refl; place = refl; fits = none }; halted = λ e. halted }
@@ -103,13 +112,16 @@ behind_leave hart shown n items s = record s {
   place = Left;
 }
 
-hart_same : (hart : ℕ) (h : Hart) (k : KernelPart) → hart < length k.harts → kernel_hart (with_kernel_hart hart h k) hart ≡ h
+hart_same : (hart : ℕ) (h : Hart) (k : KernelPart) → hart < length k.harts →
+    kernel_hart (with_kernel_hart hart h k) hart ≡ h
 hart_same hart h k lt = get_or-set_same k.harts hart h (started 0 0) lt
 
 twice : (hart : ℕ) (a b : Hart) (items : List Item) (k : KernelPart) →
-    with_kernel_hart hart b (record (with_kernel_hart hart a k) { ram = with_items items k.ram }) ≡ after_inside hart b items k
+    with_kernel_hart hart b (record (with_kernel_hart hart a k) { ram = with_items items k.ram })
+    ≡ after_inside hart b items k
 twice hart a b items k =
-    ap (λ (l : List Hart). let p : KernelPart = record { harts = l; ram = with_items items k.ram; disk = k.disk; console = k.console } in p)
+    ap (λ (l : List Hart). let p : KernelPart =
+    record { harts = l; ram = with_items items k.ram; disk = k.disk; console = k.console } in p)
     (set-set k.harts hart a b)
 
 leaving_taken : (schedule : List ℕ) (n : ℕ) (s : KernelAlone) (items : List Item) (shown : Shown) → s.unfit ≡ None →
@@ -123,22 +135,28 @@ leaving_taken schedule n s items shown none place halted lt inside all =
     let t = behind_items hart shown.ctx n items s in
     let now : kernel_hart t.kernel hart ≡ h = hart_same hart h s.kernel lt in
     kernel_append schedule s (item.Step (suc n) ∷ items) (item.Leave shown ∷ [])
-    ∙ ap (λ x. kernel_taken schedule x (item.Leave shown ∷ [])) (inside_taken schedule n shown.ctx s items none place halted inside all)
+    ∙ ap (λ x. kernel_taken schedule x (item.Leave shown ∷ []))
+    (inside_taken schedule n shown.ctx s items none place halted inside all)
     ∙ leave_taken schedule hart shown.ctx shown t none refl refl
-    ∙ ap (λ x. let r : KernelAlone = record t { kernel = with_kernel_hart hart (leave x shown) t.kernel; place = Left } in r) now
-    ∙ ap (λ (p : KernelPart). let r : KernelAlone = record t { kernel = p; place = Left } in r) (twice hart h (leave h shown) items s.kernel)
+    ∙ ap (λ x. let r : KernelAlone =
+    record t { kernel = with_kernel_hart hart (leave x shown) t.kernel; place = Left } in r) now
+    ∙ ap (λ (p : KernelPart). let r : KernelAlone = record t { kernel = p; place = Left } in r)
+    (twice hart h (leave h shown) items s.kernel)
 
 leaving_ends : (hart n : ℕ) (s : KernelAlone) (items : List Item) (shown : Shown) (stops : Bool) → s.unfit ≡ None →
     s.halted ≡ false → let t = behind_leave hart shown n items s in
-    KernelGoesOn (kernel_step_ended t.place t) (suc n) (after_inside hart (leave (ticked_hart hart s.kernel) shown) items s.kernel) stops
+    KernelGoesOn (kernel_step_ended t.place t) (suc n)
+    (after_inside hart (leave (ticked_hart hart s.kernel) shown) items s.kernel) stops
 unfolding kernel_step_ended
 leaving_ends hart n s items shown stops none halted =
     record { rests = record { same = refl; steps = refl; place = refl; fits = none }; halted = λ e. halted }
 
-pub leaving_step_is_alone : (schedule : List ℕ) (n : ℕ) (k : KernelPart) (items : List Item) (shown : Shown) (stops : Bool) →
+pub leaving_step_is_alone : (schedule : List ℕ) (n : ℕ) (k : KernelPart) (items : List Item) (shown : Shown)
+    (stops : Bool) →
     let hart = hart_behind schedule n in hart < length k.harts → (kernel_hart k hart).inside ≡ Some shown.ctx →
     AreWithin k.ram items →
-    KernelStepIsAlone schedule n k (items ++ item.Leave shown ∷ []) (after_inside hart (leave (ticked_hart hart k) shown) items k) stops
+    KernelStepIsAlone schedule n k (items ++ item.Leave shown ∷ [])
+    (after_inside hart (leave (ticked_hart hart k) shown) items k) stops
 leaving_step_is_alone schedule n k items shown stops lt inside all s on =
     let hart : ℕ = hart_behind schedule n in
     let r = on.rests in

@@ -54,7 +54,8 @@ store_is va width value here is = record {
 
 aligned_store : (va width value : ℕ) → IsWidth width → StoresAligned (store_effect va width value)
 aligned_store va width value is =
-    cond_both (va % width == 0) _ _ StoresAligned (λ e. store_is va width _ (eqb-true (va % width) 0 e) is) (λ e. aligned_raise 6 va)
+    cond_both (va % width == 0) _ _ StoresAligned (λ e. store_is va width _ (eqb-true (va % width) 0 e) is)
+    (λ e. aligned_raise 6 va)
 
 aligned_effect : (i : Instr) (r : List ℕ) (pc : ℕ) → StoresAligned (effect i r pc)
 unfolding effect
@@ -78,30 +79,38 @@ aligned_effect _ r pc = no_store _ (λ va width x is. cc)
 
 -- The instruction.
 
-accounts_loaded : (c : Context) (rd va width : ℕ) (signed : Bool) (value : ℕ) (w : World) → Accounts w (loaded_inside c rd va width signed value w).world
+accounts_loaded : (c : Context) (rd va width : ℕ) (signed : Bool) (value : ℕ) (w : World) →
+    Accounts w (loaded_inside c rd va width signed value w).world
 unfolding loaded_inside
 accounts_loaded c rd va width signed value w = Accounts-refl w
 
-accounts_load_reached : (c : Context) (q : PageId) (rd va width : ℕ) (signed : Bool) (a : Answer) (w : World) → Accounts w (load_reached c q rd va width signed a w).world
+accounts_load_reached : (c : Context) (q : PageId) (rd va width : ℕ) (signed : Bool) (a : Answer) (w : World) →
+    Accounts w (load_reached c q rd va width signed a w).world
 unfolding load_reached
-accounts_load_reached c q rd va width signed told.Ok w = Accounts-trans _ _ _ (accounts_read _ _ _ w) (accounts_loaded c rd va width signed _ _)
+accounts_load_reached c q rd va width signed told.Ok w =
+    Accounts-trans _ _ _ (accounts_read _ _ _ w) (accounts_loaded c rd va width signed _ _)
 accounts_load_reached c q rd va width signed (told.Absent cause) w = Accounts-refl w
 accounts_load_reached c q rd va width signed (told.Word value) w = Accounts-refl w
 accounts_load_reached c q rd va width signed told.Stopped w = Accounts-refl w
 
-accounts_load_got : (c : Context) (rd va width : ℕ) (signed : Bool) (a : Answer) (w : World) → Accounts w (load_got c rd va width signed a w).world
+accounts_load_got : (c : Context) (rd va width : ℕ) (signed : Bool) (a : Answer) (w : World) →
+    Accounts w (load_got c rd va width signed a w).world
 unfolding load_got
 accounts_load_got c rd va width signed told.Ok w = Accounts-refl w
 accounts_load_got c rd va width signed (told.Absent cause) w = Accounts-refl w
 accounts_load_got c rd va width signed (told.Word value) w = Accounts-refl w
 accounts_load_got c rd va width signed told.Stopped w = Accounts-refl w
 
-accounts_load : (c : Context) (rd va width : ℕ) (signed : Bool) (place : Option PageId) (w : World) → Accounts w (load_inside c rd va width signed place w).world
+accounts_load : (c : Context) (rd va width : ℕ) (signed : Bool) (place : Option PageId) (w : World) →
+    Accounts w (load_inside c rd va width signed place w).world
 unfolding load_inside
-accounts_load c rd va width signed None w = Accounts-trans _ _ _ (accounts_get va width w) (accounts_load_got c rd va width signed _ _)
-accounts_load c rd va width signed (Some q) w = Accounts-trans _ _ _ (accounts_reach _ va _ w) (accounts_load_reached c _ rd va width signed _ _)
+accounts_load c rd va width signed None w =
+    Accounts-trans _ _ _ (accounts_get va width w) (accounts_load_got c rd va width signed _ _)
+accounts_load c rd va width signed (Some q) w =
+    Accounts-trans _ _ _ (accounts_reach _ va _ w) (accounts_load_reached c _ rd va width signed _ _)
 
-accounts_store_reached : (c : Context) (q : PageId) (va width value : ℕ) (a : Answer) (w : World) → Accounts w (store_reached c q va width value a w).world
+accounts_store_reached : (c : Context) (q : PageId) (va width value : ℕ) (a : Answer) (w : World) →
+    Accounts w (store_reached c q va width value a w).world
 unfolding store_reached
 accounts_store_reached c q va width value told.Ok w = accounts_write _ _ _ _ w
 accounts_store_reached c q va width value (told.Absent cause) w = Accounts-refl w
@@ -115,10 +124,13 @@ accounts_store_put c va (told.Absent cause) w = Accounts-refl w
 accounts_store_put c va (told.Word value) w = Accounts-refl w
 accounts_store_put c va told.Stopped w = Accounts-refl w
 
-accounts_store : (c : Context) (va width value : ℕ) (place : Option PageId) (w : World) → (va % width ≡ 0) × IsWidth width → Accounts w (store_inside c va width value place w).world
+accounts_store : (c : Context) (va width value : ℕ) (place : Option PageId) (w : World) →
+    (va % width ≡ 0) × IsWidth width → Accounts w (store_inside c va width value place w).world
 unfolding store_inside
-accounts_store c va width value None w at = Accounts-trans _ _ _ (accounts_put va width value w at.0 at.1) (accounts_store_put c va _ _)
-accounts_store c va width value (Some q) w at = Accounts-trans _ _ _ (accounts_reach _ va _ w) (accounts_store_reached c _ va width value _ _)
+accounts_store c va width value None w at =
+    Accounts-trans _ _ _ (accounts_put va width value w at.0 at.1) (accounts_store_put c va _ _)
+accounts_store c va width value (Some q) w at =
+    Accounts-trans _ _ _ (accounts_reach _ va _ w) (accounts_store_reached c _ va width value _ _)
 
 accounts_system : (c : Context) (i : Instr) (w : World) → Accounts w (system_inside c i w).world
 unfolding system_inside
@@ -126,38 +138,47 @@ accounts_system c instr.Ecall w = Accounts-refl w
 accounts_system c instr.Ebreak w = Accounts-refl w
 accounts_system c _ w = Accounts-refl w
 
-accounts_done : (domain : ℕ) (r : Resources) (c : Context) (i : Instr) (e : Effect) (w : World) → StoresAligned e → Accounts w (done_inside domain r c i e w).world
+accounts_done : (domain : ℕ) (r : Resources) (c : Context) (i : Instr) (e : Effect) (w : World) → StoresAligned e →
+    Accounts w (done_inside domain r c i e w).world
 unfolding done_inside
 accounts_done domain r c i (does.Write rd value) w at = Accounts-refl w
 accounts_done domain r c i (does.Jump rd link target) w at = Accounts-refl w
 accounts_done domain r c i (does.Go target) w at = Accounts-refl w
 accounts_done domain r c i (does.Load rd va width signed) w at = accounts_load c rd va width signed _ w
-accounts_done domain r c i (does.Store va width value) w at = accounts_store c va width value _ w (at.at va width value refl)
+accounts_done domain r c i (does.Store va width value) w at =
+    accounts_store c va width value _ w (at.at va width value refl)
 accounts_done domain r c i does.System w at = accounts_system c i w
 accounts_done domain r c i does.Nothing w at = Accounts-refl w
 accounts_done domain r c i (does.Raise cause value) w at = Accounts-refl w
 
-accounts_decoded : (domain : ℕ) (r : Resources) (c : Context) (i : Option Instr) (w : World) → Accounts w (decoded_inside domain r c i w).world
+accounts_decoded : (domain : ℕ) (r : Resources) (c : Context) (i : Option Instr) (w : World) →
+    Accounts w (decoded_inside domain r c i w).world
 unfolding decoded_inside
 accounts_decoded domain r c None w = Accounts-refl w
-accounts_decoded domain r c (Some i) w = accounts_done domain r c i (effect i c.regs c.pc) w (aligned_effect i c.regs c.pc)
+accounts_decoded domain r c (Some i) w =
+    accounts_done domain r c i (effect i c.regs c.pc) w (aligned_effect i c.regs c.pc)
 
-accounts_executed : (domain : ℕ) (r : Resources) (c : Context) (word : ℕ) (w : World) → Accounts w (executed_inside domain r c word w).world
+accounts_executed : (domain : ℕ) (r : Resources) (c : Context) (word : ℕ) (w : World) →
+    Accounts w (executed_inside domain r c word w).world
 unfolding executed_inside
 accounts_executed domain r c word w = accounts_decoded domain r c (instruction word) w
 
-accounts_fetched : (domain : ℕ) (r : Resources) (c : Context) (q : PageId) (a : Answer) (w : World) → Accounts w (fetched_inside domain r c q a w).world
+accounts_fetched : (domain : ℕ) (r : Resources) (c : Context) (q : PageId) (a : Answer) (w : World) →
+    Accounts w (fetched_inside domain r c q a w).world
 unfolding fetched_inside
-accounts_fetched domain r c q told.Ok w = Accounts-trans _ _ _ (accounts_read _ _ _ w) (accounts_executed domain r c _ _)
+accounts_fetched domain r c q told.Ok w =
+    Accounts-trans _ _ _ (accounts_read _ _ _ w) (accounts_executed domain r c _ _)
 accounts_fetched domain r c q (told.Absent cause) w = Accounts-refl w
 accounts_fetched domain r c q (told.Word value) w = Accounts-refl w
 accounts_fetched domain r c q told.Stopped w = Accounts-refl w
 
-accounts_fetch : (domain : ℕ) (r : Resources) (c : Context) (place : Option PageId) (w : World) → Accounts w (fetch domain r c place w).world
+accounts_fetch : (domain : ℕ) (r : Resources) (c : Context) (place : Option PageId) (w : World) →
+    Accounts w (fetch domain r c place w).world
 unfolding fetch
 accounts_fetch domain r c None w = Accounts-refl w
 accounts_fetch domain r c (Some q) w = Accounts-trans _ _ _ (accounts_reach _ _ _ w) (accounts_fetched domain r c _ _ _)
 
-pub accounts_instruction : (domain : ℕ) (r : Resources) (c : Context) (w : World) → Accounts w (instruction_inside domain r c w).world
+pub accounts_instruction : (domain : ℕ) (r : Resources) (c : Context) (w : World) →
+    Accounts w (instruction_inside domain r c w).world
 unfolding instruction_inside
 accounts_instruction domain r c w = accounts_fetch domain r c _ w

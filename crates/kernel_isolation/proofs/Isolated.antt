@@ -31,15 +31,22 @@ pub record IsRead (s : KernelAlone) (j : Joint) : Type 0 where
   pub steady : IsSteady j
 
 -- the steps behind one: none where that stopped the run
-steps_behind : (o : Option Stop) (schedule : List ℕ) (k n : ℕ) (later : Moment → List Turn) (m : Moment) (s : KernelAlone) →
+steps_behind : (o : Option Stop) (schedule : List ℕ) (k n : ℕ) (later : Moment → List Turn) (m : Moment)
+    (s : KernelAlone) →
     HasRead s n (kernel_part m.joint) (is_some o) → IsSteady m.joint → k ≤ length (unless_stopped o later m) →
     (HasRead s n (kernel_part m.joint) false → k ≤ length (later m) →
-    IsRead (kernel_taken schedule s (steps_items (suc n) (map (λ (t : Turn). t.items) (take k (later m))))) (joint_after m.joint (take k (later m)))) →
+    IsRead (kernel_taken schedule s (steps_items (suc n) (map (λ (t : Turn). t.items) (take k (later m)))))
+    (joint_after m.joint (take k (later m)))) →
     let ts = take k (unless_stopped o later m) in
     IsRead (kernel_taken schedule s (steps_items (suc n) (map (λ (t : Turn). t.items) ts))) (joint_after m.joint ts)
 unfolding steps_items joint_after kernel_taken
 steps_behind None schedule k n later m s read steady le more = more read le
-steps_behind (Some cause) schedule zero n later m s read steady le more = record { steps = n; stops = true; read = read; steady = steady }
+steps_behind (Some cause) schedule zero n later m s read steady le more = record {
+  steps = n;
+  stops = true;
+  read = read;
+  steady = steady;
+}
 steps_behind (Some cause) schedule (suc k) n later m s read steady le more = absurd (omega (arith, le))
 
 steps_read : (budget k n : ℕ) (m : Moment) (s : KernelAlone) → m.steps ≡ n → HasRead s n (kernel_part m.joint) false →
@@ -51,18 +58,23 @@ steps_read zero (suc k) n m s at read steady le = absurd (omega (arith, le))
 steps_read (suc budget) (suc k) n m s at read steady le =
     let t : Turn = joint_step m in
     let turn = turn_is_alone m steady in
-    let read' : HasRead s m.steps (kernel_part m.joint) false = subst (λ (x : ℕ). HasRead s x (kernel_part m.joint) false) (sym at) read in
+    let read' : HasRead s m.steps (kernel_part m.joint) false = subst
+    (λ (x : ℕ). HasRead s x (kernel_part m.joint) false) (sym at) read in
     let s' : KernelAlone = kernel_taken m.schedule s (item.Step (suc n) ∷ t.items) in
     let next : HasRead s' (suc n) (kernel_part t.joint) (is_some (stop_of t)) =
-    subst (λ (x : ℕ). HasRead (kernel_taken m.schedule s (item.Step (suc x) ∷ t.items)) (suc x) (kernel_part t.joint) (is_some (stop_of t))) at
-    (next_read m.schedule m.steps (kernel_part m.joint) (kernel_part t.joint) t.items (is_some (stop_of t)) s read' turn.alone) in
+    subst (λ (x : ℕ). HasRead (kernel_taken m.schedule s (item.Step (suc x) ∷ t.items)) (suc x) (kernel_part t.joint)
+    (is_some (stop_of t))) at
+    (next_read m.schedule m.steps (kernel_part m.joint) (kernel_part t.joint) t.items
+    (is_some (stop_of t)) s read' turn.alone) in
     let m' : Moment = after_turn m t in
     let at' : m'.steps ≡ suc n = omega (arith, at) in
     let ts : List Turn = take k (unless_stopped (stop_of t) (turns_from budget) m') in
-    let others = steps_behind (stop_of t) m.schedule k (suc n) (turns_from budget) m' s' next turn.steady (omega (arith, le))
+    let others = steps_behind (stop_of t) m.schedule k (suc n) (turns_from budget) m' s' next turn.steady
+    (omega (arith, le))
     (λ on low. steps_read budget k (suc n) m' s' at' on turn.steady low) in
     subst (λ (x : KernelAlone). IsRead x (joint_after t.joint ts))
-    (sym (kernel_append m.schedule s (item.Step (suc n) ∷ t.items) (steps_items (suc (suc n)) (map (λ (t : Turn). t.items) ts)))) others
+    (sym (kernel_append m.schedule s (item.Step (suc n) ∷ t.items)
+    (steps_items (suc (suc n)) (map (λ (t : Turn). t.items) ts)))) others
 
 -- The opening.
 
@@ -86,7 +98,8 @@ opening_read b o opened =
 pub until_read : (b : Bundle) (stream : Random) (budget : ℕ) (o : Opened) → opening b stream ≡ Ok o → (n : ℕ) →
     n ≤ length (turns_from budget (first_moment b o.joint)) →
     let ts = take n (turns_from budget (first_moment b o.joint)) in
-    IsRead (kernel_taken b.kernel.schedule (opened_kernel b.kernel) (o.items ++ steps_items 1 (map (λ (t : Turn). t.items) ts)))
+    IsRead (kernel_taken b.kernel.schedule (opened_kernel b.kernel)
+    (o.items ++ steps_items 1 (map (λ (t : Turn). t.items) ts)))
     (joint_after o.joint ts)
 until_read b stream budget o opens n le =
     let opened = is_opened b stream o opens in
@@ -94,7 +107,8 @@ until_read b stream budget o opens n le =
     let s : KernelAlone = kernel_taken b.kernel.schedule (opened_kernel b.kernel) o.items in
     let ts : List Turn = take n (turns_from budget m) in
     subst (λ (x : KernelAlone). IsRead x (joint_after o.joint ts))
-    (sym (kernel_append b.kernel.schedule (opened_kernel b.kernel) o.items (steps_items 1 (map (λ (t : Turn). t.items) ts))))
+    (sym (kernel_append b.kernel.schedule (opened_kernel b.kernel) o.items
+    (steps_items 1 (map (λ (t : Turn). t.items) ts))))
     (steps_read budget n 0 m s refl (opening_read b o opened) opened.steady le)
 
 -- Close, and what is shown behind it.
@@ -112,7 +126,8 @@ unfolding kernel_taken kernel_takes
 end_taken schedule s fits = taken_fit schedule s item.End fits
 
 closing_read : (schedule : List ℕ) (n : ℕ) (s : KernelAlone) (j : Joint) → IsRead s j →
-    HasKernel (kernel_taken schedule s (item.Close n ∷ ((closing j).items ++ item.End ∷ []))) (kernel_part (closing j).joint)
+    HasKernel (kernel_taken schedule s (item.Close n ∷ ((closing j).items ++ item.End ∷ [])))
+    (kernel_part (closing j).joint)
 closing_read schedule n s j is =
     let closed = is_closed j is.steady.places in
     let r : KernelAlone = kernel_step_ended s.place s in
@@ -125,13 +140,17 @@ closing_read schedule n s j is =
     ∙ (ap (λ (l : List Item). kernel_taken schedule r (l ++ item.End ∷ [])) closed.items
     ∙ (kernel_append schedule r (cipher_items closed.ciphers) (item.End ∷ [])
     ∙ (ap (λ (x : KernelAlone). kernel_taken schedule x (item.End ∷ []))
-    (ciphers_taken schedule r closed.ciphers rests.fits (λ left. let clash : Between ≡ Left = sym rests.place ∙ left in absurd cc) frames)
+    (ciphers_taken schedule r closed.ciphers rests.fits
+    (λ left. let clash : Between ≡ Left = sym rests.place ∙ left in absurd cc) frames)
     ∙ end_taken schedule e rests.fits))) in
     let part : e.kernel ≡ kernel_part (closing j).joint =
     ap (λ (k : KernelPart). let p : KernelPart = record k { ram = with_shown closed.ciphers k.ram } in p) rests.same
     ∙ (ap (λ (x : List (List ℕ)). let p : KernelPart = record (kernel_part j) { ram = x } in p) (sym closed.shown.ram)
     ∙ sym closed.part) in
-    subst (λ (x : KernelAlone). HasKernel x (kernel_part (closing j).joint)) (sym taken) (record { fits = rests.fits; same = part })
+    subst (λ (x : KernelAlone). HasKernel x (kernel_part (closing j).joint)) (sym taken) (record {
+      fits = rests.fits;
+      same = part;
+    })
 
 -- The laws, of a run that was opened so.
 
@@ -157,10 +176,13 @@ ends_alone b stream budget o opens =
     let turns : List Turn = turns_from budget (first_moment b o.joint) in
     let j : Joint = joint_after o.joint turns in
     let steps : List Item = steps_items 1 (map (λ (t : Turn). t.items) turns) in
-    let rest : List Item = item.Close (length (map (λ (t : Turn). t.items) turns)) ∷ ((closing j).items ++ item.End ∷ []) in
+    let rest : List Item = item.Close
+    (length (map (λ (t : Turn). t.items) turns)) ∷ ((closing j).items ++ item.End ∷ []) in
     let all : take (length turns) turns ≡ turns = take_all (length turns) turns (omega arith) in
     let read : IsRead (kernel_taken b.kernel.schedule k (o.items ++ steps)) j =
-    subst (λ (ts : List Turn). IsRead (kernel_taken b.kernel.schedule k (o.items ++ steps_items 1 (map (λ (t : Turn). t.items) ts))) (joint_after o.joint ts)) all
+    subst (λ (ts : List Turn). IsRead
+    (kernel_taken b.kernel.schedule k (o.items ++ steps_items 1 (map (λ (t : Turn). t.items) ts)))
+    (joint_after o.joint ts)) all
     (until_read b stream budget o opens (length turns) (omega arith)) in
     let same = ap (kernel_taken b.kernel.schedule k) (sym (append_assoc o.items steps rest))
     ∙ kernel_append b.kernel.schedule k (o.items ++ steps) rest in
@@ -169,14 +191,16 @@ ends_alone b stream budget o opens =
 
 -- a joint run is one that was opened
 pub of_opened : (b : Bundle) (budget : ℕ) (P : Run → Type 0) (opens : Result Opened Lack) (r : Run) →
-    result_map_both (run_of b budget) (λ (lack : Lack). lack) opens ≡ Ok r → ((o : Opened) → opens ≡ Ok o → P (run_of b budget o)) → P r
+    result_map_both (run_of b budget) (λ (lack : Lack). lack) opens ≡ Ok r →
+    ((o : Opened) → opens ≡ Ok o → P (run_of b budget o)) → P r
 of_opened b budget P (Err lack) r is of = absurd cc
 of_opened b budget P (Ok o) r is of = (let same : run_of b budget o ≡ r = cc in subst P same (of o refl))
 
 pub kernel_is_alone : KernelIsAlone
 kernel_is_alone b stream budget r is =
     of_opened b budget
-    (λ (r : Run). (n : ℕ) → n ≤ length r.turns → HasKernel (kernel_alone b.kernel (outward_half (items_until n r))) (kernel_part (joint_until n r)))
+    (λ (r : Run). (n : ℕ) → n ≤ length r.turns → HasKernel (kernel_alone b.kernel (outward_half (items_until n r)))
+    (kernel_part (joint_until n r)))
     (opening b stream) r is (is_alone b stream budget)
 
 pub kernel_ends_alone : KernelEndsAlone

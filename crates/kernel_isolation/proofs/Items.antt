@@ -60,7 +60,8 @@ pub length-with_items : (items : List Item) (ram : List (List ℕ)) → length (
 length-with_items [] ram = refl
 length-with_items (i ∷ items) ram = length-with_items items (with_item i ram) ∙ length-with_item i ram
 
-pub with_items-append : (a b : List Item) (ram : List (List ℕ)) → with_items (a ++ b) ram ≡ with_items b (with_items a ram)
+pub with_items-append : (a b : List Item) (ram : List (List ℕ)) →
+    with_items (a ++ b) ram ≡ with_items b (with_items a ram)
 with_items-append [] b ram = refl
 with_items-append (i ∷ a) b ram = with_items-append a b (with_item i ram)
 
@@ -78,7 +79,8 @@ one_stays ram ram' (item.Timer domain) same = refl
 one_stays ram ram' (item.Resume domain ctx answer) same = refl
 one_stays ram ram' (item.Stopped domain) same = refl
 
-pub within_stays : (ram ram' : List (List ℕ)) (items : List Item) → length ram' ≡ length ram → AreWithin ram items → AreWithin ram' items
+pub within_stays : (ram ram' : List (List ℕ)) (items : List Item) → length ram' ≡ length ram → AreWithin ram items →
+    AreWithin ram' items
 within_stays ram ram' [] same all = tt
 within_stays ram ram' (i ∷ items) same all = (one_stays ram ram' i same ∙ all.0, within_stays ram ram' items same all.1)
 
@@ -88,11 +90,13 @@ within-append ram (i ∷ a) b here there = (here.0, within-append ram a b here.1
 
 -- Ciphers among them
 
-pub ciphers_within : (ram : List (List ℕ)) (ciphers : List (ℕ × List ℕ)) → AreFrames ram ciphers → AreWithin ram (cipher_items ciphers)
+pub ciphers_within : (ram : List (List ℕ)) (ciphers : List (ℕ × List ℕ)) → AreFrames ram ciphers →
+    AreWithin ram (cipher_items ciphers)
 ciphers_within ram [] all = tt
 ciphers_within ram (c ∷ ciphers) all = (lt-ltb _ _ all.0, ciphers_within ram ciphers all.1)
 
-pub with_ciphers : (ciphers : List (ℕ × List ℕ)) (ram : List (List ℕ)) → with_items (cipher_items ciphers) ram ≡ with_shown ciphers ram
+pub with_ciphers : (ciphers : List (ℕ × List ℕ)) (ram : List (List ℕ)) →
+    with_items (cipher_items ciphers) ram ≡ with_shown ciphers ram
 with_ciphers [] ram = refl
 with_ciphers (c ∷ ciphers) ram = with_ciphers ciphers (slice_set ram c.0 c.1)
 
@@ -101,8 +105,10 @@ with_ciphers (c ∷ ciphers) ram = with_ciphers ciphers (slice_set ram c.0 c.1)
 fit_taken : (schedule : List ℕ) (hart ctx : ℕ) (i : Item) (s : KernelAlone) → s.place ≡ Inside hart ctx →
     is_within s.kernel.ram i ≡ true → kernel_takes schedule i s ≡ with_ram (with_item i s.kernel.ram) s
 unfolding kernel_takes take_cipher take_put
-fit_taken schedule hart ctx (item.Cipher f bytes) s place within = ap (λ p. take_cipher p f bytes s) place ∙ fits _ s _ within
-fit_taken schedule hart ctx (item.Put pa width value) s place within = ap (λ p. take_put p pa width value s) place ∙ fits _ s _ within
+fit_taken schedule hart ctx (item.Cipher f bytes) s place within =
+    ap (λ p. take_cipher p f bytes s) place ∙ fits _ s _ within
+fit_taken schedule hart ctx (item.Put pa width value) s place within =
+    ap (λ p. take_put p pa width value s) place ∙ fits _ s _ within
 fit_taken schedule hart ctx (item.Leave x) s place within = absurd cc
 fit_taken schedule hart ctx (item.Step number) s place within = absurd cc
 fit_taken schedule hart ctx (item.Close steps) s place within = absurd cc
@@ -114,9 +120,11 @@ fit_taken schedule hart ctx (item.Timer domain) s place within = refl
 fit_taken schedule hart ctx (item.Resume domain c answer) s place within = refl
 fit_taken schedule hart ctx (item.Stopped domain) s place within = refl
 
-item_taken : (schedule : List ℕ) (hart ctx : ℕ) (i : Item) (s : KernelAlone) → s.unfit ≡ None → s.place ≡ Inside hart ctx →
+item_taken : (schedule : List ℕ) (hart ctx : ℕ) (i : Item) (s : KernelAlone) → s.unfit ≡ None →
+    s.place ≡ Inside hart ctx →
     is_within s.kernel.ram i ≡ true → take_kernel_item schedule s i ≡ with_ram (with_item i s.kernel.ram) s
-item_taken schedule hart ctx i s none place within = taken_fit schedule s i none ∙ fit_taken schedule hart ctx i s place within
+item_taken schedule hart ctx i s none place within =
+    taken_fit schedule s i none ∙ fit_taken schedule hart ctx i s place within
 
 pub items_taken : (schedule : List ℕ) (hart ctx : ℕ) (items : List Item) (s : KernelAlone) → s.unfit ≡ None →
     s.place ≡ Inside hart ctx → AreWithin s.kernel.ram items →

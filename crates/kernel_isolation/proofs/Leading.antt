@@ -41,7 +41,8 @@ second_place x va = omega arith
 
 keeps_first_leaf : (a : Access) (at1 e : ℕ) → KeepsPlace a.va (first_leaf a at1 e)
 unfolding first_leaf
-keeps_first_leaf a at1 e = either (KeepsPlace a.va) _ _ _ (kept_ok a.va _ (first_place (bits e 31 20) a.va)) (kept_err a.va _)
+keeps_first_leaf a at1 e =
+    either (KeepsPlace a.va) _ _ _ (kept_ok a.va _ (first_place (bits e 31 20) a.va)) (kept_err a.va _)
 
 keeps_second_leaf : (a : Access) (at1 at0 e : ℕ) → KeepsPlace a.va (second_leaf a at1 at0 e)
 unfolding second_leaf
@@ -96,14 +97,16 @@ pub record LeadsInside (va : ℕ) (told : Told (Result ℕ ℕ)) : Type 0 where
 inside_if : (va at cause pa : ℕ) (ram : List (List ℕ)) (b : Bool) → is_in_ram ram at ≡ b → at % 4 ≡ va % 4 →
     cond b (Ok at) (Err cause) ≡ Ok pa → (is_in_ram ram pa ≡ true) × (pa % 4 ≡ va % 4)
 inside_if va at cause pa ram true is keeps found =
-    let same : at ≡ pa = cc in (subst (λ (x : ℕ). is_in_ram ram x ≡ true) same is, subst (λ (x : ℕ). x % 4 ≡ va % 4) same keeps)
+    let same : at ≡ pa =
+    cc in (subst (λ (x : ℕ). is_in_ram ram x ≡ true) same is, subst (λ (x : ℕ). x % 4 ≡ va % 4) same keeps)
 inside_if va at cause pa ram false is keeps found = absurd cc
 
 leads_by : (a : Access) (walk : Walk) (w : World) → KeepsPlace a.va walk → LeadsInside a.va (ask_inside a walk w)
 unfolding ask_inside
 leads_by a (Err cause) w keeps = record { inside = λ pa found. absurd cc }
 leads_by a (Ok walked) w keeps = record {
-  inside = λ pa found. inside_if a.va walked.pa _ pa (ram_of w) (is_in_ram (ram_of w) walked.pa) refl (keeps.kept walked refl) found;
+  inside = λ pa found. inside_if a.va walked.pa _ pa (ram_of w) (is_in_ram (ram_of w) walked.pa) refl
+      (keeps.kept walked refl) found;
 }
 
 leads_translate : (satp : ℕ) (a : Access) (w : World) → LeadsInside a.va (ask_translate satp a w)
@@ -116,7 +119,8 @@ leads_inside va kind w = leads_translate _ _ w
 
 -- an address that keeps its place is as aligned
 pub is_aligned : (va pa width : ℕ) → pa % 4 ≡ va % 4 → va % width ≡ 0 → IsWidth width → (pa % width == 0) ≡ true
-is_aligned va pa width keeps at (inl one) = eq-eqb (pa % width) 0 (subst (λ (n : ℕ). pa % n ≡ 0) (sym one) (omega arith))
+is_aligned va pa width keeps at (inl one) =
+    eq-eqb (pa % width) 0 (subst (λ (n : ℕ). pa % n ≡ 0) (sym one) (omega arith))
 is_aligned va pa width keeps at (inr (inl two)) =
     let at' = subst (λ (n : ℕ). va % n ≡ 0) two at in
     eq-eqb (pa % width) 0 (subst (λ (n : ℕ). pa % n ≡ 0) (sym two) (omega (arith, keeps, at')))
@@ -129,7 +133,8 @@ is_aligned va pa width keeps at (inr (inr four)) =
 low_cell_1 : (v : ℕ) → v % 256 ≡ v % 256 % 256
 low_cell_1 v = omega arith
 
-low_bytes : (width v : ℕ) → IsWidth width → take width (to_le_bytes w32 v) ≡ take width (to_le_bytes w32 (v % 2 ^ (8 * width)))
+low_bytes : (width v : ℕ) → IsWidth width →
+    take width (to_le_bytes w32 v) ≡ take width (to_le_bytes w32 (v % 2 ^ (8 * width)))
 low_bytes width v (inl one) =
     subst (λ (n : ℕ). take n (to_le_bytes w32 v) ≡ take n (to_le_bytes w32 (v % 2 ^ (8 * n)))) (sym one)
     (ap (λ (b : ℕ). b ∷ []) (low_cell_1 v))
@@ -154,5 +159,6 @@ pub low_bytes_stored : (pa width value : ℕ) (ram : List (List ℕ)) → IsWidt
     with_value_at pa width value ram ≡ with_value_at pa width (value % 2 ^ (8 * width)) ram
 low_bytes_stored pa width value ram is =
     let page : List ℕ = slice_index_or ram (frame_of pa) [] in
-    ap (λ (bytes : List ℕ). slice_set ram (frame_of pa) (take (place_of pa) page ++ (bytes ++ drop (place_of pa + width) page)))
+    ap (λ (bytes : List ℕ). slice_set ram (frame_of pa)
+    (take (place_of pa) page ++ (bytes ++ drop (place_of pa + width) page)))
     (low_bytes width value is)

@@ -100,15 +100,19 @@ before_append : (n : ℕ) (a b : List Item) → AreOfStep a →
     before_step n (outward_half (a ++ b)) ≡ outward_half a ++ before_step n (outward_half b)
 before_append n [] b all = refl
 before_append n (i ∷ a) b all =
-    before_one n i (is_outward i) (outward_half (a ++ b)) (outward_half a) (before_step n (outward_half b)) (no_marker n i all.0)
+    before_one n i (is_outward i) (outward_half (a ++ b)) (outward_half a) (before_step n (outward_half b))
+    (no_marker n i all.0)
     (before_append n a b all.1)
 
-before_steps : (n p k : ℕ) (steps : List (List Item)) (closing : ℕ) (rest : List Item) → AllByRecursion AreOfStep steps →
+before_steps : (n p k : ℕ) (steps : List (List Item)) (closing : ℕ) (rest : List Item) →
+    AllByRecursion AreOfStep steps →
     p + k ≡ suc n → k ≤ length steps →
-    before_step n (outward_half (steps_items p steps ++ item.Close closing ∷ rest)) ≡ outward_half (steps_items p (take k steps))
+    before_step n (outward_half (steps_items p steps ++ item.Close closing ∷ rest)) ≡ outward_half
+    (steps_items p (take k steps))
 unfolding steps_items
 before_steps n p zero [] closing rest all at le = refl
-before_steps n p zero (x ∷ steps) closing rest all at le = cond-true (p == suc n) [] _ (eq-eqb p (suc n) (omega (arith, at)))
+before_steps n p zero (x ∷ steps) closing rest all at le =
+    cond-true (p == suc n) [] _ (eq-eqb p (suc n) (omega (arith, at)))
 before_steps n p (suc k) [] closing rest all at le = absurd (omega (arith, le))
 before_steps n p (suc k) (x ∷ steps) closing rest all at le =
     let others : List Item = steps_items (suc p) steps in
@@ -116,11 +120,13 @@ before_steps n p (suc k) (x ∷ steps) closing rest all at le =
     ∙ ap (λ (l : List Item). item.Step p ∷ l)
     (ap (λ (l : List Item). before_step n (outward_half l)) (append_assoc x others (item.Close closing ∷ rest))
     ∙ (before_append n x (others ++ item.Close closing ∷ rest) all.0
-    ∙ (ap (λ (l : List Item). outward_half x ++ l) (before_steps n (suc p) k steps closing rest all.1 (omega (arith, at)) (omega (arith, le)))
+    ∙ (ap (λ (l : List Item). outward_half x ++ l)
+    (before_steps n (suc p) k steps closing rest all.1 (omega (arith, at)) (omega (arith, le)))
     ∙ sym (filter-append is_outward x (steps_items (suc p) (take k steps))))))
 
 -- of a whole exchange
-pub before_step_is : (n : ℕ) (opening : List Item) (steps : List (List Item)) (closing : ℕ) (rest : List Item) → AreOfStep opening →
+pub before_step_is : (n : ℕ) (opening : List Item) (steps : List (List Item)) (closing : ℕ) (rest : List Item) →
+    AreOfStep opening →
     AllByRecursion AreOfStep steps → n ≤ length steps →
     before_step n (outward_half (opening ++ (steps_items 1 steps ++ item.Close closing ∷ rest)))
     ≡ outward_half (opening ++ steps_items 1 (take n steps))
@@ -150,7 +156,8 @@ closes_past (item.Timer domain) items is = refl
 closes_past (item.Resume domain ctx answer) items is = refl
 closes_past (item.Stopped domain) items is = refl
 
-closes_one : (i : Item) (test : Bool) (items : List Item) → IsOfStep i → closes_at (cond test (i ∷ items) items) ≡ closes_at items
+closes_one : (i : Item) (test : Bool) (items : List Item) → IsOfStep i →
+    closes_at (cond test (i ∷ items) items) ≡ closes_at items
 closes_one i true items is = closes_past i items is
 closes_one i false items is = refl
 
@@ -167,7 +174,10 @@ closes_steps p (x ∷ steps) closing rest all =
     ap (λ (l : List Item). closes_at (outward_half l)) (append_assoc x others (item.Close closing ∷ rest))
     ∙ (closes_append x (others ++ item.Close closing ∷ rest) all.0 ∙ closes_steps (suc p) steps closing rest all.1)
 
-pub closes_at_is : (opening : List Item) (steps : List (List Item)) (closing : ℕ) (rest : List Item) → AreOfStep opening →
-    AllByRecursion AreOfStep steps → closes_at (outward_half (opening ++ (steps_items 1 steps ++ item.Close closing ∷ rest))) ≡ closing
+pub closes_at_is : (opening : List Item) (steps : List (List Item)) (closing : ℕ) (rest : List Item) →
+    AreOfStep opening →
+    AllByRecursion AreOfStep steps → closes_at
+    (outward_half (opening ++ (steps_items 1 steps ++ item.Close closing ∷ rest))) ≡ closing
 closes_at_is opening steps closing rest first all =
-    closes_append opening (steps_items 1 steps ++ item.Close closing ∷ rest) first ∙ closes_steps 1 steps closing rest all
+    closes_append opening (steps_items 1 steps ++ item.Close closing ∷ rest) first
+    ∙ closes_steps 1 steps closing rest all

@@ -55,7 +55,8 @@ numbers_leave slot c cause d = record { number = refl; shows = shown_ctx c (cont
 abbrev Numbers : ℕ → Control → Stepped → Type 0
 Numbers slot d s = KeepsNumber slot d s.control s.went
 
-numbers_remapped : (slot : ℕ) (c : Context) (made : Result (Unit {0}) MapFault) (d d' : Control) → d'.number ≡ d.number → Numbers slot d (remapped slot c made d')
+numbers_remapped : (slot : ℕ) (c : Context) (made : Result (Unit {0}) MapFault) (d d' : Control) →
+    d'.number ≡ d.number → Numbers slot d (remapped slot c made d')
 unfolding remapped
 numbers_remapped slot c (Ok done) d d' same = record { number = same; shows = tt }
 numbers_remapped slot c (Err f) d d' same = record { number = same; shows = tt }
@@ -65,7 +66,8 @@ unfolding thread_at
 numbers_thread_at slot c None d = record { number = refl; shows = tt }
 numbers_thread_at slot c (Some free) d = record { number = refl; shows = tt }
 
-either : (slot : ℕ) (d : Control) (b : Bool) (x y : Stepped) → Numbers slot d x → Numbers slot d y → Numbers slot d (cond b x y)
+either : (slot : ℕ) (d : Control) (b : Bool) (x y : Stepped) → Numbers slot d x → Numbers slot d y →
+    Numbers slot d (cond b x y)
 either slot d true x y here there = here
 either slot d false x y here there = there
 
@@ -73,25 +75,29 @@ numbers_thread : (slot : ℕ) (c : Context) (d : Control) → Numbers slot d (th
 unfolding thread_call
 numbers_thread slot c d = either slot d _ _ _ (numbers_thread_at slot c _ d) (record { number = refl; shows = tt })
 
-numbers_fork : (slot : ℕ) (c : Context) (d d' : Control) (made : Result (Option CtxId) MapFault) → d'.number ≡ d.number → Numbers slot d (fork_told slot c d made d')
+numbers_fork : (slot : ℕ) (c : Context) (d d' : Control) (made : Result (Option CtxId) MapFault) →
+    d'.number ≡ d.number → Numbers slot d (fork_told slot c d made d')
 unfolding fork_told
 numbers_fork slot c d d' (Err f) same = record { number = refl; shows = tt }
 numbers_fork slot c d d' (Ok None) same = record { number = refl; shows = tt }
 numbers_fork slot c d d' (Ok (Some ctx)) same = record { number = same; shows = tt }
 
-numbers_end : (slot : ℕ) (c : Context) (d d' : Control) (ending : Ended) → d'.number ≡ d.number → Numbers slot d (end_told slot c d ending d')
+numbers_end : (slot : ℕ) (c : Context) (d d' : Control) (ending : Ended) → d'.number ≡ d.number →
+    Numbers slot d (end_told slot c d ending d')
 unfolding end_told
 numbers_end slot c d d' ends.Kept same = record { number = same; shows = shown_ctx c _ why.Exit }
 numbers_end slot c d d' (ends.SpaceGone space) same = record { number = same; shows = shown_ctx c _ why.Exit }
 numbers_end slot c d d' ends.Stopped same = record { number = refl; shows = tt }
 
-numbers_begun : (slot : ℕ) (c : Context) (made : Result Begun MapFault) (d : Control) → Numbers slot d (call_begun slot c made d)
+numbers_begun : (slot : ℕ) (c : Context) (made : Result Begun MapFault) (d : Control) →
+    Numbers slot d (call_begun slot c made d)
 unfolding call_begun
 numbers_begun slot c (Err f) d = record { number = refl; shows = tt }
 numbers_begun slot c (Ok begun.Copying) d = record { number = refl; shows = tt }
 numbers_begun slot c (Ok begun.Leave) d = numbers_leave slot c why.Call d
 
-numbers_hypercall : (h : Hypercall) (slot : ℕ) (c : Context) (d : Control) (w : World) → Numbers slot d (hypercall h slot c d w).answer
+numbers_hypercall : (h : Hypercall) (slot : ℕ) (c : Context) (d : Control) (w : World) →
+    Numbers slot d (hypercall h slot c d w).answer
 unfolding hypercall new_call map_call unmap_call file_call fork_call exit_call kernel_call
 numbers_hypercall New slot c d w = record { number = refl; shows = tt }
 numbers_hypercall Map slot c d w = numbers_remapped slot c _ d _ refl
@@ -108,11 +114,15 @@ numbers_hypercall Unknown slot c d w = record { number = refl; shows = tt }
 abbrev StepNumbers : ℕ → Domain → DomainStepped → Type 0
 StepNumbers slot d s = KeepsNumber slot d.control s.domain.control s.went
 
-numbers_instruction : (slot : ℕ) (d : Domain) (c : Context) (e : Ran) (w : World) → StepNumbers slot d (instruction_ended slot d c e w).answer
+numbers_instruction : (slot : ℕ) (d : Domain) (c : Context) (e : Ran) (w : World) →
+    StepNumbers slot d (instruction_ended slot d c e w).answer
 unfolding instruction_ended
 numbers_instruction slot d c ran.Stay w = record { number = refl; shows = tt }
 numbers_instruction slot d c (ran.Loaded address value) w = record { number = refl; shows = tt }
-numbers_instruction slot d c (ran.Trap cause address) w = record { number = refl; shows = shown_ctx c _ (why.Trap cause address) }
+numbers_instruction slot d c (ran.Trap cause address) w = record {
+  number = refl;
+  shows = shown_ctx c _ (why.Trap cause address);
+}
 numbers_instruction slot d c ran.Ecall w =
     let s = numbers_hypercall _ slot c d.control w in record { number = s.number; shows = s.shows }
 numbers_instruction slot d c ran.Stopped w = record { number = refl; shows = tt }
@@ -122,12 +132,16 @@ unfolding copy_ended
 numbers_copy slot d c copied.Going = record { number = refl; shows = tt }
 numbers_copy slot d c copied.CallReady = record { number = refl; shows = shown_ctx c _ why.Call }
 numbers_copy slot d c copied.Done = record { number = refl; shows = tt }
-numbers_copy slot d c (copied.Absent cause address) = record { number = refl; shows = shown_ctx c _ (why.Trap cause address) }
+numbers_copy slot d c (copied.Absent cause address) = record {
+  number = refl;
+  shows = shown_ctx c _ (why.Trap cause address);
+}
 numbers_copy slot d c copied.Stopped = record { number = refl; shows = tt }
 numbers_copy slot d c copied.Refused = record { number = refl; shows = tt }
 numbers_copy slot d c (copied.Loaded address byte) = record { number = refl; shows = tt }
 
-numbers_phase : (phase : Phase) (slot : ℕ) (c : Context) (d : Domain) (w : World) → StepNumbers slot d (phase_step phase slot c d w).answer
+numbers_phase : (phase : Phase) (slot : ℕ) (c : Context) (d : Domain) (w : World) →
+    StepNumbers slot d (phase_step phase slot c d w).answer
 unfolding phase_step
 numbers_phase Plain slot c d w = numbers_instruction slot d _ _ _
 numbers_phase (CopyIn done) slot c d w = numbers_copy slot d _ _
@@ -159,7 +173,8 @@ unfolding answer_taken
 taken_number slot answer None d = refl
 taken_number slot answer (Some c) d = refl
 
-told_number : (slot answer : ℕ) (r : Result (Unit {0}) ResumeFault) (d : Control) → (resume_told slot answer r d).control.number ≡ d.number
+told_number : (slot answer : ℕ) (r : Result (Unit {0}) ResumeFault) (d : Control) →
+    (resume_told slot answer r d).control.number ≡ d.number
 unfolding resume_told
 told_number slot answer (Err f) d = refl
 told_number slot answer (Ok done) d = taken_number slot answer _ d
@@ -173,21 +188,26 @@ abbrev pub AreFrom : ℕ → List Domain → Type 0
 AreFrom n [] = Unit {0}
 AreFrom n (d ∷ domains) = (d.control.number ≡ n) × AreFrom (n + 1) domains
 
-number_from : (n i : ℕ) (domains : List Domain) (d : Domain) → AreFrom n domains → slice_get domains i ≡ Some d → d.control.number ≡ n + i
+number_from : (n i : ℕ) (domains : List Domain) (d : Domain) → AreFrom n domains → slice_get domains i ≡ Some d →
+    d.control.number ≡ n + i
 number_from n i [] d all there = absurd cc
 number_from n zero (x ∷ domains) d all there =
     let same : x ≡ d = cc in ap (λ (y : Domain). y.control.number) (sym same) ∙ all.0 ∙ omega arith
 number_from n (suc i) (x ∷ domains) d all there = number_from (n + 1) i domains d all.1 there ∙ omega arith
 
-pub number_at : (i : ℕ) (domains : List Domain) (d : Domain) → AreFrom 0 domains → slice_get domains i ≡ Some d → d.control.number ≡ i
+pub number_at : (i : ℕ) (domains : List Domain) (d : Domain) → AreFrom 0 domains → slice_get domains i ≡ Some d →
+    d.control.number ≡ i
 number_at i domains d all there = number_from 0 i domains d all there ∙ omega arith
 
-set_from : (n i : ℕ) (domains : List Domain) (d : Domain) → AreFrom n domains → d.control.number ≡ n + i → AreFrom n (slice_set domains i d)
+set_from : (n i : ℕ) (domains : List Domain) (d : Domain) → AreFrom n domains → d.control.number ≡ n + i →
+    AreFrom n (slice_set domains i d)
 set_from n i [] d all is = tt
 set_from n zero (x ∷ domains) d all is = (is ∙ omega arith, all.1)
 set_from n (suc i) (x ∷ domains) d all is = (all.0, set_from (n + 1) i domains d all.1 (is ∙ omega arith))
 
 -- one is replaced by one of its number
-pub set_number : (i : ℕ) (domains : List Domain) (was now : Domain) → AreFrom 0 domains → slice_get domains i ≡ Some was →
+pub set_number : (i : ℕ) (domains : List Domain) (was now : Domain) → AreFrom 0 domains →
+    slice_get domains i ≡ Some was →
     now.control.number ≡ was.control.number → AreFrom 0 (slice_set domains i now)
-set_number i domains was now all there same = set_from 0 i domains now all (same ∙ number_from 0 i domains was all there)
+set_number i domains was now all there same =
+    set_from 0 i domains now all (same ∙ number_from 0 i domains was all there)

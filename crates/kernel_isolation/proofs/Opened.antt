@@ -45,24 +45,33 @@ PlacesIf apart m (Some after) = PlacesApart apart m after
 places_none : (apart : ℕ → Type 0) (m : CloakedMemory) → PlacesApart apart m m
 places_none apart m = record { count = refl; owed = refl; others = λ f is. refl }
 
-places_then : (apart : ℕ → Type 0) (m m' m'' : CloakedMemory) → PlacesApart apart m m' → PlacesApart apart m' m'' → PlacesApart apart m m''
+places_then : (apart : ℕ → Type 0) (m m' m'' : CloakedMemory) → PlacesApart apart m m' → PlacesApart apart m' m'' →
+    PlacesApart apart m m''
 places_then apart m m' m'' p q =
     record { count = q.count ∙ p.count; owed = q.owed ∙ p.owed; others = λ f is. q.others f is ∙ p.others f is }
 
-places_weaker : (apart far : ℕ → Type 0) (m : CloakedMemory) (o : Option CloakedMemory) → ((f : ℕ) → far f → apart f) → PlacesIf apart m o → PlacesIf far m o
+places_weaker : (apart far : ℕ → Type 0) (m : CloakedMemory) (o : Option CloakedMemory) → ((f : ℕ) → far f → apart f) →
+    PlacesIf apart m o → PlacesIf far m o
 places_weaker apart far m None less p = tt
-places_weaker apart far m (Some after) less p = record { count = p.count; owed = p.owed; others = λ f is. p.others f (less f is) }
+places_weaker apart far m (Some after) less p = record {
+  count = p.count;
+  owed = p.owed;
+  others = λ f is. p.others f (less f is);
+}
 
-then_next : (apart : ℕ → Type 0) (m m' : CloakedMemory) (o : Option CloakedMemory) → PlacesApart apart m m' → PlacesIf apart m' o → PlacesIf apart m o
+then_next : (apart : ℕ → Type 0) (m m' : CloakedMemory) (o : Option CloakedMemory) → PlacesApart apart m m' →
+    PlacesIf apart m' o → PlacesIf apart m o
 then_next apart m m' None p q = tt
 then_next apart m m' (Some m'') p q = places_then apart m m' m'' p q
 
-and_then_places : (apart : ℕ → Type 0) (m : CloakedMemory) (o : Option CloakedMemory) (next : CloakedMemory → Option CloakedMemory) →
+and_then_places : (apart : ℕ → Type 0) (m : CloakedMemory) (o : Option CloakedMemory)
+    (next : CloakedMemory → Option CloakedMemory) →
     PlacesIf apart m o → ((x : CloakedMemory) → PlacesIf apart x (next x)) → PlacesIf apart m (option_and_then next o)
 and_then_places apart m None next p more = tt
 and_then_places apart m (Some m') next p more = then_next apart m m' (next m') p (more m')
 
-one_places : (q : PageId) (f : ℕ) (bytes : List ℕ) (draw : Option (List ℕ × Random)) (m : CloakedMemory) → PlacesIf (λ g. g ≢ f) m (place_with q f bytes draw m)
+one_places : (q : PageId) (f : ℕ) (bytes : List ℕ) (draw : Option (List ℕ × Random)) (m : CloakedMemory) →
+    PlacesIf (λ g. g ≢ f) m (place_with q f bytes draw m)
 unfolding place_with
 one_places q f bytes None m = tt
 one_places q f bytes (Some draw) m =
@@ -95,30 +104,36 @@ pages_apart d p (suc n) m =
 
 -- a frame in which no program is placed is apart from each
 
-apart_by : (p : Program) (programs : List Program) (f : ℕ) (test : Bool) → (nat_le p.place f && nat_lt f (p.place + p.start.pages)) ≡ test →
+apart_by : (p : Program) (programs : List Program) (f : ℕ) (test : Bool) →
+    (nat_le p.place f && nat_lt f (p.place + p.start.pages)) ≡ test →
     cond test true (is_placed programs f) ≡ false → IsApart p p.start.pages f × (is_placed programs f ≡ false)
 apart_by p programs f true is away = absurd cc
 apart_by p programs f false is away = elim (cases_lt f p.place) [
   | inl low ↦ (inl low, away)
   | inr at ↦ elim (cases_lt f (p.place + p.start.pages)) [
     | inl inside ↦
-        let clash : true ≡ false = sym (and_from _ _ (le-leb p.place f at) (lt-ltb f (p.place + p.start.pages) inside)) ∙ is in absurd cc
+        let clash : true ≡ false = sym (and_from _ _ (le-leb p.place f at) (lt-ltb f (p.place + p.start.pages) inside))
+        ∙ is in absurd cc
     | inr high ↦ (inr high, away)
   ]
 ]
 
-apart_of : (p : Program) (programs : List Program) (f : ℕ) → is_placed (p ∷ programs) f ≡ false → IsApart p p.start.pages f × (is_placed programs f ≡ false)
+apart_of : (p : Program) (programs : List Program) (f : ℕ) → is_placed (p ∷ programs) f ≡ false →
+    IsApart p p.start.pages f × (is_placed programs f ≡ false)
 apart_of p programs f away = apart_by p programs f _ refl away
 
 abbrev IsAway : List Program → ℕ → Type 0
 IsAway programs f = is_placed programs f ≡ false
 
-programs_apart : (d : ℕ) (programs : List Program) (m : CloakedMemory) → PlacesIf (IsAway programs) m (place_programs d programs m)
+programs_apart : (d : ℕ) (programs : List Program) (m : CloakedMemory) →
+    PlacesIf (IsAway programs) m (place_programs d programs m)
 programs_apart d [] m = places_none (IsAway []) m
 programs_apart d (p ∷ programs) m =
     and_then_places (IsAway (p ∷ programs)) m (place_pages d p p.start.pages m) (place_programs (d + 1) programs)
-    (places_weaker (IsApart p p.start.pages) (IsAway (p ∷ programs)) m (place_pages d p p.start.pages m) (λ f away. (apart_of p programs f away).0) (pages_apart d p p.start.pages m))
-    (λ x. places_weaker (IsAway programs) (IsAway (p ∷ programs)) x (place_programs (d + 1) programs x) (λ f away. (apart_of p programs f away).1) (programs_apart (d + 1) programs x))
+    (places_weaker (IsApart p p.start.pages) (IsAway (p ∷ programs)) m (place_pages d p p.start.pages m)
+    (λ f away. (apart_of p programs f away).0) (pages_apart d p p.start.pages m))
+    (λ x. places_weaker (IsAway programs) (IsAway (p ∷ programs)) x (place_programs (d + 1) programs x)
+    (λ f away. (apart_of p programs f away).1) (programs_apart (d + 1) programs x))
 
 -- Showing.
 
@@ -137,7 +152,8 @@ record IsShownBelow (n : ℕ) (ram was now : List (List ℕ)) : Type 0 where
   pub low : (i : ℕ) → i < n → frame_in now i ≡ frame_in ram i
   pub high : (i : ℕ) → n ≤ i → frame_in now i ≡ frame_in was i
 
-show_one : (test : Bool) (n : ℕ) (ram was now : List (List ℕ)) → n < length now → (test ≡ false → frame_in ram n ≡ frame_in was n) →
+show_one : (test : Bool) (n : ℕ) (ram was now : List (List ℕ)) → n < length now →
+    (test ≡ false → frame_in ram n ≡ frame_in was n) →
     IsShownBelow n ram was now →
     IsShownBelow (suc n) ram was (with_shown (map (λ (f : ℕ). (f, frame_in ram f)) (cond test (n ∷ []) [])) now)
 show_one true n ram was now lt away s = record {
@@ -148,7 +164,8 @@ show_one true n ram was now lt away s = record {
     | inr other ↦ get_or-set_other now n i (frame_in ram n) [] other ∙ s.low i (omega (arith, less, other))
   ];
   high = λ i above.
-      get_or-set_other now n i (frame_in ram n) [] (λ same. absurd (omega (arith, above, same))) ∙ s.high i (omega (arith, above));
+      get_or-set_other now n i (frame_in ram n) [] (λ same. absurd (omega (arith, above, same)))
+      ∙ s.high i (omega (arith, above));
 }
 show_one false n ram was now lt away s = record {
   low = λ i less. elim (cases_eq i n) [
@@ -159,7 +176,8 @@ show_one false n ram was now lt away s = record {
   high = λ i above. s.high i (omega (arith, above));
 }
 
-show_below : (test : ℕ → Bool) (ram was : List (List ℕ)) → ((f : ℕ) → test f ≡ false → frame_in ram f ≡ frame_in was f) →
+show_below : (test : ℕ → Bool) (ram was : List (List ℕ)) →
+    ((f : ℕ) → test f ≡ false → frame_in ram f ≡ frame_in was f) →
     (n : ℕ) → n ≤ length was → IsShownBelow n ram was (with_shown (shown_below test ram n) was)
 show_below test ram was away zero le = record { low = λ i less. absurd (omega (arith, less)); high = λ i above. refl }
 show_below test ram was away (suc n) le =
@@ -168,29 +186,35 @@ show_below test ram was away (suc n) le =
     subst (λ (x : List (List ℕ)). IsShownBelow (suc n) ram was x)
     (sym (ap (λ (l : List (ℕ × List ℕ)). with_shown l was) (below_more test ram n)
     ∙ with_shown-append (shown_below test ram n) (map (λ (f : ℕ). (f, frame_in ram f)) (filter test (n ∷ []))) was))
-    (show_one (test n) n ram was now (omega (arith, count, le)) (away n) (show_below test ram was away n (omega (arith, le))))
+    (show_one (test n) n ram was now (omega (arith, count, le)) (away n)
+    (show_below test ram was away n (omega (arith, le))))
 
 pub shown_whole : (test : ℕ → Bool) (ram was : List (List ℕ)) → length ram ≡ length was →
-    ((f : ℕ) → test f ≡ false → frame_in ram f ≡ frame_in was f) → with_shown (shown_below test ram (length ram)) was ≡ ram
+    ((f : ℕ) → test f ≡ false → frame_in ram f ≡ frame_in was f) → with_shown (shown_below test ram (length ram)) was
+    ≡ ram
 shown_whole test ram was count away =
     let s = show_below test ram was away (length ram) (omega (arith, count)) in
     let same = length-with_shown (shown_below test ram (length ram)) was in
     ext_get_or [] (with_shown (shown_below test ram (length ram)) was) ram (same ∙ sym count)
     (λ i less. s.low i (omega (arith, less, same, count)))
 
-frames_one : (test : Bool) (n : ℕ) (ram was : List (List ℕ)) → n < length was → (rest : List (ℕ × List ℕ)) → AreFrames was rest →
+frames_one : (test : Bool) (n : ℕ) (ram was : List (List ℕ)) → n < length was → (rest : List (ℕ × List ℕ)) →
+    AreFrames was rest →
     AreFrames was (rest ++ map (λ (f : ℕ). (f, frame_in ram f)) (cond test (n ∷ []) []))
 frames_one true n ram was lt [] all = (lt, tt)
 frames_one false n ram was lt [] all = tt
 frames_one test n ram was lt (c ∷ rest) all = (all.0, frames_one test n ram was lt rest all.1)
 
-frames_below : (test : ℕ → Bool) (ram was : List (List ℕ)) (n : ℕ) → n ≤ length was → AreFrames was (shown_below test ram n)
+frames_below : (test : ℕ → Bool) (ram was : List (List ℕ)) (n : ℕ) → n ≤ length was →
+    AreFrames was (shown_below test ram n)
 frames_below test ram was zero le = tt
 frames_below test ram was (suc n) le =
     subst (λ (l : List (ℕ × List ℕ)). AreFrames was l) (sym (below_more test ram n))
-    (frames_one (test n) n ram was (omega (arith, le)) (shown_below test ram n) (frames_below test ram was n (omega (arith, le))))
+    (frames_one (test n) n ram was (omega (arith, le)) (shown_below test ram n)
+    (frames_below test ram was n (omega (arith, le))))
 
-items_by : (ram : List (List ℕ)) (fs : List ℕ) → map (λ f. item.Cipher f (frame_in ram f)) fs ≡ cipher_items (map (λ (f : ℕ). (f, frame_in ram f)) fs)
+items_by : (ram : List (List ℕ)) (fs : List ℕ) →
+    map (λ f. item.Cipher f (frame_in ram f)) fs ≡ cipher_items (map (λ (f : ℕ). (f, frame_in ram f)) fs)
 items_by ram [] = refl
 items_by ram (f ∷ fs) = ap (λ (l : List Item). item.Cipher f (frame_in ram f) ∷ l) (items_by ram fs)
 
@@ -202,7 +226,8 @@ bytes_count ram pa (b ∷ bytes) = bytes_count (with_byte ram pa b) (pa + 1) byt
 
 segments_count : (ram : List (List ℕ)) (segments : List Segment) → length (with_segments ram segments) ≡ length ram
 segments_count ram [] = refl
-segments_count ram (s ∷ segments) = segments_count (with_bytes ram s.address s.bytes) segments ∙ bytes_count ram s.address s.bytes
+segments_count ram (s ∷ segments) =
+    segments_count (with_bytes ram s.address s.bytes) segments ∙ bytes_count ram s.address s.bytes
 
 started_places : (k : KernelImage) (key : List ℕ) (rest : Random) → HasPlaces (started_memory k key rest)
 unfolding started_memory started_kernel started_ledger
@@ -220,7 +245,8 @@ pub record IsOpened (b : Bundle) (o : Opened) : Type 0 where
   pub ciphers : List (ℕ × List ℕ)
   pub items : o.items ≡ cipher_items ciphers
   pub frames : AreFrames (started_kernel b.kernel).ram ciphers
-  pub part : kernel_part o.joint ≡ record (started_kernel b.kernel) { ram = with_shown ciphers (started_kernel b.kernel).ram }
+  pub part : kernel_part o.joint
+      ≡ record (started_kernel b.kernel) { ram = with_shown ciphers (started_kernel b.kernel).ram }
   pub steady : IsSteady o.joint
 
 opened_memory : (b : Bundle) (key : List ℕ) (rest : Random) (m : CloakedMemory) →
@@ -236,7 +262,8 @@ opened_memory b key rest m placed =
       ciphers = ciphers;
       items = items_by m.ram (filter (is_placed b.programs) (numbers_below (length m.ram)));
       frames = frames_below (is_placed b.programs) m.ram was (length m.ram) (omega (arith, count));
-      part = ap (λ (ram : List (List ℕ)). let k : KernelPart = record (started_kernel b.kernel) { ram = ram } in k) (sym whole);
+      part = ap (λ (ram : List (List ℕ)). let k : KernelPart = record (started_kernel b.kernel) { ram = ram } in k)
+          (sym whole);
       steady = record {
         places = ap length placed.owed ∙ (started_places b.kernel key rest ∙ sym placed.count);
         programs = started_from 0 b.programs;

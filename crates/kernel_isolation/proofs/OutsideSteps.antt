@@ -66,7 +66,8 @@ items_taken : (schedule : List ℕ) (n : ℕ) (s : KernelAlone) (ciphers : List 
 unfolding kernel_taken
 items_taken schedule n s ciphers others fits place halted outside frames all =
     let b = begun_outside (hart_behind schedule n) n s in
-    ap (λ t. kernel_taken schedule t (cipher_items ciphers ++ others)) (step_taken schedule n s fits place halted outside)
+    ap (λ t. kernel_taken schedule t (cipher_items ciphers ++ others))
+    (step_taken schedule n s fits place halted outside)
     ∙ kernel_append schedule b (cipher_items ciphers) others
     ∙ ap (λ t. kernel_taken schedule t others) (ciphers_taken schedule b ciphers fits (λ e. absurd cc) frames)
     ∙ others_kept schedule (behind_items (hart_behind schedule n) n ciphers s) others all

@@ -23,7 +23,8 @@ pub record ShownBy (m : CloakedMemory) (ciphers : List (ℕ × List ℕ)) (after
   pub ram : after.ram ≡ with_shown ciphers m.ram
   pub places : HasPlaces after
 
-pub length-with_shown : (ciphers : List (ℕ × List ℕ)) (ram : List (List ℕ)) → length (with_shown ciphers ram) ≡ length ram
+pub length-with_shown : (ciphers : List (ℕ × List ℕ)) (ram : List (List ℕ)) →
+    length (with_shown ciphers ram) ≡ length ram
 length-with_shown [] ram = refl
 length-with_shown (c ∷ ciphers) ram = length-with_shown ciphers (slice_set ram c.0 c.1) ∙ length-set ram c.0 c.1
 
@@ -32,14 +33,16 @@ pub with_shown-append : (a b : List (ℕ × List ℕ)) (ram : List (List ℕ)) �
 with_shown-append [] b ram = refl
 with_shown-append (c ∷ a) b ram = with_shown-append a b (slice_set ram c.0 c.1)
 
-frames-append : (ram : List (List ℕ)) (a b : List (ℕ × List ℕ)) → AreFrames ram a → AreFrames ram b → AreFrames ram (a ++ b)
+frames-append : (ram : List (List ℕ)) (a b : List (ℕ × List ℕ)) → AreFrames ram a → AreFrames ram b →
+    AreFrames ram (a ++ b)
 frames-append ram [] b here there = there
 frames-append ram (c ∷ a) b here there = (here.0, frames-append ram a b here.1 there)
 
 pub ShownBy-none : (m : CloakedMemory) → HasPlaces m → ShownBy m [] m
 ShownBy-none m places = record { frames = tt; ram = refl; places = places }
 
-pub ShownBy-append : (m n o : CloakedMemory) (a b : List (ℕ × List ℕ)) → ShownBy m a n → ShownBy n b o → ShownBy m (a ++ b) o
+pub ShownBy-append : (m n o : CloakedMemory) (a b : List (ℕ × List ℕ)) → ShownBy m a n → ShownBy n b o →
+    ShownBy m (a ++ b) o
 ShownBy-append m n o a b first second = record {
   frames = frames-append m.ram a b first.frames
       (frames_stay n.ram m.ram b (sym (ap length first.ram ∙ length-with_shown a m.ram)) second.frames);
@@ -62,10 +65,12 @@ one_shown : (m after : CloakedMemory) (f : ℕ) (bytes : List ℕ) → HasPlaces
 one_shown m after f bytes places lt ram owed = record {
   frames = (lt, tt);
   ram = ram;
-  places = ap length owed ∙ (length-set m.ledger.owed f None ∙ (places ∙ (sym (length-set m.ram f bytes) ∙ sym (ap length ram))));
+  places = ap length owed
+      ∙ (length-set m.ledger.owed f None ∙ (places ∙ (sym (length-set m.ram f bytes) ∙ sym (ap length ram))));
 }
 
-owed_shown : (f : ℕ) (q : PageId) (draw : Option (List ℕ × Random)) (m : CloakedMemory) → HasPlaces m → f < length m.ram →
+owed_shown : (f : ℕ) (q : PageId) (draw : Option (List ℕ × Random)) (m : CloakedMemory) → HasPlaces m →
+    f < length m.ram →
     let s = settle_owed f q draw m in ShownBy m s.ciphers s.memory
 unfolding settle_owed
 owed_shown f q None m places lt = one_shown m _ f _ places lt refl refl
@@ -132,7 +137,8 @@ owed_kept m after f o places ram owed = record {
 taken_shown : (q : PageId) (g : ℕ) (write : Bool) (m after : CloakedMemory) → HasPlaces m → after.ram ≡ m.ram →
     after.ledger.owed ≡ m.ledger.owed → ShownBy m [] (taken q g write after)
 taken_shown q g true m after places ram owed =
-    owed_kept m (taken q g true after) g (Some q) places ram (ap (λ (l : List (Option PageId)). slice_set l g (Some q)) owed)
+    owed_kept m (taken q g true after) g (Some q) places ram
+    (ap (λ (l : List (Option PageId)). slice_set l g (Some q)) owed)
 taken_shown q g false m after places ram owed =
     record { frames = tt; ram = ram; places = ap length owed ∙ (places ∙ sym (ap length ram)) }
 
@@ -148,14 +154,16 @@ compared_shown q g write (Some c) m places =
     either (OfferShown m) (bytes_eq there c) same other (taken_shown q g write m after places refl refl)
     (record { frames = tt; ram = refl; places = places })
 
-unless_shown : (m : CloakedMemory) (s : AfterSettling) (next : CloakedMemory → AfterOffer) → ShownBy m s.ciphers s.memory →
+unless_shown : (m : CloakedMemory) (s : AfterSettling) (next : CloakedMemory → AfterOffer) →
+    ShownBy m s.ciphers s.memory →
     ((n : CloakedMemory) → HasPlaces n → OfferShown n (next n)) → OfferShown m (unless_missed s next)
 unfolding unless_missed
 unless_shown m s next shown more =
     either (OfferShown m) s.missed _ _ shown
     (ShownBy-append m s.memory _ _ _ shown (more s.memory shown.places))
 
-pub offer_shown : (q : PageId) (g : ℕ) (write : Bool) (m : CloakedMemory) → HasPlaces m → OfferShown m (offer q g write m)
+pub offer_shown : (q : PageId) (g : ℕ) (write : Bool) (m : CloakedMemory) → HasPlaces m →
+    OfferShown m (offer q g write m)
 unfolding offer
 offer_shown q g write m places =
     either (OfferShown m) (owes q (owed_in m g)) _ _ (ShownBy-none m places)

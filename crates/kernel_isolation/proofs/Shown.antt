@@ -25,9 +25,12 @@ cipher_taken : (p : KernelPlace) (f : ℕ) (bytes : List ℕ) (s : KernelAlone) 
     f < length s.kernel.ram → take_cipher p f bytes s ≡ with_shown_bytes f bytes s
 unfolding take_cipher
 cipher_taken Left f bytes s apart lt = absurd (apart refl)
-cipher_taken Between f bytes s apart lt = fits (ltb f (length s.kernel.ram)) s (with_shown_bytes f bytes s) (lt-ltb _ _ lt)
-cipher_taken (Outside number) f bytes s apart lt = fits (ltb f (length s.kernel.ram)) s (with_shown_bytes f bytes s) (lt-ltb _ _ lt)
-cipher_taken (Inside number ctx) f bytes s apart lt = fits (ltb f (length s.kernel.ram)) s (with_shown_bytes f bytes s) (lt-ltb _ _ lt)
+cipher_taken Between f bytes s apart lt =
+    fits (ltb f (length s.kernel.ram)) s (with_shown_bytes f bytes s) (lt-ltb _ _ lt)
+cipher_taken (Outside number) f bytes s apart lt =
+    fits (ltb f (length s.kernel.ram)) s (with_shown_bytes f bytes s) (lt-ltb _ _ lt)
+cipher_taken (Inside number ctx) f bytes s apart lt =
+    fits (ltb f (length s.kernel.ram)) s (with_shown_bytes f bytes s) (lt-ltb _ _ lt)
 
 item_taken : (schedule : List ℕ) (f : ℕ) (bytes : List ℕ) (s : KernelAlone) → s.unfit ≡ None →
     (s.place ≡ Left → ⊥) → f < length s.kernel.ram →

@@ -54,7 +54,8 @@ pub record TurnIsAlone (schedule : List ℕ) (n : ℕ) (j : Joint) (t : Turn) : 
   pub steady : IsSteady t.joint
 
 -- the same step, told in other words
-told_as : (schedule : List ℕ) (n : ℕ) (k : KernelPart) (items items' : List Item) (after after' : KernelPart) (stops : Bool) →
+told_as : (schedule : List ℕ) (n : ℕ) (k : KernelPart) (items items' : List Item) (after after' : KernelPart)
+    (stops : Bool) →
     items' ≡ items → after' ≡ after → KernelStepIsAlone schedule n k items after stops →
     KernelStepIsAlone schedule n k items' after' stops
 told_as schedule n k items items' after after' stops written part step =
@@ -68,7 +69,8 @@ record IsUnseen (j : Joint) (r : AfterResume) : Type 0 where
   pub items : AreInward r.items
   pub steady : IsSteady r.joint
 
-unseen_none : (j : Joint) (violation : Option Violation) → IsSteady j → IsUnseen j (record { joint = j; items = []; violation = violation })
+unseen_none : (j : Joint) (violation : Option Violation) → IsSteady j →
+    IsUnseen j (record { joint = j; items = []; violation = violation })
 unseen_none j violation steady = record { part = refl; items = tt; steady = steady }
 
 unseen_root : (j : Joint) (satp ctx reply : ℕ) (was : Domain) (control : Control) (admitted : Admitted)
@@ -115,27 +117,60 @@ record EndsAs (j : Joint) (items : List Item) (e : Kernel) (t : Turn) : Type 0 w
   pub steady : IsSteady t.joint
 
 console_same : (j : Joint) → kernel_part j ≡ record (kernel_part j) { console = j.console ++ [] }
-console_same j = ap (λ (bytes : List ℕ). let k : KernelPart = record (kernel_part j) { console = bytes } in k) (sym (append-nil j.console))
+console_same j =
+    ap (λ (bytes : List ℕ). let k : KernelPart = record (kernel_part j) { console = bytes } in k)
+    (sym (append-nil j.console))
 
 some_either : (b : Bool) (x y : Stop) → is_some (cond b (Some x) (Some y)) ≡ true
 some_either true x y = refl
 some_either false x y = refl
 
 halt_stops : (j : Joint) (items : List Item) (value : ℕ) →
-    is_some (stop_of (record { joint = j; items = items; console = []; violation = None; halt = Some value })) ≡ false → false ≡ true
+    is_some (stop_of (record { joint = j; items = items; console = []; violation = None; halt = Some value }))
+    ≡ false → false ≡ true
 halt_stops j items value none = sym none ∙ some_either j.memory.ledger.missed stop.NoRandom (stop.Halt value)
 
-ends_as : (j : Joint) (number : ℕ) (items : List Item) (e : Kernel) → IsSteady j → EndsAs j items e (outside_ended j number items e)
+ends_as : (j : Joint) (number : ℕ) (items : List Item) (e : Kernel) → IsSteady j →
+    EndsAs j items e (outside_ended j number items e)
 unfolding outside_ended
-ends_as j number items Stay steady = record { others = []; written = sym (append-nil items); inward = tt; part = console_same j; halts = λ none. refl; steady = steady }
-ends_as j number items (Put b) steady = record { others = []; written = sym (append-nil items); inward = tt; part = refl; halts = λ none. refl; steady = record { places = steady.places; programs = steady.programs } }
-ends_as j number items (Halt value) steady = record { others = []; written = sym (append-nil items); inward = tt; part = console_same j; halts = λ none. absurd (false≢true (halt_stops j items value none)); steady = steady }
+ends_as j number items Stay steady = record {
+  others = [];
+  written = sym (append-nil items);
+  inward = tt;
+  part = console_same j;
+  halts = λ none. refl;
+  steady = steady;
+}
+ends_as j number items (Put b) steady = record {
+  others = [];
+  written = sym (append-nil items);
+  inward = tt;
+  part = refl;
+  halts = λ none. refl;
+  steady = record { places = steady.places; programs = steady.programs };
+}
+ends_as j number items (Halt value) steady = record {
+  others = [];
+  written = sym (append-nil items);
+  inward = tt;
+  part = console_same j;
+  halts = λ none. absurd (false≢true (halt_stops j items value none));
+  steady = steady;
+}
 ends_as j number items (Resume ctx reply) steady =
     let r = unseen j number (satp_of (hart_in j number).csrs) ctx reply steady in
-    record { others = _; written = refl; inward = r.items; part = r.part ∙ console_same j; halts = λ none. refl; steady = r.steady }
+    record {
+      others = _;
+      written = refl;
+      inward = r.items;
+      part = r.part ∙ console_same j;
+      halts = λ none. refl;
+      steady = r.steady;
+    }
 
 -- the law of such steps, for the hart of the turn
-outside_for : (schedule : List ℕ) (n : ℕ) (k : KernelPart) (ciphers : List (ℕ × List ℕ)) (others : List Item) (stops : Bool)
+outside_for : (schedule : List ℕ) (n : ℕ) (k : KernelPart) (ciphers : List (ℕ × List ℕ)) (others : List Item)
+    (stops : Bool)
     (number : ℕ) → hart_behind schedule n ≡ number → (kernel_hart k number).inside ≡ None → AreFrames k.ram ciphers →
     AreInward others → HaltsAsStops number (shown_part ciphers k) stops →
     KernelStepIsAlone schedule n k (cipher_items ciphers ++ others) (plain_part number (shown_part ciphers k)) stops
@@ -146,7 +181,8 @@ outside_for schedule n k ciphers others stops number same outside frames inward 
     (λ out ends. outside_step_is_alone schedule n k ciphers others stops out frames inward ends) outside halts
 
 -- the step, by the settling ahead of it
-outside_by : (schedule : List ℕ) (n : ℕ) (j : Joint) (number : ℕ) (s : AfterSettling) → hart_behind schedule n ≡ number →
+outside_by : (schedule : List ℕ) (n : ℕ) (j : Joint) (number : ℕ) (s : AfterSettling) →
+    hart_behind schedule n ≡ number →
     IsSteady j → (hart_in j number).inside ≡ None → ShownBy j.memory s.ciphers s.memory →
     TurnIsAlone schedule n j
     (after_outside j number (made_after (hart_in j number) j.disk (cloak_outside j.memory (hart_in j number)) s))
@@ -184,7 +220,8 @@ outside_turn : (schedule : List ℕ) (n : ℕ) (j : Joint) (number : ℕ) → ha
 unfolding outside_step settled_step
 outside_turn schedule n j number same steady outside =
     let h = hart_in j number in
-    outside_by schedule n j number (settle_touched h j.disk j.memory) same steady outside (touched_shown h j.disk j.memory steady.places)
+    outside_by schedule n j number (settle_touched h j.disk j.memory) same steady outside
+    (touched_shown h j.disk j.memory steady.places)
 
 -- A hart inside.
 
@@ -200,11 +237,13 @@ record IsInside (schedule : List ℕ) (n : ℕ) (j : Joint) (number ctx : ℕ) :
   pub inside : (hart_in j number).inside ≡ Some ctx
 
 there_by : (harts : List Hart) (number ctx : ℕ) → (started 0 0).inside ≡ None →
-    (kernel_hart (record { harts = harts; ram = []; disk = []; console = [] }) number).inside ≡ Some ctx → number < length harts
+    (kernel_hart (record { harts = harts; ram = []; disk = []; console = [] }) number).inside ≡ Some ctx →
+    number < length harts
 there_by harts number ctx none inside = elim (cases_lt number (length harts)) [
   | inl lt ↦ lt
   | inr ge ↦
-      let clash : None ≡ Some ctx = sym none ∙ (ap (λ (h : Hart). h.inside) (sym (get_or_past harts number (started 0 0) ge)) ∙ inside) in
+      let clash : None ≡ Some ctx = sym none
+      ∙ (ap (λ (h : Hart). h.inside) (sym (get_or_past harts number (started 0 0) ge)) ∙ inside) in
       absurd cc
 ]
 
@@ -227,7 +266,10 @@ staying schedule n j j' number ctx items t inside reached written joint =
     record {
       alone = told_as schedule n k items t.items _ (kernel_part t.joint) stops written part step;
       items = subst AreOfStep (sym written) (within_of_step j.memory.ram items reached.within);
-      steady = subst IsSteady (sym joint) (record { places = reached.steady.places; programs = reached.steady.programs });
+      steady = subst IsSteady (sym joint) (record {
+        places = reached.steady.places;
+        programs = reached.steady.programs;
+      });
     }
 
 leaving : (schedule : List ℕ) (n : ℕ) (j j' : Joint) (number ctx : ℕ) (items : List Item) (s : Shown) (t : Turn) →
@@ -242,29 +284,42 @@ leaving schedule n j j' number ctx items s t inside reached same written joint =
     let part : kernel_part t.joint ≡ after_inside number h items k =
     ap (λ (x : Joint). kernel_part x) joint ∙ ap (with_kernel_hart number h) reached.part in
     let step = subst (λ (x : ℕ). x < length k.harts → (kernel_hart k x).inside ≡ Some s.ctx →
-    KernelStepIsAlone schedule n k (items ++ item.Leave s ∷ []) (after_inside x (leave (ticked_hart x k) s) items k) stops)
+    KernelStepIsAlone schedule n k (items ++ item.Leave s ∷ [])
+    (after_inside x (leave (ticked_hart x k) s) items k) stops)
     inside.turn (λ low in'. leaving_step_is_alone schedule n k items s stops low in' reached.within) lt in_ctx in
     record {
       alone = told_as schedule n k (items ++ item.Leave s ∷ []) t.items _ (kernel_part t.joint) stops written part step;
       items = subst AreOfStep (sym written)
           (of_step-append items (item.Leave s ∷ []) (within_of_step j.memory.ram items reached.within) (refl, tt));
-      steady = subst IsSteady (sym joint) (record { places = reached.steady.places; programs = reached.steady.programs });
+      steady = subst IsSteady (sym joint) (record {
+        places = reached.steady.places;
+        programs = reached.steady.programs;
+      });
     }
 
 -- A program's step.
 
-domain_turn : (schedule : List ℕ) (n : ℕ) (j j' : Joint) (number ctx d : ℕ) (w : World) (how : Went) (items : List Item) →
+domain_turn : (schedule : List ℕ) (n : ℕ) (j j' : Joint) (number ctx d : ℕ) (w : World) (how : Went)
+    (items : List Item) →
     IsInside schedule n j number ctx → IsReached j j' items → items_of w ≡ items → ShowsContext ctx how →
     TurnIsAlone schedule n j (domain_ended j' number (ticked (hart_in j number)) d w how)
 unfolding domain_ended
-domain_turn schedule n j j' number ctx d w went.Stay items inside reached written shows = staying schedule n j j' number ctx items _ inside reached written refl
-domain_turn schedule n j j' number ctx d w went.Stopped items inside reached written shows = staying schedule n j j' number ctx items _ inside reached written refl
-domain_turn schedule n j j' number ctx d w (went.Remapped space) items inside reached written shows = staying schedule n j j' number ctx items _ inside reached written refl
+domain_turn schedule n j j' number ctx d w went.Stay items inside reached written shows =
+    staying schedule n j j' number ctx items _ inside reached written refl
+domain_turn schedule n j j' number ctx d w went.Stopped items inside reached written shows =
+    staying schedule n j j' number ctx items _ inside reached written refl
+domain_turn schedule n j j' number ctx d w (went.Remapped space) items inside reached written shows =
+    staying schedule n j j' number ctx items _ inside reached written refl
 domain_turn schedule n j j' number ctx d w (went.Leave s) items inside reached written shows =
-    leaving schedule n j j' number ctx items s _ inside reached shows (ap (λ (l : List Item). l ++ item.Leave s ∷ []) written) refl
+    leaving schedule n j j' number ctx items s _ inside reached shows
+    (ap (λ (l : List Item). l ++ item.Leave s ∷ []) written) refl
 domain_turn schedule n j j' number ctx d w (went.SpaceGone space s) items inside reached written shows =
     leaving schedule n j _ number ctx items s _ inside
-    (record { within = reached.within; part = reached.part; steady = record { places = reached.steady.places; programs = reached.steady.programs } })
+    (record {
+      within = reached.within;
+      part = reached.part;
+      steady = record { places = reached.steady.places; programs = reached.steady.programs };
+    })
     shows (ap (λ (l : List Item). l ++ item.Leave s ∷ []) written) refl
 
 memory_ram : (w : World) (m : CloakedMemory) → is_joint w ≡ true → (memory_of w m).ram ≡ ram_of w
@@ -278,8 +333,10 @@ memory_places (Cloaked c) m joint = joint.places
 memory_places (Alone h) m joint = absurd (false≢true joint.form)
 
 -- what a program's step told has come about
-told_turn : (schedule : List ℕ) (n : ℕ) (j : Joint) (number ctx d : ℕ) (was : Domain) (c : Cloak) (told : Told DomainStepped) →
-    IsInside schedule n j number ctx → IsSteady j → slice_get j.domains d ≡ Some was → c.memory ≡ j.memory → c.items ≡ [] →
+told_turn : (schedule : List ℕ) (n : ℕ) (j : Joint) (number ctx d : ℕ) (was : Domain) (c : Cloak)
+    (told : Told DomainStepped) →
+    IsInside schedule n j number ctx → IsSteady j → slice_get j.domains d ≡ Some was → c.memory ≡ j.memory →
+    c.items ≡ [] →
     Account (Cloaked c) told.world → told.answer.domain.control.number ≡ was.control.number →
     ShowsContext ctx told.answer.went →
     TurnIsAlone schedule n j (after_domain_step j number (ticked (hart_in j number)) d told)
@@ -287,7 +344,8 @@ unfolding after_domain_step
 told_turn schedule n j number ctx d was c told inside steady there memory none account number' shows =
     let j' : Joint = record (with_domain d told.answer.domain j) { memory = memory_of told.world j.memory } in
     let ram : (memory_of told.world j.memory).ram ≡ with_items account.items j.memory.ram =
-    memory_ram told.world j.memory account.joint.form ∙ (account.ram ∙ ap (λ (m : CloakedMemory). with_items account.items m.ram) memory) in
+    memory_ram told.world j.memory account.joint.form
+    ∙ (account.ram ∙ ap (λ (m : CloakedMemory). with_items account.items m.ram) memory) in
     let reached : IsReached j j' account.items = record {
       within = subst (λ (m : CloakedMemory). AreWithin m.ram account.items) memory account.within;
       part = ap (λ (x : List (List ℕ)). let k : KernelPart = record (kernel_part j) { ram = x } in k) ram;
@@ -296,7 +354,8 @@ told_turn schedule n j number ctx d was c told inside steady there memory none a
         programs = set_number d j.domains was told.answer.domain steady.programs there number';
       };
     } in
-    let written : items_of told.world ≡ account.items = account.written ∙ ap (λ (l : List Item). l ++ account.items) none in
+    let written : items_of told.world ≡ account.items = account.written
+    ∙ ap (λ (l : List Item). l ++ account.items) none in
     domain_turn schedule n j j' number ctx d told.world told.answer.went account.items inside reached written shows
 
 -- Interrupts.
@@ -305,11 +364,16 @@ interrupt_turn : (schedule : List ℕ) (n : ℕ) (j j' : Joint) (number ctx : �
     IsInside schedule n j number ctx → IsReached j j' items → ShowsContext ctx how →
     TurnIsAlone schedule n j (interrupt_ended j' number (ticked (hart_in j number)) items how)
 unfolding interrupt_ended
-interrupt_turn schedule n j j' number ctx went.Stay items inside reached shows = staying schedule n j j' number ctx items _ inside reached refl refl
-interrupt_turn schedule n j j' number ctx went.Stopped items inside reached shows = staying schedule n j j' number ctx items _ inside reached refl refl
-interrupt_turn schedule n j j' number ctx (went.Remapped space) items inside reached shows = staying schedule n j j' number ctx items _ inside reached refl refl
-interrupt_turn schedule n j j' number ctx (went.Leave s) items inside reached shows = leaving schedule n j j' number ctx items s _ inside reached shows refl refl
-interrupt_turn schedule n j j' number ctx (went.SpaceGone space s) items inside reached shows = staying schedule n j j' number ctx items _ inside reached refl refl
+interrupt_turn schedule n j j' number ctx went.Stay items inside reached shows =
+    staying schedule n j j' number ctx items _ inside reached refl refl
+interrupt_turn schedule n j j' number ctx went.Stopped items inside reached shows =
+    staying schedule n j j' number ctx items _ inside reached refl refl
+interrupt_turn schedule n j j' number ctx (went.Remapped space) items inside reached shows =
+    staying schedule n j j' number ctx items _ inside reached refl refl
+interrupt_turn schedule n j j' number ctx (went.Leave s) items inside reached shows =
+    leaving schedule n j j' number ctx items s _ inside reached shows refl refl
+interrupt_turn schedule n j j' number ctx (went.SpaceGone space s) items inside reached shows =
+    staying schedule n j j' number ctx items _ inside reached refl refl
 
 after_interrupt_turn : (schedule : List ℕ) (n : ℕ) (j : Joint) (number ctx d : ℕ) (was : Domain) (step : Stepped) →
     IsInside schedule n j number ctx → IsSteady j → slice_get j.domains d ≡ Some was →
@@ -345,9 +409,11 @@ domain_of_turn schedule n true j number ctx was inside steady there =
     (shows_own ctx was _ own keeps.shows)
 domain_of_turn schedule n false j number ctx was inside steady there =
     let own = number_at (domain_of ctx) j.domains was steady.programs there in
-    let c : Cloak = cloak_of j.memory (ticked (hart_in j number)) (domain_of ctx) (pages_for was (context_at was.control.contexts (slot_of ctx))) in
+    let c : Cloak = cloak_of j.memory (ticked (hart_in j number)) (domain_of ctx)
+    (pages_for was (context_at was.control.contexts (slot_of ctx))) in
     let keeps = numbers_step (slot_of ctx) was (Cloaked c) in
-    let account = (accounts_domain_step (slot_of ctx) was (Cloaked c)).by (record { form = refl; places = steady.places }) in
+    let account = (accounts_domain_step (slot_of ctx) was (Cloaked c)).by
+    (record { form = refl; places = steady.places }) in
     told_turn schedule n j number ctx (domain_of ctx) was c _ inside steady there refl refl account keeps.number
     (shows_own ctx was _ own keeps.shows)
 
@@ -363,7 +429,8 @@ inside_turn schedule n j number ctx (Some was) inside steady there =
 -- Every step.
 
 turn_by : (schedule : List ℕ) (n : ℕ) (j : Joint) (number : ℕ) (inside : Option ℕ) → hart_behind schedule n ≡ number →
-    IsSteady j → (hart_in j number).inside ≡ inside → TurnIsAlone schedule n j (turn_of j number (hart_in j number) inside)
+    IsSteady j → (hart_in j number).inside ≡ inside → TurnIsAlone schedule n j
+    (turn_of j number (hart_in j number) inside)
 unfolding turn_of
 turn_by schedule n j number None same steady is = outside_turn schedule n j number same steady is
 turn_by schedule n j number (Some ctx) same steady is =
