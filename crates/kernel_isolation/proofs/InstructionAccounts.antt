@@ -1,5 +1,5 @@
 -- What one instruction of a program writes accounts for RAM.
-use Rattle.std.proofs.Common.{◌≡◌, ℕ, ◌%◌, inl, inr, Bool, true, false, cond, List, Option, Some, None, ℤ, refl, subst}
+use Rattle.std.proofs.Common.{◌≡◌, ℕ, ◌%◌, inl, inr, Bool, true, false, List, Option, Some, None, ℤ, refl, subst}
 use Rattle.std.specs.Prelude.{◌==◌}
 use Rattle.std.proofs.lemmas.Bool.{cond_both, eqb-true}
 use Rattle.cloak_base.specs.declared.names.PageId.{PageId}
@@ -16,15 +16,12 @@ use Rattle.cloak_model.specs.InsideStep.{loaded_inside, load_reached, load_got, 
 use Rattle.cloak_model.specs.Resources.{Resources}
 use Rattle.cloak_model.specs.World.{World}
 use Rattle.kernel_isolation.proofs.Accounts.{Accounts, Accounts-refl, Accounts-trans, accounts_reach, accounts_read, accounts_write, accounts_get, accounts_put}
+use Rattle.kernel_isolation.proofs.Shown.{either}
 
 -- A store is at a multiple of its width.
 
 record StoresAligned (e : Effect) : Type 0 where
   pub at : (va width value : ℕ) → e ≡ does.Store va width value → (va % width ≡ 0) × IsWidth width
-
-either : (b : Bool) (x y : Effect) → StoresAligned x → StoresAligned y → StoresAligned (cond b x y)
-either true x y here there = here
-either false x y here there = there
 
 no_store : (e : Effect) → ((va width value : ℕ) → e ≡ does.Store va width value → ⊥) → StoresAligned e
 no_store e none = record { at = λ va width value is. absurd (none va width value is) }
@@ -33,16 +30,20 @@ aligned_raise : (cause value : ℕ) → StoresAligned (does.Raise cause value)
 aligned_raise cause value = no_store _ (λ va width x is. cc)
 
 aligned_jump : (rd pc target : ℕ) → StoresAligned (jump rd pc target)
-aligned_jump rd pc target = either (target % 4 == 0) _ _ (no_store _ (λ va width x is. cc)) (aligned_raise 0 target)
+aligned_jump rd pc target =
+    either StoresAligned (target % 4 == 0) _ _ (no_store _ (λ va width x is. cc)) (aligned_raise 0 target)
 
 aligned_go : (target : ℕ) → StoresAligned (go target)
-aligned_go target = either (target % 4 == 0) _ _ (no_store _ (λ va width x is. cc)) (aligned_raise 0 target)
+aligned_go target =
+    either StoresAligned (target % 4 == 0) _ _ (no_store _ (λ va width x is. cc)) (aligned_raise 0 target)
 
 aligned_branch : (taken : Bool) (pc : ℕ) (imm : ℤ) → StoresAligned (branch taken pc imm)
-aligned_branch taken pc imm = either taken _ _ (aligned_go (offset pc imm)) (no_store _ (λ va width x is. cc))
+aligned_branch taken pc imm =
+    either StoresAligned taken _ _ (aligned_go (offset pc imm)) (no_store _ (λ va width x is. cc))
 
 aligned_load : (rd va width : ℕ) (signed : Bool) → StoresAligned (load_effect rd va width signed)
-aligned_load rd va width signed = either (va % width == 0) _ _ (no_store _ (λ va width x is. cc)) (aligned_raise 4 va)
+aligned_load rd va width signed =
+    either StoresAligned (va % width == 0) _ _ (no_store _ (λ va width x is. cc)) (aligned_raise 4 va)
 
 store_is : (va width value : ℕ) → va % width ≡ 0 → IsWidth width → StoresAligned (does.Store va width value)
 store_is va width value here is = record {

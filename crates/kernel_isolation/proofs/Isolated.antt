@@ -1,5 +1,5 @@
 -- The steps of a run one after another, its closing, and the laws.
-use Rattle.std.proofs.Common.{◌≡◌, ◌∙◌, ◌≤◌, ℕ, zero, suc, Bool, true, false, List, [], ◌∷◌, ◌++◌, length, map, take, Option, Some, None, Result, Ok, Err, is_some, refl, sym, ap, subst, arith, take_all, append_assoc}
+use Rattle.std.proofs.Common.{◌≡◌, ◌∙◌, ◌≤◌, ℕ, zero, suc, Bool, true, false, List, [], ◌∷◌, ◌++◌, length, take, Option, Some, None, Result, Ok, Err, is_some, refl, sym, ap, subst, arith, take_all, append_assoc}
 use Rattle.std.specs.Result.{result_map_both}
 use Rattle.cloak_base.specs.declared.causes.Stop.{Stop}
 use Rattle.cloak_base.specs.Random.{Random}
@@ -15,7 +15,7 @@ use Rattle.cloak_model.specs.Opening.{Lack, Opened, opening, started_kernel}
 use Rattle.cloak_model.specs.Parts.{Joint, KernelPart, kernel_part}
 use Rattle.cloak_model.specs.Run.{Run, unless_stopped, turns_from, joint_after, closing, first_moment, run_of, exchange}
 use Rattle.cloak_model.specs.World.{cipher_items}
-use Rattle.kernel_isolation.specs.Isolation.{items_until, joint_until, HasKernel, KernelIsAlone, KernelEndsAlone}
+use Rattle.kernel_isolation.specs.Isolation.{items_by_step, items_until, joint_until, HasKernel, KernelIsAlone, KernelEndsAlone}
 use Rattle.kernel_isolation.proofs.Ignoring.{kernel_append, taken_fit, outward_half_suffices}
 use Rattle.kernel_isolation.proofs.Between.{HasRead, next_read, close_taken}
 use Rattle.kernel_isolation.proofs.Shown.{AreFrames, with_ram, ciphers_taken}
@@ -35,10 +35,10 @@ steps_behind : (o : Option Stop) (schedule : List ℕ) (k n : ℕ) (later : Mome
     (s : KernelAlone) →
     HasRead s n (kernel_part m.joint) (is_some o) → IsSteady m.joint → k ≤ length (unless_stopped o later m) →
     (HasRead s n (kernel_part m.joint) false → k ≤ length (later m) →
-    IsRead (kernel_taken schedule s (steps_items (suc n) (map (λ (t : Turn). t.items) (take k (later m)))))
+    IsRead (kernel_taken schedule s (steps_items (suc n) (items_by_step (take k (later m)))))
     (joint_after m.joint (take k (later m)))) →
     let ts = take k (unless_stopped o later m) in
-    IsRead (kernel_taken schedule s (steps_items (suc n) (map (λ (t : Turn). t.items) ts))) (joint_after m.joint ts)
+    IsRead (kernel_taken schedule s (steps_items (suc n) (items_by_step ts))) (joint_after m.joint ts)
 unfolding steps_items joint_after kernel_taken
 steps_behind None schedule k n later m s read steady le more = more read le
 steps_behind (Some cause) schedule zero n later m s read steady le more = record {
@@ -51,7 +51,7 @@ steps_behind (Some cause) schedule (suc k) n later m s read steady le more = abs
 
 steps_read : (budget k n : ℕ) (m : Moment) (s : KernelAlone) → m.steps ≡ n → HasRead s n (kernel_part m.joint) false →
     IsSteady m.joint → k ≤ length (turns_from budget m) → let ts = take k (turns_from budget m) in
-    IsRead (kernel_taken m.schedule s (steps_items (suc n) (map (λ (t : Turn). t.items) ts))) (joint_after m.joint ts)
+    IsRead (kernel_taken m.schedule s (steps_items (suc n) (items_by_step ts))) (joint_after m.joint ts)
 unfolding turns_from steps_items joint_after kernel_taken
 steps_read budget zero n m s at read steady le = record { steps = n; stops = false; read = read; steady = steady }
 steps_read zero (suc k) n m s at read steady le = absurd (omega (arith, le))
@@ -74,7 +74,7 @@ steps_read (suc budget) (suc k) n m s at read steady le =
     (λ on low. steps_read budget k (suc n) m' s' at' on turn.steady low) in
     subst (λ (x : KernelAlone). IsRead x (joint_after t.joint ts))
     (sym (kernel_append m.schedule s (item.Step (suc n) ∷ t.items)
-    (steps_items (suc (suc n)) (map (λ (t : Turn). t.items) ts)))) others
+    (steps_items (suc (suc n)) (items_by_step ts)))) others
 
 -- The opening.
 
@@ -99,7 +99,7 @@ pub until_read : (b : Bundle) (stream : Random) (budget : ℕ) (o : Opened) → 
     n ≤ length (turns_from budget (first_moment b o.joint)) →
     let ts = take n (turns_from budget (first_moment b o.joint)) in
     IsRead (kernel_taken b.kernel.schedule (opened_kernel b.kernel)
-    (o.items ++ steps_items 1 (map (λ (t : Turn). t.items) ts)))
+    (o.items ++ steps_items 1 (items_by_step ts)))
     (joint_after o.joint ts)
 until_read b stream budget o opens n le =
     let opened = is_opened b stream o opens in
@@ -108,7 +108,7 @@ until_read b stream budget o opens n le =
     let ts : List Turn = take n (turns_from budget m) in
     subst (λ (x : KernelAlone). IsRead x (joint_after o.joint ts))
     (sym (kernel_append b.kernel.schedule (opened_kernel b.kernel) o.items
-    (steps_items 1 (map (λ (t : Turn). t.items) ts))))
+    (steps_items 1 (items_by_step ts))))
     (steps_read budget n 0 m s refl (opening_read b o opened) opened.steady le)
 
 -- Close, and what is shown behind it.
@@ -161,7 +161,7 @@ unfolding run_of
 is_alone b stream budget o opens n le =
     let k : KernelAlone = opened_kernel b.kernel in
     let ts : List Turn = take n (turns_from budget (first_moment b o.joint)) in
-    let steps : List Item = steps_items 1 (map (λ (t : Turn). t.items) ts) in
+    let steps : List Item = steps_items 1 (items_by_step ts) in
     let same = outward_half_suffices b.kernel (o.items ++ (steps ++ item.Close n ∷ []))
     ∙ (ap (kernel_taken b.kernel.schedule k) (sym (append_assoc o.items steps (item.Close n ∷ [])))
     ∙ kernel_append b.kernel.schedule k (o.items ++ steps) (item.Close n ∷ [])) in
@@ -175,13 +175,13 @@ ends_alone b stream budget o opens =
     let k : KernelAlone = opened_kernel b.kernel in
     let turns : List Turn = turns_from budget (first_moment b o.joint) in
     let j : Joint = joint_after o.joint turns in
-    let steps : List Item = steps_items 1 (map (λ (t : Turn). t.items) turns) in
+    let steps : List Item = steps_items 1 (items_by_step turns) in
     let rest : List Item = item.Close
-    (length (map (λ (t : Turn). t.items) turns)) ∷ ((closing j).items ++ item.End ∷ []) in
+    (length (items_by_step turns)) ∷ ((closing j).items ++ item.End ∷ []) in
     let all : take (length turns) turns ≡ turns = take_all (length turns) turns (omega arith) in
     let read : IsRead (kernel_taken b.kernel.schedule k (o.items ++ steps)) j =
     subst (λ (ts : List Turn). IsRead
-    (kernel_taken b.kernel.schedule k (o.items ++ steps_items 1 (map (λ (t : Turn). t.items) ts)))
+    (kernel_taken b.kernel.schedule k (o.items ++ steps_items 1 (items_by_step ts)))
     (joint_after o.joint ts)) all
     (until_read b stream budget o opens (length turns) (omega arith)) in
     let same = ap (kernel_taken b.kernel.schedule k) (sym (append_assoc o.items steps rest))

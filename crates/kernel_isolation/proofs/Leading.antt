@@ -16,6 +16,7 @@ use Rattle.cloak_model.specs.Effect.{IsWidth}
 use Rattle.cloak_model.specs.Memory.{frame_of, place_of, is_in_ram, with_value_at}
 use Rattle.cloak_model.specs.Walk.{Walk, FirstWord, Ends, GoesOn, first_entry, has_paging, is_valid, is_pointer, is_plain_pointer, first_leaf, second_leaf, first_word, second_word}
 use Rattle.cloak_model.specs.World.{World, ram_of}
+use Rattle.kernel_isolation.proofs.Shown.{either}
 
 -- An access leads to an address with the lowest two bits of its own.
 record KeepsPlace (va : ℕ) (walk : Walk) : Type 0 where
@@ -28,10 +29,6 @@ kept_ok va walked keeps = record {
 
 kept_err : (va cause : ℕ) → KeepsPlace va (Err cause)
 kept_err va cause = record { kept = λ w is. absurd cc }
-
-either : {A : Type 0} (P : A → Type 0) (b : Bool) (x y : A) → P x → P y → P (cond b x y)
-either P true x y here there = here
-either P false x y here there = there
 
 first_place : (x va : ℕ) → (4194304 * x + bits va 21 0) % 4 ≡ va % 4
 first_place x va = omega arith

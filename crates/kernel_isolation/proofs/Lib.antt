@@ -16,4 +16,4 @@ pub mod Turns
 pub mod Closed
 pub mod Opened
 pub mod Isolated
-pub mod Halves
+pub mod TwoRuns

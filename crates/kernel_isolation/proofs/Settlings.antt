@@ -1,5 +1,5 @@
 -- What the kernel is shown by settling and by offers: RAM is then as it was shown, and a frame that was shown is there.
-use Rattle.std.proofs.Common.{◌≡◌, ◌∙◌, ℕ, zero, suc, ◌<◌, Bool, true, false, cond, List, [], ◌∷◌, ◌++◌, length, Option, None, Some, slice_set, slice_index_or, refl, sym, ap, subst, inl, inr}
+use Rattle.std.proofs.Common.{◌≡◌, ◌∙◌, ℕ, zero, suc, ◌<◌, Bool, true, false, List, [], ◌∷◌, ◌++◌, length, Option, None, Some, slice_set, slice_index_or, refl, sym, ap, subst, inl, inr}
 use Rattle.std.specs.List.{find}
 use Rattle.std.specs.Str.{bytes_eq}
 use Rattle.std.proofs.lemmas.Bool.{cases_lt}
@@ -11,7 +11,7 @@ use Rattle.cloak_model.specs.Cloaking.{CloakedMemory, AfterSettling, AfterOffer,
 use Rattle.cloak_model.specs.Hart.{Hart}
 use Rattle.cloak_model.specs.Ledger.{vector_of}
 use Rattle.cloak_model.specs.Touched.{touched}
-use Rattle.kernel_isolation.proofs.Shown.{AreFrames, frames_stay}
+use Rattle.kernel_isolation.proofs.Shown.{AreFrames, either, frames_stay}
 
 -- each frame of RAM has its place among what is owed
 abbrev pub HasPlaces : CloakedMemory → Type 0
@@ -115,10 +115,6 @@ touched_shown h disk m places = while_shown (λ ram. touched h ram disk) (length
 
 abbrev OfferShown : CloakedMemory → AfterOffer → Type 0
 OfferShown m o = ShownBy m o.ciphers o.memory
-
-either : {A : Type 0} (P : A → Type 0) (b : Bool) (x y : A) → P x → P y → P (cond b x y)
-either P true x y here there = here
-either P false x y here there = there
 
 frame_if_shown : (f : Option ℕ) (m : CloakedMemory) → HasPlaces m →
     let s = settle_frame_if f m in ShownBy m s.ciphers s.memory

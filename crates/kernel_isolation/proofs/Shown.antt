@@ -17,6 +17,12 @@ AreFrames ram ciphers = AllByRecursion (λ c. c.0 < length ram) ciphers
 abbrev pub with_ram : List (List ℕ) → KernelAlone → KernelAlone
 with_ram ram s = record s { kernel = record s.kernel { ram = ram } }
 
+-- what holds of both holds of the one that is chosen
+pub either : {A : Type 0} (P : A → Type 0) (b : Bool) (x y : A) → P x → P y → P (cond b x y)
+either P true x y here there = here
+either P false x y here there = there
+
+-- what passes its test fits
 pub fits : (test : Bool) (s next : KernelAlone) → test ≡ true → cond test next (kernel_unfit s) ≡ next
 fits true s next e = refl
 fits false s next e = absurd cc

@@ -13,10 +13,14 @@ use Rattle.cloak_model.specs.Parts.{Joint, KernelPart, kernel_part}
 use Rattle.cloak_model.specs.Record.{IsExchange}
 use Rattle.cloak_model.specs.Run.{Run, joint_run, joint_after, exchange, run_outward_half}
 
+-- what steps wrote, each behind its marker
+abbrev pub items_by_step : List Turn → List (List Item)
+items_by_step turns = map (λ (t : Turn). t.items) turns
+
 -- what a run wrote in its opening and its first n steps, with their markers, and a Close behind it
 abbrev pub items_until : ℕ → Run → List Item
 items_until n r =
-    r.opened.items ++ (steps_items 1 (map (λ (t : Turn). t.items) (take n r.turns)) ++ item.Close n ∷ [])
+    r.opened.items ++ (steps_items 1 (items_by_step (take n r.turns)) ++ item.Close n ∷ [])
 
 -- the joint machine behind the opening and the first n steps
 abbrev pub joint_until : ℕ → Run → Joint

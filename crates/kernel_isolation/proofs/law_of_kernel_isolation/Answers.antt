@@ -1,4 +1,4 @@
-use Rattle.kernel_isolation.proofs.Halves.{kernel_depends_on_half}
+use Rattle.kernel_isolation.proofs.TwoRuns.{kernel_depends_on_half}
 use Rattle.kernel_isolation.proofs.Isolated.{kernel_is_alone, kernel_ends_alone}
 use Rattle.kernel_isolation.proofs.law_of_kernel_isolation.Goals as goal
 

@@ -1,5 +1,5 @@
 -- Runs with one kernel image and one outward half agree in the kernel's part after every step.
-use Rattle.std.proofs.Common.{◌≡◌, ◌∙◌, ◌≤◌, ℕ, zero, suc, List, [], ◌∷◌, ◌++◌, length, map, take, Option, Some, None, Ok, refl, sym, ap, subst, arith, take_all, append_assoc}
+use Rattle.std.proofs.Common.{◌≡◌, ◌∙◌, ◌≤◌, ℕ, zero, suc, List, [], ◌∷◌, ◌++◌, length, take, Option, Some, None, Ok, refl, sym, ap, subst, arith, take_all, append_assoc}
 use Rattle.std.specs.List.{AllByRecursion}
 use Rattle.std.proofs.lemmas.List.{length-map, take-map}
 use Rattle.std.proofs.lemmas.List.Elements.{filter-append}
@@ -17,7 +17,7 @@ use Rattle.cloak_model.specs.Opening.{Opened, opening}
 use Rattle.cloak_model.specs.Parts.{KernelPart, kernel_part}
 use Rattle.cloak_model.specs.Record.{IsCipher}
 use Rattle.cloak_model.specs.Run.{Run, unless_stopped, turns_from, first_moment, joint_after, run_of, joint_run, exchange, run_outward_half}
-use Rattle.kernel_isolation.specs.Isolation.{items_until, HasKernel, KernelDependsOnHalf, WritesAnExchange}
+use Rattle.kernel_isolation.specs.Isolation.{items_by_step, items_until, HasKernel, KernelDependsOnHalf, WritesAnExchange}
 use Rattle.kernel_isolation.proofs.Ignoring.{outward_half_suffices}
 use Rattle.kernel_isolation.proofs.Turns.{IsSteady, turn_is_alone}
 use Rattle.kernel_isolation.proofs.Opened.{is_opened}
@@ -28,13 +28,13 @@ use Rattle.kernel_isolation.proofs.Isolated.{of_opened, until_read, kernel_is_al
 -- The items of a run.
 
 turns_of_step : (o : Option Stop) (later : Moment → List Turn) (m : Moment) →
-    AllByRecursion AreOfStep (map (λ (t : Turn). t.items) (later m)) →
-    AllByRecursion AreOfStep (map (λ (t : Turn). t.items) (unless_stopped o later m))
+    AllByRecursion AreOfStep (items_by_step (later m)) →
+    AllByRecursion AreOfStep (items_by_step (unless_stopped o later m))
 turns_of_step None later m all = all
 turns_of_step (Some cause) later m all = tt
 
 steps_of_step : (budget : ℕ) (m : Moment) → IsSteady m.joint →
-    AllByRecursion AreOfStep (map (λ (t : Turn). t.items) (turns_from budget m))
+    AllByRecursion AreOfStep (items_by_step (turns_from budget m))
 unfolding turns_from
 steps_of_step zero m steady = tt
 steps_of_step (suc budget) m steady =
@@ -48,7 +48,7 @@ steps_of_step (suc budget) m steady =
 -- of the opening and the closing, and of each step
 record WritesAsExchange (r : Run) : Type 0 where
   pub opening : AllByRecursion IsCipher r.opened.items
-  pub steps : AllByRecursion AreOfStep (map (λ (t : Turn). t.items) r.turns)
+  pub steps : AllByRecursion AreOfStep (items_by_step r.turns)
   pub closing : AllByRecursion IsCipher r.closed.items
 
 writes_of : (b : Bundle) (stream : Random) (budget : ℕ) (o : Opened) → opening b stream ≡ Ok o →
@@ -76,7 +76,7 @@ writes_an_exchange b stream budget r is =
     let w = writes b stream budget r is in
     record {
       opening = r.opened.items;
-      steps = map (λ (t : Turn). t.items) r.turns;
+      steps = items_by_step r.turns;
       closing = r.closed.items;
       order = refl;
       opening_ciphers = w.opening;
@@ -100,8 +100,8 @@ until_from n half = before_step n half ++ item.Close n ∷ []
 half_until : (r : Run) → WritesAsExchange r → (n : ℕ) → n ≤ length r.turns →
     outward_half (items_until n r) ≡ until_from n (run_outward_half r)
 half_until r w n le =
-    let steps : List (List Item) = map (λ (t : Turn). t.items) r.turns in
-    let first : List Item = steps_items 1 (map (λ (t : Turn). t.items) (take n r.turns)) in
+    let steps : List (List Item) = items_by_step r.turns in
+    let first : List Item = steps_items 1 (items_by_step (take n r.turns)) in
     let rest : List Item = r.closed.items ++ item.End ∷ [] in
     let count : length steps ≡ length r.turns = length-map r.turns (λ (t : Turn). t.items) in
     let same : before_step n (run_outward_half r) ≡ outward_half (r.opened.items ++ first) =
@@ -115,7 +115,7 @@ half_until r w n le =
 
 steps_told : (r : Run) → WritesAsExchange r → closes_at (run_outward_half r) ≡ length r.turns
 steps_told r w =
-    let steps : List (List Item) = map (λ (t : Turn). t.items) r.turns in
+    let steps : List (List Item) = items_by_step r.turns in
     closes_at_is r.opened.items steps (length steps) (r.closed.items ++ item.End ∷ [])
     (opening_of_step r.opened.items w.opening) w.steps
     ∙ length-map r.turns (λ (t : Turn). t.items)
