@@ -13,7 +13,7 @@ use Rattle.cloak_model.specs.Parts.{Joint, KernelPart, kernel_part}
 use Rattle.cloak_model.specs.Record.{IsExchange}
 use Rattle.cloak_model.specs.Run.{Run, joint_run, joint_after, exchange, run_outward_half}
 
--- what steps wrote, each behind its marker
+-- what each of these steps wrote behind its marker
 abbrev pub items_by_step : List Turn → List (List Item)
 items_by_step turns = map (λ (t : Turn). t.items) turns
 
