@@ -1,0 +1,373 @@
+-- What a program's questions write into the exchange accounts for RAM: it is then what the items say.
+use Rattle.std.proofs.Common.{◌≡◌, ◌∙◌, ℕ, zero, suc, ◌+◌, ◌*◌, ◌%◌, ◌^◌, Bool, true, false, cond, List, [], ◌∷◌, ◌++◌, length, Result, Ok, Err, refl, sym, ap, append_assoc}
+use Rattle.std.specs.Prelude.{◌==◌}
+use Rattle.std.proofs.lemmas.Bool.{false≢true, and_from}
+use Rattle.std.proofs.lemmas.List.{append-nil, length-set}
+use Rattle.cloak_base.specs.declared.names.Kind.{Kind}
+use Rattle.cloak_base.specs.declared.names.Kind.TheVariants.{Load, Store}
+use Rattle.cloak_base.specs.declared.names.PageId.{PageId}
+use Rattle.cloak_model.specs.declared.access.Access.{Access}
+use Rattle.cloak_model.specs.declared.answer.Answer.{Answer}
+use Rattle.cloak_model.specs.declared.answer.Answer.TheVariants as answer
+use Rattle.cloak_model.specs.declared.item.Item.{Item}
+use Rattle.cloak_model.specs.declared.item.Item.TheVariants as item
+use Rattle.cloak_model.specs.Ask.{ask_word, ask_second, ask_after, ask_first, ask_walk, ask_inside, ask_translate, ask_value}
+use Rattle.cloak_model.specs.AskPages.{answer_item, replies, if_drawn, ask_inside_address, offered_by, ask_offer, reached, reach_by_table, got, get_by_table, put_at, stored_inside, put_by_table, settled_if_marked, clear_from, ask_reach, ask_read, ask_write, ask_get, ask_put, ask_clear, ask_copy, ask_forget}
+use Rattle.cloak_model.specs.Asking.{Told, Asking}
+use Rattle.cloak_model.specs.Cloaking.{Offer, Ready, Mismatch, Missed, offer, settle}
+use Rattle.cloak_model.specs.Effect.{IsWidth}
+use Rattle.cloak_model.specs.Memory.{frame_of, is_in_ram}
+use Rattle.cloak_model.specs.PageMoves.{copy_pages, drop_pages}
+use Rattle.cloak_model.specs.Walk.{Walk, FirstWord, Ends, GoesOn, first_entry}
+use Rattle.cloak_model.specs.World.{World, Cloak, Flat, Cloaked, Alone, Handed, ram_of, owed_of, items_of, settled, cipher_items}
+use Rattle.kernel_isolation.proofs.Items.{AreWithin, with_items, with_items-append, length-with_items, within_stays, within-append, ciphers_within, with_ciphers}
+use Rattle.kernel_isolation.proofs.Settlings.{ShownBy, settle_shown, offer_shown}
+use Rattle.kernel_isolation.proofs.Leading.{LeadsInside, leads_inside, low_bytes_stored, is_aligned}
+
+abbrev pub is_joint : World → Bool
+is_joint (Flat ram) = false
+is_joint (Cloaked c) = true
+is_joint (Alone h) = false
+
+-- A joint machine's memory, in which each frame has its place among what is owed.
+pub record IsJointWorld (w : World) : Type 0 where
+  pub form : is_joint w ≡ true
+  pub places : length (owed_of w) ≡ length (ram_of w)
+
+-- What was written, and that RAM is what it says.
+pub record Account (w v : World) : Type 0 where
+  pub items : List Item
+  pub written : items_of v ≡ items_of w ++ items
+  pub within : AreWithin (ram_of w) items
+  pub ram : ram_of v ≡ with_items items (ram_of w)
+  pub joint : IsJointWorld v
+
+pub record Accounts (w v : World) : Type 0 where
+  pub by : IsJointWorld w → Account w v
+
+pub Accounts-refl : (w : World) → Accounts w w
+Accounts-refl w = record {
+  by = λ joint. record { items = []; written = sym (append-nil (items_of w)); within = tt; ram = refl; joint = joint };
+}
+
+Account-trans : (u v w : World) → Account u v → Account v w → Account u w
+Account-trans u v w p q = record {
+  items = p.items ++ q.items;
+  written = q.written ∙ (ap (λ (l : List Item). l ++ q.items) p.written ∙ append_assoc (items_of u) p.items q.items);
+  within = within-append (ram_of u) p.items q.items p.within
+      (within_stays (ram_of v) (ram_of u) q.items
+      (sym (ap length p.ram ∙ length-with_items p.items (ram_of u))) q.within);
+  ram = q.ram ∙ (ap (with_items q.items) p.ram ∙ sym (with_items-append p.items q.items (ram_of u)));
+  joint = q.joint;
+}
+
+pub Accounts-trans : (u v w : World) → Accounts u v → Accounts v w → Accounts u w
+Accounts-trans u v w p q = record {
+  by = λ joint. let first = p.by joint in Account-trans u v w first (q.by first.joint);
+}
+
+pub Accounts-either : {A : Type 0} (b : Bool) (m n : Told A) (w : World) → Accounts w m.world → Accounts w n.world →
+    Accounts w (cond b m n).world
+Accounts-either true m n w p q = p
+Accounts-either false m n w p q = q
+
+-- of no other world anything has to be said
+no_flat : (ram : List (List ℕ)) (v : World) → Accounts (Flat ram) v
+no_flat ram v = record { by = λ joint. absurd (false≢true joint.form) }
+
+no_alone : (h : Handed) (v : World) → Accounts (Alone h) v
+no_alone h v = record { by = λ joint. absurd (false≢true joint.form) }
+
+-- RAM and what is owed are as they were, and nothing is written
+same_account : (c c' : Cloak) → c'.items ≡ c.items → c'.memory.ram ≡ c.memory.ram →
+    c'.memory.ledger.owed ≡ c.memory.ledger.owed → Accounts (Cloaked c) (Cloaked c')
+same_account c c' items ram owed = record {
+  by = λ joint. record {
+    items = [];
+    written = items ∙ sym (append-nil c.items);
+    within = tt;
+    ram = ram;
+    joint = record { form = refl; places = ap length owed ∙ (joint.places ∙ sym (ap length ram)) };
+  };
+}
+
+-- Ciphers are written, and the kernel was shown them
+shown_account : (c c' : Cloak) (ciphers : List (ℕ × List ℕ)) → c'.items ≡ c.items ++ cipher_items ciphers →
+    ShownBy c.memory ciphers c'.memory → Account (Cloaked c) (Cloaked c')
+shown_account c c' ciphers items shown = record {
+  items = cipher_items ciphers;
+  written = items;
+  within = ciphers_within c.memory.ram ciphers shown.frames;
+  ram = shown.ram ∙ sym (with_ciphers ciphers c.memory.ram);
+  joint = record { form = refl; places = shown.places };
+}
+
+-- Memory.
+
+pub Accounts-settled : (f : ℕ) (w : World) → Accounts w (settled f w)
+Accounts-settled f (Flat ram) = no_flat ram _
+Accounts-settled f (Cloaked c) = record {
+  by = λ joint. shown_account c _ (settle f c.memory).ciphers refl (settle_shown f c.memory joint.places);
+}
+Accounts-settled f (Alone h) = no_alone h _
+
+-- settling leaves which addresses are in RAM
+length-account : (w v : World) → Account w v → length (ram_of v) ≡ length (ram_of w)
+length-account w v a = ap length a.ram ∙ length-with_items a.items (ram_of w)
+
+accounts_word : (pa : ℕ) (w : World) → Accounts w (ask_word pa w).world
+unfolding ask_word
+accounts_word pa w = Accounts-either _ _ _ w (Accounts-settled (frame_of pa) w) (Accounts-refl w)
+
+accounts_second : (a : Access) (at1 at0 : ℕ) (w : World) → Accounts w (ask_second a at1 at0 w).world
+unfolding ask_second
+accounts_second a at1 at0 w = accounts_word at0 w
+
+accounts_after : (a : Access) (at1 : ℕ) (word : FirstWord) (w : World) → Accounts w (ask_after a at1 word w).world
+unfolding ask_after
+accounts_after a at1 (Ends walk) w = Accounts-refl w
+accounts_after a at1 (GoesOn at0) w = accounts_second a at1 at0 w
+
+accounts_first : (a : Access) (at1 : ℕ) (w : World) → Accounts w (ask_first a at1 w).world
+unfolding ask_first
+accounts_first a at1 w = Accounts-trans _ _ _ (accounts_word at1 w) (accounts_after a at1 _ _)
+
+accounts_walk : (satp : ℕ) (a : Access) (w : World) → Accounts w (ask_walk satp a w).world
+unfolding ask_walk
+accounts_walk satp a w = Accounts-either _ _ _ w (accounts_first a (first_entry satp a.va) w) (Accounts-refl w)
+
+accounts_inside : (a : Access) (walk : Walk) (w : World) → Accounts w (ask_inside a walk w).world
+unfolding ask_inside
+accounts_inside a (Err cause) w = Accounts-refl w
+accounts_inside a (Ok walked) w = Accounts-refl w
+
+accounts_translate : (satp : ℕ) (a : Access) (w : World) → Accounts w (ask_translate satp a w).world
+unfolding ask_translate
+accounts_translate satp a w = Accounts-trans _ _ _ (accounts_walk satp a w) (accounts_inside a _ _)
+
+accounts_value : (pa width : ℕ) (w : World) → Accounts w (ask_value pa width w).world
+unfolding ask_value
+accounts_value pa width w = Accounts-settled (frame_of pa) w
+
+-- Answers.
+
+inward_account : (c : Cloak) (d : ℕ) (a : Answer) →
+    Accounts (Cloaked c) (Cloaked (record c { items = c.items ++ answer_item d a ∷ [] }))
+inward_account c d answer.Ok = record {
+  by = λ joint. record {
+    items = item.Ok d ∷ [];
+    written = refl;
+    within = (refl, tt);
+    ram = refl;
+    joint = record { form = refl; places = joint.places };
+  };
+}
+inward_account c d (answer.Absent cause) = record {
+  by = λ joint. record {
+    items = item.Absent d cause ∷ [];
+    written = refl;
+    within = (refl, tt);
+    ram = refl;
+    joint = record { form = refl; places = joint.places };
+  };
+}
+inward_account c d (answer.Word value) = record {
+  by = λ joint. record {
+    items = item.Word d value ∷ [];
+    written = refl;
+    within = (refl, tt);
+    ram = refl;
+    joint = record { form = refl; places = joint.places };
+  };
+}
+inward_account c d answer.Stopped = record {
+  by = λ joint. record {
+    items = item.Stopped d ∷ [];
+    written = refl;
+    within = (refl, tt);
+    ram = refl;
+    joint = record { form = refl; places = joint.places };
+  };
+}
+
+accounts_replies : (a : Answer) (w : World) → Accounts w (replies a w).world
+unfolding replies
+accounts_replies a (Flat ram) = no_flat ram _
+accounts_replies a (Cloaked c) = inward_account c c.view.domain a
+accounts_replies a (Alone h) = no_alone h _
+
+accounts_drawn : (ask : Asking Answer) (w : World) → Accounts w (ask w).world → Accounts w (if_drawn ask w).world
+unfolding if_drawn
+accounts_drawn ask w next = Accounts-either _ _ _ w (accounts_replies _ w) next
+
+accounts_inside_address : (va : ℕ) (kind : Kind) (w : World) → Accounts w (ask_inside_address va kind w).world
+unfolding ask_inside_address
+accounts_inside_address va kind w = accounts_translate _ _ w
+
+accounts_offered : (q : PageId) (g : ℕ) (o : Offer) (w : World) → Accounts w (offered_by q g o w).world
+unfolding offered_by
+accounts_offered q g Ready w = accounts_replies _ w
+accounts_offered q g Missed w = accounts_replies _ w
+accounts_offered q g Mismatch (Flat ram) = no_flat ram _
+accounts_offered q g Mismatch (Cloaked c) =
+    Accounts-trans _ (Cloaked _) _ (same_account c _ refl refl refl) (accounts_replies _ _)
+accounts_offered q g Mismatch (Alone h) = no_alone h _
+
+offer_account : (q : PageId) (g : ℕ) (write : Bool) (c : Cloak) → let o = offer q g write c.memory in
+    Accounts (Cloaked c) (Cloaked (record c { memory = o.memory; items = c.items ++ cipher_items o.ciphers }))
+offer_account q g write c = record {
+  by = λ joint. shown_account c _ (offer q g write c.memory).ciphers refl (offer_shown q g write c.memory joint.places);
+}
+
+accounts_offer : (q : PageId) (g : ℕ) (write : Bool) (w : World) → Accounts w (ask_offer q g write w).world
+unfolding ask_offer
+accounts_offer q g write (Flat ram) = no_flat ram _
+accounts_offer q g write (Cloaked c) =
+    Accounts-trans _ (Cloaked _) _ (offer_account q g write c) (accounts_offered q g _ _)
+accounts_offer q g write (Alone h) = no_alone h _
+
+accounts_reached : (q : PageId) (kind : Kind) (to : Result ℕ ℕ) (w : World) → Accounts w (reached q kind to w).world
+unfolding reached
+accounts_reached q kind (Err cause) w = accounts_replies _ w
+accounts_reached q kind (Ok pa) w = accounts_offer q _ _ w
+
+accounts_reach_by_table : (q : PageId) (va : ℕ) (kind : Kind) (w : World) →
+    Accounts w (reach_by_table q va kind w).world
+unfolding reach_by_table
+accounts_reach_by_table q va kind w =
+    Accounts-trans _ _ _ (accounts_inside_address va kind w) (accounts_drawn _ _ (accounts_reached q kind _ _))
+
+accounts_got : (width : ℕ) (to : Result ℕ ℕ) (w : World) → Accounts w (got width to w).world
+unfolding got
+accounts_got width (Err cause) w = accounts_replies _ w
+accounts_got width (Ok pa) w =
+    Accounts-trans _ _ _ (accounts_value pa width w) (accounts_drawn _ _ (accounts_replies _ _))
+
+accounts_get_by_table : (va width : ℕ) (w : World) → Accounts w (get_by_table va width w).world
+unfolding get_by_table
+accounts_get_by_table va width w =
+    Accounts-trans _ _ _ (accounts_inside_address va Load w) (accounts_drawn _ _ (accounts_got width _ _))
+
+-- Stores.
+
+put_account : (pa width value : ℕ) (c : Cloak) → is_in_ram c.memory.ram pa ≡ true → (pa % width == 0) ≡ true →
+    IsWidth width →
+    Accounts (Cloaked c) (put_at pa width value (Cloaked c)).world
+unfolding put_at replies
+put_account pa width value c inside aligned is = record {
+  by = λ joint. record {
+    items = item.Put pa width (value % 2 ^ (8 * width)) ∷ (item.Ok c.view.domain ∷ []);
+    written = append_assoc c.items (item.Put pa width (value % 2 ^ (8 * width)) ∷ []) (item.Ok c.view.domain ∷ []);
+    within = (and_from _ _ inside aligned, (refl, tt));
+    ram = low_bytes_stored pa width value c.memory.ram is;
+    joint = record { form = refl; places = joint.places ∙ sym (length-set c.memory.ram (frame_of pa) _) };
+  };
+}
+
+accounts_put_at : (pa width value : ℕ) (w : World) → is_in_ram (ram_of w) pa ≡ true → (pa % width == 0) ≡ true →
+    IsWidth width →
+    Accounts w (put_at pa width value w).world
+accounts_put_at pa width value (Flat ram) inside aligned is = no_flat ram _
+accounts_put_at pa width value (Cloaked c) inside aligned is = put_account pa width value c inside aligned is
+accounts_put_at pa width value (Alone h) inside aligned is = no_alone h _
+
+-- a store at a settled address
+settled_put : (pa width value : ℕ) (w : World) → is_in_ram (ram_of w) pa ≡ true → (pa % width == 0) ≡ true →
+    IsWidth width →
+    Accounts w (if_drawn (put_at pa width value) (settled (frame_of pa) w)).world
+settled_put pa width value w inside aligned is = record {
+  by = λ joint.
+      let v : World = settled (frame_of pa) w in
+      let first = Accounts-settled (frame_of pa) w in
+      let count = length-account w v (first.by joint) in
+      let inside' : is_in_ram (ram_of v) pa ≡ true = rw count inside in
+      (Accounts-trans w v _ first (accounts_drawn _ v (accounts_put_at pa width value v inside' aligned is))).by joint;
+}
+
+accounts_stored : (va width value : ℕ) (told : Told (Result ℕ ℕ)) → LeadsInside va told → va % width ≡ 0 →
+    IsWidth width →
+    Accounts told.world (stored_inside width value told.answer told.world).world
+unfolding stored_inside
+accounts_stored va width value told leads at is = by told.answer refl
+  where
+    by : (to : Result ℕ ℕ) → told.answer ≡ to → Accounts told.world (stored_inside width value to told.world).world
+    by (Err cause) found = accounts_replies _ told.world
+    by (Ok pa) found =
+        let there = leads.inside pa found in
+        settled_put pa width value told.world there.0 (is_aligned va pa width there.1 at is) is
+
+accounts_put_by_table : (va width value : ℕ) (w : World) → va % width ≡ 0 → IsWidth width →
+    Accounts w (put_by_table va width value w).world
+unfolding put_by_table
+accounts_put_by_table va width value w at is =
+    let told = ask_inside_address va Store w in
+    Accounts-trans w told.world _ (accounts_inside_address va Store w)
+    (accounts_drawn _ told.world (accounts_stored va width value told (leads_inside va Store w) at is))
+
+-- Resources as wholes.
+
+either_world : (b : Bool) (w v : World) → Accounts w v → Accounts w (cond b v w)
+either_world true w v later = later
+either_world false w v later = Accounts-refl w
+
+accounts_if_marked : (domain : ℕ) (marked : List Bool) (f : ℕ) (w : World) →
+    Accounts w (settled_if_marked domain marked f w)
+unfolding settled_if_marked
+accounts_if_marked domain marked f w = either_world _ w (settled f w) (Accounts-settled f w)
+
+accounts_clear_from : (domain : ℕ) (marked : List Bool) (f n : ℕ) (w : World) →
+    Accounts w (clear_from domain marked f n w).world
+unfolding clear_from
+accounts_clear_from domain marked f zero w = accounts_replies _ w
+accounts_clear_from domain marked f (suc n) w =
+    Accounts-trans _ _ _ (accounts_if_marked domain marked f w)
+    (accounts_drawn _ _ (accounts_clear_from domain marked (f + 1) n _))
+
+-- The questions.
+
+pub accounts_reach : (q : PageId) (va : ℕ) (kind : Kind) (w : World) → Accounts w (ask_reach q va kind w).world
+unfolding ask_reach
+accounts_reach q va kind (Flat ram) = no_flat ram _
+accounts_reach q va kind (Cloaked c) = accounts_reach_by_table q va kind (Cloaked c)
+accounts_reach q va kind (Alone h) = no_alone h _
+
+pub accounts_read : (q : PageId) (at width : ℕ) (w : World) → Accounts w (ask_read q at width w).world
+unfolding ask_read
+accounts_read q at width w = Accounts-refl w
+
+pub accounts_write : (q : PageId) (at width value : ℕ) (w : World) → Accounts w (ask_write q at width value w).world
+unfolding ask_write
+accounts_write q at width value (Flat ram) = no_flat ram _
+accounts_write q at width value (Cloaked c) = same_account c _ refl refl refl
+accounts_write q at width value (Alone h) = no_alone h _
+
+pub accounts_get : (va width : ℕ) (w : World) → Accounts w (ask_get va width w).world
+unfolding ask_get
+accounts_get va width (Flat ram) = no_flat ram _
+accounts_get va width (Cloaked c) = accounts_get_by_table va width (Cloaked c)
+accounts_get va width (Alone h) = no_alone h _
+
+pub accounts_put : (va width value : ℕ) (w : World) → va % width ≡ 0 → IsWidth width →
+    Accounts w (ask_put va width value w).world
+unfolding ask_put
+accounts_put va width value (Flat ram) at is = no_flat ram _
+accounts_put va width value (Cloaked c) at is = accounts_put_by_table va width value (Cloaked c) at is
+accounts_put va width value (Alone h) at is = no_alone h _
+
+pub accounts_clear : (domain : ℕ) (marked : List Bool) (w : World) → Accounts w (ask_clear domain marked w).world
+unfolding ask_clear
+accounts_clear domain marked (Flat ram) = no_flat ram _
+accounts_clear domain marked (Cloaked c) = accounts_clear_from domain marked 0 (length c.memory.ram) (Cloaked c)
+accounts_clear domain marked (Alone h) = no_alone h _
+
+pub accounts_copy : (domain from to : ℕ) (w : World) → Accounts w (ask_copy domain from to w).world
+unfolding ask_copy copy_pages
+accounts_copy domain from to (Flat ram) = no_flat ram _
+accounts_copy domain from to (Cloaked c) = same_account c _ refl refl refl
+accounts_copy domain from to (Alone h) = no_alone h _
+
+pub accounts_forget : (domain resource : ℕ) (w : World) → Accounts w (ask_forget domain resource w).world
+unfolding ask_forget drop_pages
+accounts_forget domain resource (Flat ram) = no_flat ram _
+accounts_forget domain resource (Cloaked c) = same_account c _ refl refl refl
+accounts_forget domain resource (Alone h) = no_alone h _

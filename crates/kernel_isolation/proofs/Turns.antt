@@ -1,0 +1,444 @@
+-- A step of the joint run is the kernel alone's.
+use Rattle.std.proofs.Common.{◌≡◌, ◌∙◌, ◌<◌, ℕ, suc, ◌-◌, ◌%◌, Bool, true, false, cond, List, [], ◌∷◌, ◌++◌, length, slice_get, slice_index, slice_set, Option, Some, None, Result, Ok, Err, is_some, refl, sym, ap, subst, arith, inl, inr}
+use Rattle.std.proofs.lemmas.Bool.{false≢true, cases_lt}
+use Rattle.std.proofs.lemmas.List.{append-nil, get_or_past}
+use Rattle.cloak_base.specs.declared.causes.Shown.{Shown}
+use Rattle.cloak_base.specs.declared.causes.Stop.{Stop}
+use Rattle.cloak_base.specs.declared.causes.Stop.TheVariants as stop
+use Rattle.cloak_base.specs.declared.causes.Violation.{Violation}
+use Rattle.cloak_model.specs.declared.context.ResumeFault.{ResumeFault}
+use Rattle.cloak_model.specs.declared.inside.Went.{Went}
+use Rattle.cloak_model.specs.declared.inside.Went.TheVariants as went
+use Rattle.cloak_model.specs.declared.item.Item.{Item}
+use Rattle.cloak_model.specs.declared.item.Item.TheVariants as item
+use Rattle.cloak_model.specs.declared.outcome.Kernel.{Kernel}
+use Rattle.cloak_model.specs.declared.outcome.Kernel.TheVariants.{Stay, Put, Halt, Resume}
+use Rattle.cloak_model.specs.Ahead.{settle_touched, settled_step, made_after, with_shown}
+use Rattle.cloak_model.specs.Asking.{Told}
+use Rattle.cloak_model.specs.Cloaking.{CloakedMemory, AfterSettling}
+use Rattle.cloak_model.specs.Contexts.{Admitted, context_at, context_number, domain_of, slot_of}
+use Rattle.cloak_model.specs.Csr.{satp_of}
+use Rattle.cloak_model.specs.DomainState.{Control, Domain}
+use Rattle.cloak_model.specs.DomainStep.{DomainStepped}
+use Rattle.cloak_model.specs.Hart.{Hart, started}
+use Rattle.cloak_model.specs.Hypercalls.{Stepped}
+use Rattle.cloak_model.specs.Joint.{Moment, Turn, next_hart, hart_in, with_hart, cloak_of, cloak_outside, memory_of, outside_ended, after_outside, outside_step, domain_ended, with_domain, after_domain_step, pages_for, interrupt_ended, after_interrupt, by_interrupt, inside_step, turn_of, joint_step, stop_of}
+use Rattle.cloak_model.specs.KernelAlone.{kernel_hart, with_kernel_hart, console_byte, has_halted}
+use Rattle.cloak_model.specs.KernelStep.{kernel_step, ticked}
+use Rattle.cloak_model.specs.Leaving.{leave}
+use Rattle.cloak_model.specs.Parts.{Joint, KernelPart, kernel_part}
+use Rattle.cloak_model.specs.Resuming.{AfterResume, by_root, by_context, by_domain, resume}
+use Rattle.cloak_model.specs.World.{World, Cloak, Flat, Cloaked, Alone, ram_of, items_of, cipher_items}
+use Rattle.settling_ahead.proofs.Touching.{writes_touched_alone}
+use Rattle.kernel_isolation.proofs.Between.{KernelStepIsAlone, hart_behind}
+use Rattle.kernel_isolation.proofs.Shown.{AreFrames}
+use Rattle.kernel_isolation.proofs.OutsideSteps.{AreInward, HaltsAsStops, shown_part, plain_part, outside_step_is_alone}
+use Rattle.kernel_isolation.proofs.Settlings.{HasPlaces, ShownBy, touched_shown}
+use Rattle.kernel_isolation.proofs.Items.{AreWithin, with_items}
+use Rattle.kernel_isolation.proofs.InsideSteps.{after_inside, ticked_hart, staying_step_is_alone, leaving_step_is_alone}
+use Rattle.kernel_isolation.proofs.Markers.{AreOfStep, of_step-append, ciphers_of_step, inward_of_step, within_of_step}
+use Rattle.kernel_isolation.proofs.Accounts.{IsJointWorld, is_joint, Account}
+use Rattle.kernel_isolation.proofs.StepAccounts.{accounts_domain_step}
+use Rattle.kernel_isolation.proofs.Numbers.{AreFrom, ShowsContext, number_of_context, number_at, set_number, numbers_step, numbers_interrupt, resume_number}
+
+-- What each step keeps of the joint machine.
+pub record IsSteady (j : Joint) : Type 0 where
+  pub places : HasPlaces j.memory
+  pub programs : AreFrom 0 j.domains
+
+-- A step is the kernel alone's.
+pub record TurnIsAlone (schedule : List ℕ) (n : ℕ) (j : Joint) (t : Turn) : Type 0 where
+  pub alone : KernelStepIsAlone schedule n (kernel_part j) t.items (kernel_part t.joint) (is_some (stop_of t))
+  -- none of its items is a marker
+  pub items : AreOfStep t.items
+  pub steady : IsSteady t.joint
+
+-- the same step, told in other words
+told_as : (schedule : List ℕ) (n : ℕ) (k : KernelPart) (items items' : List Item) (after after' : KernelPart)
+    (stops : Bool) →
+    items' ≡ items → after' ≡ after → KernelStepIsAlone schedule n k items after stops →
+    KernelStepIsAlone schedule n k items' after' stops
+told_as schedule n k items items' after after' stops written part step =
+    subst (λ (l : List Item). KernelStepIsAlone schedule n k l after' stops) (sym written)
+    (subst (λ (p : KernelPart). KernelStepIsAlone schedule n k items p stops) (sym part) step)
+
+-- Resuming changes nothing that the kernel sees, and writes nothing outward.
+
+record IsUnseen (j : Joint) (r : AfterResume) : Type 0 where
+  pub part : kernel_part r.joint ≡ kernel_part j
+  pub items : AreInward r.items
+  pub steady : IsSteady r.joint
+
+unseen_none : (j : Joint) (violation : Option Violation) → IsSteady j →
+    IsUnseen j (record { joint = j; items = []; violation = violation })
+unseen_none j violation steady = record { part = refl; items = tt; steady = steady }
+
+unseen_root : (j : Joint) (satp ctx reply : ℕ) (was : Domain) (control : Control) (admitted : Admitted)
+    (answer : Result (Unit {0}) ResumeFault) → IsSteady j → slice_get j.domains (domain_of ctx) ≡ Some was →
+    control.number ≡ was.control.number → IsUnseen j (by_root j satp ctx reply was control admitted answer)
+unfolding by_root
+unseen_root j satp ctx reply was control admitted (Err fault) steady there same = unseen_none j _ steady
+unseen_root j satp ctx reply was control admitted (Ok done) steady there same = record {
+  part = refl;
+  items = (refl, tt);
+  steady = record {
+    places = steady.places;
+    programs = set_number (domain_of ctx) j.domains was (record was { control = control }) steady.programs there same;
+  };
+}
+
+unseen_context : (j : Joint) (satp ctx reply : ℕ) (was : Domain) (control : Control)
+    (answer : Result (Unit {0}) ResumeFault) → IsSteady j → slice_get j.domains (domain_of ctx) ≡ Some was →
+    control.number ≡ was.control.number → IsUnseen j (by_context j satp ctx reply was control answer)
+unfolding by_context
+unseen_context j satp ctx reply was control (Err fault) steady there same = unseen_none j _ steady
+unseen_context j satp ctx reply was control (Ok done) steady there same =
+    unseen_root j satp ctx reply was control _ _ steady there same
+
+unseen_domain : (j : Joint) (hart satp ctx reply : ℕ) (found : Option Domain) → IsSteady j →
+    slice_get j.domains (domain_of ctx) ≡ found → IsUnseen j (by_domain j hart satp ctx reply found)
+unfolding by_domain
+unseen_domain j hart satp ctx reply None steady there = unseen_none j _ steady
+unseen_domain j hart satp ctx reply (Some was) steady there =
+    unseen_context j satp ctx reply was _ _ steady there (resume_number (slot_of ctx) hart reply was.control)
+
+unseen : (j : Joint) (hart satp ctx reply : ℕ) → IsSteady j → IsUnseen j (resume j hart satp ctx reply)
+unfolding resume
+unseen j hart satp ctx reply steady = unseen_domain j hart satp ctx reply _ steady refl
+
+-- A hart outside: what its ending makes of the kernel's part, and what it writes.
+
+record EndsAs (j : Joint) (items : List Item) (e : Kernel) (t : Turn) : Type 0 where
+  pub others : List Item
+  pub written : t.items ≡ items ++ others
+  pub inward : AreInward others
+  pub part : kernel_part t.joint ≡ record (kernel_part j) { console = j.console ++ console_byte e }
+  pub halts : is_some (stop_of t) ≡ false → has_halted e ≡ false
+  pub steady : IsSteady t.joint
+
+console_same : (j : Joint) → kernel_part j ≡ record (kernel_part j) { console = j.console ++ [] }
+console_same j =
+    ap (λ (bytes : List ℕ). let k : KernelPart = record (kernel_part j) { console = bytes } in k)
+    (sym (append-nil j.console))
+
+some_either : (b : Bool) (x y : Stop) → is_some (cond b (Some x) (Some y)) ≡ true
+some_either true x y = refl
+some_either false x y = refl
+
+halt_stops : (j : Joint) (items : List Item) (value : ℕ) →
+    is_some (stop_of (record { joint = j; items = items; console = []; violation = None; halt = Some value }))
+    ≡ false → false ≡ true
+halt_stops j items value none = sym none ∙ some_either j.memory.ledger.missed stop.NoRandom (stop.Halt value)
+
+ends_as : (j : Joint) (number : ℕ) (items : List Item) (e : Kernel) → IsSteady j →
+    EndsAs j items e (outside_ended j number items e)
+unfolding outside_ended
+ends_as j number items Stay steady = record {
+  others = [];
+  written = sym (append-nil items);
+  inward = tt;
+  part = console_same j;
+  halts = λ none. refl;
+  steady = steady;
+}
+ends_as j number items (Put b) steady = record {
+  others = [];
+  written = sym (append-nil items);
+  inward = tt;
+  part = refl;
+  halts = λ none. refl;
+  steady = record { places = steady.places; programs = steady.programs };
+}
+ends_as j number items (Halt value) steady = record {
+  others = [];
+  written = sym (append-nil items);
+  inward = tt;
+  part = console_same j;
+  halts = λ none. absurd (false≢true (halt_stops j items value none));
+  steady = steady;
+}
+ends_as j number items (Resume ctx reply) steady =
+    let r = unseen j number (satp_of (hart_in j number).csrs) ctx reply steady in
+    record {
+      others = _;
+      written = refl;
+      inward = r.items;
+      part = r.part ∙ console_same j;
+      halts = λ none. refl;
+      steady = r.steady;
+    }
+
+-- the law of such steps, for the hart of the turn
+outside_for : (schedule : List ℕ) (n : ℕ) (k : KernelPart) (ciphers : List (ℕ × List ℕ)) (others : List Item)
+    (stops : Bool)
+    (number : ℕ) → hart_behind schedule n ≡ number → (kernel_hart k number).inside ≡ None → AreFrames k.ram ciphers →
+    AreInward others → HaltsAsStops number (shown_part ciphers k) stops →
+    KernelStepIsAlone schedule n k (cipher_items ciphers ++ others) (plain_part number (shown_part ciphers k)) stops
+outside_for schedule n k ciphers others stops number same outside frames inward halts =
+    subst (λ (x : ℕ).
+    (kernel_hart k x).inside ≡ None → HaltsAsStops x (shown_part ciphers k) stops →
+    KernelStepIsAlone schedule n k (cipher_items ciphers ++ others) (plain_part x (shown_part ciphers k)) stops) same
+    (λ out ends. outside_step_is_alone schedule n k ciphers others stops out frames inward ends) outside halts
+
+-- the step, by the settling ahead of it
+outside_by : (schedule : List ℕ) (n : ℕ) (j : Joint) (number : ℕ) (s : AfterSettling) →
+    hart_behind schedule n ≡ number →
+    IsSteady j → (hart_in j number).inside ≡ None → ShownBy j.memory s.ciphers s.memory →
+    TurnIsAlone schedule n j
+    (after_outside j number (made_after (hart_in j number) j.disk (cloak_outside j.memory (hart_in j number)) s))
+unfolding after_outside made_after
+outside_by schedule n j number s same steady outside shown =
+    let h = hart_in j number in
+    let k : KernelPart = kernel_part j in
+    let told = kernel_step h j.disk (Flat s.memory.ram) in
+    let after : Joint = record {
+      harts = slice_set j.harts number told.answer.hart;
+      disk = told.answer.disk;
+      console = j.console;
+      memory = record s.memory { ram = ram_of told.world };
+      domains = j.domains;
+    } in
+    let items : List Item = cipher_items s.ciphers in
+    let count = (writes_touched_alone h j.disk s.memory.ram).count in
+    let steady' : IsSteady after = record { places = shown.places ∙ sym count; programs = steady.programs } in
+    let t : Turn = outside_ended after number items told.answer.ending in
+    let e : EndsAs after items told.answer.ending t = ends_as after number items told.answer.ending steady' in
+    let stops = is_some (stop_of t) in
+    let made = λ (ram : List (List ℕ)). plain_part number (record k { ram = ram }) in
+    let part : kernel_part t.joint ≡ made (with_shown s.ciphers k.ram) = e.part ∙ ap made shown.ram in
+    let halts = subst (λ (ram : List (List ℕ)). HaltsAsStops number (record k { ram = ram }) stops) shown.ram e.halts in
+    record {
+      alone = told_as schedule n k (items ++ e.others) t.items _ (kernel_part t.joint) stops e.written part
+          (outside_for schedule n k s.ciphers e.others stops number same outside shown.frames e.inward halts);
+      items = subst AreOfStep (sym e.written)
+          (of_step-append items e.others (ciphers_of_step s.ciphers) (inward_of_step e.others e.inward));
+      steady = e.steady;
+    }
+
+outside_turn : (schedule : List ℕ) (n : ℕ) (j : Joint) (number : ℕ) → hart_behind schedule n ≡ number → IsSteady j →
+    (hart_in j number).inside ≡ None → TurnIsAlone schedule n j (outside_step j number (hart_in j number))
+unfolding outside_step settled_step
+outside_turn schedule n j number same steady outside =
+    let h = hart_in j number in
+    outside_by schedule n j number (settle_touched h j.disk j.memory) same steady outside
+    (touched_shown h j.disk j.memory steady.places)
+
+-- A hart inside.
+
+-- the joint machine after the items of a step inside
+record IsReached (j j' : Joint) (items : List Item) : Type 0 where
+  pub within : AreWithin j.memory.ram items
+  pub part : kernel_part j' ≡ record (kernel_part j) { ram = with_items items j.memory.ram }
+  pub steady : IsSteady j'
+
+-- the hart that makes the step
+record IsInside (schedule : List ℕ) (n : ℕ) (j : Joint) (number ctx : ℕ) : Type 0 where
+  pub turn : hart_behind schedule n ≡ number
+  pub inside : (hart_in j number).inside ≡ Some ctx
+
+there_by : (harts : List Hart) (number ctx : ℕ) → (started 0 0).inside ≡ None →
+    (kernel_hart (record { harts = harts; ram = []; disk = []; console = [] }) number).inside ≡ Some ctx →
+    number < length harts
+there_by harts number ctx none inside = elim (cases_lt number (length harts)) [
+  | inl lt ↦ lt
+  | inr ge ↦
+      let clash : None ≡ Some ctx = sym none
+      ∙ (ap (λ (h : Hart). h.inside) (sym (get_or_past harts number (started 0 0) ge)) ∙ inside) in
+      absurd cc
+]
+
+started_outside : (started 0 0).inside ≡ None
+unfolding started
+started_outside = refl
+
+staying : (schedule : List ℕ) (n : ℕ) (j j' : Joint) (number ctx : ℕ) (items : List Item) (t : Turn) →
+    IsInside schedule n j number ctx → IsReached j j' items → t.items ≡ items →
+    t.joint ≡ with_hart number (ticked (hart_in j number)) j' → TurnIsAlone schedule n j t
+staying schedule n j j' number ctx items t inside reached written joint =
+    let k : KernelPart = kernel_part j in
+    let h = ticked (hart_in j number) in
+    let stops = is_some (stop_of t) in
+    let part : kernel_part t.joint ≡ after_inside number h items k =
+    ap (λ (x : Joint). kernel_part x) joint ∙ ap (with_kernel_hart number h) reached.part in
+    let step = subst (λ (x : ℕ). (kernel_hart k x).inside ≡ Some ctx →
+    KernelStepIsAlone schedule n k items (after_inside x (ticked_hart x k) items k) stops) inside.turn
+    (λ in'. staying_step_is_alone schedule n ctx k items stops in' reached.within) inside.inside in
+    record {
+      alone = told_as schedule n k items t.items _ (kernel_part t.joint) stops written part step;
+      items = subst AreOfStep (sym written) (within_of_step j.memory.ram items reached.within);
+      steady = subst IsSteady (sym joint) (record {
+        places = reached.steady.places;
+        programs = reached.steady.programs;
+      });
+    }
+
+leaving : (schedule : List ℕ) (n : ℕ) (j j' : Joint) (number ctx : ℕ) (items : List Item) (s : Shown) (t : Turn) →
+    IsInside schedule n j number ctx → IsReached j j' items → s.ctx ≡ ctx → t.items ≡ items ++ item.Leave s ∷ [] →
+    t.joint ≡ with_hart number (leave (ticked (hart_in j number)) s) j' → TurnIsAlone schedule n j t
+leaving schedule n j j' number ctx items s t inside reached same written joint =
+    let k : KernelPart = kernel_part j in
+    let h = leave (ticked (hart_in j number)) s in
+    let stops = is_some (stop_of t) in
+    let lt = there_by j.harts number ctx started_outside inside.inside in
+    let in_ctx : (hart_in j number).inside ≡ Some s.ctx = inside.inside ∙ ap (λ (c : ℕ). Some c) (sym same) in
+    let part : kernel_part t.joint ≡ after_inside number h items k =
+    ap (λ (x : Joint). kernel_part x) joint ∙ ap (with_kernel_hart number h) reached.part in
+    let step = subst (λ (x : ℕ). x < length k.harts → (kernel_hart k x).inside ≡ Some s.ctx →
+    KernelStepIsAlone schedule n k (items ++ item.Leave s ∷ [])
+    (after_inside x (leave (ticked_hart x k) s) items k) stops)
+    inside.turn (λ low in'. leaving_step_is_alone schedule n k items s stops low in' reached.within) lt in_ctx in
+    record {
+      alone = told_as schedule n k (items ++ item.Leave s ∷ []) t.items _ (kernel_part t.joint) stops written part step;
+      items = subst AreOfStep (sym written)
+          (of_step-append items (item.Leave s ∷ []) (within_of_step j.memory.ram items reached.within) (refl, tt));
+      steady = subst IsSteady (sym joint) (record {
+        places = reached.steady.places;
+        programs = reached.steady.programs;
+      });
+    }
+
+-- A program's step.
+
+domain_turn : (schedule : List ℕ) (n : ℕ) (j j' : Joint) (number ctx d : ℕ) (w : World) (how : Went)
+    (items : List Item) →
+    IsInside schedule n j number ctx → IsReached j j' items → items_of w ≡ items → ShowsContext ctx how →
+    TurnIsAlone schedule n j (domain_ended j' number (ticked (hart_in j number)) d w how)
+unfolding domain_ended
+domain_turn schedule n j j' number ctx d w went.Stay items inside reached written shows =
+    staying schedule n j j' number ctx items _ inside reached written refl
+domain_turn schedule n j j' number ctx d w went.Stopped items inside reached written shows =
+    staying schedule n j j' number ctx items _ inside reached written refl
+domain_turn schedule n j j' number ctx d w (went.Remapped space) items inside reached written shows =
+    staying schedule n j j' number ctx items _ inside reached written refl
+domain_turn schedule n j j' number ctx d w (went.Leave s) items inside reached written shows =
+    leaving schedule n j j' number ctx items s _ inside reached shows
+    (ap (λ (l : List Item). l ++ item.Leave s ∷ []) written) refl
+domain_turn schedule n j j' number ctx d w (went.SpaceGone space s) items inside reached written shows =
+    leaving schedule n j _ number ctx items s _ inside
+    (record {
+      within = reached.within;
+      part = reached.part;
+      steady = record { places = reached.steady.places; programs = reached.steady.programs };
+    })
+    shows (ap (λ (l : List Item). l ++ item.Leave s ∷ []) written) refl
+
+memory_ram : (w : World) (m : CloakedMemory) → is_joint w ≡ true → (memory_of w m).ram ≡ ram_of w
+memory_ram (Flat ram) m form = refl
+memory_ram (Cloaked c) m form = refl
+memory_ram (Alone h) m form = absurd (false≢true form)
+
+memory_places : (w : World) (m : CloakedMemory) → IsJointWorld w → HasPlaces (memory_of w m)
+memory_places (Flat ram) m joint = absurd (false≢true joint.form)
+memory_places (Cloaked c) m joint = joint.places
+memory_places (Alone h) m joint = absurd (false≢true joint.form)
+
+-- what a program's step told has come about
+told_turn : (schedule : List ℕ) (n : ℕ) (j : Joint) (number ctx d : ℕ) (was : Domain) (c : Cloak)
+    (told : Told DomainStepped) →
+    IsInside schedule n j number ctx → IsSteady j → slice_get j.domains d ≡ Some was → c.memory ≡ j.memory →
+    c.items ≡ [] →
+    Account (Cloaked c) told.world → told.answer.domain.control.number ≡ was.control.number →
+    ShowsContext ctx told.answer.went →
+    TurnIsAlone schedule n j (after_domain_step j number (ticked (hart_in j number)) d told)
+unfolding after_domain_step
+told_turn schedule n j number ctx d was c told inside steady there memory none account number' shows =
+    let j' : Joint = record (with_domain d told.answer.domain j) { memory = memory_of told.world j.memory } in
+    let ram : (memory_of told.world j.memory).ram ≡ with_items account.items j.memory.ram =
+    memory_ram told.world j.memory account.joint.form
+    ∙ (account.ram ∙ ap (λ (m : CloakedMemory). with_items account.items m.ram) memory) in
+    let reached : IsReached j j' account.items = record {
+      within = subst (λ (m : CloakedMemory). AreWithin m.ram account.items) memory account.within;
+      part = ap (λ (x : List (List ℕ)). let k : KernelPart = record (kernel_part j) { ram = x } in k) ram;
+      steady = record {
+        places = memory_places told.world j.memory account.joint;
+        programs = set_number d j.domains was told.answer.domain steady.programs there number';
+      };
+    } in
+    let written : items_of told.world ≡ account.items = account.written
+    ∙ ap (λ (l : List Item). l ++ account.items) none in
+    domain_turn schedule n j j' number ctx d told.world told.answer.went account.items inside reached written shows
+
+-- Interrupts.
+
+interrupt_turn : (schedule : List ℕ) (n : ℕ) (j j' : Joint) (number ctx : ℕ) (how : Went) (items : List Item) →
+    IsInside schedule n j number ctx → IsReached j j' items → ShowsContext ctx how →
+    TurnIsAlone schedule n j (interrupt_ended j' number (ticked (hart_in j number)) items how)
+unfolding interrupt_ended
+interrupt_turn schedule n j j' number ctx went.Stay items inside reached shows =
+    staying schedule n j j' number ctx items _ inside reached refl refl
+interrupt_turn schedule n j j' number ctx went.Stopped items inside reached shows =
+    staying schedule n j j' number ctx items _ inside reached refl refl
+interrupt_turn schedule n j j' number ctx (went.Remapped space) items inside reached shows =
+    staying schedule n j j' number ctx items _ inside reached refl refl
+interrupt_turn schedule n j j' number ctx (went.Leave s) items inside reached shows =
+    leaving schedule n j j' number ctx items s _ inside reached shows refl refl
+interrupt_turn schedule n j j' number ctx (went.SpaceGone space s) items inside reached shows =
+    staying schedule n j j' number ctx items _ inside reached refl refl
+
+after_interrupt_turn : (schedule : List ℕ) (n : ℕ) (j : Joint) (number ctx d : ℕ) (was : Domain) (step : Stepped) →
+    IsInside schedule n j number ctx → IsSteady j → slice_get j.domains d ≡ Some was →
+    step.control.number ≡ was.control.number → ShowsContext ctx step.went →
+    TurnIsAlone schedule n j (after_interrupt j number (ticked (hart_in j number)) d was step)
+unfolding after_interrupt
+after_interrupt_turn schedule n j number ctx d was step inside steady there same shows =
+    interrupt_turn schedule n j _ number ctx step.went (item.Timer d ∷ []) inside
+    (record {
+      within = (refl, tt);
+      part = refl;
+      steady = record {
+        places = steady.places;
+        programs = set_number d j.domains was (record was { control = step.control }) steady.programs there same;
+      };
+    }) shows
+
+-- the number of the context that steps is the one that the hart runs
+shows_own : (ctx : ℕ) (was : Domain) (how : Went) → was.control.number ≡ domain_of ctx →
+    ShowsContext (context_number was.control.number (slot_of ctx)) how → ShowsContext ctx how
+shows_own ctx was how same shows =
+    subst (λ (x : ℕ). ShowsContext x how)
+    (ap (λ (d : ℕ). context_number d (slot_of ctx)) same ∙ number_of_context ctx) shows
+
+domain_of_turn : (schedule : List ℕ) (n : ℕ) (due : Bool) (j : Joint) (number ctx : ℕ) (was : Domain) →
+    IsInside schedule n j number ctx → IsSteady j → slice_get j.domains (domain_of ctx) ≡ Some was →
+    TurnIsAlone schedule n j (by_interrupt due j number (ticked (hart_in j number)) (domain_of ctx) (slot_of ctx) was)
+unfolding by_interrupt
+domain_of_turn schedule n true j number ctx was inside steady there =
+    let own = number_at (domain_of ctx) j.domains was steady.programs there in
+    let keeps = numbers_interrupt (slot_of ctx) was.control in
+    after_interrupt_turn schedule n j number ctx (domain_of ctx) was _ inside steady there keeps.number
+    (shows_own ctx was _ own keeps.shows)
+domain_of_turn schedule n false j number ctx was inside steady there =
+    let own = number_at (domain_of ctx) j.domains was steady.programs there in
+    let c : Cloak = cloak_of j.memory (ticked (hart_in j number)) (domain_of ctx)
+    (pages_for was (context_at was.control.contexts (slot_of ctx))) in
+    let keeps = numbers_step (slot_of ctx) was (Cloaked c) in
+    let account = (accounts_domain_step (slot_of ctx) was (Cloaked c)).by
+    (record { form = refl; places = steady.places }) in
+    told_turn schedule n j number ctx (domain_of ctx) was c _ inside steady there refl refl account keeps.number
+    (shows_own ctx was _ own keeps.shows)
+
+inside_turn : (schedule : List ℕ) (n : ℕ) (j : Joint) (number ctx : ℕ) (found : Option Domain) →
+    IsInside schedule n j number ctx → IsSteady j → slice_get j.domains (domain_of ctx) ≡ found →
+    TurnIsAlone schedule n j (inside_step j number (ticked (hart_in j number)) (domain_of ctx) (slot_of ctx) found)
+unfolding inside_step
+inside_turn schedule n j number ctx None inside steady there =
+    staying schedule n j j number ctx [] _ inside (record { within = tt; part = refl; steady = steady }) refl refl
+inside_turn schedule n j number ctx (Some was) inside steady there =
+    domain_of_turn schedule n _ j number ctx was inside steady there
+
+-- Every step.
+
+turn_by : (schedule : List ℕ) (n : ℕ) (j : Joint) (number : ℕ) (inside : Option ℕ) → hart_behind schedule n ≡ number →
+    IsSteady j → (hart_in j number).inside ≡ inside → TurnIsAlone schedule n j
+    (turn_of j number (hart_in j number) inside)
+unfolding turn_of
+turn_by schedule n j number None same steady is = outside_turn schedule n j number same steady is
+turn_by schedule n j number (Some ctx) same steady is =
+    inside_turn schedule n j number ctx _ (record { turn = same; inside = is }) steady refl
+
+pub turn_is_alone : (m : Moment) → IsSteady m.joint → TurnIsAlone m.schedule m.steps m.joint (joint_step m)
+unfolding joint_step
+turn_is_alone m steady =
+    let before : suc m.steps - 1 ≡ m.steps = omega arith in
+    turn_by m.schedule m.steps m.joint (next_hart m) _
+    (ap (λ (n : ℕ). slice_index m.schedule (n % length m.schedule)) before) steady refl
