@@ -120,8 +120,11 @@ window_short (Some file) at n old new len other f =
       enough = elim (cases_lt n 41) [
         | inl few ↦ inl (let c = f.count in omega (arith, c, part, few))
         | inr all ↦ (let whole : n ≡ 41 = (let c = f.count in omega (arith, c, part, all)) in
-            inr (all, λ cipher. absurd (let first = cipher_first d cipher in
-              other whole (sym (get_or-take n (new ++ drop 41 old) 0 0 (omega arith)) ∙ ap (λ (l : List ℕ). get_or l 0 0) copied ∙ get_or-take n d 0 0 (omega arith) ∙ first.0))))
+            inr (
+              all,
+              λ cipher. absurd (let first = cipher_first d cipher in
+                  other whole (sym (get_or-take n (new ++ drop 41 old) 0 0 (omega arith)) ∙ ap (λ (l : List ℕ). get_or l 0 0) copied ∙ get_or-take n d 0 0 (omega arith) ∙ first.0)),
+            ))
       ];
     }
 
@@ -144,7 +147,7 @@ window_long (Some file) now at n m old new more behind same len is f g' =
     let other : List ℕ = more ++ behind in
     let buffer : take 41 first ++ other ≡ take n d ++ other = ap (λ k. take k first ++ other) (sym is) ∙ ap (λ (l : List ℕ). l ++ other) head in
     let new_len : length new ≡ 41 = (let e : length new ≡ length (take n d) + length (drop n (take 41 old)) = ap (λ (l : List ℕ). length l) f.filled ∙ length-append (take n d) (drop n (take 41 old)) in
-        omega (arith, e, head_len, is, len, length-take 41 old, length-drop n (take 41 old))) in
+    omega (arith, e, head_len, is, len, length-take 41 old, length-drop n (take 41 old))) in
     let part_len : length part ≡ 4060 = omega (arith, new_len, len, length-append new (drop 41 old), length-drop 41 old, length-drop 41 first, length-take 4060 (drop 41 first)) in
     record {
       within = (let l = length-drop n d in omega (arith, few, l, within));

@@ -10,7 +10,7 @@ use Rattle.cloak_model.specs.declared.record.Stage.TheVariants.{Opening}
 use Rattle.cloak_model.specs.declared.fault.RecordFault.{RecordFault}
 use Rattle.cloak_model.specs.Exchange.{item_bytes, record_magic, record_of}
 use Rattle.cloak_model.specs.Record.{IsItem, IsRecord}
-use Rattle.cloak_model.specs.RecordFault.{HasFault, IsWrong, Begins, stage_after, stage_behind, magic_fault}
+use Rattle.cloak_model.specs.RecordFault.{HasFault, Begins, stage_after, stage_behind, magic_fault}
 use Rattle.record_law.proofs.Judged.{Front, Begins-front, Stops, end_stops, wrong_stops, same_item, same_front, one_record, one_fault, not_both}
 use Rattle.record_law.proofs.Orders.{Stands, exchange_ends}
 use Rattle.exchange_log.specs.declared.fault.NextFault.{NextFault}

@@ -3,7 +3,6 @@ use Rattle.std.proofs.Common.{◌≡◌, ℕ, zero, suc, ◌+◌, ◌-◌, ◌<�
 use Rattle.std.specs.Int.{w32, from_le_bytes}
 use Rattle.std.proofs.lemmas.Bool.{cases_lt, lt-ltb, le-ltb, ltb-true}
 use Rattle.std.proofs.lemmas.List.{drop-take, length-take, get_or-take, take_all}
-use Rattle.cloak_model.specs.declared.item.Item.{Item}
 use Rattle.cloak_model.specs.declared.item.Item.TheVariants as item
 use Rattle.cloak_model.specs.declared.record.Stage.{Stage}
 use Rattle.cloak_model.specs.declared.record.Stage.TheVariants.{Opening, Steps, Closing, Over}
@@ -15,7 +14,7 @@ use Rattle.cloak_model.specs.Fields.{number}
 use Rattle.cloak_model.specs.RecordFault.{tag_of, is_over, may_stand, wrong_item, wrong_behind}
 use Rattle.record_law.specs.Items.{size_of, has_bad_width, is_numbered, item_in}
 use Rattle.record_law.proofs.Chain.{wrong_item-tests}
-use Rattle.record_law.proofs.Following.{chosen, item_rights}
+use Rattle.record_law.proofs.Following.{chosen}
 use Rattle.record_law.proofs.Spelling.{cipher_is, put_is, resume_is, leave_is}
 use Rattle.exchange_log.specs.Reading.{HasWhole, IsWindow, front_tag, judged, judged_by}
 use Rattle.exchange_log.proofs.Filled.{take_take}

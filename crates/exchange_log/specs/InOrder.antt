@@ -1,6 +1,6 @@
 -- Reading a file's items one after another: those of its record, or those before its first fault.
 use mathlib.Core.Logic.{inl, inr}
-use Rattle.std.specs.Prelude.{◌≡◌, ℕ, ◌⊎◌, List, [], ◌∷◌, ◌++◌, Option, Some, None, Result, Ok, Err}
+use Rattle.std.specs.Prelude.{◌≡◌, ℕ, List, [], ◌∷◌, ◌++◌, Option, Some, None, Result, Ok, Err}
 use Rattle.cloak_model.specs.declared.item.Item.{Item}
 use Rattle.cloak_model.specs.declared.record.Stage.{Stage}
 use Rattle.cloak_model.specs.declared.fault.RecordFault.{RecordFault}
@@ -24,7 +24,8 @@ GivesItems items front (Err (Record fault)) = ⊥
 -- A reader of a record stands behind the first of its items, and reads the next.
 abbrev pub RecordIsRead : Type 0
 RecordIsRead =
-    (file : List ℕ) (items front : List Item) (at at' : ℕ) (stage stage' : Stage) (result : Result (Option Item) NextFault) →
+    (file : List ℕ) (items front : List Item) (at at' : ℕ) (stage stage' : Stage) →
+    (result : Result (Option Item) NextFault) →
     IsRecord file items → StandsBehind at stage file front → ReadsNext file front at' stage' result →
     AreFirst front items × GivesItems items front result
 
@@ -43,6 +44,6 @@ GivesFault items fault front (Err (Record first)) = (first ≡ fault) × (front 
 -- A reader of a file with a fault stands behind the first of the items before it, and reads the next, or the fault.
 abbrev pub FaultIsRead : Type 0
 FaultIsRead =
-    (file : List ℕ) (fault : RecordFault) (front : List Item) (at at' : ℕ) (stage stage' : Stage) (result : Result (Option Item) NextFault) →
-    (has : HasFault file fault) → StandsBehind at stage file front → ReadsNext file front at' stage' result →
+    (file : List ℕ) (fault : RecordFault) (front : List Item) (at at' : ℕ) (stage stage' : Stage) →
+    (result : Result (Option Item) NextFault) → (has : HasFault file fault) → StandsBehind at stage file front → ReadsNext file front at' stage' result →
     AreFirst front (items_before has) × GivesFault (items_before has) fault front result

@@ -1,5 +1,5 @@
 -- What a reader answers, and where it then stands.
-use Rattle.std.specs.Prelude.{◌≡◌, ℕ, ◌+◌, ◌-◌, ◌^◌, ◌<◌, ◌≤◌, ◌⊎◌, List, [], ◌∷◌, ◌++◌, length, take, drop, min, Option, Some, None, Result, Ok, Err}
+use Rattle.std.specs.Prelude.{◌≡◌, ℕ, ◌-◌, ◌^◌, ◌≤◌, ◌⊎◌, List, [], ◌∷◌, ◌++◌, length, take, drop, min, Option, Some, None, Result, Ok, Err}
 use Rattle.outside_io.specs.Told.{Rose}
 use Rattle.cloak_model.specs.declared.item.Item.{Item}
 use Rattle.cloak_model.specs.declared.record.Stage.{Stage}
@@ -86,6 +86,7 @@ TellsMagic file (Err (Record fault)) = magic_fault file ≡ Some fault
 
 -- the items begin behind the magic, which is read at the file's front alone
 abbrev pub TellsStart : List ℕ → ℕ → Result ℕ NextFault → Type 0
-TellsStart file at (Ok from) = (at ≡ 0 → (from ≡ 8) × (magic_fault file ≡ None)) × ((at ≡ 0 → ⊥) → from ≡ at)
+TellsStart file at (Ok from) =
+    (at ≡ 0 → (from ≡ 8) × (magic_fault file ≡ None)) × ((at ≡ 0 → ⊥) → from ≡ at)
 TellsStart file at (Err Read) = Unit {0}
 TellsStart file at (Err (Record fault)) = (at ≡ 0) × (magic_fault file ≡ Some fault)

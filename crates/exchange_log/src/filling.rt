@@ -15,7 +15,8 @@ pub fn fill<S: Shelf>(name: &str, shelf: &mut S, at: u64, into: &mut [u8]) -> Re
     ensures files { SameFiles (S.held shelf.old) (S.held shelf.new) }
     ensures counts { CountsEither (S.reading_faults shelf.old) (S.reading_faults shelf.new)
         (S.writing_faults shelf.old) (S.writing_faults shelf.new) result }
-    ensures reading { S.is_settled shelf.old → Counts (S.reading_faults shelf.old) (S.reading_faults shelf.new) result }
+    ensures reading { S.is_settled shelf.old →
+        Counts (S.reading_faults shelf.old) (S.reading_faults shelf.new) result }
     ensures writing { S.is_settled shelf.old → S.writing_faults shelf.new ≡ S.writing_faults shelf.old }
     ensures settled { S.is_settled shelf.old → S.is_settled shelf.new }
 {

@@ -17,6 +17,8 @@ mod law;
 mod reader;
 mod reading;
 mod tags;
+#[cfg(test)]
+mod tests;
 
 pub use fault::NextFault;
 pub use item_bytes::{LONGEST, write_cipher, write_item};

@@ -34,7 +34,8 @@ pub fn read_window<S: Shelf>(
     ensures files { SameFiles (S.held shelf.old) (S.held shelf.new) }
     ensures counts { CountsEither (S.reading_faults shelf.old) (S.reading_faults shelf.new)
         (S.writing_faults shelf.old) (S.writing_faults shelf.new) result }
-    ensures reading { S.is_settled shelf.old → Counts (S.reading_faults shelf.old) (S.reading_faults shelf.new) result }
+    ensures reading { S.is_settled shelf.old →
+        Counts (S.reading_faults shelf.old) (S.reading_faults shelf.new) result }
     ensures writing { S.is_settled shelf.old → S.writing_faults shelf.new ≡ S.writing_faults shelf.old }
     ensures settled { S.is_settled shelf.old → S.is_settled shelf.new }
 {

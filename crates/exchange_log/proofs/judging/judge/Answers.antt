@@ -1,4 +1,4 @@
-use Rattle.std.proofs.Common.{◌≡◌, ℕ, length, take, None, sym, ◌∙◌, arith}
+use Rattle.std.proofs.Common.{take, None, sym, ◌∙◌, arith}
 use Rattle.exchange_log.proofs.Windows.{judged_wrong, judged_right, tag_first, tag_none}
 use Rattle.exchange_log.proofs.judging.judge.Goals as goal
 

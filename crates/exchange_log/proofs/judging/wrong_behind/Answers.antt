@@ -1,4 +1,4 @@
-use Rattle.std.proofs.Common.{◌≡◌, ℕ, ◌-◌, List, length, take, drop, sym, ap, ◌∙◌, length-drop, arith}
+use Rattle.std.proofs.Common.{◌≡◌, ℕ, ◌-◌, List, take, drop, sym, ap, ◌∙◌, length-drop, arith}
 use Rattle.std.proofs.lemmas.List.{take_all}
 use Rattle.cloak_model.specs.RecordFault.{wrong_item}
 use Rattle.exchange_log.proofs.Windows.{wrong_first}

@@ -1,4 +1,4 @@
-use Rattle.std.proofs.Common.{◌≡◌, ℕ, ◌≤◌, true, false, List, length, take, sym, ap, ◌∙◌, arith}
+use Rattle.std.proofs.Common.{true, false, sym, ap, ◌∙◌, arith}
 use Rattle.std.proofs.lemmas.List.{length-take}
 use Rattle.record_law.specs.Items.{is_numbered}
 use Rattle.exchange_log.proofs.Windows.{no_tag, no_place, no_width, too_short, numbered_by, numbered_front}

@@ -1,4 +1,4 @@
-use Rattle.std.proofs.Common.{ℕ, List, length, ap, refl, ◌∙◌}
+use Rattle.std.proofs.Common.{refl}
 use Rattle.exchange_log.proofs.Filled.{window_short, window_long}
 use Rattle.exchange_log.proofs.reading.read_window.Goals as goal
 
