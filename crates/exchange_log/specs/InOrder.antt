@@ -45,5 +45,6 @@ GivesFault items fault front (Err (Record first)) = (first ≡ fault) × (front 
 abbrev pub FaultIsRead : Type 0
 FaultIsRead =
     (file : List ℕ) (fault : RecordFault) (front : List Item) (at at' : ℕ) (stage stage' : Stage) →
-    (result : Result (Option Item) NextFault) → (has : HasFault file fault) → StandsBehind at stage file front → ReadsNext file front at' stage' result →
+    (result : Result (Option Item) NextFault) → (has : HasFault file fault) →
+    StandsBehind at stage file front → ReadsNext file front at' stage' result →
     AreFirst front (items_before has) × GivesFault (items_before has) fault front result
