@@ -1,0 +1,4 @@
+pub mod Filled
+pub mod Windows
+pub mod Answering
+pub mod InOrder

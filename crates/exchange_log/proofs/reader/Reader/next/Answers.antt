@@ -1,0 +1,31 @@
+use Rattle.std.proofs.Common.{◌≡◌, ℕ, ◌+◌, ◌-◌, ◌^◌, List, length, take, drop, min, Ok, sym, ap, ◌∙◌, length-drop, arith}
+use Rattle.std.proofs.lemmas.List.{take_all}
+use Rattle.record_law.specs.Items.{item_in}
+use Rattle.exchange_log.proofs.Answering.{told_wrong, told_none, told_item, item_fits}
+use Rattle.exchange_log.proofs.reader.Reader.next.Goals as goal
+
+-- behind the tag stands the rest of the buffer
+rest : (bytes : List ℕ) → length bytes ≡ 4101 → take 4100 (drop 1 bytes) ≡ drop 1 bytes
+rest bytes long = take_all 4100 (drop 1 bytes) (omega (arith, long, length-drop 1 bytes))
+
+pub returns-in-Err-judge-clause-next : goal.returns-in-Err-judge-clause-next
+returns-in-Err-judge-clause-next g c =
+    told_wrong _ _ c.args.self.now.at c.in-Ok.from c.in-Ok-read_window.count c.args.self.now.stage c.read_window.new.bytes c.in-Err-judge.wrong c.fault_of.result
+    (c.in-Ok.ensures.files c.args.self.now.name.now) c.in-Ok.ensures.magic c.in-Ok-read_window.ensures.window (sym c.in-Err-judge.is ∙ c.judge.ensures.judged) c.fault_of.ensures
+
+pub returns-in-Ok-None-clause-next : goal.returns-in-Ok-None-clause-next
+returns-in-Ok-None-clause-next g c =
+    told_none _ _ c.args.self.now.at c.in-Ok.from c.in-Ok-read_window.count c.args.self.now.stage c.read_window.new.bytes
+    (c.in-Ok.ensures.files c.args.self.now.name.now) c.in-Ok.ensures.magic c.in-Ok-read_window.ensures.window (ap (λ x. Ok x) (sym c.in-Ok-None.field-0-is) ∙ sym c.in-Ok-None.is ∙ c.judge.ensures.judged)
+
+pub returns-in-Ok-Some-clause-next : goal.returns-in-Ok-Some-clause-next
+returns-in-Ok-Some-clause-next g c =
+    told_item _ _ c.args.self.now.at c.in-Ok.from c.in-Ok-read_window.count _ c.args.self.now.stage _ c.read_window.new.bytes c.in-Ok-Some.tag _
+    (c.in-Ok.ensures.files c.args.self.now.name.now) c.in-Ok.ensures.magic c.in-Ok-read_window.ensures.window c.judge.ensures.each (ap (λ x. Ok x) (sym c.in-Ok-Some.field-0-is) ∙ sym c.in-Ok-Some.is ∙ c.judge.ensures.judged)
+    (c.item_of-item.ensures ∙ ap (item_in c.in-Ok-Some.tag) (rest c.read_window.new.bytes c.read_window.array_long))
+    (c.saturating_add-self.ensures ∙ ap (λ k. min (c.in-Ok.from + (1 + k)) (2 ^ 64 - 1)) c.size_of.ensures) c.stage_after-self.ensures
+
+pub returns-in-Ok-Some-clause-item : goal.returns-in-Ok-Some-clause-item
+returns-in-Ok-Some-clause-item g c =
+    item_fits c.args.self.now.stage c.in-Ok-read_window.count c.read_window.new.bytes c.in-Ok-Some.tag _ c.judge.ensures.each (ap (λ x. Ok x) (sym c.in-Ok-Some.field-0-is) ∙ sym c.in-Ok-Some.is ∙ c.judge.ensures.judged)
+    (c.item_of-item.ensures ∙ ap (item_in c.in-Ok-Some.tag) (rest c.read_window.new.bytes c.read_window.array_long))
