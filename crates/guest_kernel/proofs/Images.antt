@@ -1,5 +1,5 @@
 -- The image of a number is in the grammar of bundles, and how long its file is.
-use Rattle.std.proofs.Common.{◌≡◌, ◌<◌, ◌≤◌, ◌+◌, ◌-◌, ◌*◌, ◌%◌, ◌^◌, ℕ, List, [], ◌∷◌, ◌++◌, length, take, ap, ◌∙◌, refl, sym, arith, length-append, codes, lit≤, lit<}
+use Rattle.std.proofs.Common.{◌≡◌, ◌<◌, ◌≤◌, ◌+◌, ◌-◌, ◌*◌, ◌/◌, ◌%◌, ◌^◌, ℕ, List, [], ◌∷◌, ◌++◌, length, take, ap, ◌∙◌, refl, sym, arith, length-append, codes, lit≤, lit<}
 use Rattle.std.specs.Prelude.{map, replicate, All}
 use Rattle.std.specs.List.{flat_map}
 use Rattle.std.proofs.lemmas.List.{length-replicate}
@@ -70,7 +70,7 @@ length-generated n =
     let whole = length-bundle_bytes (generated n) in
     let turns : length (schedule_of n) ≡ 16 = length-map_below (hart_of_turn n) 16 in
     let segments = length-segments n in
-    let disk : length (replicate (64 * 4096) 0) ≡ 64 * 4096 = length-replicate (64 * 4096) 0 in
+    let disk : length {A = ℕ} (replicate (64 * 4096) 0) ≡ 64 * 4096 = length-replicate {A = ℕ} (64 * 4096) 0 in
     let programs : length (flat_map program_bytes (demo_programs n)) ≡ program_count n * 4116 =
     length-flat_map_below (λ d. demo_program d (rounds_of n d)) program_bytes 4116 (program_count n)
     (λ d. length-program_bytes d (rounds_of n d)) in
@@ -82,10 +82,14 @@ segments_in n =
     let kernel_count = length-kernel_words in
     let table_bytes = length-words (boot_table n) in
     let table_count = length-boot_table n in
-    All-cons (IsSegmentIn 256) _ _
-    (record { from_start = lit≤ tt; to_end = omega (arith, kernel_bytes, kernel_count) })
-    (All-cons (IsSegmentIn 256) _ _
-    (record { from_start = lit≤ tt; to_end = omega (arith, table_bytes, table_count) }) (All-nil (IsSegmentIn 256)))
+    let kernel = words_segment kernel_address kernel_words in
+    let table = words_segment boot_table_address (boot_table n) in
+    let kernel_in : IsSegmentIn 256 kernel =
+    record { from_start = lit≤ tt; to_end = omega (arith, kernel_bytes, kernel_count) } in
+    let table_in : IsSegmentIn 256 table =
+    record { from_start = lit≤ tt; to_end = omega (arith, table_bytes, table_count) } in
+    All-cons (IsSegmentIn 256) kernel (table ∷ []) kernel_in
+    (All-cons (IsSegmentIn 256) table [] table_in (All-nil (IsSegmentIn 256)))
 
 demo_program_in : (d rounds : ℕ) → d < 4 → IsProgramIn 256 (demo_program d rounds)
 unfolding demo_program
@@ -105,7 +109,7 @@ kernel_in : (n : ℕ) → IsKernelImage (generated n).kernel
 unfolding generated
 kernel_in n =
     let turns : length (schedule_of n) ≡ 16 = length-map_below (hart_of_turn n) 16 in
-    let disk : length (replicate (64 * 4096) 0) ≡ 64 * 4096 = length-replicate (64 * 4096) 0 in record {
+    let disk : length {A = ℕ} (replicate (64 * 4096) 0) ≡ 64 * 4096 = length-replicate {A = ℕ} (64 * 4096) 0 in record {
       some_frames = lit≤ tt;
       few_frames = lit≤ tt;
       some_harts = omega arith;
@@ -133,3 +137,29 @@ generated_in n =
           (λ d low. demo_program_in d (rounds_of n d) (omega arith));
       not_too_large = omega (arith, whole);
     }
+
+-- what the code makes, part by part
+pub made_image : (n harts : ℕ) (schedule disk : List ℕ) (segments : List Segment) (programs : List Program) →
+    harts ≡ hart_count n → schedule ≡ schedule_of n → segments ≡ segments_of n → disk ≡ replicate (64 * 4096) 0 →
+    programs ≡ demo_programs n →
+    let k : KernelImage = record {
+      frames = 256;
+      harts = harts;
+      schedule = schedule;
+      entry = kernel_address;
+      segments = segments;
+      disk = disk;
+    } in
+    let b : Bundle = record { kernel = k; programs = programs } in b ≡ generated n
+unfolding generated
+made_image n harts schedule disk segments programs are_harts is_schedule are_segments is_disk are_programs = λ i. record {
+  kernel = record {
+    frames = 256;
+    harts = are_harts i;
+    schedule = is_schedule i;
+    entry = kernel_address;
+    segments = are_segments i;
+    disk = is_disk i;
+  };
+  programs = are_programs i;
+}
