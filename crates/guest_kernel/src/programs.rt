@@ -44,11 +44,7 @@ fn demo_program(alloc: Global, program: u32, rounds: u32) -> Result<Program, NoM
 }
 
 /// All programs, by the words that are drawn.
-pub fn demo_programs(
-    alloc: Global,
-    n: u64,
-    words: &[u32; DRAWN],
-) -> Result<Vec<Program>, NoMemory>
+pub fn demo_programs(alloc: Global, n: u64, words: &[u32; DRAWN]) -> Result<Vec<Program>, NoMemory>
     requires { AreDrawn n words.now }
     ensures { IfOk result (λ v. v.items ≡ demo_programs n) }
 {
