@@ -1,5 +1,5 @@
 -- What is drawn from the stream of a number.
-use Rattle.std.proofs.Common.{◌≡◌, ◌<◌, ◌≤◌, ◌+◌, ◌-◌, ◌%◌, ◌^◌, ℕ, List, ◌++◌, get_or, slice_set, length, ◌≢◌, below_more, get_or-set_other, get_or-set_same, true, false, nat_lt, ap, ◌∙◌, refl, sym, arith, add-one, zero-add}
+use Rattle.std.proofs.Common.{◌≡◌, ◌<◌, ◌≤◌, ◌+◌, ◌-◌, ◌%◌, ◌^◌, ℕ, List, ◌++◌, get_or, slice_set, length, ◌≢◌, below_more, get_or-set_other, get_or-set_same, true, false, nat_lt, ap, ◌∙◌, refl, sym, arith, zero-add}
 use Rattle.std.specs.Prelude.{replicate}
 use Rattle.std.specs.Int.{w64, to_le_bytes}
 use Rattle.std.proofs.Math.ListN.{length-set}

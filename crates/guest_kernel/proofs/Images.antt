@@ -1,11 +1,10 @@
 -- The image of a number is in the grammar of bundles, and how long its file is.
-use Rattle.std.proofs.Common.{◌≡◌, ◌<◌, ◌≤◌, ◌+◌, ◌-◌, ◌*◌, ◌/◌, ◌%◌, ◌^◌, ℕ, List, [], ◌∷◌, ◌++◌, length, take, ap, ◌∙◌, refl, sym, arith, length-append, codes, lit≤, lit<}
-use Rattle.std.specs.Prelude.{map, replicate, All}
+use Rattle.std.proofs.Common.{◌≡◌, ◌<◌, ◌+◌, ◌*◌, ◌/◌, ◌%◌, ℕ, List, [], ◌∷◌, ◌++◌, length, ap, ◌∙◌, refl, arith, length-append, codes, lit≤, lit<}
+use Rattle.std.specs.Prelude.{replicate, All}
 use Rattle.std.specs.List.{flat_map}
 use Rattle.std.proofs.lemmas.List.{length-replicate}
 use Rattle.std.proofs.lemmas.List.Elements.{All-nil, All-cons}
 use Rattle.cloak_model.specs.Bits.{word}
-use Rattle.cloak_model.specs.Opening.{numbers_below}
 use Rattle.cloak_model.specs.declared.image.Segment.{Segment}
 use Rattle.cloak_model.specs.declared.image.KernelImage.{KernelImage}
 use Rattle.cloak_model.specs.declared.image.Program.{Program}
@@ -152,14 +151,14 @@ pub made_image : (n harts : ℕ) (schedule disk : List ℕ) (segments : List Seg
     } in
     let b : Bundle = record { kernel = k; programs = programs } in b ≡ generated n
 unfolding generated
-made_image n harts schedule disk segments programs are_harts is_schedule are_segments is_disk are_programs = λ i. record {
+made_image n harts schedule disk segments programs is_harts is_schedule is_segments is_disk is_programs = λ i. record {
   kernel = record {
     frames = 256;
-    harts = are_harts i;
+    harts = is_harts i;
     schedule = is_schedule i;
     entry = kernel_address;
-    segments = are_segments i;
+    segments = is_segments i;
     disk = is_disk i;
   };
-  programs = are_programs i;
+  programs = is_programs i;
 }

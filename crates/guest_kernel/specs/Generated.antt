@@ -1,5 +1,5 @@
 -- The image of a number: this project's rule. The kernel runs one to four demo programs on one to four harts.
-use Rattle.std.specs.Prelude.{ℕ, ◌+◌, ◌-◌, ◌*◌, List, [], ◌∷◌, ◌++◌, length, take, map, replicate}
+use Rattle.std.specs.Prelude.{ℕ, ◌-◌, ◌*◌, List, [], ◌∷◌, ◌++◌, length, take, map, replicate}
 use Rattle.std.specs.List.{flat_map}
 use Rattle.cloak_model.specs.Bits.{word}
 use Rattle.cloak_model.specs.Opening.{numbers_below}
@@ -36,6 +36,7 @@ segments_of n = words_segment kernel_address kernel_words ∷ words_segment boot
 abbrev pub demo_programs : ℕ → List Program
 demo_programs n = map (λ d. demo_program d (rounds_of n d)) (numbers_below (program_count n))
 
+-- The image of number n. The kernel moves page i of program d through block 16 * d + i: four programs use all 64.
 unfoldable pub generated : ℕ → Bundle
 generated n =
     let k : KernelImage = record {

@@ -20,7 +20,8 @@ kernel_address = 0x80000000
 abbrev pub boot_table_address : ℕ
 boot_table_address = 0x80001000
 
--- the frame of the page of program d: behind it stand 15 frames for its other pages and a spare one
+-- The frame of the page of program d. A program needs 17 frames from there on: one for each of its 16 pages, and the
+-- spare one that the kernel moves pages to.
 abbrev pub demo_frame : ℕ → ℕ
 demo_frame d = 32 + 32 * d
 

@@ -21,5 +21,5 @@ summary_line n = image_line n (generated n)
 
 -- A call put this text to a sink, or a front of it and a fault: the bytes that the sink told before and tells now, and
 -- its count of faults before and now.
-pub record PutsText (told now : Option (List ℕ)) (before after : ℕ) (text : List ℕ) (r : Result Unit Failed) : Type 0 where
-  pub puts : Puts told now before after text r
+pub record PutsText (old new : Option (List ℕ)) (before now : ℕ) (text : List ℕ) (r : Result Unit Failed) : Type 0 where
+  pub puts : Puts old new before now text r

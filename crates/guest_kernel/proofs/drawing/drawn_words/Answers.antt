@@ -1,4 +1,4 @@
-use Rattle.std.proofs.Common.{◌<◌, length, arith}
+use Rattle.std.proofs.Common.{◌<◌, ◌^◌, length, arith}
 use Rattle.guest_kernel.proofs.Drawn.{drawn, drawn_behind, more_drawn, same_count}
 use Rattle.guest_kernel.proofs.drawing.drawn_words.Goals as goal
 
@@ -10,10 +10,11 @@ loop-word-preserved c =
     let before = c.loop-word.rng in
     let after = c.next_word.new.self in
     let count = c.loop-word.invariant.count in
-    let low : i < length words = (let low = c.loop-word-test.true in omega (arith, low, count)) in record {
+    let low : i < length words = (let low = c.loop-word-test.true in omega (arith, low, count)) in
+    let few : i < 2 ^ 64 = omega (arith, low, count) in record {
       words = more_drawn c.args.n i word words low c.loop-word.invariant.words
-          (drawn c.args.n i word before after (omega (arith, low, count)) c.loop-word.invariant.rng c.next_word.ensures);
+          (drawn c.args.n i word before after few c.loop-word.invariant.rng c.next_word.ensures);
       count = same_count i word words count;
-      rng = drawn_behind c.args.n i word before after (omega (arith, low, count)) c.loop-word.invariant.rng
+      rng = drawn_behind c.args.n i word before after few c.loop-word.invariant.rng
           c.next_word.ensures;
     }

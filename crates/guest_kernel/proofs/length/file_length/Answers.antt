@@ -1,4 +1,4 @@
-use Rattle.std.proofs.Common.{◌≡◌, length, ap, ◌∙◌, sym, arith}
+use Rattle.std.proofs.Common.{◌≡◌, length, ap, ◌∙◌, arith}
 use Rattle.guest_kernel.proofs.Lengths.{length-kernel_words}
 use Rattle.guest_kernel.proofs.Images.{length-generated}
 use Rattle.guest_kernel.proofs.length.file_length.Goals as goal
