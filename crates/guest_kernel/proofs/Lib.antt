@@ -1,0 +1,5 @@
+pub mod Counted
+pub mod Drawn
+pub mod Lengths
+pub mod Images
+pub mod Puts

@@ -1,0 +1,4 @@
+pub mod Layout
+pub mod Drawing
+pub mod Generated
+pub mod Summary

@@ -1,0 +1,25 @@
+-- The line that tells a generated image.
+use Rattle.std.specs.Prelude.{ℕ, List, ◌++◌, length, codes, decimal, Option, Result}
+use Rattle.cloak_base.specs.declared.causes.Failed.{Failed}
+use Rattle.outside_io.specs.Told.{Puts}
+use Rattle.cloak_model.specs.Bundle.{bundle_bytes}
+use Rattle.cloak_model.specs.declared.image.Bundle.{Bundle}
+use Rattle.guest_kernel.specs.Generated.{generated}
+
+-- a number behind its name
+unfoldable pub named : List ℕ → ℕ → List ℕ
+named name n = name ++ decimal n
+
+-- an image's number, its harts, programs and frames, and the length of its file
+unfoldable pub image_line : ℕ → Bundle → List ℕ
+image_line n b =
+    named (codes "gen ") n ++ named (codes " harts ") b.kernel.harts ++ named (codes " programs ") (length b.programs)
+    ++ named (codes " frames ") b.kernel.frames ++ named (codes " bytes ") (length (bundle_bytes b)) ++ codes "\n"
+
+abbrev pub summary_line : ℕ → List ℕ
+summary_line n = image_line n (generated n)
+
+-- A call put this text to a sink, or a front of it and a fault: the bytes that the sink told before and tells now, and
+-- its count of faults before and now.
+pub record PutsText (old new : Option (List ℕ)) (before now : ℕ) (text : List ℕ) (r : Result Unit Failed) : Type 0 where
+  pub puts : Puts old new before now text r

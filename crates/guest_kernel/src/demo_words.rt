@@ -1,0 +1,23 @@
+//! The words of the demo program.
+ghost use Rattle.std.specs.Prelude.{◌≡◌};
+ghost use Rattle.guest_kernel.specs.Layout.{demo_words};
+
+/// What the text of the demo program is assembled to. In an image its number and its rounds stand in the place of the
+/// last two words.
+pub static DEMO: [u32; 61] = [
+    0x00400513, 0x4f5608b7, 0x00188893, 0x00000073, 0x004015b7, 0x00058593, 0x00000613, 0x00400693,
+    0x4f5608b7, 0x00288893, 0x00000073, 0x08051463, 0x00000297, 0x0bc28293, 0x0002a403, 0x0042a483,
+    0x00000913, 0x9e3789b7, 0x9b198993, 0x00401a37, 0x000a0a13, 0x00001ab7, 0x000a8a93, 0x00405b37,
+    0x000b0b13, 0x012a02b3, 0x03328333, 0x00830333, 0x0062a023, 0x015282b3, 0xff62e8e3, 0x00395293,
+    0x00229293, 0x005a02b3, 0x03328333, 0x00830333, 0x0002a383, 0x02639063, 0x015282b3, 0xff62e6e3,
+    0x00490913, 0xfff48493, 0xfa049ee3, 0x03040293, 0x0080006f, 0x02100293, 0xfe510e23, 0x00100513,
+    0xffc10593, 0x00100613, 0x004086b7, 0x00068693, 0x00100813, 0x4f5608b7, 0x00888893, 0x00000073,
+    0x4f5608b7, 0x00788893, 0x00000073, 0x00000000, 0x00000000,
+];
+
+/// The words of the demo program, in their order.
+pub fn demo_words() -> &'static [u32]
+    ensures { result.now ≡ demo_words }
+{
+    &DEMO
+}

@@ -1,0 +1,11 @@
+//! What holds of every generated image, on the definitions alone.
+ghost use Rattle.std.specs.Prelude.{ℕ, ◌≡◌, ◌+◌, ◌*◌, length};
+ghost use Rattle.cloak_model.specs.Bundle.{IsInGrammar, bundle_bytes};
+ghost use Rattle.guest_kernel.specs.Drawing.{program_count};
+ghost use Rattle.guest_kernel.specs.Generated.{generated};
+
+/// Each number's image is in the grammar of bundles, and its file is so long. It does nothing: its contract is the law.
+pub fn law_of_generated_images()
+    ensures in_grammar { (n : ℕ) → IsInGrammar (generated n) }
+    ensures length { (n : ℕ) → length (bundle_bytes (generated n)) ≡ 262920 + 4120 * program_count n }
+{}
