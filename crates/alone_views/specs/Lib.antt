@@ -1,0 +1,4 @@
+pub mod Console
+pub mod KernelConsole
+pub mod KernelPlaces
+pub mod KernelStanding

@@ -1,0 +1,13 @@
+//! The machines that run alone, each on the items of a record: the kernel on those that it could see.
+#![tactic(auto)]
+
+mod console;
+mod kernel;
+mod kernel_place;
+mod kernel_ram;
+mod kernel_showing;
+mod kernel_starting;
+mod unfit;
+
+pub use kernel::KernelAlone;
+pub use unfit::Unfit;
