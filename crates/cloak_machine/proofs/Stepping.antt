@@ -20,14 +20,15 @@ use Rattle.joint_machine.specs.Standing.{StandsForJoint, TakesTurn, ShowsAs, tur
 use Rattle.joint_machine.specs.declared.joint.Joint.{Joint as Machines}
 use Rattle.joint_machine.specs.declared.turned.Turned.{Turned}
 use Rattle.cloaked_side.proofs.Emitting.{emits_then, emits_items}
-use Rattle.cloak_machine.specs.Console.{ConsoleShows}
-use Rattle.cloak_machine.specs.Ending.{kernel_text, digest_text}
+use Rattle.kernel_report.specs.Console.{ConsoleShows}
+use Rattle.kernel_report.specs.KernelText.{kernel_text}
+use Rattle.kernel_report.proofs.KernelSaid.{IsSaid, kernel_text-is}
 use Rattle.cloak_machine.specs.Lines.{lines_text}
 use Rattle.cloak_machine.specs.Standing.{StandsForMoment, MakesTurn, EndsAs, HaveFewLoads}
 use Rattle.cloak_machine.specs.Turns.{IsAt}
-use Rattle.cloak_machine.specs.declared.console.Console.{Console}
+use Rattle.kernel_report.specs.declared.console.Console.{Console}
 use Rattle.cloak_machine.specs.declared.end.End.{End}
-use Rattle.cloak_machine.specs.declared.end.KernelLines.{KernelLines}
+use Rattle.kernel_report.specs.declared.kernel.KernelLines.{KernelLines}
 use Rattle.cloak_machine.specs.declared.machine.Machine.{Machine}
 use Rattle.cloak_machine.specs.declared.schedule.Schedule.{Schedule}
 use Rattle.cloak_machine.proofs.Opening.{begun}
@@ -132,24 +133,6 @@ pub few_closed : (j : Joint) (n : ℕ) → HaveFewLoads n j.domains → n < 2 ^ 
     All (λ (d : Domain). length d.loads < 2 ^ 64) (closing j).joint.domains
 unfolding closing
 few_closed j n few low k d inside = let here = few k d inside in omega (arith, here, low)
-
--- the lines of console, memory, disk and harts, by what they say
-texts : (count : ℕ) (console ram disk : List ℕ) (harts : List Hart) → List ℕ
-texts count console ram disk harts =
-    (codes "console " ++ (decimal count ++ digest_text (codes " ") console)) ++
-    (digest_text (codes "ram ") ram ++ (digest_text (codes "disk ") disk ++ harts_lines 0 harts))
-
--- what the lines of a machine's end say
-pub record IsSaid (lines : KernelLines) (k : KernelPart) : Type 0 where
-  pub count : lines.console_length ≡ length k.console
-  pub console : lines.console ≡ sha256 k.console
-  pub ram : lines.ram ≡ sha256 (concat k.ram)
-  pub disk : lines.disk ≡ sha256 k.disk
-  pub harts : lines.harts.items ≡ k.harts
-
-kernel_text-is : (lines : KernelLines) (k : KernelPart) → IsSaid lines k → kernel_text lines ≡ kernel_lines k
-unfolding texts
-kernel_text-is lines k said i = texts (said.count i) (said.console i) (said.ram i) (said.disk i) (said.harts i)
 
 -- the console is known to the closed machine
 pub closed_console : (j : Joint) → (closing j).joint.console ≡ j.console

@@ -13,7 +13,7 @@ use Rattle.cloak_model.specs.Run.{first_moment, turn_pieces, cause_of}
 use Rattle.joint_machine.specs.Standing.{StandsForJoint}
 use Rattle.joint_machine.specs.declared.opened.OpenFault.{OpenFault}
 use Rattle.joint_machine.specs.declared.opened.OpenFault.TheVariants as fault
-use Rattle.cloak_machine.specs.Console.{ConsoleShows}
+use Rattle.kernel_report.specs.Console.{ConsoleShows}
 use Rattle.cloak_machine.specs.Ending.{end_report}
 use Rattle.cloak_machine.specs.Turns.{IsAt}
 use Rattle.cloak_machine.specs.declared.end.End.{End}

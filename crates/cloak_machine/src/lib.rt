@@ -6,11 +6,9 @@
 //! different pages with one digest were compared. After the opening no call takes memory.
 #![tactic(auto)]
 
-mod console;
 mod domains;
 mod end;
 mod frames;
-mod lines;
 mod machine;
 mod schedule;
 

@@ -8,16 +8,16 @@ ghost use Rattle.cloak_model.specs.Joint.{Moment, joint_step};
 ghost use Rattle.cloak_model.specs.Opening.{Opened, opening};
 ghost use Rattle.cloak_model.specs.Run.{closing, first_moment};
 ghost use Rattle.joint_machine.specs.Standing.{AllOutside, LendsPager, harts_of, shown_byte};
-ghost use Rattle.cloak_machine.specs.Console.{ConsoleShows};
+ghost use Rattle.kernel_report.specs.Console.{ConsoleShows};
 
-use crate::console::Console;
 use crate::domains::DomainLines;
-use crate::end::{End, KernelLines};
+use crate::end::{End, kernel_lines_of};
 use crate::schedule::Schedule;
 use cloak_base::Stop;
 use cloak_model::{Bundle, Emit, Item, Program};
 use cloak_pager::Pager;
 use joint_machine::{Joint, JointParts, OpenFault};
+use kernel_report::Console;
 use outside_io::Stream;
 use std::alloc::Global;
 
@@ -154,7 +154,7 @@ impl Machine {
             stop: stop_of(memory.missed, stop),
             steps,
             draws: memory.draws,
-            lines: KernelLines::new(console, &mut memory, disk.bytes(), harts),
+            lines: kernel_lines_of(console, &mut memory, disk.bytes(), harts),
             domains: DomainLines::of(domains),
         }
     }

@@ -1,4 +1,4 @@
-use Rattle.cloak_machine.proofs.PutFacts.{then}
+use Rattle.kernel_report.proofs.PutFacts.{then}
 use Rattle.cloak_machine.proofs.end.put_number.Goals as goal
 
 pub returns : goal.returns

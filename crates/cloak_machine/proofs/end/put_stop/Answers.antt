@@ -1,4 +1,4 @@
-use Rattle.cloak_machine.proofs.PutFacts.{then}
+use Rattle.kernel_report.proofs.PutFacts.{then}
 use Rattle.cloak_machine.proofs.end.put_stop.Goals as goal
 
 pub returns-in-Halt : goal.returns-in-Halt

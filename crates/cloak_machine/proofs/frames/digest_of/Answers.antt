@@ -4,7 +4,7 @@ use Rattle.std.proofs.lemmas.List.{take_all}
 use Rattle.sha2.specs.Hashers.{Holds256}
 use Rattle.sha2.specs.Sha256.{sha256}
 use Rattle.cloak_pager.specs.State.{PagerState}
-use Rattle.cloak_machine.proofs.PutFacts.{concat-take_more}
+use Rattle.kernel_report.proofs.Joined.{concat-take_more}
 use Rattle.cloak_machine.proofs.ShownFrames.{frames_seen}
 use Rattle.cloak_machine.proofs.frames.digest_of.Goals as goal
 

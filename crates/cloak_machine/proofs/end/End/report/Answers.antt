@@ -1,5 +1,5 @@
 use Rattle.std.proofs.Common.{refl}
-use Rattle.cloak_machine.proofs.PutFacts.{then, text_is, Puts-all}
+use Rattle.kernel_report.proofs.PutFacts.{then, text_is, Puts-all}
 use Rattle.cloak_machine.proofs.end.End.report.Goals as goal
 
 pub returns : goal.returns

@@ -23,12 +23,12 @@ returns-clause-ends g c m stands =
     let low : m.steps < 2 ^ 32 = omega (arith, stands.steps) in
     ends_as m parts.result.memory.missed stands c.item.ensures shows c.item-2.ensures holds.missed c.stop_of.ensures
     refl holds.draws (record {
-      count = c.new.ensures.count ∙ stands.console.count
+      count = c.kernel_lines_of.ensures.count ∙ stands.console.count
           ∙ ap (λ (l : List ℕ). length l) (sym (closed_console m.joint));
-      console = c.new.ensures.console m.joint.console stands.console ∙ ap sha256 (sym (closed_console m.joint));
-      ram = c.new.ensures.ram closed.memory holds;
-      disk = c.new.ensures.disk ∙ ap sha256 (c.bytes.ensures ∙ parts.ensures.disk ∙ shows.stands.disk);
-      harts = ap (λ (harts : _). harts.items) (c.new.ensures.harts ∙ parts.ensures.harts) ∙ shows.stands.harts;
+      console = c.kernel_lines_of.ensures.console m.joint.console stands.console ∙ ap sha256 (sym (closed_console m.joint));
+      ram = c.kernel_lines_of.ensures.ram closed.memory holds;
+      disk = c.kernel_lines_of.ensures.disk ∙ ap sha256 (c.bytes.ensures ∙ parts.ensures.disk ∙ shows.stands.disk);
+      harts = ap (λ (harts : _). harts.items) (c.kernel_lines_of.ensures.harts ∙ parts.ensures.harts) ∙ shows.stands.harts;
     })
     (c.of.ensures closed.domains
     (subst (λ (domains : _). AreDomains domains.items closed.domains) (sym parts.ensures.domains) shows.stands.domains)

@@ -1,7 +1,0 @@
-use Rattle.cloak_machine.proofs.PutFacts.{then, text_is, words_text-take_more}
-use Rattle.cloak_machine.proofs.end.put_words.Goals as goal
-
-pub loop-word-preserved : goal.loop-word-preserved
-loop-word-preserved g c =
-    text_is (then c.loop-word.invariant (then c.text-so_far.ensures c.hexadecimal-so_far.ensures))
-    (words_text-take_more _ _ _ c.loop-word-test.true)
