@@ -1,7 +1,5 @@
--- Where an access leads over frames without cloaked pages, and their bytes.
-use Rattle.std.proofs.Common.{◌≡◌, ◌∙◌, ℕ, Bool, true, false, cond, List, [], ◌∷◌, ◌++◌, append_assoc, length, Result, Ok, Err, sym, ap}
-use Rattle.std.proofs.lemmas.List.{append-nil}
-use Rattle.std.specs.List.{concat}
+-- Where an access leads over frames without cloaked pages.
+use Rattle.std.proofs.Common.{◌≡◌, ◌∙◌, ℕ, Bool, true, false, cond, List, length, Result, Ok, Err, sym, ap}
 use Rattle.cloak_model.specs.declared.access.Access.{Access}
 use Rattle.cloak_model.specs.World.{World, Flat, ram_of}
 use Rattle.cloak_model.specs.Walk.{Walk}
@@ -38,8 +36,3 @@ tested_inside b x y inside = ap (λ (c : Bool). cond c x y) inside
 
 pub tested_outside : {A : Type 0} (b : Bool) (x y : A) → false ≡ b → y ≡ cond b x y
 tested_outside b x y outside = ap (λ (c : Bool). cond c x y) outside
-
--- one list more behind lists that are joined
-pub concat-last : (xss : List (List ℕ)) (xs : List ℕ) → concat (xss ++ xs ∷ []) ≡ concat xss ++ xs
-concat-last [] xs = append-nil xs
-concat-last (ys ∷ xss) xs = ap (λ (l : List ℕ). ys ++ l) (concat-last xss xs) ∙ sym (append_assoc ys (concat xss) xs)

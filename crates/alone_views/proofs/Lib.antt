@@ -1,1 +1,2 @@
+mod KernelItems
 mod KernelRam

@@ -1,5 +1,5 @@
 -- Where the items of a kernel that runs alone stand.
-use Rattle.std.specs.Prelude.{ℕ, ◌<◌, Option, Some, None, ForSome}
+use Rattle.std.specs.Prelude.{ℕ, ◌≡◌, ◌<◌, Option, Some, None}
 use Rattle.cloak_model.specs.KernelAlone as model
 use Rattle.alone_views.specs.declared.kernel_place.KernelPlace.{KernelPlace}
 use Rattle.alone_views.specs.declared.kernel_place.KernelPlace.TheVariants as here
@@ -20,4 +20,4 @@ stepping_hart here.Left = None
 
 -- it is one of this many
 abbrev pub IsPlaceAmong : ℕ → KernelPlace → Type 0
-IsPlaceAmong harts place = ForSome (stepping_hart place) (λ hart. hart < harts)
+IsPlaceAmong harts place = (hart : ℕ) → stepping_hart place ≡ Some hart → hart < harts

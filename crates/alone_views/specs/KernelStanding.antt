@@ -1,7 +1,9 @@
 -- What a kernel that runs alone stands for, and what its calls make of it.
-use Rattle.std.specs.Prelude.{ℕ, ◌≡◌, ◌≤◌, List, ◌++◌, length, Option, Some, None, Result, Ok, Err}
+use Rattle.std.specs.Prelude.{ℕ, ◌≡◌, ◌≤◌, ◌%◌, ◌==◌, ◌&&◌, Bool, IsTrue, List, ◌++◌, length, Option, Some, None, Result, Ok, Err}
 use Rattle.cloak_model.specs.Exchange.{Piece, Emits, shown_each}
+use Rattle.cloak_model.specs.Effect.{IsWidth}
 use Rattle.cloak_model.specs.KernelAlone as model
+use Rattle.cloak_model.specs.Memory.{is_in_frames}
 use Rattle.alone_views.specs.KernelConsole.{ConsoleCounts}
 use Rattle.alone_views.specs.KernelPlaces.{place_in}
 use Rattle.alone_views.specs.declared.kernel.KernelAlone.{KernelAlone}
@@ -40,6 +42,20 @@ pub record Becomes (old new : KernelAlone) (next : model.KernelAlone → model.K
   pub state : (console : List ℕ) → state_with new console ≡ next (state_with old console)
   pub console : new.console ≡ old.console
   pub schedule : schedule_of new ≡ schedule_of old
+
+-- a value of this width may be stored at this address: it lies in RAM, and is a multiple of the width
+abbrev pub may_store : ℕ → ℕ → ℕ → Bool
+may_store frames address width = is_in_frames frames address && (address % width == 0)
+
+pub record MayStore (machine : KernelAlone) (address width : ℕ) : Type 0 where
+  pub inside : IsTrue (is_in_frames (length machine.ram.frames.items) address)
+  pub width : IsWidth width
+  pub aligned : address % width ≡ 0
+
+-- the value is stored, or the Put is unfit
+abbrev pub store_or_unfit : ℕ → ℕ → ℕ → model.KernelAlone → model.KernelAlone
+store_or_unfit address width value s =
+    model.fits_if (may_store (length s.kernel.ram) address width) s (model.store_at address width value s)
 
 -- The machine stands for the next state. What the console gained was shown, and nothing else.
 pub record Gains {E : Type 0} (gave : E → E → List Piece → Type 0) (e e' : E) (machine : KernelAlone)

@@ -1,4 +1,3 @@
-pub mod Console
 pub mod KernelConsole
 pub mod KernelPlaces
 pub mod KernelStanding

@@ -1,24 +1,27 @@
 //! The kernel alone: it takes the items of a record one after another, and ignores the inward ones. A step of a hart
 //! outside shows the step's Ciphers and then makes the plain step, once the step's end has been read. A step of a hart
 //! inside counts the timer, and shows what the step's Ciphers, Puts and Leave say.
-ghost use Rattle.std.specs.Prelude.{◌≡◌, ◌-◌, ◌%◌, ◌<◌, ◌++◌, ◌==◌, ◌&&◌, true, ℕ, List, length, slice_index, All, IfOk, IsSome};
+ghost use Rattle.std.specs.Prelude.{◌≡◌, ◌-◌, ◌%◌, ◌<◌, ◌^◌, ◌++◌, true, ℕ, List, length, slice_index, All, IfOk, IsSome};
 ghost use Rattle.cloak_model.specs.Bundle.{IsKernelImage};
 ghost use Rattle.cloak_model.specs.Effect.{IsWidth};
 ghost use Rattle.cloak_model.specs.Exchange.{EmitsSome};
 ghost use Rattle.cloak_model.specs.KernelAlone as spec;
-ghost use Rattle.cloak_model.specs.Memory.{is_in_ram};
 ghost use Rattle.cloak_model.specs.Record.{IsItem, IsItemWidth};
+ghost use Rattle.cloak_model.specs.Report.{kernel_lines};
+ghost use Rattle.outside_io.specs.Told.{Puts};
 ghost use Rattle.alone_views.specs.KernelPlaces.{IsPlaceAmong};
 
-use crate::console::Console;
 use crate::kernel_place::KernelPlace;
 use crate::kernel_ram::{FlatRam, load_segments};
 use crate::kernel_showing::show;
 use crate::kernel_starting::start_harts;
 use crate::unfit::Unfit;
-use cloak_base::{NoMemory, Shown};
+use cloak_base::{Failed, NoMemory, Shown};
 use cloak_model::{Emit, Item, KernelImage};
 use host_calls::{Disk, Hart, Kernel, kernel_step, leave, tick};
+use kernel_report::{Console, KernelLines, put_kernel};
+use outside_io::Sink;
+use sha2::{Digest, Sha256};
 use std::alloc::Global;
 
 /// A kernel that runs alone, on the items of a record.
@@ -60,8 +63,8 @@ fn has_halted(ending: Kernel) -> bool
 }
 
 impl KernelAlone {
-    ghost use Rattle.std.specs.Prelude.{[]};
     ghost use Rattle.alone_views.specs.KernelStanding.{Becomes, Gains, StandsForKernel, TakesItem};
+    ghost use Rattle.alone_views.specs.KernelStanding.{MayStore, may_store, store_or_unfit};
     ghost use Rattle.alone_views.specs.KernelStanding.{answer_of, schedule_of, state_with, unfit_step};
 
     /// The kernel of a guest image before any item.
@@ -110,18 +113,25 @@ impl KernelAlone {
     {
         match self.place {
             KernelPlace::Left => self.refuse(),
-            KernelPlace::Between | KernelPlace::Outside { .. } | KernelPlace::Inside { .. } => {
-                self.show_cipher(frame, bytes)
-            }
+            KernelPlace::Between => self.show_cipher(frame, bytes),
+            KernelPlace::Outside { .. } => self.show_cipher(frame, bytes),
+            KernelPlace::Inside { .. } => self.show_cipher(frame, bytes),
         }
     }
 
-    /// Stores the lowest bytes of a value at an address, which is in RAM and a multiple of their count.
-    fn store(&mut self, address: u32, width: u32, value: u32)
-        ensures { IsItemWidth width →
-            Becomes self.old self.new (λ s. spec.fits_if (is_in_ram s.kernel.ram address && (address % width == 0)) s (spec.store_at address width value s)) }
+    /// A Put may store at this address: it lies in RAM, and is a multiple of the width.
+    fn may_store(&self, address: u32, width: u32) -> bool
+        ensures may { result ≡ true → MayStore self.now address width }
+        ensures value { IsItemWidth width → result ≡ may_store (length self.now.ram.frames.items) address width }
     {
-        if !is_width(width) || !self.ram.is_inside(address as u64) || address % width != 0 {
+        is_width(width) && self.ram.is_inside(address as u64) && address % width == 0
+    }
+
+    /// Stores the lowest bytes of a value at an address of RAM that is a multiple of their count.
+    fn store(&mut self, address: u32, width: u32, value: u32)
+        ensures { IsItemWidth width → Becomes self.old self.new (store_or_unfit address width value) }
+    {
+        if !self.may_store(address, width) {
             return self.refuse();
         }
         self.ram.store(address, width, value);
@@ -133,7 +143,9 @@ impl KernelAlone {
     {
         match self.place {
             KernelPlace::Inside { .. } => self.store(address, width, value),
-            KernelPlace::Between | KernelPlace::Outside { .. } | KernelPlace::Left => self.refuse(),
+            KernelPlace::Between => self.refuse(),
+            KernelPlace::Outside { .. } => self.refuse(),
+            KernelPlace::Left => self.refuse(),
         }
     }
 
@@ -155,7 +167,9 @@ impl KernelAlone {
     {
         match self.place {
             KernelPlace::Inside { hart, ctx } => self.leave_context(hart, ctx, shown),
-            KernelPlace::Between | KernelPlace::Outside { .. } | KernelPlace::Left => self.refuse(),
+            KernelPlace::Between => self.refuse(),
+            KernelPlace::Outside { .. } => self.refuse(),
+            KernelPlace::Left => self.refuse(),
         }
     }
 
@@ -173,6 +187,18 @@ impl KernelAlone {
         ending
     }
 
+    /// Ends a step of a hart outside by its plain step, and shows the byte of the console.
+    fn end_plainly<E: Emit>(&mut self, hart: usize, e: &mut E)
+        requires { hart < length self.old.harts.items }
+        ensures gains { (s : spec.KernelAlone) → StandsForKernel self.old s →
+            Gains E.gave e.old e.new self.new s (spec.plain_step hart s) }
+        ensures schedule { schedule_of self.new ≡ schedule_of self.old }
+        ensures emits_some { EmitsSome E.gave e.old e.new }
+    {
+        let ending = self.step_plainly(hart);
+        show(&mut self.console, ending, e);
+    }
+
     /// Ends the step that is open, if there is one: a hart outside makes its plain step.
     fn end_step<E: Emit>(&mut self, e: &mut E)
         ensures gains { (s : spec.KernelAlone) → StandsForKernel self.old s →
@@ -180,12 +206,12 @@ impl KernelAlone {
         ensures schedule { schedule_of self.new ≡ schedule_of self.old }
         ensures emits_some { EmitsSome E.gave e.old e.new }
     {
-        let KernelPlace::Outside { hart } = self.place else {
-            self.place = KernelPlace::Between;
-            return;
-        };
-        let ending = self.step_plainly(hart);
-        show(&mut self.console, ending, e);
+        match self.place {
+            KernelPlace::Between => {}
+            KernelPlace::Outside { hart } => self.end_plainly(hart, e),
+            KernelPlace::Inside { .. } => self.place = KernelPlace::Between,
+            KernelPlace::Left => self.place = KernelPlace::Between,
+        }
     }
 
     /// The hart of the step with this number.
@@ -276,5 +302,27 @@ impl KernelAlone {
             self.take_fit(i, e);
         }
         self.answer()
+    }
+    /// Writes the kernel's lines of the report. One that failed has written a front of them.
+    pub fn report<O: Sink>(self, out: &mut O) -> Result<(), Failed>
+        ensures { (s : spec.KernelAlone) → StandsForKernel self s → length s.kernel.console < 2 ^ 64 →
+            Puts (O.taken out.old) (O.taken out.new) (O.faults out.old) (O.faults out.new)
+                (kernel_lines s.kernel) result }
+    {
+        let KernelAlone {
+            harts,
+            ram,
+            disk,
+            console,
+            ..
+        } = self;
+        let lines = KernelLines {
+            console_length: console.count,
+            console: console.digest(),
+            ram: ram.digest(),
+            disk: Sha256::digest(disk.bytes()),
+            harts,
+        };
+        put_kernel(out, Ok(()), &lines)
     }
 }

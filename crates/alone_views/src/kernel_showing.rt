@@ -4,9 +4,9 @@ ghost use Rattle.cloak_model.specs.Exchange.{Emits, shown_each};
 ghost use Rattle.cloak_model.specs.KernelAlone.{console_byte};
 ghost use Rattle.alone_views.specs.KernelConsole.{ConsoleCounts};
 
-use crate::console::Console;
 use cloak_model::Emit;
 use host_calls::Kernel;
+use kernel_report::Console;
 
 /// Takes a byte, as long as its bytes can be counted.
 fn put_counted(console: &mut Console, b: u8)

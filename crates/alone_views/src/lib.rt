@@ -1,7 +1,6 @@
 //! The machines that run alone, each on the items of a record: the kernel on those that it could see.
 #![tactic(auto)]
 
-mod console;
 mod kernel;
 mod kernel_place;
 mod kernel_ram;
