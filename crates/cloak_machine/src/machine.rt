@@ -2,11 +2,10 @@ ghost use Rattle.std.specs.Prelude.{◌≡◌, ◌+◌, ◌<◌, ◌≤◌, ◌^
 ghost use Rattle.cloak_base.specs.Random.{Random};
 ghost use Rattle.cloak_model.specs.declared.image.Bundle.{Bundle};
 ghost use Rattle.cloak_model.specs.Bundle.{IsInGrammar};
-ghost use Rattle.cloak_model.specs.Command.{most_steps};
 ghost use Rattle.cloak_model.specs.Exchange.{Emits, EmitsSome, shown_each};
 ghost use Rattle.cloak_model.specs.Joint.{Moment, joint_step};
 ghost use Rattle.cloak_model.specs.Opening.{Opened, opening};
-ghost use Rattle.cloak_model.specs.Run.{closing, first_moment};
+ghost use Rattle.cloak_model.specs.Run.{closing, first_moment, most_steps};
 ghost use Rattle.joint_machine.specs.Standing.{AllOutside, LendsPager, harts_of, shown_byte};
 ghost use Rattle.kernel_report.specs.Console.{ConsoleShows};
 

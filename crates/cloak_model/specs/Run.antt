@@ -16,6 +16,10 @@ use Rattle.cloak_model.specs.Report.{report}
 use Rattle.cloak_model.specs.Parts.{Joint}
 use Rattle.cloak_model.specs.Joint.{Moment, Turn, joint_step, after_turn, stop_of, cloak_outside, hart_in}
 
+-- the most steps of a run
+abbrev pub most_steps : ℕ
+most_steps = 1000000000
+
 -- A run: the machine as it was opened and what the kernel was shown then; its steps; why it stopped; the machine as it
 -- was closed and what the kernel was shown then.
 pub record Run : Type 0 where
