@@ -32,8 +32,10 @@ state_with machine console = record {
   unfit = machine.unfit;
 }
 
--- The machine is that of this state. Of what its console was shown it knows the digest and the length.
-pub record StandsForKernel (machine : KernelAlone) (s : model.KernelAlone) : Type 0 where
+-- The machine is that of this state, under this schedule. Of what its console was shown it knows the digest and the
+-- length.
+pub record StandsForKernel (machine : KernelAlone) (turns : List ℕ) (s : model.KernelAlone) : Type 0 where
+  pub schedule : schedule_of machine ≡ turns
   pub state : s ≡ state_with machine s.kernel.console
   pub console : ConsoleCounts machine.console s.kernel.console
 
@@ -49,7 +51,7 @@ may_store frames address width = is_in_frames frames address && (address % width
 
 pub record MayStore (machine : KernelAlone) (address width : ℕ) : Type 0 where
   pub inside : IsTrue (is_in_frames (length machine.ram.frames.items) address)
-  pub width : IsWidth width
+  pub is_width : IsWidth width
   pub aligned : address % width ≡ 0
 
 -- the value is stored, or the Put is unfit
@@ -59,8 +61,8 @@ store_or_unfit address width value s =
 
 -- The machine stands for the next state. What the console gained was shown, and nothing else.
 pub record Gains {E : Type 0} (gave : E → E → List Piece → Type 0) (e e' : E) (machine : KernelAlone)
-    (s next : model.KernelAlone) : Type 0 where
-  pub stands : StandsForKernel machine next
+    (turns : List ℕ) (s next : model.KernelAlone) : Type 0 where
+  pub stands : StandsForKernel machine turns next
   pub more : List ℕ
   pub console : next.kernel.console ≡ s.kernel.console ++ more
   pub at_most_one : length more ≤ 1
@@ -73,6 +75,6 @@ answer_of (Some step) = Err (record { step = step })
 
 -- An item is taken so: what is shown and answered, and what the machine then stands for.
 pub record TakesItem {E : Type 0} (gave : E → E → List Piece → Type 0) (e e' : E) (machine : KernelAlone)
-    (given : Result Unit Unfit) (s next : model.KernelAlone) : Type 0 where
-  pub gains : Gains gave e e' machine s next
+    (given : Result Unit Unfit) (turns : List ℕ) (s next : model.KernelAlone) : Type 0 where
+  pub gains : Gains gave e e' machine turns s next
   pub answer : given ≡ answer_of next.unfit

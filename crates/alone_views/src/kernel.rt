@@ -70,8 +70,7 @@ impl KernelAlone {
     /// The kernel of a guest image before any item.
     pub fn open(alloc: Global, k: &KernelImage) -> Result<KernelAlone, NoMemory>
         requires { IsKernelImage k.now }
-        ensures opens { IfOk result (λ machine. StandsForKernel machine (spec.opened_kernel k.now)) }
-        ensures schedule { IfOk result (λ machine. schedule_of machine ≡ k.now.schedule) }
+        ensures { IfOk result (λ machine. StandsForKernel machine k.now.schedule (spec.opened_kernel k.now)) }
     {
         let harts = start_harts(alloc, k.entry, k.harts)?;
         let ram = load_segments(alloc, k.frames, k.segments.as_slice())?;
@@ -101,10 +100,11 @@ impl KernelAlone {
     fn show_cipher(&mut self, frame: u32, bytes: &[u8; 4096])
         ensures { Becomes self.old self.new (spec.show_cipher frame bytes.now) }
     {
-        if frame as usize >= self.ram.frames.len() {
-            return self.refuse();
+        if self.ram.has_frame(frame) {
+            self.ram.set_frame(frame, bytes)
+        } else {
+            self.refuse()
         }
-        self.ram.set_frame(frame, bytes);
     }
 
     /// Takes a Cipher.
@@ -129,17 +129,21 @@ impl KernelAlone {
 
     /// Stores the lowest bytes of a value at an address of RAM that is a multiple of their count.
     fn store(&mut self, address: u32, width: u32, value: u32)
-        ensures { IsItemWidth width → Becomes self.old self.new (store_or_unfit address width value) }
+        ensures becomes { IsItemWidth width → Becomes self.old self.new (store_or_unfit address width value) }
+        ensures schedule { schedule_of self.new ≡ schedule_of self.old }
     {
-        if !self.may_store(address, width) {
-            return self.refuse();
+        if self.may_store(address, width) {
+            self.ram.store(address, width, value)
+        } else {
+            self.refuse()
         }
-        self.ram.store(address, width, value);
     }
 
     /// Takes a Put.
     fn take_put(&mut self, address: u32, width: u32, value: u32)
-        ensures { IsItemWidth width → Becomes self.old self.new (λ s. spec.take_put s.place address width value s) }
+        ensures becomes { IsItemWidth width →
+            Becomes self.old self.new (λ s. spec.take_put s.place address width value s) }
+        ensures schedule { schedule_of self.new ≡ schedule_of self.old }
     {
         match self.place {
             KernelPlace::Inside { .. } => self.store(address, width, value),
@@ -154,11 +158,12 @@ impl KernelAlone {
         requires { hart < length self.old.harts.items }
         ensures { Becomes self.old self.new (spec.take_leave (spec.Inside hart ctx) shown.now) }
     {
-        if shown.ctx != ctx {
-            return self.refuse();
+        if shown.ctx == ctx {
+            leave(&mut self.harts[hart], shown);
+            self.place = KernelPlace::Left;
+        } else {
+            self.refuse();
         }
-        leave(&mut self.harts[hart], shown);
-        self.place = KernelPlace::Left;
     }
 
     /// Takes a Leave.
@@ -190,8 +195,8 @@ impl KernelAlone {
     /// Ends a step of a hart outside by its plain step, and shows the byte of the console.
     fn end_plainly<E: Emit>(&mut self, hart: usize, e: &mut E)
         requires { hart < length self.old.harts.items }
-        ensures gains { (s : spec.KernelAlone) → StandsForKernel self.old s →
-            Gains E.gave e.old e.new self.new s (spec.plain_step hart s) }
+        ensures gains { (turns : List ℕ) (s : spec.KernelAlone) → StandsForKernel self.old turns s →
+            Gains E.gave e.old e.new self.new turns s (spec.plain_step hart s) }
         ensures schedule { schedule_of self.new ≡ schedule_of self.old }
         ensures emits_some { EmitsSome E.gave e.old e.new }
     {
@@ -201,8 +206,8 @@ impl KernelAlone {
 
     /// Ends the step that is open, if there is one: a hart outside makes its plain step.
     fn end_step<E: Emit>(&mut self, e: &mut E)
-        ensures gains { (s : spec.KernelAlone) → StandsForKernel self.old s →
-            Gains E.gave e.old e.new self.new s (spec.kernel_step_ended s.place s) }
+        ensures gains { (turns : List ℕ) (s : spec.KernelAlone) → StandsForKernel self.old turns s →
+            Gains E.gave e.old e.new self.new turns s (spec.kernel_step_ended s.place s) }
         ensures schedule { schedule_of self.new ≡ schedule_of self.old }
         ensures emits_some { EmitsSome E.gave e.old e.new }
     {
@@ -250,8 +255,8 @@ impl KernelAlone {
 
     /// Takes an item, where none was unfit.
     fn take_fit<E: Emit>(&mut self, i: &Item, e: &mut E)
-        ensures takes { (s : spec.KernelAlone) → IsItem i.now → StandsForKernel self.old s →
-            Gains E.gave e.old e.new self.new s (spec.kernel_takes (schedule_of self.old) i.now s) }
+        ensures gains { (turns : List ℕ) (s : spec.KernelAlone) → IsItem i.now → StandsForKernel self.old turns s →
+            Gains E.gave e.old e.new self.new turns s (spec.kernel_takes turns i.now s) }
         ensures schedule { schedule_of self.new ≡ schedule_of self.old }
         ensures emits_some { EmitsSome E.gave e.old e.new }
     {
@@ -278,6 +283,20 @@ impl KernelAlone {
         }
     }
 
+    /// Takes an item, unless one was unfit.
+    fn take_next<E: Emit>(&mut self, i: &Item, e: &mut E)
+        ensures gains { (turns : List ℕ) (s : spec.KernelAlone) → IsItem i.now → StandsForKernel self.old turns s →
+            Gains E.gave e.old e.new self.new turns s (spec.take_kernel_item turns s i.now) }
+        ensures stays { IsSome (unfit_step self.old) → (self.new ≡ self.old) × (e.new ≡ e.old) }
+        ensures schedule { schedule_of self.new ≡ schedule_of self.old }
+        ensures emits_some { EmitsSome E.gave e.old e.new }
+    {
+        if self.unfit.is_some() {
+            return;
+        }
+        self.take_fit(i, e);
+    }
+
     /// What is answered behind the last item.
     fn answer(&self) -> Result<(), Unfit>
         ensures { result ≡ answer_of (unfit_step self.now) }
@@ -291,22 +310,19 @@ impl KernelAlone {
     /// Takes the next item, and shows what the console gains. Once an item was unfit, each is answered so, and nothing
     /// changes.
     pub fn take<E: Emit>(&mut self, i: &Item, e: &mut E) -> Result<(), Unfit>
-        ensures takes { (s : spec.KernelAlone) → IsItem i.now → StandsForKernel self.old s →
-            TakesItem E.gave e.old e.new self.new result s (spec.take_kernel_item (schedule_of self.old) s i.now) }
+        ensures takes { (turns : List ℕ) (s : spec.KernelAlone) → IsItem i.now → StandsForKernel self.old turns s →
+            TakesItem E.gave e.old e.new self.new result turns s (spec.take_kernel_item turns s i.now) }
         ensures answer { result ≡ answer_of (unfit_step self.new) }
         ensures stays { IsSome (unfit_step self.old) → (self.new ≡ self.old) × (e.new ≡ e.old) }
-        ensures schedule { schedule_of self.new ≡ schedule_of self.old }
         ensures emits_some { EmitsSome E.gave e.old e.new }
     {
-        if self.unfit.is_none() {
-            self.take_fit(i, e);
-        }
+        self.take_next(i, e);
         self.answer()
     }
     /// Writes the kernel's lines of the report. One that failed has written a front of them.
     pub fn report<O: Sink>(self, out: &mut O) -> Result<(), Failed>
-        ensures { (s : spec.KernelAlone) → StandsForKernel self s → length s.kernel.console < 2 ^ 64 →
-            Puts (O.taken out.old) (O.taken out.new) (O.faults out.old) (O.faults out.new)
+        ensures { (turns : List ℕ) (s : spec.KernelAlone) → StandsForKernel self turns s →
+            length s.kernel.console < 2 ^ 64 → Puts (O.taken out.old) (O.taken out.new) (O.faults out.old) (O.faults out.new)
                 (kernel_lines s.kernel) result }
     {
         let KernelAlone {

@@ -1,5 +1,5 @@
 //! The frames of a machine without cloaked pages.
-ghost use Rattle.std.specs.Prelude.{◌≡◌, ◌+◌, ◌*◌, ◌%◌, ◌≤◌, ◌<◌, length, slice_set, IfOk, All, IsTrue};
+ghost use Rattle.std.specs.Prelude.{◌≡◌, ◌+◌, ◌*◌, ◌%◌, ◌≤◌, ◌<◌, length, nat_lt, slice_set, IfOk, All, IsTrue};
 ghost use Rattle.std.specs.List.{concat};
 ghost use Rattle.sha2.specs.Sha256.{sha256};
 ghost use Rattle.cloak_base.specs.Pages.{zero_page};
@@ -52,6 +52,13 @@ impl FlatRam {
         ensures { result ≡ is_in_frames (length self.now.frames.items) pa }
     {
         pa >= RAM_START as u64 && (pa - RAM_START as u64) / 4096 < self.frames.len() as u64
+    }
+
+    /// There is a frame of this number.
+    pub fn has_frame(&self, f: u32) -> bool
+        ensures { result ≡ nat_lt f (length self.now.frames.items) }
+    {
+        (f as usize) < self.frames.len()
     }
 
     /// Stores the lowest 1, 2 or 4 bytes of a word at an address.
