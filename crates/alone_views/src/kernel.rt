@@ -273,13 +273,13 @@ impl KernelAlone {
                 self.take_step(*number);
             }
             Item::Close { .. } => self.end_step(e),
-            Item::End
-            | Item::Ok { .. }
-            | Item::Absent { .. }
-            | Item::Word { .. }
-            | Item::Timer { .. }
-            | Item::Resume { .. }
-            | Item::Stopped { .. } => {}
+            Item::End => {}
+            Item::Ok { .. } => {}
+            Item::Absent { .. } => {}
+            Item::Word { .. } => {}
+            Item::Timer { .. } => {}
+            Item::Resume { .. } => {}
+            Item::Stopped { .. } => {}
         }
     }
 

@@ -1,4 +1,4 @@
-use Rattle.std.proofs.Common.{sym, refl, eq-eqb}
+use Rattle.std.proofs.Common.{◌≡◌, ◌==◌, false, sym, refl, eq-eqb, arith}
 use Rattle.alone_views.specs.KernelStanding.{state_with}
 use Rattle.alone_views.proofs.KernelItems.{hart_there, left_context, left_other}
 use Rattle.alone_views.proofs.kernel.KernelAlone.leave_context.Goals as goal
@@ -15,4 +15,4 @@ returns-then-shown-ctx c =
     }
 
 pub returns-else-shown-ctx : goal.returns-else-shown-ctx
-returns-else-shown-ctx c = left_other _ _ c.args.hart c.args.ctx c.args.shown.now ? c.refuse.ensures
+returns-else-shown-ctx c = left_other _ _ c.args.hart c.args.ctx c.args.shown.now (let e : (c.args.shown.now.ctx == c.args.ctx) ≡ false = grind arith in e) c.refuse.ensures

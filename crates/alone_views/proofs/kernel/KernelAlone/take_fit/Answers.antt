@@ -27,6 +27,37 @@ returns-in-Close-clause-gains g c turns s ranges stands =
     takes_close g.E.Emit.gave c.args.e.now _ _ turns s c.args.i.now _ c.in-Close.is
     (c.end_step-in-Close.ensures.gains turns s stands)
 
-pub returns-clause-gains : goal.returns-clause-gains
+pub returns-in-End-clause-gains : goal.returns-in-End-clause-gains
 unfolding kernel_takes
-returns-clause-gains g c turns s ranges stands = ?
+returns-in-End-clause-gains g c turns s ranges stands =
+    ignores g.E.Emit.gave c.args.e.now c.args.self.now turns s c.args.i.now _ c.in-End.is refl stands
+
+pub returns-in-Ok-clause-gains : goal.returns-in-Ok-clause-gains
+unfolding kernel_takes
+returns-in-Ok-clause-gains g c turns s ranges stands =
+    ignores g.E.Emit.gave c.args.e.now c.args.self.now turns s c.args.i.now _ c.in-Ok.is refl stands
+
+pub returns-in-Absent-clause-gains : goal.returns-in-Absent-clause-gains
+unfolding kernel_takes
+returns-in-Absent-clause-gains g c turns s ranges stands =
+    ignores g.E.Emit.gave c.args.e.now c.args.self.now turns s c.args.i.now _ c.in-Absent.is refl stands
+
+pub returns-in-Word-clause-gains : goal.returns-in-Word-clause-gains
+unfolding kernel_takes
+returns-in-Word-clause-gains g c turns s ranges stands =
+    ignores g.E.Emit.gave c.args.e.now c.args.self.now turns s c.args.i.now _ c.in-Word.is refl stands
+
+pub returns-in-Timer-clause-gains : goal.returns-in-Timer-clause-gains
+unfolding kernel_takes
+returns-in-Timer-clause-gains g c turns s ranges stands =
+    ignores g.E.Emit.gave c.args.e.now c.args.self.now turns s c.args.i.now _ c.in-Timer.is refl stands
+
+pub returns-in-Resume-clause-gains : goal.returns-in-Resume-clause-gains
+unfolding kernel_takes
+returns-in-Resume-clause-gains g c turns s ranges stands =
+    ignores g.E.Emit.gave c.args.e.now c.args.self.now turns s c.args.i.now _ c.in-Resume.is refl stands
+
+pub returns-in-Stopped-clause-gains : goal.returns-in-Stopped-clause-gains
+unfolding kernel_takes
+returns-in-Stopped-clause-gains g c turns s ranges stands =
+    ignores g.E.Emit.gave c.args.e.now c.args.self.now turns s c.args.i.now _ c.in-Stopped.is refl stands
