@@ -26,8 +26,9 @@ use Rattle.step_parts.proofs.StepLater.{later_step_in_parts}
 use Rattle.cloak_model.proofs.Later.{IsLater}
 use Rattle.kernel_report.specs.declared.console.Console.{Console}
 use Rattle.alone_views.specs.KernelConsole.{ConsoleCounts}
-use Rattle.alone_views.specs.KernelPlaces.{place_in}
-use Rattle.alone_views.specs.KernelStanding.{Becomes, Gains, StandsForKernel, state_with, schedule_of, unfit_step, may_store, store_or_unfit}
+use Rattle.alone_views.specs.KernelPlaces.{stood_place}
+use Rattle.alone_views.specs.KernelChanges.{ChangesTo, may_store, store_or_unfit}
+use Rattle.alone_views.specs.KernelStanding.{Gains, StandsForKernel, state_with, schedule_of, unfit_step}
 use Rattle.alone_views.specs.declared.kernel.KernelAlone.{KernelAlone}
 use Rattle.alone_views.specs.declared.kernel_ram.FlatRam.{FlatRam}
 
@@ -35,8 +36,8 @@ use Rattle.alone_views.specs.declared.kernel_ram.FlatRam.{FlatRam}
 
 -- the place is known
 pub at_place : (old new : KernelAlone) (place : model.KernelPlace)
-    (next : model.KernelPlace → model.KernelAlone → model.KernelAlone) → place_in old.place ≡ place →
-    Becomes old new (next place) → Becomes old new (λ s. next s.place s)
+    (next : model.KernelPlace → model.KernelAlone → model.KernelAlone) → stood_place old.place ≡ place →
+    ChangesTo old new (next place) → ChangesTo old new (λ s. next s.place s)
 at_place old new place next is becomes = record {
   state = λ console. becomes.state console ∙ ap (λ (p : model.KernelPlace). next p (state_with old console)) (sym is);
   console = becomes.console;
@@ -44,8 +45,8 @@ at_place old new place next is becomes = record {
 }
 
 pub fits_not : (old new : KernelAlone) (test : model.KernelAlone → Bool) (next : model.KernelAlone → model.KernelAlone) →
-    ((console : List ℕ) → test (state_with old console) ≡ false) → Becomes old new kernel_unfit →
-    Becomes old new (λ s. fits_if (test s) s (next s))
+    ((console : List ℕ) → test (state_with old console) ≡ false) → ChangesTo old new kernel_unfit →
+    ChangesTo old new (λ s. fits_if (test s) s (next s))
 fits_not old new test next is becomes = record {
   state = λ console. becomes.state console
       ∙ ap (λ (b : Bool). fits_if b (state_with old console) (next (state_with old console))) (sym (is console));
@@ -88,7 +89,7 @@ left_context s number ctx h h' shown is left same =
 
 -- it runs another context
 pub left_other : (old new : KernelAlone) (number ctx : ℕ) (shown : Shown) → (shown.ctx == ctx) ≡ false →
-    Becomes old new kernel_unfit → Becomes old new (take_leave (model.Inside number ctx) shown)
+    ChangesTo old new kernel_unfit → ChangesTo old new (take_leave (model.Inside number ctx) shown)
 unfolding take_leave
 left_other old new number ctx shown other becomes =
     fits_not old new (λ s. shown.ctx == ctx)
@@ -163,7 +164,7 @@ turn_in schedule number = slice_index schedule ((number - 1) % length schedule)
 
 -- no step follows one that halted
 pub step_halted : (old new : KernelAlone) (schedule : List ℕ) (number : ℕ) → old.halted ≡ true →
-    Becomes old new kernel_unfit → Becomes old new (take_kernel_step schedule number)
+    ChangesTo old new kernel_unfit → ChangesTo old new (take_kernel_step schedule number)
 unfolding take_kernel_step
 step_halted old new schedule number halted becomes = record {
   state = λ console. becomes.state console ∙ sym (unfit_then (state_with old console) halted);
@@ -173,8 +174,8 @@ step_halted old new schedule number halted becomes = record {
   where
     unfit_then : (s : model.KernelAlone) → s.halted ≡ true → take_kernel_step schedule number s ≡ kernel_unfit s
     unfit_then s is = ap (λ (b : Bool). let t : model.KernelAlone = if b then kernel_unfit s
-      else kernel_step_begun (turn_in schedule number) (kernel_hart s.kernel (turn_in schedule number)).inside
-      (record s { steps = number }) in t) is
+        else kernel_step_begun (turn_in schedule number) (kernel_hart s.kernel (turn_in schedule number)).inside
+        (record s { steps = number }) in t) is
 
 pub step_taken : (s : model.KernelAlone) (schedule : List ℕ) (number hart : ℕ) → s.halted ≡ false →
     hart ≡ turn_in schedule number → take_kernel_step schedule number s
@@ -194,14 +195,14 @@ emits_nothing {E} gave e =
     record { more = λ first before given. subst (λ (ps : List Piece). gave first e ps) (sym (append-nil before)) given }
 
 -- the machine stands for the next state, with the same console
-pub record BecomesFrom (new : KernelAlone) (turns : List ℕ) (s next : model.KernelAlone) : Type 0 where
+pub record ChangesFrom (new : KernelAlone) (turns : List ℕ) (s next : model.KernelAlone) : Type 0 where
   pub stands : StandsForKernel new turns next
   pub console : next.kernel.console ≡ s.kernel.console
 
-becomes_from : (old new : KernelAlone) (turns : List ℕ) (s : model.KernelAlone)
-    (next : model.KernelAlone → model.KernelAlone) → Becomes old new next → StandsForKernel old turns s →
-    BecomesFrom new turns s (next s)
-becomes_from old new turns s next becomes stands =
+changes_from : (old new : KernelAlone) (turns : List ℕ) (s : model.KernelAlone)
+    (next : model.KernelAlone → model.KernelAlone) → ChangesTo old new next → StandsForKernel old turns s →
+    ChangesFrom new turns s (next s)
+changes_from old new turns s next becomes stands =
     let is : next s ≡ state_with new s.kernel.console = ap next stands.state ∙ sym (becomes.state s.kernel.console) in
     let same : (next s).kernel.console ≡ s.kernel.console = ap (λ (t : model.KernelAlone). t.kernel.console) is in
     record {
@@ -215,10 +216,10 @@ becomes_from old new turns s next becomes stands =
     }
 
 pub gains_nothing : {E : Type 0} (gave : E → E → List Piece → Type 0) (e : E) (old new : KernelAlone) (turns : List ℕ)
-    (s : model.KernelAlone) (next : model.KernelAlone → model.KernelAlone) → Becomes old new next →
+    (s : model.KernelAlone) (next : model.KernelAlone → model.KernelAlone) → ChangesTo old new next →
     StandsForKernel old turns s → Gains gave e e new turns s (next s)
 gains_nothing {E} gave e old new turns s next becomes stands =
-    let from = becomes_from old new turns s next becomes stands in
+    let from = changes_from old new turns s next becomes stands in
     record {
       stands = from.stands;
       more = [];
@@ -229,9 +230,9 @@ gains_nothing {E} gave e old new turns s next becomes stands =
 
 gains_then : {E : Type 0} (gave : E → E → List Piece → Type 0) (e e' : E) (mid new : KernelAlone) (turns : List ℕ)
     (s t : model.KernelAlone) (next : model.KernelAlone → model.KernelAlone) → Gains gave e e' mid turns s t →
-    Becomes mid new next → Gains gave e e' new turns s (next t)
+    ChangesTo mid new next → Gains gave e e' new turns s (next t)
 gains_then {E} gave e e' mid new turns s t next gains becomes =
-    let from = becomes_from mid new turns t next becomes gains.stands in
+    let from = changes_from mid new turns t next becomes gains.stands in
     record {
       stands = from.stands;
       more = gains.more;
@@ -276,11 +277,11 @@ gains_byte {E} gave e e' old mid new turns s number k stands steps stays same sc
 -- The end of a step.
 
 place_stood : (old : KernelAlone) (turns : List ℕ) (s : model.KernelAlone) (place : model.KernelPlace) →
-    StandsForKernel old turns s → place_in old.place ≡ place → place ≡ s.place
+    StandsForKernel old turns s → stood_place old.place ≡ place → place ≡ s.place
 place_stood old turns s place stands is = sym is ∙ ap (λ (t : model.KernelAlone). t.place) (sym stands.state)
 
 pub ends_outside : {E : Type 0} (gave : E → E → List Piece → Type 0) (e e' : E) (old new : KernelAlone) (turns : List ℕ)
-    (s : model.KernelAlone) (hart : ℕ) → StandsForKernel old turns s → place_in old.place ≡ model.Outside hart →
+    (s : model.KernelAlone) (hart : ℕ) → StandsForKernel old turns s → stood_place old.place ≡ model.Outside hart →
     Gains gave e e' new turns s (plain_step hart s) → Gains gave e e' new turns s (kernel_step_ended s.place s)
 unfolding kernel_step_ended
 ends_outside {E} gave e e' old new turns s hart stands is gains =
@@ -291,7 +292,7 @@ ends_outside {E} gave e e' old new turns s hart stands is gains =
 
 pub takes_cipher : {E : Type 0} (gave : E → E → List Piece → Type 0) (e : E) (old new : KernelAlone) (turns : List ℕ)
     (s : model.KernelAlone) (i : Item) (f : ℕ) (bytes : List ℕ) → i ≡ item.Cipher f bytes →
-    Becomes old new (λ s. take_cipher s.place f bytes s) → StandsForKernel old turns s →
+    ChangesTo old new (λ s. take_cipher s.place f bytes s) → StandsForKernel old turns s →
     Gains gave e e new turns s (kernel_takes turns i s)
 unfolding kernel_takes
 takes_cipher {E} gave e old new turns s i f bytes is becomes stands =
@@ -300,7 +301,7 @@ takes_cipher {E} gave e old new turns s i f bytes is becomes stands =
 
 pub takes_put : {E : Type 0} (gave : E → E → List Piece → Type 0) (e : E) (old new : KernelAlone) (turns : List ℕ)
     (s : model.KernelAlone) (i : Item) (address width value : ℕ) → i ≡ item.Put address width value → IsItem i →
-    (IsItemWidth width → Becomes old new (λ s. take_put s.place address width value s)) → StandsForKernel old turns s →
+    (IsItemWidth width → ChangesTo old new (λ s. take_put s.place address width value s)) → StandsForKernel old turns s →
     Gains gave e e new turns s (kernel_takes turns i s)
 unfolding kernel_takes
 takes_put {E} gave e old new turns s i address width value is ranges becomes stands =
@@ -310,7 +311,7 @@ takes_put {E} gave e old new turns s i address width value is ranges becomes sta
 
 pub takes_leave : {E : Type 0} (gave : E → E → List Piece → Type 0) (e : E) (old new : KernelAlone) (turns : List ℕ)
     (s : model.KernelAlone) (i : Item) (shown : Shown) → i ≡ item.Leave shown →
-    Becomes old new (λ s. take_leave s.place shown s) → StandsForKernel old turns s →
+    ChangesTo old new (λ s. take_leave s.place shown s) → StandsForKernel old turns s →
     Gains gave e e new turns s (kernel_takes turns i s)
 unfolding kernel_takes
 takes_leave {E} gave e old new turns s i shown is becomes stands =
@@ -320,12 +321,12 @@ takes_leave {E} gave e old new turns s i shown is becomes stands =
 pub takes_step : {E : Type 0} (gave : E → E → List Piece → Type 0) (e e' : E) (mid new : KernelAlone) (turns : List ℕ)
     (s : model.KernelAlone) (i : Item) (number : ℕ) → i ≡ item.Step number →
     Gains gave e e' mid turns s (kernel_step_ended s.place s) →
-    Becomes mid new (take_kernel_step (schedule_of mid) number) → Gains gave e e' new turns s (kernel_takes turns i s)
+    ChangesTo mid new (take_kernel_step (schedule_of mid) number) → Gains gave e e' new turns s (kernel_takes turns i s)
 unfolding kernel_takes
 takes_step {E} gave e e' mid new turns s i number is gains becomes =
     subst (λ (x : Item). Gains gave e e' new turns s (kernel_takes turns x s)) (sym is)
     (gains_then gave e e' mid new turns s (kernel_step_ended s.place s) (take_kernel_step turns number) gains
-    (subst (λ (t : List ℕ). Becomes mid new (take_kernel_step t number)) gains.stands.schedule becomes))
+    (subst (λ (t : List ℕ). ChangesTo mid new (take_kernel_step t number)) gains.stands.schedule becomes))
 
 pub takes_close : {E : Type 0} (gave : E → E → List Piece → Type 0) (e e' : E) (new : KernelAlone) (turns : List ℕ)
     (s : model.KernelAlone) (i : Item) (steps : ℕ) → i ≡ item.Close steps →
@@ -389,7 +390,7 @@ turns_inside turns schedule harts entry n same started inside =
 
 pub opens_so : (k : KernelImage) (new : KernelAlone) → new.harts.items ≡ started_harts k.entry k.harts →
     new.ram.frames.items ≡ with_segments (zero_ram k.frames) k.segments → new.disk ≡ k.disk →
-    schedule_of new ≡ k.schedule → new.steps ≡ 0 → place_in new.place ≡ model.Between → new.halted ≡ false →
+    schedule_of new ≡ k.schedule → new.steps ≡ 0 → stood_place new.place ≡ model.Between → new.halted ≡ false →
     new.unfit ≡ None → ConsoleCounts new.console [] → StandsForKernel new k.schedule (opened_kernel k)
 unfolding started_kernel
 opens_so k new harts ram disk schedule steps place halted unfit console = record {

@@ -5,11 +5,11 @@ use Rattle.alone_views.specs.declared.kernel_place.KernelPlace.{KernelPlace}
 use Rattle.alone_views.specs.declared.kernel_place.KernelPlace.TheVariants as here
 
 -- the place of the definition
-abbrev pub place_in : KernelPlace → model.KernelPlace
-place_in here.Between = model.Between
-place_in (here.Outside hart) = model.Outside hart
-place_in (here.Inside hart ctx) = model.Inside hart ctx
-place_in here.Left = model.Left
+abbrev pub stood_place : KernelPlace → model.KernelPlace
+stood_place here.Between = model.Between
+stood_place (here.Outside hart) = model.Outside hart
+stood_place (here.Inside hart ctx) = model.Inside hart ctx
+stood_place here.Left = model.Left
 
 -- the hart whose step it is, and which has not left
 abbrev pub stepping_hart : KernelPlace → Option ℕ
