@@ -1,0 +1,2 @@
+mod KernelItems
+mod KernelRam

@@ -1,0 +1,32 @@
+use Rattle.std.proofs.Common.{ap, refl}
+use Rattle.cloak_model.specs.KernelAlone as model
+use Rattle.cloak_model.specs.KernelAlone.{kernel_step_ended}
+use Rattle.alone_views.specs.KernelPlaces.{stood_place}
+use Rattle.alone_views.proofs.KernelItems.{at_place, gains_nothing, ends_outside}
+use Rattle.alone_views.proofs.kernel.KernelAlone.end_step.Goals as goal
+
+pub returns-in-Between-clause-gains : goal.returns-in-Between-clause-gains
+unfolding kernel_step_ended
+returns-in-Between-clause-gains g c turns s stands =
+    gains_nothing g.E.Emit.gave c.args.e.now c.args.self.now _ turns s (λ s. kernel_step_ended s.place s)
+    (at_place c.args.self.now _ model.Between kernel_step_ended (ap stood_place c.in-Between.is)
+    (record { state = λ console. refl; console = refl; schedule = refl })) stands
+
+pub returns-in-Outside-clause-gains : goal.returns-in-Outside-clause-gains
+returns-in-Outside-clause-gains g c turns s stands =
+    ends_outside g.E.Emit.gave c.args.e.now _ c.args.self.now _ turns s c.in-Outside.hart stands
+    (ap stood_place c.in-Outside.is) (c.end_plainly.ensures.gains turns s stands)
+
+pub returns-in-Inside-clause-gains : goal.returns-in-Inside-clause-gains
+unfolding kernel_step_ended
+returns-in-Inside-clause-gains g c turns s stands =
+    gains_nothing g.E.Emit.gave c.args.e.now c.args.self.now _ turns s (λ s. kernel_step_ended s.place s)
+    (at_place c.args.self.now _ (model.Inside c.in-Inside.hart c.in-Inside.ctx) kernel_step_ended
+    (ap stood_place c.in-Inside.is) (record { state = λ console. refl; console = refl; schedule = refl })) stands
+
+pub returns-in-Left-clause-gains : goal.returns-in-Left-clause-gains
+unfolding kernel_step_ended
+returns-in-Left-clause-gains g c turns s stands =
+    gains_nothing g.E.Emit.gave c.args.e.now c.args.self.now _ turns s (λ s. kernel_step_ended s.place s)
+    (at_place c.args.self.now _ model.Left kernel_step_ended (ap stood_place c.in-Left.is)
+    (record { state = λ console. refl; console = refl; schedule = refl })) stands

@@ -1,0 +1,18 @@
+use Rattle.std.proofs.Common.{◌≡◌, length, nat_lt, refl, sym}
+use Rattle.cloak_model.specs.KernelAlone.{with_shown_bytes}
+use Rattle.alone_views.specs.KernelStanding.{state_with}
+use Rattle.alone_views.proofs.KernelItems.{cipher_shown, fits_not}
+use Rattle.alone_views.proofs.kernel.KernelAlone.show_cipher.Goals as goal
+
+pub returns-then-has_frame : goal.returns-then-has_frame
+returns-then-has_frame c = record {
+  state = λ console. sym (cipher_shown (state_with c.args.self.now console) c.args.frame c.args.bytes.now _
+      (sym c.if-has_frame.ensures) c.set_frame.ensures);
+  console = refl;
+  schedule = refl;
+}
+
+pub returns-else-has_frame : goal.returns-else-has_frame
+returns-else-has_frame c =
+    fits_not c.args.self.now _ (λ s. nat_lt c.args.frame (length s.kernel.ram)) (with_shown_bytes c.args.frame c.args.bytes.now)
+    (λ console. sym c.if-has_frame.ensures) c.refuse.ensures

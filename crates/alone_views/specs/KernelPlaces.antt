@@ -1,0 +1,23 @@
+-- Where the items of a kernel that runs alone stand.
+use Rattle.std.specs.Prelude.{ℕ, ◌≡◌, ◌<◌, Option, Some, None}
+use Rattle.cloak_model.specs.KernelAlone as model
+use Rattle.alone_views.specs.declared.kernel_place.KernelPlace.{KernelPlace}
+use Rattle.alone_views.specs.declared.kernel_place.KernelPlace.TheVariants as here
+
+-- the place of the definition
+abbrev pub stood_place : KernelPlace → model.KernelPlace
+stood_place here.Between = model.Between
+stood_place (here.Outside hart) = model.Outside hart
+stood_place (here.Inside hart ctx) = model.Inside hart ctx
+stood_place here.Left = model.Left
+
+-- the hart whose step it is, and which has not left
+abbrev pub stepping_hart : KernelPlace → Option ℕ
+stepping_hart here.Between = None
+stepping_hart (here.Outside hart) = Some hart
+stepping_hart (here.Inside hart ctx) = Some hart
+stepping_hart here.Left = None
+
+-- it is one of this many
+abbrev pub IsPlaceAmong : ℕ → KernelPlace → Type 0
+IsPlaceAmong harts place = (hart : ℕ) → stepping_hart place ≡ Some hart → hart < harts

@@ -1,0 +1,4 @@
+pub mod KernelChanges
+pub mod KernelConsole
+pub mod KernelPlaces
+pub mod KernelStanding

@@ -1,0 +1,167 @@
+//! The kernel alone: it takes the items of a record one after another, and ignores the inward ones. A step of a hart
+//! outside shows the step's Ciphers and then makes the plain step, once the step's end has been read. A step of a hart
+//! inside counts the timer, and shows what the step's Ciphers, Puts and Leave say.
+ghost use Rattle.std.specs.Prelude.{◌≡◌, ◌<◌, ◌^◌, ℕ, List, length, All, IfOk, IsSome};
+ghost use Rattle.cloak_model.specs.Bundle.{IsKernelImage};
+ghost use Rattle.cloak_model.specs.Exchange.{EmitsSome};
+ghost use Rattle.cloak_model.specs.KernelAlone as spec;
+ghost use Rattle.cloak_model.specs.Record.{IsItem};
+ghost use Rattle.cloak_model.specs.Report.{kernel_lines};
+ghost use Rattle.outside_io.specs.Told.{Puts};
+ghost use Rattle.alone_views.specs.KernelPlaces.{IsPlaceAmong};
+
+use crate::kernel_place::KernelPlace;
+use crate::kernel_ram::{FlatRam, load_segments};
+use crate::kernel_starting::start_harts;
+use crate::unfit::Unfit;
+use cloak_base::{Failed, NoMemory};
+use cloak_model::{Emit, Item, KernelImage};
+use host_calls::{Disk, Hart};
+use kernel_report::{Console, KernelLines, put_kernel};
+use outside_io::Sink;
+use sha2::{Digest, Sha256};
+use std::alloc::Global;
+
+/// A kernel that runs alone, on the items of a record.
+#[derive(Drop)]
+pub struct KernelAlone {
+    pub(crate) harts: Vec<Hart>,
+    pub(crate) ram: FlatRam,
+    pub(crate) disk: Disk,
+    pub(crate) console: Console,
+    pub(crate) schedule: Vec<u8>,
+    /// The number of the last Step, 0 before the first.
+    pub(crate) steps: u32,
+    pub(crate) place: KernelPlace,
+    /// The last step that was made halted.
+    pub(crate) halted: bool,
+    /// The step at which an item was unfit.
+    pub(crate) unfit: Option<u32>,
+    ghost some_turns: { 0 < length schedule.items },
+    ghost turns: { All (λ h. h < length harts.items) schedule.items },
+    ghost placed: { IsPlaceAmong (length harts.items) place },
+}
+
+impl KernelAlone {
+    ghost use Rattle.alone_views.specs.KernelChanges.{ChangesTo};
+    ghost use Rattle.alone_views.specs.KernelStanding.{Gains, StandsForKernel, TakesItem};
+    ghost use Rattle.alone_views.specs.KernelStanding.{answer_for, schedule_of, unfit_step};
+
+    /// The kernel of a guest image before any item.
+    pub fn open(alloc: Global, k: &KernelImage) -> Result<KernelAlone, NoMemory>
+        requires { IsKernelImage k.now }
+        ensures { IfOk result (λ machine. StandsForKernel machine k.now.schedule (spec.opened_kernel k.now)) }
+    {
+        let harts = start_harts(alloc, k.entry, k.harts)?;
+        let ram = load_segments(alloc, k.frames, k.segments.as_slice())?;
+        let disk = Disk::open(alloc, k.disk.as_slice())?;
+        let schedule = Vec::from_slice(alloc, k.schedule.as_slice())?;
+        Ok(KernelAlone {
+            harts,
+            ram,
+            disk,
+            console: Console::new(),
+            schedule,
+            steps: 0,
+            place: KernelPlace::Between,
+            halted: false,
+            unfit: None,
+        })
+    }
+
+    /// An item is unfit at the last Step.
+    pub(crate) fn refuse(&mut self)
+        ensures { ChangesTo self.old self.new spec.kernel_unfit }
+    {
+        self.unfit = Some(self.steps);
+    }
+
+    /// Takes an item, where none was unfit.
+    fn take_fit<E: Emit>(&mut self, i: &Item, e: &mut E)
+        ensures gains { (turns : List ℕ) (s : spec.KernelAlone) → IsItem i.now → StandsForKernel self.old turns s →
+            Gains E.gave e.old e.new self.new turns s (spec.kernel_takes turns i.now s) }
+        ensures schedule { schedule_of self.new ≡ schedule_of self.old }
+        ensures emits_some { EmitsSome E.gave e.old e.new }
+    {
+        match i {
+            Item::Cipher { frame, bytes } => self.take_cipher(*frame, bytes),
+            Item::Put {
+                address,
+                width,
+                value,
+            } => self.take_put(*address, *width as u32, *value),
+            Item::Leave(shown) => self.take_leave(shown),
+            Item::Step { number } => {
+                self.end_step(e);
+                self.take_step(*number);
+            }
+            Item::Close { .. } => self.end_step(e),
+            Item::End => {}
+            Item::Ok { .. } => {}
+            Item::Absent { .. } => {}
+            Item::Word { .. } => {}
+            Item::Timer { .. } => {}
+            Item::Resume { .. } => {}
+            Item::Stopped { .. } => {}
+        }
+    }
+
+    /// Takes an item, unless one was unfit.
+    fn take_next<E: Emit>(&mut self, i: &Item, e: &mut E)
+        ensures gains { (turns : List ℕ) (s : spec.KernelAlone) → IsItem i.now → StandsForKernel self.old turns s →
+            Gains E.gave e.old e.new self.new turns s (spec.take_kernel_item turns s i.now) }
+        ensures stays { IsSome (unfit_step self.old) → (self.new ≡ self.old) × (e.new ≡ e.old) }
+        ensures schedule { schedule_of self.new ≡ schedule_of self.old }
+        ensures emits_some { EmitsSome E.gave e.old e.new }
+    {
+        if self.unfit.is_some() {
+            return;
+        }
+        self.take_fit(i, e);
+    }
+
+    /// What is answered behind the last item.
+    fn answer(&self) -> Result<(), Unfit>
+        ensures { result ≡ answer_for (unfit_step self.now) }
+    {
+        match self.unfit {
+            None => Ok(()),
+            Some(step) => Err(Unfit { step }),
+        }
+    }
+
+    /// Takes the next item, and shows what the console gains. Once an item was unfit, each is answered so, and nothing
+    /// changes.
+    pub fn take<E: Emit>(&mut self, i: &Item, e: &mut E) -> Result<(), Unfit>
+        ensures takes { (turns : List ℕ) (s : spec.KernelAlone) → IsItem i.now → StandsForKernel self.old turns s →
+            TakesItem E.gave e.old e.new self.new result turns s (spec.take_kernel_item turns s i.now) }
+        ensures answer { result ≡ answer_for (unfit_step self.new) }
+        ensures stays { IsSome (unfit_step self.old) → (self.new ≡ self.old) × (e.new ≡ e.old) }
+        ensures emits_some { EmitsSome E.gave e.old e.new }
+    {
+        self.take_next(i, e);
+        self.answer()
+    }
+    /// Writes the kernel's lines of the report. One that failed has written a front of them.
+    pub fn report<O: Sink>(self, out: &mut O) -> Result<(), Failed>
+        ensures { (turns : List ℕ) (s : spec.KernelAlone) → StandsForKernel self turns s →
+            length s.kernel.console < 2 ^ 64 → Puts (O.taken out.old) (O.taken out.new) (O.faults out.old) (O.faults out.new)
+            (kernel_lines s.kernel) result }
+    {
+        let KernelAlone {
+            harts,
+            ram,
+            disk,
+            console,
+            ..
+        } = self;
+        let lines = KernelLines {
+            console_length: console.count,
+            console: console.digest(),
+            ram: ram.digest(),
+            disk: Sha256::digest(disk.bytes()),
+            harts,
+        };
+        put_kernel(out, Ok(()), &lines)
+    }
+}

@@ -1,0 +1,55 @@
+//! The Puts of a kernel that runs alone: they store in the steps of harts inside.
+ghost use Rattle.std.specs.Prelude.{◌≡◌, true, length};
+ghost use Rattle.cloak_model.specs.Effect.{IsWidth};
+ghost use Rattle.cloak_model.specs.KernelAlone as spec;
+ghost use Rattle.cloak_model.specs.Record.{IsItemWidth};
+
+use crate::kernel::KernelAlone;
+use crate::kernel_place::KernelPlace;
+
+/// An access has this width.
+fn is_width(width: u32) -> bool
+    ensures width { result ≡ true → IsWidth width }
+    ensures all { IsItemWidth width → result ≡ true }
+{
+    matches!(width, 1 | 2 | 4)
+}
+
+impl KernelAlone {
+    ghost use Rattle.alone_views.specs.KernelChanges.{ChangesTo, MayStore, may_store, store_or_unfit};
+    ghost use Rattle.alone_views.specs.KernelStanding.{schedule_of};
+
+    /// A Put may store at this address: it lies in RAM, and is a multiple of the width.
+    fn may_store(&self, address: u32, width: u32) -> bool
+        ensures may { result ≡ true → MayStore self.now address width }
+        ensures value { IsItemWidth width → result ≡ may_store (length self.now.ram.frames.items) address width }
+    {
+        is_width(width) && self.ram.is_inside(address as u64) && address % width == 0
+    }
+
+    /// Stores the lowest bytes of a value at an address of RAM that is a multiple of their count.
+    fn store(&mut self, address: u32, width: u32, value: u32)
+        ensures becomes { IsItemWidth width → ChangesTo self.old self.new (store_or_unfit address width value) }
+        ensures schedule { schedule_of self.new ≡ schedule_of self.old }
+    {
+        if self.may_store(address, width) {
+            self.ram.store(address, width, value)
+        } else {
+            self.refuse()
+        }
+    }
+
+    /// Takes a Put.
+    pub(crate) fn take_put(&mut self, address: u32, width: u32, value: u32)
+        ensures becomes { IsItemWidth width →
+            ChangesTo self.old self.new (λ s. spec.take_put s.place address width value s) }
+        ensures schedule { schedule_of self.new ≡ schedule_of self.old }
+    {
+        match self.place {
+            KernelPlace::Inside { .. } => self.store(address, width, value),
+            KernelPlace::Between => self.refuse(),
+            KernelPlace::Outside { .. } => self.refuse(),
+            KernelPlace::Left => self.refuse(),
+        }
+    }
+}

@@ -1,0 +1,202 @@
+//! The frames of a machine without cloaked pages.
+ghost use Rattle.std.specs.Prelude.{◌≡◌, ◌+◌, ◌*◌, ◌%◌, ◌≤◌, ◌<◌, length, nat_lt, slice_set, IfOk, All, IsTrue};
+ghost use Rattle.std.specs.List.{concat};
+ghost use Rattle.sha2.specs.Sha256.{sha256};
+ghost use Rattle.cloak_base.specs.Pages.{zero_page};
+ghost use Rattle.cloak_model.specs.Bundle.{IsSegmentIn};
+ghost use Rattle.cloak_model.specs.Effect.{IsWidth};
+ghost use Rattle.cloak_model.specs.Memory as memory;
+ghost use Rattle.cloak_model.specs.Memory.{is_in_frames, with_bytes, with_value_at, zero_ram};
+ghost use Rattle.cloak_model.specs.Opening.{with_segments};
+
+use cloak_base::{Frame, Kind, Mode, NoMemory};
+use cloak_model::{Segment, access_fault, set_value_in, value_in, word_in};
+use host_calls::Ram;
+use sha2::{Digest, Sha256};
+use std::alloc::Global;
+use sv32_walk::{Words, walk};
+
+/// Where RAM begins.
+const RAM_START: u32 = 0x8000_0000;
+
+/// RAM without cloaked pages: its frames as the kernel sees them.
+#[derive(Drop)]
+pub struct FlatRam {
+    pub frames: Vec<[u8; 4096]>,
+    ghost few: { length frames.items ≤ 4096 },
+}
+
+/// The frame of an address in RAM.
+#[inline]
+fn frame_of(pa: u32) -> usize
+    requires { 0x80000000 ≤ pa }
+    ensures { result ≡ memory.frame_of pa }
+{
+    ((pa - RAM_START) / 4096) as usize
+}
+
+/// The place of an address in its frame.
+#[inline]
+fn place_of(pa: u32) -> usize
+    requires { 0x80000000 ≤ pa }
+    ensures value { result ≡ memory.place_of pa }
+    ensures inside { result < 4096 }
+{
+    ((pa - RAM_START) % 4096) as usize
+}
+
+impl FlatRam {
+    /// The address lies in RAM.
+    #[inline]
+    pub fn is_inside(&self, pa: u64) -> bool
+        ensures { result ≡ is_in_frames (length self.now.frames.items) pa }
+    {
+        pa >= RAM_START as u64 && (pa - RAM_START as u64) / 4096 < self.frames.len() as u64
+    }
+
+    /// There is a frame of this number.
+    pub fn has_frame(&self, f: u32) -> bool
+        ensures { result ≡ nat_lt f (length self.now.frames.items) }
+    {
+        (f as usize) < self.frames.len()
+    }
+
+    /// Stores the lowest 1, 2 or 4 bytes of a word at an address.
+    #[inline]
+    pub fn store(&mut self, pa: u32, width: u32, value: u32)
+        requires inside { IsTrue (is_in_frames (length self.old.frames.items) pa) }
+        requires width { IsWidth width }
+        requires aligned { pa % width ≡ 0 }
+        ensures { self.new.frames.items ≡ with_value_at pa width value self.old.frames.items }
+    {
+        set_value_in(&mut self.frames[frame_of(pa)], place_of(pa), width, value)
+    }
+
+    /// Replaces the bytes of a frame.
+    pub fn set_frame(&mut self, f: u32, bytes: &[u8; 4096])
+        requires { f < length self.old.frames.items }
+        ensures { self.new.frames.items ≡ slice_set self.old.frames.items f bytes.now }
+    {
+        self.frames[f as usize] = *bytes;
+    }
+
+    /// The digest of all frames in order.
+    pub fn digest(&self) -> [u8; 32]
+        ensures { result ≡ sha256 (concat self.now.frames.items) }
+    {
+        let mut hasher = Sha256::new();
+        let frames = self.frames.as_slice();
+        for frame in frames {
+            hasher.update(frame.as_slice());
+        }
+        hasher.finalize()
+    }
+}
+
+#[tactic(auto, unfolding(cloak_model::specs::Ask::ask_word))]
+impl Words for FlatRam {
+    ghost use Rattle.std.specs.Prelude.{◌≡◌};
+    ghost use Rattle.cloak_model.specs.World.{Flat};
+
+    ghost stands_for = { λ first side w. w ≡ Flat side.frames.items };
+
+    ghost kept = { λ first side. Unit {0} };
+
+    fn word(&mut self, pa: u64) -> Option<u32> {
+        if !self.is_inside(pa) {
+            return None;
+        }
+        let pa = pa as u32;
+        Some(word_in(&self.frames[frame_of(pa)], place_of(pa)))
+    }
+}
+
+#[tactic(auto, using(cloak_model::proofs::Later::laters), unfolding(cloak_model::specs::Ask::ask_translate, cloak_model::specs::Ask::ask_inside, cloak_model::specs::Ask::ask_value, cloak_model::specs::Ask::ask_store, cloak_model::specs::Ask::ask_frame, cloak_model::specs::Ask::ask_fill, cloak_model::specs::Ask::ask_count))]
+impl Ram for FlatRam {
+    ghost use Rattle.std.specs.Prelude.{◌≡◌, length};
+    ghost use Rattle.cloak_model.specs.World.{Flat};
+
+    ghost stands_for = { λ first side w. w ≡ Flat side.frames.items };
+
+    ghost kept = { λ first side. Unit {0} };
+
+    ghost count = { λ side. length side.frames.items };
+
+    fn translate(
+        &mut self,
+        satp: u32,
+        mode: Mode,
+        sum: bool,
+        mxr: bool,
+        va: u32,
+        kind: Kind,
+    ) -> Result<u32, u32> {
+        match walk(satp, mode, sum, mxr, va, kind, self) {
+            Err(cause) => Err(cause),
+            Ok(walked) => {
+                if self.is_inside(walked.pa) {
+                    Ok(walked.pa as u32)
+                } else {
+                    Err(access_fault(kind))
+                }
+            }
+        }
+    }
+
+    fn read(&mut self, pa: u32, width: u32) -> u32 {
+        value_in(&self.frames[frame_of(pa)], place_of(pa), width)
+    }
+
+    fn write(&mut self, pa: u32, width: u32, v: u32) {
+        set_value_in(&mut self.frames[frame_of(pa)], place_of(pa), width, v)
+    }
+
+    fn frame(&mut self, f: Frame) -> &[u8; 4096] {
+        &self.frames[f.0 as usize]
+    }
+
+    fn fill(&mut self, f: Frame, b: &[u8; 4096]) {
+        self.frames[f.0 as usize] = *b;
+    }
+
+    fn frames(&self) -> u32 {
+        self.frames.len() as u32
+    }
+}
+
+#[tactic(auto, unfolding(cloak_base::specs::Pages::zero_page))]
+fn zeros() -> [u8; 4096]
+    ensures { result ≡ zero_page }
+{
+    [0; 4096]
+}
+
+/// Stores bytes from an address on.
+fn store_bytes(frames: &mut [[u8; 4096]], address: u32, bytes: &[u8])
+    requires from_start { 0x80000000 ≤ address }
+    requires to_end { address + length bytes.now ≤ 0x80000000 + 4096 * length frames.old }
+    requires few { length frames.old ≤ 4096 }
+    ensures { frames.new ≡ with_bytes frames.old address bytes.now }
+{
+    for (i, b) in bytes.iter().enumerate() {
+        let place = (address - RAM_START) as usize + i;
+        frames[place / 4096][place % 4096] = *b;
+    }
+}
+
+/// RAM as a run begins: zeros, and then the segments in their order.
+pub fn load_segments(alloc: Global, count: u32, segments: &[Segment]) -> Result<FlatRam, NoMemory>
+    requires few { count ≤ 4096 }
+    requires inside { All (IsSegmentIn count) segments.now }
+    ensures { IfOk result (λ ram. ram.frames.items ≡ with_segments (zero_ram count) segments.now) }
+{
+    let mut frames = Vec::with_capacity(alloc, count as usize)?;
+    for made in 0..count {
+        let _ = made;
+        frames.push(zeros())?;
+    }
+    for segment in segments {
+        store_bytes(&mut frames, segment.address, segment.bytes.as_slice());
+    }
+    Ok(FlatRam { frames })
+}
