@@ -1,5 +1,5 @@
 //! What stands at the front of some bytes: an item of a tag, the end of a record, or what is wrong there.
-ghost use Rattle.std.specs.Prelude.{◌≡◌, ◌≤◌, ◌<◌, ℕ, length, take, slice_index};
+ghost use Rattle.std.specs.Prelude.{◌≡◌, ◌≤◌, ◌<◌, ℕ, IfOk, IfSome, length, take, slice_index};
 ghost use Rattle.cloak_model.specs.RecordFault as spec;
 ghost use Rattle.record_law.specs.Items as items;
 ghost use Rattle.exchange_log.specs.Reading.{judged};
@@ -82,6 +82,7 @@ fn wrong_behind(stage: Stage, bytes: &[u8; LONGEST], count: usize) -> Option<Wro
 pub fn judge(stage: Stage, bytes: &[u8; LONGEST], count: usize) -> Result<Option<Tag>, Wrong>
     requires { count ≤ LONGEST }
     ensures judged { result ≡ judged stage (take count bytes.now) }
+    ensures some_byte { IfOk result (λ found. IfSome found (λ t. 1 ≤ count)) }
     ensures each { (i : ℕ) → slice_index bytes.now i < 256 }
 {
     if let Some(wrong) = wrong_behind(stage, bytes, count) {

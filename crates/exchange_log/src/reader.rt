@@ -1,5 +1,5 @@
 //! The reader of a record.
-ghost use Rattle.std.specs.Prelude.{◌≡◌, ℕ, List, [], IfOk, IfSome, OnErr};
+ghost use Rattle.std.specs.Prelude.{◌≡◌, ◌<◌, ℕ, List, [], IfOk, IfSome, OnErr};
 ghost use Rattle.outside_io.specs.Told.{SameFiles};
 ghost use Rattle.cloak_model.specs.declared.item.Item.{Item};
 ghost use Rattle.cloak_model.specs.Record.{IsItem};
@@ -24,6 +24,8 @@ pub struct Reader<'a> {
 }
 
 impl<'a> Reader<'a> {
+    ghost use Rattle.exchange_log.specs.Place.{place_of};
+
     /// At the front of the file of this name.
     pub fn open(name: &'a str) -> Reader<'a>
         ensures front { (bytes : List ℕ) → StandsBehind result.at result.stage bytes [] }
@@ -42,6 +44,7 @@ impl<'a> Reader<'a> {
             StandsBehind self.old.at self.old.stage (readable bytes) front →
             ReadsNext (readable bytes) front self.new.at self.new.stage result) }
         ensures item { IfOk result (λ found. IfSome found IsItem) }
+        ensures moves { IfOk result (λ found. IfSome found (λ i. place_of self.old < place_of self.new)) }
         ensures same { self.new.name ≡ self.old.name }
         ensures unchanged { OnErr result (self.new ≡ self.old) }
         ensures files { SameFiles (S.held shelf.old) (S.held shelf.new) }

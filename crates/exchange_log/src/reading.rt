@@ -80,6 +80,7 @@ fn read_magic<S: Shelf>(name: &str, shelf: &mut S) -> Result<(), NextFault>
 /// Where the next item stands, behind the magic, which is read first.
 pub fn items_from<S: Shelf>(name: &str, at: u64, shelf: &mut S) -> Result<u64, NextFault>
     ensures magic { IfSome (S.held shelf.old name.now) (λ bytes. TellsStart (readable bytes) at result) }
+    ensures behind { IfOk result (λ from. at ≤ from) }
     ensures files { SameFiles (S.held shelf.old) (S.held shelf.new) }
     ensures counts { ReadsCounts (S.reading_faults shelf.old) (S.reading_faults shelf.new)
         (S.writing_faults shelf.old) (S.writing_faults shelf.new) result }
