@@ -1,4 +1,7 @@
+pub mod DomainPages
+pub mod DomainStanding
 pub mod KernelChanges
 pub mod KernelConsole
 pub mod KernelPlaces
 pub mod KernelStanding
+pub mod Side

@@ -1,0 +1,188 @@
+-- An item completes at most one load of a program that runs alone. So a program that took fewer than 2^64 items has
+-- fewer loads than that, as its report needs.
+use Rattle.std.proofs.Common.{◌≡◌, ◌≤◌, ◌+◌, ℕ, Bool, true, false, cond, List, [], ◌∷◌, ◌++◌, length, Option, Some, None, refl, arith, length-append}
+use Rattle.std.specs.Prelude.{is_some}
+use Rattle.cloak_model.specs.declared.answer.Answer.{Answer}
+use Rattle.cloak_model.specs.declared.context.Phase.{Phase}
+use Rattle.cloak_model.specs.declared.context.Phase.TheVariants.{Plain, CopyIn, Waiting, CopyOut}
+use Rattle.cloak_model.specs.declared.inside.Copied.{Copied}
+use Rattle.cloak_model.specs.declared.inside.Copied.TheVariants as copied
+use Rattle.cloak_model.specs.declared.inside.Ran.{Ran}
+use Rattle.cloak_model.specs.declared.inside.Ran.TheVariants as ran
+use Rattle.cloak_model.specs.declared.item.Item.{Item}
+use Rattle.cloak_model.specs.declared.item.Item.TheVariants as item
+use Rattle.cloak_model.specs.World.{World, Alone, Handed}
+use Rattle.cloak_model.specs.Contexts.{Context}
+use Rattle.cloak_model.specs.Parts.{DomainPart}
+use Rattle.cloak_model.specs.DomainState.{Domain}
+use Rattle.cloak_model.specs.DomainStep as step
+use Rattle.cloak_model.specs.DomainStep.{DomainStepped, Resumes, domain_step}
+use Rattle.cloak_model.specs.DomainAlone as model
+use Rattle.cloak_model.specs.DomainAlone.{Tried, Over, Wants, Wrong, tried, try_with, handed_of, is_none_left, is_granted, answered_by, made_by, take_answer, take_timer, take_resume, resumed_by, domain_step_ended, domain_step_begun, take_domain_step, domain_takes, take_domain_item, domain_taken}
+
+abbrev LoadsOnce : Domain → DomainStepped → Type 0
+LoadsOnce d made = length made.domain.loads ≤ length d.loads + 1
+
+no_load : (n : ℕ) → n ≤ n + 1
+no_load n = omega arith
+
+one_load : (d : Domain) (address value : ℕ) → length (d.loads ++ (address, value) ∷ []) ≤ length d.loads + 1
+one_load d address value = let e = length-append d.loads ((address, value) ∷ []) in omega (arith, e)
+
+loads_instruction : (slot : ℕ) (d : Domain) (c : Context) (r : Ran) (w : World) → LoadsOnce d (step.instruction_ended slot d c r w).answer
+unfolding step.instruction_ended
+loads_instruction slot d c ran.Stay w = no_load (length d.loads)
+loads_instruction slot d c (ran.Loaded address value) w = one_load d address value
+loads_instruction slot d c (ran.Trap cause address) w = no_load (length d.loads)
+loads_instruction slot d c ran.Ecall w = no_load (length d.loads)
+loads_instruction slot d c ran.Stopped w = no_load (length d.loads)
+
+loads_copy : (slot : ℕ) (d : Domain) (c : Context) (r : Copied) → LoadsOnce d (step.copy_ended slot d c r)
+unfolding step.copy_ended
+loads_copy slot d c copied.Going = no_load (length d.loads)
+loads_copy slot d c copied.CallReady = no_load (length d.loads)
+loads_copy slot d c copied.Done = no_load (length d.loads)
+loads_copy slot d c (copied.Absent cause address) = no_load (length d.loads)
+loads_copy slot d c copied.Stopped = no_load (length d.loads)
+loads_copy slot d c copied.Refused = no_load (length d.loads)
+loads_copy slot d c (copied.Loaded address byte) = one_load d address byte
+
+loads_phase : (phase : Phase) (slot : ℕ) (c : Context) (d : Domain) (w : World) → LoadsOnce d (step.phase_step phase slot c d w).answer
+unfolding step.phase_step
+loads_phase Plain slot c d w = loads_instruction slot d _ _ _
+loads_phase (CopyIn done) slot c d w = loads_copy slot d _ _
+loads_phase Waiting slot c d w = no_load (length d.loads)
+loads_phase (CopyOut done total) slot c d w = loads_copy slot d _ _
+
+loads_if : (c : Option Context) (slot : ℕ) (d : Domain) (w : World) → LoadsOnce d (step.step_if c slot d w).answer
+unfolding step.step_if
+loads_if None slot d w = no_load (length d.loads)
+loads_if (Some c) slot d w = loads_phase c.phase slot c d w
+
+loads_step : (slot : ℕ) (d : Domain) (w : World) → LoadsOnce d (domain_step slot d w).answer
+unfolding domain_step
+loads_step slot d w = loads_if _ slot d w
+
+-- The fold.
+
+abbrev loads_of : model.DomainAlone → ℕ
+loads_of s = length s.part.domain.loads
+
+abbrev FewMore : model.DomainAlone → model.DomainAlone → Type 0
+FewMore s now = loads_of now ≤ loads_of s + 1
+
+-- what was tried completed at most one
+abbrev TriedOnce : DomainPart → Tried → Type 0
+TriedOnce p (Over now) = length now.domain.loads ≤ length p.domain.loads + 1
+TriedOnce p Wants = Unit {0}
+TriedOnce p Wrong = Unit {0}
+
+once_if : (p : DomainPart) (a b : Bool) (d : Domain) (plain : ℕ → ℕ → List ℕ) → length d.loads ≤ length p.domain.loads + 1 →
+    TriedOnce p (cond a (cond b Wants Wrong) (cond b (Over (record { domain = d; plain = plain })) Wrong))
+once_if p true true d plain few = tt
+once_if p true false d plain few = tt
+once_if p false true d plain few = few
+once_if p false false d plain few = tt
+
+once_tried : (slot : ℕ) (answers : List Answer) (p : DomainPart) → TriedOnce p (try_with slot answers p)
+unfolding try_with tried
+once_tried slot answers p =
+    let w = Alone (record { plain = p.plain; answers = answers; unfit = false }) in
+    once_if p (handed_of (domain_step slot p.domain w).world).unfit (is_none_left (handed_of (domain_step slot p.domain w).world).answers) (domain_step slot p.domain w).answer.domain
+    (handed_of (domain_step slot p.domain w).world).plain (loads_step slot p.domain w)
+
+few_answered : (slot : ℕ) (answers : List Answer) (a : Answer) (t : Tried) (s : model.DomainAlone) → TriedOnce s.part t → FewMore s (answered_by slot answers a t s)
+unfolding answered_by
+few_answered slot answers a (Over p) s once = once
+few_answered slot answers a Wants s once = no_load (loads_of s)
+few_answered slot answers a Wrong s once = no_load (loads_of s)
+
+few_made : (t : Tried) (s : model.DomainAlone) → TriedOnce s.part t → FewMore s (made_by t s)
+unfolding made_by
+few_made (Over p) s once = once
+few_made Wants s once = no_load (loads_of s)
+few_made Wrong s once = no_load (loads_of s)
+
+few_answer : (q : model.DomainPlace) (a : Answer) (s : model.DomainAlone) → FewMore s (take_answer q a s)
+unfolding take_answer
+few_answer (model.Running slot answers) a s = few_answered slot answers a _ s (once_tried slot _ s.part)
+few_answer model.Between a s = no_load (loads_of s)
+few_answer (model.Other hart) a s = no_load (loads_of s)
+few_answer model.Done a s = no_load (loads_of s)
+few_answer model.Stopped a s = no_load (loads_of s)
+
+few_timer : (q : model.DomainPlace) (s : model.DomainAlone) → FewMore s (take_timer q s)
+unfolding take_timer
+few_timer (model.Running slot []) s = no_load (loads_of s)
+few_timer (model.Running slot (a ∷ answers)) s = no_load (loads_of s)
+few_timer model.Between s = no_load (loads_of s)
+few_timer (model.Other hart) s = no_load (loads_of s)
+few_timer model.Done s = no_load (loads_of s)
+few_timer model.Stopped s = no_load (loads_of s)
+
+few_either : (b : Bool) (s x y : model.DomainAlone) → FewMore s x → FewMore s y → FewMore s (cond b x y)
+few_either true s x y p q = p
+few_either false s x y p q = q
+
+few_resumed : (r : Resumes) (s : model.DomainAlone) → FewMore s (resumed_by r s)
+unfolding resumed_by
+few_resumed r s = few_either (is_granted r.answer) s _ _ (no_load (loads_of s)) (no_load (loads_of s))
+
+few_resume : (d : ℕ) (q : model.DomainPlace) (ctx reply : ℕ) (s : model.DomainAlone) → FewMore s (take_resume d q ctx reply s)
+unfolding take_resume
+few_resume d (model.Other hart) ctx reply s = few_either _ s _ _ (few_resumed _ s) (no_load (loads_of s))
+few_resume d model.Between ctx reply s = no_load (loads_of s)
+few_resume d (model.Running slot answers) ctx reply s = no_load (loads_of s)
+few_resume d model.Done ctx reply s = no_load (loads_of s)
+few_resume d model.Stopped ctx reply s = no_load (loads_of s)
+
+few_ended : (q : model.DomainPlace) (s : model.DomainAlone) → FewMore s (domain_step_ended q s)
+unfolding domain_step_ended
+few_ended (model.Running slot answers) s = few_made _ s (once_tried slot answers s.part)
+few_ended model.Between s = no_load (loads_of s)
+few_ended (model.Other hart) s = no_load (loads_of s)
+few_ended model.Done s = no_load (loads_of s)
+few_ended model.Stopped s = no_load (loads_of s)
+
+few_begun : (schedule : List ℕ) (number : ℕ) (s now : model.DomainAlone) → FewMore s now → FewMore s (domain_step_begun schedule number now)
+unfolding domain_step_begun
+few_begun schedule number s now few = few
+
+few_next : (schedule : List ℕ) (number : ℕ) (s now : model.DomainAlone) → FewMore s now → FewMore s (cond (is_some now.unfit) now (domain_step_begun schedule number now))
+few_next schedule number s now few = few_either (is_some now.unfit) s now _ few (few_begun schedule number s now few)
+
+few_step : (schedule : List ℕ) (number : ℕ) (q : model.DomainPlace) (s : model.DomainAlone) → FewMore s (take_domain_step schedule number q s)
+unfolding take_domain_step
+few_step schedule number model.Stopped s = no_load (loads_of s)
+few_step schedule number model.Between s = few_next schedule number s _ (few_ended model.Between s)
+few_step schedule number (model.Other hart) s = few_next schedule number s _ (few_ended (model.Other hart) s)
+few_step schedule number (model.Running slot answers) s = few_next schedule number s _ (few_ended (model.Running slot answers) s)
+few_step schedule number model.Done s = few_next schedule number s _ (few_ended model.Done s)
+
+few_takes : (d : ℕ) (schedule : List ℕ) (i : Item) (s : model.DomainAlone) → FewMore s (domain_takes d schedule i s)
+unfolding domain_takes
+few_takes d schedule (item.Step number) s = few_step schedule number s.place s
+few_takes d schedule (item.Close steps) s = few_ended s.place s
+few_takes d schedule (item.Ok domain) s = few_either _ s _ s (few_answer s.place _ s) (no_load (loads_of s))
+few_takes d schedule (item.Absent domain cause) s = few_either _ s _ s (few_answer s.place _ s) (no_load (loads_of s))
+few_takes d schedule (item.Word domain value) s = few_either _ s _ s (few_answer s.place _ s) (no_load (loads_of s))
+few_takes d schedule (item.Stopped domain) s = few_either _ s _ s (few_answer s.place _ s) (no_load (loads_of s))
+few_takes d schedule (item.Timer domain) s = few_either _ s _ s (few_timer s.place s) (no_load (loads_of s))
+few_takes d schedule (item.Resume domain ctx reply) s = few_either _ s _ s (few_resume d s.place ctx reply s) (no_load (loads_of s))
+few_takes d schedule (item.Cipher frame bytes) s = no_load (loads_of s)
+few_takes d schedule (item.Put address width value) s = no_load (loads_of s)
+few_takes d schedule (item.Leave shown) s = no_load (loads_of s)
+few_takes d schedule item.End s = no_load (loads_of s)
+
+pub few_taken : (d : ℕ) (schedule : List ℕ) (s : model.DomainAlone) (i : Item) → length (take_domain_item d schedule s i).part.domain.loads ≤ length s.part.domain.loads + 1
+unfolding take_domain_item
+few_taken d schedule s i = few_either (is_some s.unfit) s s _ (no_load (loads_of s)) (few_takes d schedule i s)
+
+-- the loads behind so many items
+pub few_loads : (d : ℕ) (schedule : List ℕ) (s : model.DomainAlone) (items : List Item) → length (domain_taken d schedule s items).part.domain.loads ≤ length s.part.domain.loads + length items
+unfolding domain_taken
+few_loads d schedule s [] = omega arith
+few_loads d schedule s (i ∷ items) =
+    let once = few_taken d schedule s i in
+    let rest = few_loads d schedule (take_domain_item d schedule s i) items in
+    omega (arith, once, rest)

@@ -1,0 +1,14 @@
+-- The bytes of a program's pages.
+use Rattle.std.specs.Prelude.{ℕ, ◌≡◌, ◌+◌, ◌*◌, ◌<◌, nat_lt, List, [], slice_index_or, if◌then◌else◌}
+use Rattle.cloak_base.specs.Pages.{zero_page}
+use Rattle.cloak_model.specs.declared.image.Program.{Program}
+use Rattle.cloak_model.specs.Opening.{program_page}
+
+-- these are the pages of all resources, one resource of 1024 pages behind another
+abbrev pub HasPlain : List (List ℕ) → (ℕ → ℕ → List ℕ) → Type 0
+HasPlain pages plain = (resource page : ℕ) → resource < 16 → page < 1024 →
+    slice_index_or pages (resource * 1024 + page) [] ≡ plain resource page
+
+-- the page at a place among them, as a program starts: one of its own, or zeros
+abbrev pub page_placed : Program → ℕ → List ℕ
+page_placed p place = if nat_lt place p.start.pages then program_page p.bytes place else zero_page

@@ -1,0 +1,126 @@
+-- What a program that runs alone stands for: states of the fold over the items.
+use Rattle.std.specs.Prelude.{ℕ, ◌≡◌, ◌-◌, ◌<◌, ◌%◌, List, length, slice_index, Option, Some, None, is_some, option_map, Result, Ok, Err, if◌then◌else◌}
+use Rattle.cloak_model.specs.declared.answer.Answer.{Answer}
+use Rattle.cloak_model.specs.Parts.{DomainPart}
+use Rattle.cloak_model.specs.DomainAlone as model
+use Rattle.cloak_model.specs.DomainAlone.{Tried, Over, Wants, Wrong, with_control, domain_step_begun}
+use Rattle.cloak_model.specs.Asking.{Told}
+use Rattle.cloak_model.specs.DomainStep.{DomainStepped, interrupt}
+use Rattle.hypercalls.specs.Standing.{StandsFor, control_of}
+use Rattle.alone_views.specs.declared.domain.DomainAlone.{DomainAlone}
+use Rattle.alone_views.specs.declared.domain.DomainPlace.{DomainPlace}
+use Rattle.alone_views.specs.declared.domain.DomainPlace.TheVariants as place
+use Rattle.alone_views.specs.declared.side.Handing.{Handing}
+use Rattle.alone_views.specs.declared.side.Handing.TheVariants as handing
+use Rattle.alone_views.specs.declared.unfit.Unfit.{Unfit}
+use Rattle.alone_views.specs.DomainPages.{HasPlain}
+use Rattle.alone_views.specs.Side.{IsAloneNow, one_answer}
+
+-- the number of the program
+abbrev pub number_in : DomainAlone → ℕ
+number_in machine = machine.side.domain
+
+-- the hart of each step, used cyclically
+abbrev pub schedule_in : DomainAlone → List ℕ
+schedule_in machine = machine.schedule.items
+
+-- the item that was unfit
+abbrev pub unfit_in : DomainAlone → Option Unfit
+unfit_in machine = machine.unfit
+
+-- the hart of the step of a number
+abbrev pub hart_at : List ℕ → ℕ → ℕ
+hart_at schedule number = slice_index schedule ((number - 1) % length schedule)
+
+-- where the items stand, in a step of this hart if in one
+abbrev pub place_told : ℕ → DomainPlace → model.DomainPlace
+place_told hart place.Between = model.Between
+place_told hart place.Other = model.Other hart
+place_told hart (place.Running slot answer) = model.Running slot (one_answer answer)
+place_told hart place.Done = model.Done
+place_told hart place.Stopped = model.Stopped
+
+abbrev pub step_of : Option Unfit → Option ℕ
+step_of unfit = option_map (λ (u : Unfit). u.step) unfit
+
+-- The program and its pages are this part, which has eight slots.
+pub record StandsForPart (machine : DomainAlone) (p : DomainPart) : Type 0 where
+  pub domain : StandsFor machine.domain p.domain
+  pub pages : HasPlain machine.side.pages.items p.plain
+  pub slots : length p.domain.control.contexts ≡ 8
+
+-- No item was unfit, and the machine is that of this state.
+pub record StandsWhileFit (machine : DomainAlone) (s : model.DomainAlone) : Type 0 where
+  pub fit : s.unfit ≡ None
+  pub unfit : machine.unfit ≡ None
+  pub part : StandsForPart machine s.part
+  pub steps : machine.steps ≡ s.steps
+  pub place : s.place ≡ place_told (hart_at (schedule_in machine) machine.steps) machine.place
+
+-- The machine is that of this state. Once an item was unfit, nothing but its step is kept.
+pub record StandsForState (machine : DomainAlone) (s : model.DomainAlone) : Type 0 where
+  pub unfit : step_of machine.unfit ≡ s.unfit
+  pub while_fit : s.unfit ≡ None → StandsWhileFit machine s
+
+-- The machine is that of this state of the program of a number, over a schedule.
+pub record StandsForDomain (number : ℕ) (schedule : List ℕ) (machine : DomainAlone) (s : model.DomainAlone) : Type 0 where
+  pub numbered : number_in machine ≡ number
+  pub scheduled : schedule_in machine ≡ schedule
+  pub state : StandsForState machine s
+
+-- what an item is answered, by the step at which one was unfit
+abbrev pub answer_by : Option ℕ → Result (Unit {0}) Unfit
+answer_by None = Ok tt
+answer_by (Some number) = Err (record { step = number })
+
+-- An item was answered as this state tells, and the machine stands for it.
+pub record TakesItem (number : ℕ) (schedule : List ℕ) (machine : DomainAlone) (given : Result (Unit {0}) Unfit)
+    (s : model.DomainAlone) : Type 0 where
+  pub answer : given ≡ answer_by s.unfit
+  pub stands : StandsForDomain number schedule machine s
+
+-- From each state in which no item was unfit, the machine then is that of what is told of it.
+abbrev pub TakesAs : DomainAlone → DomainAlone → (model.DomainAlone → model.DomainAlone) → Type 0
+TakesAs old new told = (s : model.DomainAlone) → StandsWhileFit old s → StandsForState new (told s)
+
+-- number and schedule stay
+pub record KeepsSetting (old new : DomainAlone) : Type 0 where
+  pub number : number_in new ≡ number_in old
+  pub schedule : schedule_in new ≡ schedule_in old
+
+-- What a step may not change that was tried.
+pub record StaysBeside (old new : DomainAlone) : Type 0 where
+  pub number : number_in new ≡ number_in old
+  pub schedule : new.schedule ≡ old.schedule
+  pub steps : new.steps ≡ old.steps
+  pub place : new.place ≡ old.place
+  pub unfit : new.unfit ≡ old.unfit
+
+-- A step was made as is told: program and side stand for what is told of them.
+pub record StepsAlone (machine : DomainAlone) (told : Told DomainStepped) : Type 0 where
+  pub domain : StandsFor machine.domain told.answer.domain
+  pub side : IsAloneNow machine.side told.world
+
+-- A step ended as was tried with these answers: where it is over, the program is that of the part; where it wants
+-- another answer, it is as it was, and it had fewer than two.
+abbrev pub IsTried : DomainAlone → Handing → List Answer → model.DomainAlone → Tried → Type 0
+IsTried machine handing.Over answers s (Over p) = StandsForPart machine p
+IsTried machine handing.Over answers s Wants = ⊥
+IsTried machine handing.Over answers s Wrong = ⊥
+IsTried machine handing.Wants answers s (Over p) = ⊥
+IsTried machine handing.Wants answers s Wants = StandsForPart machine s.part × (length answers < 2)
+IsTried machine handing.Wants answers s Wrong = ⊥
+IsTried machine handing.Wrong answers s (Over p) = ⊥
+IsTried machine handing.Wrong answers s Wants = ⊥
+IsTried machine handing.Wrong answers s Wrong = Unit {0}
+
+-- the context of a slot left for the timer interrupt, and the step has its items
+abbrev pub interrupted : ℕ → model.DomainAlone → model.DomainAlone
+interrupted slot s = record s {
+  part = with_control (interrupt slot s.part.domain.control).control s.part;
+  place = model.Done;
+}
+
+-- the next step begins, unless an item was unfit
+abbrev pub then_begun : List ℕ → ℕ → model.DomainAlone → model.DomainAlone
+then_begun schedule number s = if is_some s.unfit then s else domain_step_begun schedule number s
