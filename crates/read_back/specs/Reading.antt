@@ -81,3 +81,10 @@ pub record BreaksOff {S O : Type 0} (rose : ℕ → ℕ → Type 0) (unfit : Lis
   pub read : IsReadTo unfit (before.files.held name) before.files.reading after.files.reading items ended
   pub shown : GrowsByFront before.output.taken after.output.taken (text items ended)
   pub faults : rose before.output.faults after.output.faults
+
+-- A record was read and shown, or shown in part.
+abbrev pub ShowsRecord : {S O : Type 0} → (List Item → Option ℕ) → (List Item → Option Ending → List ℕ) → List ℕ → Status →
+    Outside S O → Outside S O → Type 0
+ShowsRecord unfit text name answer before after =
+    ReadsBack unfit text name answer before after
+    ⊎ ((answer ≡ status.WriteFault) × BreaksOff Rose unfit text name before after)

@@ -1,13 +1,16 @@
 //! The command `solo`.
-ghost use Rattle.std.specs.Prelude.{◌≡◌, ◌<◌, ◌-◌, ◌^◌, Some, None, Ok, IfOk};
+ghost use Rattle.std.specs.Prelude.{◌≡◌, ◌<◌, ◌-◌, ◌^◌, ℕ, List, Some, None, length};
 ghost use Rattle.outside_io.specs.Told.{Puts, SameFiles};
 ghost use Rattle.cloak_model.specs.declared.image.KernelImage.{KernelImage};
 ghost use Rattle.cloak_model.specs.declared.image.Program.{Program};
 ghost use Rattle.cloak_model.specs.DomainAlone as model;
 ghost use Rattle.command_words.specs.Request.{asked_of_solo};
-ghost use Rattle.alone_views.specs.DomainStanding.{StandsForDomain, number_in, schedule_in};
+ghost use Rattle.alone_views.specs.DomainStanding.{StandsForDomain};
 ghost use Rattle.program_parts.specs.Outside.{outside};
-ghost use Rattle.read_back.specs.Answering.{SoloAnswers};
+ghost use Rattle.cloak_model.specs.DomainState.{domain_line};
+ghost use Rattle.read_back.specs.Answering.{SoloAnswers, program_text, program_unfit};
+ghost use Rattle.read_back.specs.Reading.{ShowsRecord};
+ghost use Rattle.read_back.specs.Text.{lines_or_fault};
 ghost use Rattle.read_back.specs.Viewing.{SolosTo};
 
 use crate::ending::{Ending, show_fault, status};
@@ -23,8 +26,8 @@ use std::alloc::Global;
 /// answers how reading ended.
 fn read_program<S: Shelf>(program: &mut DomainAlone, name: &str, shelf: &mut S) -> Ending
     requires settled { S.is_settled shelf.old }
-    ensures solos { (d : ℕ) (k : KernelImage) (p : Program) → StandsForDomain program.old (model.opened_domain d p) →
-        number_in program.old ≡ d → schedule_in program.old ≡ k.schedule →
+    ensures solos { (d : ℕ) (k : KernelImage) (p : Program) →
+        StandsForDomain d k.schedule program.old (model.opened_domain d p) →
         SolosTo d k p program.new (S.held shelf.old name.now)
         (S.reading_faults shelf.old) (S.reading_faults shelf.new) (Some result) }
     ensures files { SameFiles (S.held shelf.old) (S.held shelf.new) }
@@ -46,7 +49,12 @@ fn read_program<S: Shelf>(program: &mut DomainAlone, name: &str, shelf: &mut S) 
 }
 
 /// Shows the program's line, or why reading ended.
-fn show_end<O: Sink>(program: DomainAlone, ending: &Ending, out: &mut O) -> Result<(), Failed> {
+fn show_end<O: Sink>(program: DomainAlone, ending: &Ending, out: &mut O) -> Result<(), Failed>
+    ensures { (number : ℕ) (turns : List ℕ) (s : model.DomainAlone) → StandsForDomain number turns program s →
+        length s.part.domain.loads < 2 ^ 64 → (ending.now ≡ Ending.Whole → s.unfit ≡ None) →
+        Puts (O.taken out.old) (O.taken out.new) (O.faults out.old) (O.faults out.new)
+        (lines_or_fault (domain_line s.part.domain) ending.now) result }
+{
     match ending {
         Ending::Whole => program.report(out),
         _ => show_fault(out, ending),
@@ -62,6 +70,13 @@ fn solo_record<S: Shelf, O: Sink>(
 ) -> Status
     requires settled { S.is_settled shelf.old }
     requires output { O.faults out.old < 2 ^ 64 - 1 }
+    ensures shows { (d : ℕ) (k : KernelImage) (p : Program) →
+        StandsForDomain d k.schedule program (model.opened_domain d p) →
+        ShowsRecord (program_unfit d k p) (program_text d k p) name.now result
+        (outside S.held S.reading_faults S.writing_faults O.taken O.faults shelf.old out.old)
+        (outside S.held S.reading_faults S.writing_faults O.taken O.faults shelf.new out.new) }
+    ensures files { SameFiles (S.held shelf.old) (S.held shelf.new) }
+    ensures writing { S.writing_faults shelf.new ≡ S.writing_faults shelf.old }
 {
     let mut program = program;
     let ending = read_program(&mut program, name, shelf);

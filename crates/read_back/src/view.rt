@@ -1,13 +1,15 @@
 //! The command `view`.
-ghost use Rattle.std.specs.Prelude.{◌≡◌, ◌<◌, ◌-◌, ◌^◌, true, false, Some, None, Ok, IfOk};
+ghost use Rattle.std.specs.Prelude.{◌≡◌, ◌<◌, ◌-◌, ◌^◌, ◌++◌, ℕ, List, true, None, codes, length};
 ghost use Rattle.outside_io.specs.Told.{Puts, SameFiles};
 ghost use Rattle.cloak_model.specs.declared.image.KernelImage.{KernelImage};
 ghost use Rattle.cloak_model.specs.KernelAlone as model;
 ghost use Rattle.command_words.specs.Request.{asked_of_view};
-ghost use Rattle.alone_views.specs.KernelStanding.{StandsForKernel, schedule_of};
-ghost use Rattle.program_parts.specs.Outside.{Raised, outside};
+ghost use Rattle.alone_views.specs.KernelStanding.{StandsForKernel};
+ghost use Rattle.cloak_model.specs.Report.{kernel_lines};
+ghost use Rattle.program_parts.specs.Outside.{outside};
 ghost use Rattle.read_back.specs.Answering.{ViewAnswers, kernel_text, kernel_unfit};
-ghost use Rattle.read_back.specs.Reading.{BreaksOff, ReadsBack};
+ghost use Rattle.read_back.specs.Reading.{ShowsRecord};
+ghost use Rattle.read_back.specs.Text.{lines_or_fault};
 ghost use Rattle.read_back.specs.Screen.{GaveScreen};
 ghost use Rattle.read_back.specs.Viewing.{ViewsTo};
 
@@ -30,8 +32,7 @@ fn read_kernel<S: Shelf, O: Sink>(
     screen: &mut Screen<'_, O>,
 ) -> Option<Ending>
     requires settled { S.is_settled shelf.old }
-    ensures views { (k : KernelImage) → StandsForKernel kernel.old (model.opened_kernel k) →
-        schedule_of kernel.old ≡ k.schedule →
+    ensures views { (k : KernelImage) → StandsForKernel kernel.old k.schedule (model.opened_kernel k) →
         ViewsTo (GaveScreen O.taken O.faults) screen.old screen.new k kernel.new (S.held shelf.old name.now)
         (S.reading_faults shelf.old) (S.reading_faults shelf.new) result }
     ensures failed { result ≡ None → screen.new.failed ≡ true }
@@ -56,7 +57,12 @@ fn read_kernel<S: Shelf, O: Sink>(
 }
 
 /// Shows the rest of the console's line, and the kernel's lines or why reading ended.
-fn show_end<O: Sink>(kernel: KernelAlone, ending: &Ending, out: &mut O) -> Result<(), Failed> {
+fn show_end<O: Sink>(kernel: KernelAlone, ending: &Ending, out: &mut O) -> Result<(), Failed>
+    ensures { (turns : List ℕ) (s : model.KernelAlone) → StandsForKernel kernel turns s →
+        length s.kernel.console < 2 ^ 64 →
+        Puts (O.taken out.old) (O.taken out.new) (O.faults out.old) (O.faults out.new)
+        (codes "\n" ++ lines_or_fault (kernel_lines s.kernel) ending.now) result }
+{
     put_all(out, b"\n")?;
     match ending {
         Ending::Whole => kernel.report(out),
@@ -73,6 +79,12 @@ fn view_record<S: Shelf, O: Sink>(
 ) -> Status
     requires settled { S.is_settled shelf.old }
     requires output { O.faults out.old < 2 ^ 64 - 1 }
+    ensures shows { (k : KernelImage) → StandsForKernel kernel k.schedule (model.opened_kernel k) →
+        ShowsRecord (kernel_unfit k) (kernel_text k) name.now result
+        (outside S.held S.reading_faults S.writing_faults O.taken O.faults shelf.old out.old)
+        (outside S.held S.reading_faults S.writing_faults O.taken O.faults shelf.new out.new) }
+    ensures files { SameFiles (S.held shelf.old) (S.held shelf.new) }
+    ensures writing { S.writing_faults shelf.new ≡ S.writing_faults shelf.old }
 {
     let mut kernel = kernel;
     let mut screen = Screen { out, failed: false };
