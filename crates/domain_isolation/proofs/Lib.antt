@@ -6,3 +6,8 @@ pub mod Steady
 pub mod Answers
 pub mod Played
 pub mod Alone
+pub mod InOrder
+pub mod KernelHarts
+pub mod JointSteps
+pub mod Opened
+pub mod Isolated
