@@ -114,8 +114,8 @@ resume_rests d schedule p k hart ctx reply stops own granted =
     let r = resume_slot (slot_of ctx) hart reply p.domain.control in
     let after = alone_at (with_control r.control p) k Done in
     let taken : domain_taken d schedule s (item.Resume d ctx reply ∷ []) ≡ after =
-        same_number d (take_resume d s.place ctx reply s) s ∙ ap (λ (b : Bool). cond b (resumed_by r s) (alone.domain_unfit s)) (eq-eqb (domain_of ctx) d own)
-        ∙ ap (λ (b : Bool). cond b after (alone.domain_unfit s)) granted in
+    same_number d (take_resume d s.place ctx reply s) s ∙ ap (λ (b : Bool). cond b (resumed_by r s) (alone.domain_unfit s)) (eq-eqb (domain_of ctx) d own)
+    ∙ ap (λ (b : Bool). cond b after (alone.domain_unfit s)) granted in
     subst (λ (t : DomainAlone). RestsAt (ended t) (with_control r.control p) stops) (sym taken)
     (record { steps = k; place = Between; is = refl; between = λ goes. refl })
 
@@ -200,7 +200,7 @@ answers_rest schedule k slot d w serving stops before (a ∷ []) is stop =
     let s = alone_at (part_in d w) k (Running slot before) in
     let over : try_with slot (before ++ a ∷ []) (part_in d w) ≡ Over p = ap (λ (l : List Answer). try_with slot l (part_in d w)) is ∙ tried_all slot d w serving in
     let taken : take_domain_item n schedule s (answer_item n a) ≡ alone_at p k (if is_stopped a then Stopped else Done) =
-        answer_taken n schedule (part_in d w) k slot before a ∙ ap (λ (r : alone.Tried). answered_by slot before a r s) over in
+    answer_taken n schedule (part_in d w) k slot before a ∙ ap (λ (r : alone.Tried). answered_by slot before a r s) over in
     subst (λ (u : DomainAlone). RestsAt (ended u) p stops) (sym taken)
     (over_rests p k (is_stopped a) stops (λ stopped. stop (ap (λ (b : Bool). b || false) stopped)))
 answers_rest schedule k slot d w serving stops before (a ∷ b ∷ after) is stop =
@@ -210,7 +210,7 @@ answers_rest schedule k slot d w serving stops before (a ∷ b ∷ after) is sto
     let s = alone_at (part_in d w) k (Running slot before) in
     let rest : (before ++ a ∷ []) ++ b ∷ after ≡ answers_of (step_scripted slot d).script w = append_assoc before (a ∷ []) (b ∷ after) ∙ is in
     let taken : take_domain_item n schedule s (answer_item n a) ≡ alone_at (part_in d w) k (Running slot (before ++ a ∷ [])) =
-        answer_taken n schedule (part_in d w) k slot before a
-        ∙ ap (λ (r : alone.Tried). answered_by slot before a r s) (tried_front slot d w serving (before ++ a ∷ []) b after rest) in
+    answer_taken n schedule (part_in d w) k slot before a
+    ∙ ap (λ (r : alone.Tried). answered_by slot before a r s) (tried_front slot d w serving (before ++ a ∷ []) b after rest) in
     subst (λ (u : DomainAlone). RestsAt (ended (domain_taken n schedule u (answer_items n (b ∷ after)))) p stops) (sym taken)
     (answers_rest schedule k slot d w serving stops (before ++ a ∷ []) (b ∷ after) rest (λ any. stop (or_later (is_stopped a) _ any)))

@@ -15,7 +15,7 @@ use Rattle.cloak_model.specs.Calls.{finish_call, gives_bytes, call_number, call_
 use Rattle.cloak_model.specs.DomainState.{Control, Domain}
 use Rattle.cloak_model.specs.DomainStep.{answer_in, answer_taken, resume_told, resume_slot}
 use Rattle.cloak_model.specs.DomainAlone.{is_hart, runs_on, slot_on, is_granted}
-use Rattle.domain_isolation.proofs.Runs.{runs_in, set_same, set_others, Moves}
+use Rattle.domain_isolation.proofs.Runs.{runs_in, set_same, set_others, MovesSlot}
 
 pub same_some : {A : Type 0} (a b : A) → Some a ≡ Some b → a ≡ b
 same_some a b is = ap (λ (o : Option _). unwrap_or o a) is
@@ -62,8 +62,8 @@ inside_set_kept harts n h kept m = elim (decided m n) [
   | inl same ↦ elim (cases_lt n (length harts)) [
     | inl within ↦ subst (λ (k : ℕ). inside_at (slice_set harts n h) k ≡ inside_at harts k) (sym same) (inside_set_same harts n h within ∙ kept)
     | inr past ↦
-      subst (λ (k : ℕ). inside_at (slice_set harts n h) k ≡ inside_at harts k) (sym same)
-      (ap (λ (x : Hart). x.inside) (get_or_past (slice_set harts n h) n (started 0 0) (subst (λ (k : ℕ). k ≤ n) (sym (length-set harts n h)) past) ∙ sym (get_or_past harts n (started 0 0) past)))
+        subst (λ (k : ℕ). inside_at (slice_set harts n h) k ≡ inside_at harts k) (sym same)
+        (ap (λ (x : Hart). x.inside) (get_or_past (slice_set harts n h) n (started 0 0) (subst (λ (k : ℕ). k ≤ n) (sym (length-set harts n h)) past) ∙ sym (get_or_past harts n (started 0 0) past)))
   ]
   | inr other ↦ inside_set_other harts n m h other
 ]
@@ -73,7 +73,7 @@ pub running_within : (harts : List Hart) (n ctx : ℕ) → inside_at harts n ≡
 running_within harts n ctx is = elim (cases_lt n (length harts)) [
   | inl within ↦ within
   | inr past ↦
-    let clash : None ≡ Some ctx = sym (started_outside 0 0) ∙ ap (λ (x : Hart). x.inside) (sym (get_or_past harts n (started 0 0) past)) ∙ is in absurd cc
+      let clash : None ≡ Some ctx = sym (started_outside 0 0) ∙ ap (λ (x : Hart). x.inside) (sym (get_or_past harts n (started 0 0) past)) ∙ is in absurd cc
 ]
 
 -- Domains.
@@ -108,16 +108,16 @@ with_one count harts harts' domains e old new order is counted number runs other
       harts_count = counted ∙ order.harts_count;
       numbers = λ d domain found. elim (decided d e) [
         | inl same ↦
-          let it : domain ≡ new = same_some domain new (sym found ∙ ap (slice_get (slice_set domains e new)) same ∙ get_set_same domains e old new is) in
-          ap (λ (x : Domain). x.control.number) it ∙ number ∙ order.numbers e old is ∙ sym same
+            let it : domain ≡ new = same_some domain new (sym found ∙ ap (slice_get (slice_set domains e new)) same ∙ get_set_same domains e old new is) in
+            ap (λ (x : Domain). x.control.number) it ∙ number ∙ order.numbers e old is ∙ sym same
         | inr other ↦ order.numbers d domain (sym (get_set_other domains e d new other) ∙ found)
       ];
       runs = λ d domain found m slot. elim (decided d e) [
         | inl same ↦
-          let it : domain ≡ new = same_some domain new (sym found ∙ ap (slice_get (slice_set domains e new)) same ∙ get_set_same domains e old new is) in
-          ap (λ (x : Domain). runs_in m x.control.contexts slot) it ∙ runs m slot ∙ ap (λ (k : ℕ). is_running k slot (inside_at harts' m)) (sym same)
+            let it : domain ≡ new = same_some domain new (sym found ∙ ap (slice_get (slice_set domains e new)) same ∙ get_set_same domains e old new is) in
+            ap (λ (x : Domain). runs_in m x.control.contexts slot) it ∙ runs m slot ∙ ap (λ (k : ℕ). is_running k slot (inside_at harts' m)) (sym same)
         | inr other ↦
-          order.runs d domain (sym (get_set_other domains e d new other) ∙ found) m slot ∙ sym (others d slot m other)
+            order.runs d domain (sym (get_set_other domains e d new other) ∙ found) m slot ∙ sym (others d slot m other)
       ];
     }
 
@@ -131,18 +131,18 @@ order_kept count harts domains n h order kept = record {
   runs = λ d domain found m slot. order.runs d domain found m slot ∙ ap (is_running d slot) (sym (inside_set_kept harts n h kept m));
 }
 
-moves_none : (slot : ℕ) (old new : Control) → Moves slot false old new → (m s : ℕ) → runs_in m new.contexts s ≡ runs_in m old.contexts s
-moves_none slot old new moves m s = elim (decided s slot) [
+moves_nothing : (slot : ℕ) (old new : Control) → MovesSlot slot false old new → (m s : ℕ) → runs_in m new.contexts s ≡ runs_in m old.contexts s
+moves_nothing slot old new moves m s = elim (decided s slot) [
   | inl same ↦ ap (runs_in m new.contexts) same ∙ moves.own m ∙ ap (runs_in m old.contexts) (sym same)
   | inr other ↦ moves.others m s other
 ]
 
 pub order_stays : (count : ℕ) (harts : List Hart) (domains : List Domain) (n : ℕ) (h : Hart) (e slot : ℕ) (old new : Domain) → InOrder count harts domains →
-    slice_get domains e ≡ Some old → h.inside ≡ inside_at harts n → Moves slot false old.control new.control →
+    slice_get domains e ≡ Some old → h.inside ≡ inside_at harts n → MovesSlot slot false old.control new.control →
     InOrder count (slice_set harts n h) (slice_set domains e new)
 order_stays count harts domains n h e slot old new order is kept moves =
     with_one count harts (slice_set harts n h) domains e old new order is (length-set harts n h) moves.number
-    (λ m s. moves_none slot old.control new.control moves m s ∙ order.runs e old is m s ∙ ap (is_running e s) (sym (inside_set_kept harts n h kept m)))
+    (λ m s. moves_nothing slot old.control new.control moves m s ∙ order.runs e old is m s ∙ ap (is_running e s) (sym (inside_set_kept harts n h kept m)))
     (λ d s m other. ap (is_running d s) (inside_set_kept harts n h kept m))
 
 -- A hart that leaves its context.
@@ -177,7 +177,7 @@ runs_once m n None is other = refl
 runs_once m n (Some c) is other = hart_once m n c.on is other
 
 pub order_leaves : (count : ℕ) (harts : List Hart) (domains : List Domain) (n : ℕ) (h : Hart) (ctx : ℕ) (old new : Domain) → InOrder count harts domains →
-    slice_get domains (domain_of ctx) ≡ Some old → inside_at harts n ≡ Some ctx → h.inside ≡ None → Moves (slot_of ctx) true old.control new.control →
+    slice_get domains (domain_of ctx) ≡ Some old → inside_at harts n ≡ Some ctx → h.inside ≡ None → MovesSlot (slot_of ctx) true old.control new.control →
     InOrder count (slice_set harts n h) (slice_set domains (domain_of ctx) new)
 order_leaves count harts domains n h ctx old new order is runs out moves =
     let e = domain_of ctx in
@@ -188,38 +188,38 @@ order_leaves count harts domains n h ctx old new order is runs out moves =
     with_one count harts harts' domains e old new order is (length-set harts n h) moves.number
     (λ m s. elim (decided m n) [
       | inl same ↦
-        subst (λ (k : ℕ). runs_in k new.control.contexts s ≡ is_running e s (inside_at harts' k)) (sym same)
-        (elim (decided s slot) [
-          | inl it ↦ ap (runs_in n new.control.contexts) it ∙ moves.own n ∙ ap (is_running e s) (sym gone)
-          | inr other ↦
-            moves.others n s other ∙ order.runs e old is n s ∙ ap (is_running e s) runs ∙ running_other_slot ctx e s other ∙ ap (is_running e s) (sym gone)
-        ])
+          subst (λ (k : ℕ). runs_in k new.control.contexts s ≡ is_running e s (inside_at harts' k)) (sym same)
+          (elim (decided s slot) [
+            | inl it ↦ ap (runs_in n new.control.contexts) it ∙ moves.own n ∙ ap (is_running e s) (sym gone)
+            | inr other ↦
+                moves.others n s other ∙ order.runs e old is n s ∙ ap (is_running e s) runs ∙ running_other_slot ctx e s other ∙ ap (is_running e s) (sym gone)
+          ])
       | inr apart ↦
-        (elim (decided s slot) [
-          | inl it ↦
-            ap (runs_in m new.control.contexts) it ∙ moves.own m ∙ sym (runs_once m n (context_at old.control.contexts slot) here apart)
-            ∙ ap (runs_in m old.control.contexts) (sym it) ∙ order.runs e old is m s
-          | inr other ↦ moves.others m s other ∙ order.runs e old is m s
-        ]) ∙ ap (is_running e s) (sym (inside_set_other harts n m h apart))
+          (elim (decided s slot) [
+            | inl it ↦
+                ap (runs_in m new.control.contexts) it ∙ moves.own m ∙ sym (runs_once m n (context_at old.control.contexts slot) here apart)
+                ∙ ap (runs_in m old.control.contexts) (sym it) ∙ order.runs e old is m s
+            | inr other ↦ moves.others m s other ∙ order.runs e old is m s
+          ]) ∙ ap (is_running e s) (sym (inside_set_other harts n m h apart))
     ])
     (λ d s m other. elim (decided m n) [
       | inl same ↦
-        subst (λ (k : ℕ). is_running d s (inside_at harts' k) ≡ is_running d s (inside_at harts k)) (sym same)
-        (ap (is_running d s) gone ∙ sym (running_other ctx e d s refl other) ∙ ap (is_running d s) (sym runs))
+          subst (λ (k : ℕ). is_running d s (inside_at harts' k) ≡ is_running d s (inside_at harts k)) (sym same)
+          (ap (is_running d s) gone ∙ sym (running_other ctx e d s refl other) ∙ ap (is_running d s) (sym runs))
       | inr apart ↦ ap (is_running d s) (inside_set_other harts n m h apart)
     ])
 
 -- A hart that resumes a context.
 
 -- what a resuming that was granted makes of the contexts
-pub record Resumes (slot hart : ℕ) (old new : Control) : Type 0 where
+pub record SlotResumed (slot hart : ℕ) (old new : Control) : Type 0 where
   pub number : new.number ≡ old.number
   pub idle : (m : ℕ) → runs_in m old.contexts slot ≡ false
   pub here : (m : ℕ) → runs_in m new.contexts slot ≡ (hart == m)
   pub others : (m s : ℕ) → s ≢ slot → runs_in m new.contexts s ≡ runs_in m old.contexts s
 
 pub order_resumes : (count : ℕ) (harts : List Hart) (domains : List Domain) (n : ℕ) (h : Hart) (ctx : ℕ) (old new : Domain) → InOrder count harts domains →
-    slice_get domains (domain_of ctx) ≡ Some old → n < length harts → inside_at harts n ≡ None → h.inside ≡ Some ctx → Resumes (slot_of ctx) n old.control new.control →
+    slice_get domains (domain_of ctx) ≡ Some old → n < length harts → inside_at harts n ≡ None → h.inside ≡ Some ctx → SlotResumed (slot_of ctx) n old.control new.control →
     InOrder count (slice_set harts n h) (slice_set domains (domain_of ctx) new)
 order_resumes count harts domains n h ctx old new order is within runs goes resumes =
     let e = domain_of ctx in
@@ -229,26 +229,26 @@ order_resumes count harts domains n h ctx old new order is within runs goes resu
     with_one count harts harts' domains e old new order is (length-set harts n h) resumes.number
     (λ m s. elim (decided m n) [
       | inl same ↦
-        subst (λ (k : ℕ). runs_in k new.control.contexts s ≡ is_running e s (inside_at harts' k)) (sym same)
-        (elim (decided s slot) [
-          | inl it ↦
-            ap (runs_in n new.control.contexts) it ∙ resumes.here n ∙ eq-eqb n n refl ∙ sym (running_own ctx)
-            ∙ ap (λ (x : ℕ). is_running e x (Some ctx)) (sym it) ∙ ap (is_running e s) (sym in_it)
-          | inr other ↦
-            resumes.others n s other ∙ order.runs e old is n s ∙ ap (is_running e s) runs ∙ sym (running_other_slot ctx e s other) ∙ ap (is_running e s) (sym in_it)
-        ])
+          subst (λ (k : ℕ). runs_in k new.control.contexts s ≡ is_running e s (inside_at harts' k)) (sym same)
+          (elim (decided s slot) [
+            | inl it ↦
+                ap (runs_in n new.control.contexts) it ∙ resumes.here n ∙ eq-eqb n n refl ∙ sym (running_own ctx)
+                ∙ ap (λ (x : ℕ). is_running e x (Some ctx)) (sym it) ∙ ap (is_running e s) (sym in_it)
+            | inr other ↦
+                resumes.others n s other ∙ order.runs e old is n s ∙ ap (is_running e s) runs ∙ sym (running_other_slot ctx e s other) ∙ ap (is_running e s) (sym in_it)
+          ])
       | inr apart ↦
-        (elim (decided s slot) [
-          | inl it ↦
-            ap (runs_in m new.control.contexts) it ∙ resumes.here m ∙ ne_eqb n m (λ same. apart (sym same)) ∙ sym (resumes.idle m)
-            ∙ ap (runs_in m old.control.contexts) (sym it) ∙ order.runs e old is m s
-          | inr other ↦ resumes.others m s other ∙ order.runs e old is m s
-        ]) ∙ ap (is_running e s) (sym (inside_set_other harts n m h apart))
+          (elim (decided s slot) [
+            | inl it ↦
+                ap (runs_in m new.control.contexts) it ∙ resumes.here m ∙ ne_eqb n m (λ same. apart (sym same)) ∙ sym (resumes.idle m)
+                ∙ ap (runs_in m old.control.contexts) (sym it) ∙ order.runs e old is m s
+            | inr other ↦ resumes.others m s other ∙ order.runs e old is m s
+          ]) ∙ ap (is_running e s) (sym (inside_set_other harts n m h apart))
     ])
     (λ d s m other. elim (decided m n) [
       | inl same ↦
-        subst (λ (k : ℕ). is_running d s (inside_at harts' k) ≡ is_running d s (inside_at harts k)) (sym same)
-        (ap (is_running d s) in_it ∙ running_other ctx e d s refl other ∙ ap (is_running d s) (sym runs))
+          subst (λ (k : ℕ). is_running d s (inside_at harts' k) ≡ is_running d s (inside_at harts k)) (sym same)
+          (ap (is_running d s) in_it ∙ running_other ctx e d s refl other ∙ ap (is_running d s) (sym runs))
       | inr apart ↦ ap (is_running d s) (inside_set_other harts n m h apart)
     ])
 
@@ -289,7 +289,7 @@ set_here m (x ∷ contexts) (suc slot) c new is = set_here m contexts slot c new
 
 -- with the context that is there, on no hart
 resumed_there : (slot hart answer : ℕ) (c : Context) (old : Control) → context_at old.contexts slot ≡ Some c → c.on ≡ None →
-    Resumes slot hart old (resume_told slot answer (Ok tt) (record old { contexts = with_context slot (record c { on = Some (record { 0 = hart }) }) old.contexts })).control
+    SlotResumed slot hart old (resume_told slot answer (Ok tt) (record old { contexts = with_context slot (record c { on = Some (record { 0 = hart }) }) old.contexts })).control
 unfolding resume_told
 resumed_there slot hart answer c old is idle =
     let new = record c { on = Some (record { 0 = hart }) } in
@@ -304,9 +304,9 @@ resumed_there slot hart answer c old is idle =
 
 resumed_on : (slot hart answer : ℕ) (on : Option HartId) (c : Context) (old : Control) → context_at old.contexts slot ≡ Some c → c.on ≡ on →
     let made : Resumed = cond (is_some on) (record { answer = Err Busy; contexts = old.contexts })
-        (record { answer = Ok tt; contexts = with_context slot (record c { on = Some (record { 0 = hart }) }) old.contexts }) in
+    (record { answer = Ok tt; contexts = with_context slot (record c { on = Some (record { 0 = hart }) }) old.contexts }) in
     is_granted (resume_told slot answer made.answer (record old { contexts = made.contexts })).answer ≡ true →
-    Resumes slot hart old (resume_told slot answer made.answer (record old { contexts = made.contexts })).control
+    SlotResumed slot hart old (resume_told slot answer made.answer (record old { contexts = made.contexts })).control
 unfolding resume_told
 resumed_on slot hart answer None c old is idle granted = resumed_there slot hart answer c old is idle
 resumed_on slot hart answer (Some on) c old is idle granted = absurd (false≢true granted)
@@ -314,13 +314,13 @@ resumed_on slot hart answer (Some on) c old is idle granted = absurd (false≢tr
 resumed_if : (slot hart answer : ℕ) (o : Option Context) (old : Control) → context_at old.contexts slot ≡ o →
     let made = resume_if slot hart o old.contexts in
     is_granted (resume_told slot answer made.answer (record old { contexts = made.contexts })).answer ≡ true →
-    Resumes slot hart old (resume_told slot answer made.answer (record old { contexts = made.contexts })).control
+    SlotResumed slot hart old (resume_told slot answer made.answer (record old { contexts = made.contexts })).control
 unfolding resume_if resume_told
 resumed_if slot hart answer None old is granted = absurd (false≢true granted)
 resumed_if slot hart answer (Some c) old is granted = resumed_on slot hart answer c.on c old is refl granted
 
 pub resume_resumes : (slot hart answer : ℕ) (old : Control) → is_granted (resume_slot slot hart answer old).answer ≡ true →
-    Resumes slot hart old (resume_slot slot hart answer old).control
+    SlotResumed slot hart old (resume_slot slot hart answer old).control
 unfolding resume_slot resume_at
 resume_resumes slot hart answer old granted = resumed_if slot hart answer (context_at old.contexts slot) old refl granted
 

@@ -148,7 +148,7 @@ carried_out_so h disk word i (does.Go target) w = refl
 carried_out_so h disk word i (does.Load rd va width is_signed) w =
     let found = ask_access h Load va w in
     let next : ℕ → Asking After = λ pa v.
-        let value = ask_value pa width v in ends disk (stays (gone_on (with_word h rd (extended is_signed width value.answer)))) value.world in
+    let value = ask_value pa width v in ends disk (stays (gone_on (with_word h rd (extended is_signed width value.answer)))) value.world in
     or_trap_so h.inside h disk va found.answer next refl (λ pa v. refl) found.world
 carried_out_so h disk word i (does.Store va width value) w =
     let found = ask_access h Store va w in

@@ -11,3 +11,4 @@ pub mod KernelHarts
 pub mod JointSteps
 pub mod Opened
 pub mod Isolated
+pub mod Halves

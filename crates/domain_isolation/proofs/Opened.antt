@@ -28,7 +28,7 @@ use Rattle.cloak_model.specs.DomainAlone.{started_page, is_hart}
 use Rattle.domain_isolation.proofs.Runs.{runs_in}
 use Rattle.domain_isolation.proofs.Steady.{settle_plain, ciphers_told}
 use Rattle.domain_isolation.proofs.InOrder.{same_some, decided, inside_at, is_running, InOrder, started_outside}
-use Rattle.domain_isolation.proofs.JointSteps.{Has}
+use Rattle.domain_isolation.proofs.JointSteps.{HoldsPart}
 
 -- The pages of one program.
 
@@ -271,11 +271,11 @@ opened_zeros : (b : Bundle) (key : List ℕ) (stream : Random) (e : ℕ) → dom
 unfolding started_memory
 opened_zeros b key stream e = refl
 
-pub opened_has : (b : Bundle) (o : Opened) (d : ℕ) (p : Program) → IsOpened b o → slice_get b.programs d ≡ Some p → Has d o.joint (started_part d p)
+pub opened_has : (b : Bundle) (o : Opened) (d : ℕ) (p : Program) → IsOpened b o → slice_get b.programs d ≡ Some p → HoldsPart d o.joint (started_part d p)
 unfolding started_joint
 opened_has b o d p opened found =
     let same : 0 + d ≡ d = omega arith in
-    subst (λ (j : Joint). Has d j (started_part d p)) (sym opened.joint)
+    subst (λ (j : Joint). HoldsPart d j (started_part d p)) (sym opened.joint)
     (record {
       domain = domains_started 0 d b.programs p found ∙ ap (λ (e : ℕ). Some (started_domain e p.start)) same;
       plain =
@@ -285,11 +285,11 @@ opened_has b o d p opened found =
 
 -- The closing.
 
-record Settles (d : ℕ) (c c' : Cloak) : Type 0 where
+record LeavesDomain (d : ℕ) (c c' : Cloak) : Type 0 where
   pub plain : c'.memory.plain ≡ c.memory.plain
   pub half : inward_half d c'.items ≡ inward_half d c.items
 
-settles_below : (d n : ℕ) (c : Cloak) → Settles d c (settled_below n c)
+settles_below : (d n : ℕ) (c : Cloak) → LeavesDomain d c (settled_below n c)
 unfolding settled_below
 settles_below d zero c = record { plain = refl; half = refl }
 settles_below d (suc n) c =
@@ -301,7 +301,7 @@ pub closing_half : (d : ℕ) (j : Joint) → inward_half d (closing j).items ≡
 unfolding closing
 closing_half d j = (settles_below d (length j.memory.ram) (cloak_outside j.memory (hart_in j 0))).half
 
-pub closing_has : (d : ℕ) (j : Joint) (p : DomainPart) → Has d j p → Has d (closing j).joint p
+pub closing_has : (d : ℕ) (j : Joint) (p : DomainPart) → HoldsPart d j p → HoldsPart d (closing j).joint p
 unfolding closing
 closing_has d j p has =
     record { domain = has.domain; plain = ap (domain_pages d) (settles_below d (length j.memory.ram) (cloak_outside j.memory (hart_in j 0))).plain ∙ has.plain }

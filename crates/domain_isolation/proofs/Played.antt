@@ -18,7 +18,7 @@ use Rattle.domain_isolation.proofs.Scripts.{Question, Change, Script, Gives, Ask
 use Rattle.domain_isolation.proofs.Steady.{is_cloaked, is_halted}
 use Rattle.domain_isolation.proofs.Answers.{alone_with, IsServing, question_answered, IsStuck, stuck_with, question_missing, question_stuck, change_stuck, read_same, change_same, change_leaves}
 
--- the answers that a script is given in a world
+-- the answers that a script is provided in a world
 abbrev pub answers_of : {d : ℕ} {A : Type 0} → Script d A → World → List Answer
 answers_of (Gives a) w = []
 answers_of (Asks question more) w = (asked question w).answer ∷ answers_of (more (asked question w).answer) (asked question w).world

@@ -60,7 +60,7 @@ free_idle hart contexts free =
     (λ within. none_idle hart (slice_index_or contexts n None) (prefix_len_stops test contexts None within)) free
 
 -- a step of a slot, after which its context runs on no hart if it left
-pub record Moves (slot : ℕ) (left : Bool) (old new : Control) : Type 0 where
+pub record MovesSlot (slot : ℕ) (left : Bool) (old new : Control) : Type 0 where
   pub number : new.number ≡ old.number
   pub others : (hart s : ℕ) → s ≢ slot → runs_in hart new.contexts s ≡ runs_in hart old.contexts s
   pub own : (hart : ℕ) → runs_in hart new.contexts slot ≡ (if left then false else runs_in hart old.contexts slot)
@@ -74,25 +74,25 @@ pub record RunsTheSame (old new : Control) : Type 0 where
 abbrev pub IsOnAs : ℕ → Context → Control → Type 0
 IsOnAs slot c d = (hart : ℕ) → runs_on hart (Some c) ≡ runs_in hart d.contexts slot
 
-pub keeps_all : (slot : ℕ) (d : Control) → Moves slot false d d
-keeps_all slot d = record { number = refl; others = λ hart s other. refl; own = λ hart. refl }
+pub slot_kept : (slot : ℕ) (d : Control) → MovesSlot slot false d d
+slot_kept slot d = record { number = refl; others = λ hart s other. refl; own = λ hart. refl }
 
 -- it goes on, after a change that left all running as it was
-pub goes_on : (slot : ℕ) (c : Context) (d d' : Control) → IsOnAs slot c d → RunsTheSame d d' → Moves slot false d (with_slot slot c d')
-goes_on slot c d d' on same =
+pub slot_goes_on : (slot : ℕ) (c : Context) (d d' : Control) → IsOnAs slot c d → RunsTheSame d d' → MovesSlot slot false d (with_slot slot c d')
+slot_goes_on slot c d d' on same =
     let each : (hart s : ℕ) → runs_in hart (with_slot slot c d').contexts s ≡ runs_in hart d.contexts s =
-        λ hart s. set_same hart d'.contexts slot (Some c) (on hart ∙ sym (same.each hart slot)) s ∙ same.each hart s in
+    λ hart s. set_same hart d'.contexts slot (Some c) (on hart ∙ sym (same.each hart slot)) s ∙ same.each hart s in
     record { number = same.number; others = λ hart s other. each hart s; own = λ hart. each hart slot }
 
-pub leaves_it : (slot : ℕ) (c : Context) (d : Control) → Moves slot true d (with_slot slot (suspended c) d)
-leaves_it slot c d = record {
+pub slot_left : (slot : ℕ) (c : Context) (d : Control) → MovesSlot slot true d (with_slot slot (suspended c) d)
+slot_left slot c d = record {
   number = refl;
   others = λ hart s other. set_others hart d.contexts slot (Some (suspended c)) s other;
   own = λ hart. set_idle hart d.contexts slot (Some (suspended c)) refl;
 }
 
-pub ends_it : (slot : ℕ) (d d' : Control) → d'.number ≡ d.number → d'.contexts ≡ end_at slot d.contexts → Moves slot true d d'
-ends_it slot d d' number is = record {
+pub slot_ended : (slot : ℕ) (d d' : Control) → d'.number ≡ d.number → d'.contexts ≡ end_at slot d.contexts → MovesSlot slot true d d'
+slot_ended slot d d' number is = record {
   number = number;
   others = λ hart s other. ap (λ (contexts : List (Option Context)). runs_in hart contexts s) is ∙ set_others hart d.contexts slot None s other;
   own = λ hart. ap (λ (contexts : List (Option Context)). runs_in hart contexts slot) is ∙ set_idle hart d.contexts slot None refl;

@@ -106,17 +106,17 @@ pub record Scripted (d : ℕ) {A : Type 0} (e : Ending A) (ask : Asking A) : Typ
   pub ends : EndsSo e script
 
 -- the same under a premise
-abbrev pub given : {B : Type 0} → Type 0 → Ending B → Ending B
-given P e = record { each = λ b. P → e.each b; stopped = e.stopped }
+abbrev pub provided : {B : Type 0} → Type 0 → Ending B → Ending B
+provided P e = record { each = λ b. P → e.each b; stopped = e.stopped }
 
-stop_given : {d : ℕ} {B : Type 0} (P : Type 0) (e : Ending B) (s : Script d B) → IsStop (given P e) s → IsStop e s
+stop_given : {d : ℕ} {B : Type 0} (P : Type 0) (e : Ending B) (s : Script d B) → IsStop (provided P e) s → IsStop e s
 unfolding IsStop
 stop_given P e (Gives b) is = is
 stop_given P e (Asks question more) is = is
 stop_given P e (Reads q own at width more) is = is
 stop_given P e (Changes change more) is = is
 
-ends_given : {d : ℕ} {B : Type 0} (P : Type 0) (e : Ending B) (s : Script d B) → P → EndsSo (given P e) s → EndsSo e s
+ends_given : {d : ℕ} {B : Type 0} (P : Type 0) (e : Ending B) (s : Script d B) → P → EndsSo (provided P e) s → EndsSo e s
 unfolding EndsSo
 ends_given P e (Gives b) holds ends = ends holds
 ends_given P e (Asks question more) holds ends =
@@ -128,7 +128,7 @@ pub gives_so : (d : ℕ) {A : Type 0} (e : Ending A) (a : A) → e.each a → En
 unfolding EndsSo
 gives_so d e a is = is
 
-stop_under : {d : ℕ} {B : Type 0} (P Q : Type 0) (e : Ending B) (s : Script d B) → IsStop (given P e) s → IsStop (given Q e) s
+stop_under : {d : ℕ} {B : Type 0} (P Q : Type 0) (e : Ending B) (s : Script d B) → IsStop (provided P e) s → IsStop (provided Q e) s
 unfolding IsStop
 stop_under P Q e (Gives b) is = is
 stop_under P Q e (Asks question more) is = is
@@ -136,7 +136,7 @@ stop_under P Q e (Reads q own at width more) is = is
 stop_under P Q e (Changes change more) is = is
 
 -- under a premise that implies it
-pub ends_under : {d : ℕ} {B : Type 0} (P Q : Type 0) (e : Ending B) (s : Script d B) → (Q → P) → EndsSo (given P e) s → EndsSo (given Q e) s
+pub ends_under : {d : ℕ} {B : Type 0} (P Q : Type 0) (e : Ending B) (s : Script d B) → (Q → P) → EndsSo (provided P e) s → EndsSo (provided Q e) s
 unfolding EndsSo
 ends_under P Q e (Gives b) implies ends = λ holds. ends (implies holds)
 ends_under P Q e (Asks question more) implies ends =
@@ -144,7 +144,7 @@ ends_under P Q e (Asks question more) implies ends =
 ends_under P Q e (Reads q own at width more) implies ends = λ value. ends_under P Q e (more value) implies (ends value)
 ends_under P Q e (Changes change more) implies ends = ends_under P Q e more implies ends
 
-abbrev pub scripted_under : (d : ℕ) {A : Type 0} (P Q : Type 0) (e : Ending A) (ask : Asking A) → (Q → P) → Scripted d (given P e) ask → Scripted d (given Q e) ask
+abbrev pub scripted_under : (d : ℕ) {A : Type 0} (P Q : Type 0) (e : Ending A) (ask : Asking A) → (Q → P) → Scripted d (provided P e) ask → Scripted d (provided Q e) ask
 scripted_under d P Q e ask implies s = record { script = s.script; plays = s.plays; ends = ends_under P Q e s.script implies s.ends }
 
 -- An answer.
@@ -182,7 +182,7 @@ scripted_changes d e change next second = record {
 
 -- A part of a step, and then the rest.
 pub scripted_then : (d : ℕ) {A B : Type 0} (e : Ending A) (f : Ending B) (ask : Asking A) (next : A → Asking B) →
-    Scripted d e ask → (second : (a : A) → Scripted d (given (e.each a) f) (next a)) →
+    Scripted d e ask → (second : (a : A) → Scripted d (provided (e.each a) f) (next a)) →
     ((a : A) → e.stopped a → IsStop f (second a).script) → Scripted d f (then_ask ask next)
 scripted_then d e f ask next first second stops = record {
   script = then_script first.script (λ a. (second a).script);

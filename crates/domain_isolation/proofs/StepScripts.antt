@@ -41,8 +41,8 @@ use Rattle.cloak_model.specs.DomainState.{Control, Domain}
 use Rattle.cloak_model.specs.Hypercalls as hyper
 use Rattle.cloak_model.specs.DomainStep as steps
 use Rattle.cloak_model.specs.DomainAlone.{is_hart, runs_on}
-use Rattle.domain_isolation.proofs.Runs.{runs_in, Moves, RunsTheSame, IsOnAs, keeps_all, goes_on, leaves_it, ends_it, free_taken, has_left}
-use Rattle.domain_isolation.proofs.Scripts.{Question, Reach, Get, Put, Clear, Change, Write, Copy, Forget, Script, Gives, Ending, IsStop, EndsSo, Scripted, given, scripted_under, scripted_gives, scripted_asks, scripted_reads, scripted_changes, scripted_then}
+use Rattle.domain_isolation.proofs.Runs.{runs_in, MovesSlot, RunsTheSame, IsOnAs, slot_kept, slot_goes_on, slot_left, slot_ended, free_taken, has_left}
+use Rattle.domain_isolation.proofs.Scripts.{Question, Reach, Get, Put, Clear, Change, Write, Copy, Forget, Script, Gives, Ending, IsStop, EndsSo, Scripted, provided, scripted_under, scripted_gives, scripted_asks, scripted_reads, scripted_changes, scripted_then}
 
 -- Pages are the program's own.
 
@@ -344,7 +344,7 @@ end_scripted d slot space r contexts = end_if_scripted d (list_any (forks.is_of_
 
 abbrev pub of_stepped : ℕ → Control → Ending hyper.Stepped
 of_stepped slot d = record {
-  each = λ s. Moves slot (has_left s.went) d s.control;
+  each = λ s. MovesSlot slot (has_left s.went) d s.control;
   stopped = λ s. s.went ≡ went.Stopped;
 }
 
@@ -352,15 +352,15 @@ same_control : (d : Control) → RunsTheSame d d
 same_control d = record { number = refl; each = λ hart s. refl }
 
 answers_moves : (slot : ℕ) (c : Context) (value : ℕ) (d d' : Control) → IsOnAs slot c d → RunsTheSame d d' →
-    Moves slot false d (hyper.answers_word slot c value d').control
-answers_moves slot c value d d' on same = goes_on slot (hyper.with_answer c value) d d' on same
+    MovesSlot slot false d (hyper.answers_word slot c value d').control
+answers_moves slot c value d d' on same = slot_goes_on slot (hyper.with_answer c value) d d' on same
 
 with_resources : (d : Control) (r : Resources) → RunsTheSame d (record d { resources = r })
 with_resources d r = record { number = refl; each = λ hart s. refl }
 
 -- a hypercall that asks nothing moves its slot so
 abbrev MovesSo : ℕ → Control → hyper.Stepped → Type 0
-MovesSo slot d s = Moves slot (has_left s.went) d s.control
+MovesSo slot d s = MovesSlot slot (has_left s.went) d s.control
 
 remapped_moves : (slot : ℕ) (c : Context) (answer : Result (Unit {0}) MapFault) (d d' : Control) → IsOnAs slot c d → RunsTheSame d d' →
     MovesSo slot d (hyper.remapped slot c answer d')
@@ -416,9 +416,9 @@ on_as slot c c' d same on hart = ap (λ (o : Option HartId). is_hart hart o) sam
 
 call_begun_moves : (slot : ℕ) (c : Context) (answer : Result Begun MapFault) (d : Control) → IsOnAs slot c d → MovesSo slot d (hyper.call_begun slot c answer d)
 unfolding hyper.call_begun
-call_begun_moves slot c (Err fault) d on = goes_on slot _ d d on (same_control d)
-call_begun_moves slot c (Ok begun.Copying) d on = goes_on slot c d d on (same_control d)
-call_begun_moves slot c (Ok begun.Leave) d on = leaves_it slot c d
+call_begun_moves slot c (Err fault) d on = slot_goes_on slot _ d d on (same_control d)
+call_begun_moves slot c (Ok begun.Copying) d on = slot_goes_on slot c d d on (same_control d)
+call_begun_moves slot c (Ok begun.Leave) d on = slot_left slot c d
 
 kernel_call_moves : (slot : ℕ) (c : Context) (d : Control) → IsOnAs slot c d → MovesSo slot d (hyper.kernel_call slot c d)
 unfolding hyper.kernel_call
@@ -431,85 +431,85 @@ fork_told_moves : (slot : ℕ) (c : Context) (d : Control) (f : forks.Fork) (ans
     MovesSo slot d (hyper.fork_told slot c d answer (hyper.with_spaces f.spaces d))
 unfolding hyper.fork_told
 fork_told_moves slot c d f (Err fault) same on = answers_moves slot c (hyper.fault_word fault) d d on (same_control d)
-fork_told_moves slot c d f (Ok None) same on = keeps_all slot d
+fork_told_moves slot c d f (Ok None) same on = slot_kept slot d
 fork_told_moves slot c d f (Ok (Some ctx)) same on = answers_moves slot c ctx.0 d (hyper.with_spaces f.spaces d) on (record { number = refl; each = same })
 
-fork_call_scripted : (slot : ℕ) (c : Context) (d : Control) → Scripted d.number (given (IsOnAs slot c d) (of_stepped slot d)) (hyper.fork_call slot c d)
+fork_call_scripted : (slot : ℕ) (c : Context) (d : Control) → Scripted d.number (provided (IsOnAs slot c d) (of_stepped slot d)) (hyper.fork_call slot c d)
 unfolding hyper.fork_call hyper.fork_told IsStop
 fork_call_scripted slot c d =
-    scripted_then d.number (of_fork d.contexts) (given (IsOnAs slot c d) (of_stepped slot d)) (forks.fork d.number c d.resources d.contexts)
+    scripted_then d.number (of_fork d.contexts) (provided (IsOnAs slot c d) (of_stepped slot d)) (forks.fork d.number c d.resources d.contexts)
     (λ f. answered (hyper.fork_told slot c d f.answer (hyper.with_spaces f.spaces d))) (fork_scripted d.number c d.resources d.contexts)
-    (λ f. scripted_gives d.number (given ((of_fork d.contexts).each f) (given (IsOnAs slot c d) (of_stepped slot d))) _ (fork_told_moves slot c d f f.answer))
+    (λ f. scripted_gives d.number (provided ((of_fork d.contexts).each f) (provided (IsOnAs slot c d) (of_stepped slot d))) _ (fork_told_moves slot c d f f.answer))
     (λ f is. ap (λ (answer : Result (Option CtxId) MapFault). (hyper.fork_told slot c d answer (hyper.with_spaces f.spaces d)).went) is)
 
 end_told_moves : (slot : ℕ) (c : Context) (d : Control) (x : forks.End) (ended : Ended) → x.ending ≡ ended → (of_end slot d.contexts).each x →
     MovesSo slot d (hyper.end_told slot c d ended (hyper.with_spaces x.spaces d))
 unfolding hyper.end_told
-end_told_moves slot c d x ends.Kept is freed = ends_it slot d (hyper.with_spaces x.spaces d) refl (freed (λ stopped. let clash : ends.Kept ≡ ends.Stopped = sym is ∙ stopped in cc))
+end_told_moves slot c d x ends.Kept is freed = slot_ended slot d (hyper.with_spaces x.spaces d) refl (freed (λ stopped. let clash : ends.Kept ≡ ends.Stopped = sym is ∙ stopped in cc))
 end_told_moves slot c d x (ends.SpaceGone space) is freed =
-    ends_it slot d (hyper.with_spaces x.spaces d) refl (freed (λ stopped. let clash : ends.SpaceGone space ≡ ends.Stopped = sym is ∙ stopped in cc))
-end_told_moves slot c d x ends.Stopped is freed = keeps_all slot d
+    slot_ended slot d (hyper.with_spaces x.spaces d) refl (freed (λ stopped. let clash : ends.SpaceGone space ≡ ends.Stopped = sym is ∙ stopped in cc))
+end_told_moves slot c d x ends.Stopped is freed = slot_kept slot d
 
-exit_call_scripted : (slot : ℕ) (c : Context) (d : Control) → Scripted d.number (given (IsOnAs slot c d) (of_stepped slot d)) (hyper.exit_call slot c d)
+exit_call_scripted : (slot : ℕ) (c : Context) (d : Control) → Scripted d.number (provided (IsOnAs slot c d) (of_stepped slot d)) (hyper.exit_call slot c d)
 unfolding hyper.exit_call hyper.end_told IsStop
 exit_call_scripted slot c d =
-    scripted_then d.number (of_end slot d.contexts) (given (IsOnAs slot c d) (of_stepped slot d)) (forks.end_context d.number slot c.space d.resources d.contexts)
+    scripted_then d.number (of_end slot d.contexts) (provided (IsOnAs slot c d) (of_stepped slot d)) (forks.end_context d.number slot c.space d.resources d.contexts)
     (λ x. answered (hyper.end_told slot c d x.ending (hyper.with_spaces x.spaces d))) (end_scripted d.number slot c.space d.resources d.contexts)
-    (λ x. scripted_gives d.number (given ((of_end slot d.contexts).each x) (given (IsOnAs slot c d) (of_stepped slot d))) _ (λ freed on. end_told_moves slot c d x x.ending refl freed))
+    (λ x. scripted_gives d.number (provided ((of_end slot d.contexts).each x) (provided (IsOnAs slot c d) (of_stepped slot d))) _ (λ freed on. end_told_moves slot c d x x.ending refl freed))
     (λ x is. ap (λ (ended : Ended). (hyper.end_told slot c d ended (hyper.with_spaces x.spaces d)).went) is)
 
-hypercall_scripted : (h : hyper.Hypercall) (slot : ℕ) (c : Context) (d : Control) → Scripted d.number (given (IsOnAs slot c d) (of_stepped slot d)) (hyper.hypercall h slot c d)
+hypercall_scripted : (h : hyper.Hypercall) (slot : ℕ) (c : Context) (d : Control) → Scripted d.number (provided (IsOnAs slot c d) (of_stepped slot d)) (hyper.hypercall h slot c d)
 unfolding hyper.hypercall hyper.new_call hyper.map_call hyper.unmap_call hyper.file_call
 hypercall_scripted hyper.New slot c d =
-    scripted_gives d.number (given (IsOnAs slot c d) (of_stepped slot d)) _ (λ on. answers_moves slot c _ d _ on (with_resources d _))
+    scripted_gives d.number (provided (IsOnAs slot c d) (of_stepped slot d)) _ (λ on. answers_moves slot c _ d _ on (with_resources d _))
 hypercall_scripted hyper.Map slot c d =
-    scripted_gives d.number (given (IsOnAs slot c d) (of_stepped slot d)) _ (λ on. remapped_moves slot c _ d _ on (with_resources d _))
+    scripted_gives d.number (provided (IsOnAs slot c d) (of_stepped slot d)) _ (λ on. remapped_moves slot c _ d _ on (with_resources d _))
 hypercall_scripted hyper.Unmap slot c d =
-    scripted_gives d.number (given (IsOnAs slot c d) (of_stepped slot d)) _ (λ on. remapped_moves slot c _ d _ on (with_resources d _))
+    scripted_gives d.number (provided (IsOnAs slot c d) (of_stepped slot d)) _ (λ on. remapped_moves slot c _ d _ on (with_resources d _))
 hypercall_scripted hyper.File slot c d =
-    scripted_gives d.number (given (IsOnAs slot c d) (of_stepped slot d)) _ (λ on. answers_moves slot c _ d _ on (with_resources d _))
-hypercall_scripted hyper.Thread slot c d = scripted_gives d.number (given (IsOnAs slot c d) (of_stepped slot d)) _ (λ on. thread_moves slot c d on)
+    scripted_gives d.number (provided (IsOnAs slot c d) (of_stepped slot d)) _ (λ on. answers_moves slot c _ d _ on (with_resources d _))
+hypercall_scripted hyper.Thread slot c d = scripted_gives d.number (provided (IsOnAs slot c d) (of_stepped slot d)) _ (λ on. thread_moves slot c d on)
 hypercall_scripted hyper.ForkSpace slot c d = fork_call_scripted slot c d
 hypercall_scripted hyper.Exit slot c d = exit_call_scripted slot c d
-hypercall_scripted hyper.Call slot c d = scripted_gives d.number (given (IsOnAs slot c d) (of_stepped slot d)) _ (λ on. kernel_call_moves slot c d on)
+hypercall_scripted hyper.Call slot c d = scripted_gives d.number (provided (IsOnAs slot c d) (of_stepped slot d)) _ (λ on. kernel_call_moves slot c d on)
 hypercall_scripted hyper.Unknown slot c d =
-    scripted_gives d.number (given (IsOnAs slot c d) (of_stepped slot d)) _ (λ on. answers_moves slot c hyper.bad_call d d on (same_control d))
+    scripted_gives d.number (provided (IsOnAs slot c d) (of_stepped slot d)) _ (λ on. answers_moves slot c hyper.bad_call d d on (same_control d))
 
 -- The step.
 
 abbrev pub of_domain : ℕ → Domain → Ending steps.DomainStepped
 of_domain slot d = record {
-  each = λ s. Moves slot (has_left s.went) d.control s.domain.control;
+  each = λ s. MovesSlot slot (has_left s.went) d.control s.domain.control;
   stopped = λ s. s.went ≡ went.Stopped;
 }
 
 -- from a context on its hart
 abbrev of_context : ℕ → Context → Domain → Ending steps.DomainStepped
-of_context slot c d = given (IsOnAs slot c d.control) (of_domain slot d)
+of_context slot c d = provided (IsOnAs slot c d.control) (of_domain slot d)
 
 stays_moves : (slot : ℕ) (c : Context) (d : Control) → IsOnAs slot c d → MovesSo slot d (hyper.stays_inside slot c d)
-stays_moves slot c d on = goes_on slot c d d on (same_control d)
+stays_moves slot c d on = slot_goes_on slot c d d on (same_control d)
 
 unfoldable instruction_ended_scripted : (slot : ℕ) (d : Domain) (c : Context) (e : Ran) →
     Scripted d.control.number (of_context slot c d) (steps.instruction_ended slot d c e)
 unfolding steps.instruction_ended IsStop
 instruction_ended_scripted slot d c ran.Stay = scripted_gives d.control.number (of_context slot c d) _ (stays_moves slot c d.control)
 instruction_ended_scripted slot d c (ran.Loaded address value) = scripted_gives d.control.number (of_context slot c d) _ (stays_moves slot c d.control)
-instruction_ended_scripted slot d c (ran.Trap cause address) = scripted_gives d.control.number (of_context slot c d) _ (λ on. leaves_it slot c d.control)
+instruction_ended_scripted slot d c (ran.Trap cause address) = scripted_gives d.control.number (of_context slot c d) _ (λ on. slot_left slot c d.control)
 instruction_ended_scripted slot d c ran.Ecall =
-    scripted_then d.control.number (given (IsOnAs slot c d.control) (of_stepped slot d.control)) (of_context slot c d)
+    scripted_then d.control.number (provided (IsOnAs slot c d.control) (of_stepped slot d.control)) (of_context slot c d)
     (hyper.hypercall (hyper.hypercall_of c) slot c d.control) (λ step. answered (steps.within d step)) (hypercall_scripted (hyper.hypercall_of c) slot c d.control)
-    (λ step. scripted_gives d.control.number (given (IsOnAs slot c d.control → MovesSo slot d.control step) (of_context slot c d)) _ (λ moves on. moves on))
+    (λ step. scripted_gives d.control.number (provided (IsOnAs slot c d.control → MovesSo slot d.control step) (of_context slot c d)) _ (λ moves on. moves on))
     (λ step is. is)
-instruction_ended_scripted slot d c ran.Stopped = scripted_gives d.control.number (of_context slot c d) _ (λ on. keeps_all slot d.control)
+instruction_ended_scripted slot d c ran.Stopped = scripted_gives d.control.number (of_context slot c d) _ (λ on. slot_kept slot d.control)
 
 copy_ended_moves : (slot : ℕ) (d : Domain) (c : Context) (e : Copied) → IsOnAs slot c d.control → (of_domain slot d).each (steps.copy_ended slot d c e)
 unfolding steps.copy_ended
 copy_ended_moves slot d c copied.Going on = stays_moves slot c d.control on
-copy_ended_moves slot d c copied.CallReady on = leaves_it slot c d.control
+copy_ended_moves slot d c copied.CallReady on = slot_left slot c d.control
 copy_ended_moves slot d c copied.Done on = stays_moves slot c d.control on
-copy_ended_moves slot d c (copied.Absent cause address) on = leaves_it slot c d.control
-copy_ended_moves slot d c copied.Stopped on = keeps_all slot d.control
+copy_ended_moves slot d c (copied.Absent cause address) on = slot_left slot c d.control
+copy_ended_moves slot d c copied.Stopped on = slot_kept slot d.control
 copy_ended_moves slot d c copied.Refused on = stays_moves slot c d.control on
 copy_ended_moves slot d c (copied.Loaded address byte) on = stays_moves slot c d.control on
 
@@ -518,7 +518,7 @@ copy_scripted : (slot : ℕ) (c : Context) (d : Domain) → IsOnAs slot c d.cont
 unfolding steps.copy_ended IsStop
 copy_scripted slot c d on ask first =
     scripted_then d.control.number (of_copy c) (of_domain slot d) ask (λ copy. answered (steps.copy_ended slot d copy.context copy.ending)) first
-    (λ copy. scripted_gives d.control.number (given (copy.context.on ≡ c.on) (of_domain slot d)) _
+    (λ copy. scripted_gives d.control.number (provided (copy.context.on ≡ c.on) (of_domain slot d)) _
     (λ same. copy_ended_moves slot d copy.context copy.ending (on_as slot c copy.context d.control same on)))
     (λ copy is. ap (λ (e : Copied). (steps.copy_ended slot d copy.context e).went) is)
 
@@ -543,7 +543,7 @@ phase_scripted (CopyOut done total) slot c d on = copy_scripted slot c d on _ (c
 
 step_if_scripted : (o : Option Context) (slot : ℕ) (d : Domain) → context_at d.control.contexts slot ≡ o → Scripted d.control.number (of_domain slot d) (steps.step_if o slot d)
 unfolding steps.step_if
-step_if_scripted None slot d is = scripted_gives d.control.number (of_domain slot d) _ (keeps_all slot d.control)
+step_if_scripted None slot d is = scripted_gives d.control.number (of_domain slot d) _ (slot_kept slot d.control)
 step_if_scripted (Some c) slot d is = phase_scripted c.phase slot c d (λ hart. ap (runs_on hart) (sym is))
 
 -- a step of a program is a script

@@ -1,23 +1,21 @@
-//! Laws on a cloaked program alone, on the definitions of `cloak_model` alone: at every moment of a joint run, what a
-//! program has is what its own half of the exchange gives (`specs/DomainAlone`). So the kernel, and every other program,
-//! reaches it by its answers alone.
-//!
-//! No body turns a law, so there is no wrong body to refuse here.
+//! Laws on the definitions alone: a program's half of isolation. In a joint run (`cloak_model`, `specs/Run`) what a
+//! program has, its contexts and resources, its loads and the newest bytes of its pages, is a function of its image, the
+//! schedule and its own half of the exchange, after each step and at the end: it is the part of the program alone
+//! (`specs/DomainAlone`), which reads its items and finds none unfit. So the kernel, the other programs and the random
+//! stream reach a program by its inward items alone.
 #![tactic(auto)]
 
-ghost use Rattle.domain_isolation.specs.Isolation.{DomainIsAlone, RunIsAlone, InwardHalfSuffices, EqualHalvesAgree};
+ghost use Rattle.domain_isolation.specs.Isolation.{DomainDependsOnHalf, DomainEndsAlone, DomainIsAlone, InwardHalfSuffices};
 
-/// Of a machine that runs a program alone: the items of the other halves, forged ones too, change nothing. It does
-/// nothing: its contract is the law.
+/// The program alone ignores the items that are not in its half, forged ones too. It does nothing: its contract is the
+/// law.
 pub fn law_of_inward_halves()
     ensures { InwardHalfSuffices }
 {}
 
-/// A program's half of isolation: at each moment of a run, and as it is closed, the program alone on its inward half has
-/// what the joint machine has of it; so runs with equal inward halves agree in all of it. It does nothing: its contract
-/// is the law.
+/// A program's part of a run is that of the program alone. It does nothing: its contract is the law.
 pub fn law_of_domain_isolation()
-    ensures moments { DomainIsAlone }
-    ensures closed { RunIsAlone }
-    ensures agree { EqualHalvesAgree }
+    ensures steps { DomainIsAlone }
+    ensures end { DomainEndsAlone }
+    ensures half { DomainDependsOnHalf }
 {}

@@ -1,11 +1,12 @@
-use Rattle.domain_isolation.proofs.Isolated.{domain_is_alone, run_is_alone, equal_halves_agree}
+use Rattle.domain_isolation.proofs.Halves.{domain_depends_on_half}
+use Rattle.domain_isolation.proofs.Isolated.{domain_is_alone, domain_ends_alone}
 use Rattle.domain_isolation.proofs.law_of_domain_isolation.Goals as goal
 
-pub returns-clause-moments : goal.returns-clause-moments
-returns-clause-moments c = domain_is_alone
+pub returns-clause-steps : goal.returns-clause-steps
+returns-clause-steps c = domain_is_alone
 
-pub returns-clause-closed : goal.returns-clause-closed
-returns-clause-closed c = run_is_alone
+pub returns-clause-end : goal.returns-clause-end
+returns-clause-end c = domain_ends_alone
 
-pub returns-clause-agree : goal.returns-clause-agree
-returns-clause-agree c = equal_halves_agree
+pub returns-clause-half : goal.returns-clause-half
+returns-clause-half c = domain_depends_on_half
