@@ -1,5 +1,5 @@
 -- Where a hart is inside after a step outside: in the context that it resumes, or where it was.
-use Rattle.std.proofs.Common.{◌≡◌, ◌∙◌, true, false, cond, ℕ, Bool, List, Option, Some, None, Result, Ok, Err, refl, ap, subst, ◌^◌, ◌-◌}
+use Rattle.std.proofs.Common.{◌≡◌, true, false, cond, ℕ, Bool, List, Option, Some, None, Result, Ok, Err, refl, subst, ◌^◌, ◌-◌}
 use Rattle.std.specs.Prelude.{◌==◌}
 use Rattle.cloak_base.specs.Registers.{register}
 use Rattle.cloak_base.specs.declared.names.Mode.{Mode}
@@ -17,10 +17,10 @@ use Rattle.cloak_model.specs.Memory.{frame_of}
 use Rattle.cloak_model.specs.Effect.{effect}
 use Rattle.cloak_model.specs.Hart.{Hart}
 use Rattle.cloak_model.specs.World.{World}
-use Rattle.cloak_model.specs.Asking.{Asking, Told, then_ask}
+use Rattle.cloak_model.specs.Asking.{Asking, then_ask}
 use Rattle.cloak_model.specs.Ask.{ask_value, ask_store, ask_count, ask_fill, ask_frame}
 use Rattle.cloak_model.specs.HartStep.{Made, with_word, gone_on, stays, raised, csr_written, csr_found, csr_step, returned, idle, system}
-use Rattle.cloak_model.specs.HostCalls.{After, is_transfer, block_at, with_block, over, ends, host_answers, put_call, timer_call, halt_call, read_block, write_block, read_call, write_call, host_call, resumed, ecall_in, ecall}
+use Rattle.cloak_model.specs.HostCalls.{After, is_transfer, block_at, with_block, ends, host_answers, put_call, timer_call, halt_call, read_block, write_block, read_call, write_call, host_call, resumed, ecall_in, ecall}
 use Rattle.cloak_model.specs.KernelStep.{ask_access, extended, is_ecall, or_trap, carried_out, executed, instruction_step, ticked, kernel_step}
 
 abbrev pub inside_after : Kernel → Option ℕ → Option ℕ
@@ -49,7 +49,8 @@ raised_so : (h : Hart) (cause value : ℕ) → MadeSo h.inside (raised h cause v
 unfolding raised
 raised_so h cause value = refl
 
-or_trap_so : (was : Option ℕ) (h : Hart) (disk : List ℕ) (va : ℕ) (to : Result ℕ ℕ) (next : ℕ → Asking After) → h.inside ≡ was → ((pa : ℕ) → StepsSo was (next pa)) →
+or_trap_so : (was : Option ℕ) (h : Hart) (disk : List ℕ) (va : ℕ) (to : Result ℕ ℕ) (next : ℕ → Asking After) →
+    h.inside ≡ was → ((pa : ℕ) → StepsSo was (next pa)) →
     StepsSo was (or_trap h disk va to next)
 or_trap_so was h disk va (Err cause) next is rest w =
     subst (λ (x : Option ℕ). MadeSo x (raised h cause va)) is (raised_so h cause va)
@@ -98,14 +99,16 @@ read_block_so : (h : Hart) (disk : List ℕ) (frames : ℕ) → StepsSo h.inside
 unfolding read_block
 read_block_so h disk frames w =
     steps_either h.inside (is_transfer frames disk (register h.regs 10) (register h.regs 11))
-    (then_ask (ask_fill (frame_of (register h.regs 11)) (block_at disk (register h.regs 10))) (λ done. ends disk (host_answers h 0)))
+    (then_ask (ask_fill (frame_of (register h.regs 11)) (block_at disk (register h.regs 10)))
+    (λ done. ends disk (host_answers h 0)))
     (ends disk (host_answers h 1)) (λ v. refl) (λ v. refl) w
 
 write_block_so : (h : Hart) (disk : List ℕ) (frames : ℕ) → StepsSo h.inside (write_block h disk frames)
 unfolding write_block
 write_block_so h disk frames w =
     steps_either h.inside (is_transfer frames disk (register h.regs 10) (register h.regs 11))
-    (then_ask (ask_frame (frame_of (register h.regs 11))) (λ bytes. ends (with_block disk (register h.regs 10) bytes) (host_answers h 0)))
+    (then_ask (ask_frame (frame_of (register h.regs 11)))
+    (λ bytes. ends (with_block disk (register h.regs 10) bytes) (host_answers h 0)))
     (ends disk (host_answers h 1)) (λ v. refl) (λ v. refl) w
 
 read_so : (h : Hart) (disk : List ℕ) → StepsSo h.inside (read_call h disk)
@@ -138,9 +141,11 @@ ecall_in_so S h disk w = host_call_so h disk w
 
 ecall_so : (h : Hart) (disk : List ℕ) → StepsSo h.inside (ecall h disk)
 unfolding ecall resumed
-ecall_so h disk w = steps_either h.inside (register h.regs 17 == 0x4F560000) (ends disk (resumed h)) (ecall_in h.mode h disk) (λ v. refl) (ecall_in_so h.mode h disk) w
+ecall_so h disk w = steps_either h.inside (register h.regs 17 == 0x4F560000) (ends disk (resumed h))
+    (ecall_in h.mode h disk) (λ v. refl) (ecall_in_so h.mode h disk) w
 
-carried_out_so : (h : Hart) (disk : List ℕ) (word : ℕ) (i : Instr) (e : Effect) → StepsSo h.inside (carried_out h disk word i e)
+carried_out_so : (h : Hart) (disk : List ℕ) (word : ℕ) (i : Instr) (e : Effect) → StepsSo h.inside
+    (carried_out h disk word i e)
 unfolding carried_out
 carried_out_so h disk word i (does.Write rd value) w = refl
 carried_out_so h disk word i (does.Jump rd link target) w = refl
@@ -148,14 +153,16 @@ carried_out_so h disk word i (does.Go target) w = refl
 carried_out_so h disk word i (does.Load rd va width is_signed) w =
     let found = ask_access h Load va w in
     let next : ℕ → Asking After = λ pa v.
-    let value = ask_value pa width v in ends disk (stays (gone_on (with_word h rd (extended is_signed width value.answer)))) value.world in
+    let value = ask_value pa width v in ends disk
+    (stays (gone_on (with_word h rd (extended is_signed width value.answer)))) value.world in
     or_trap_so h.inside h disk va found.answer next refl (λ pa v. refl) found.world
 carried_out_so h disk word i (does.Store va width value) w =
     let found = ask_access h Store va w in
     let next : ℕ → Asking After = λ pa v. ends disk (stays (gone_on h)) (ask_store pa width value v).world in
     or_trap_so h.inside h disk va found.answer next refl (λ pa v. refl) found.world
 carried_out_so h disk word i does.System w =
-    either_so (λ (ask : Asking After). (ask w).answer.hart.inside ≡ inside_after (ask w).answer.ending h.inside) (is_ecall i) (ecall h disk) (ends disk (system h word i))
+    either_so (λ (ask : Asking After). (ask w).answer.hart.inside ≡ inside_after (ask w).answer.ending h.inside)
+    (is_ecall i) (ecall h disk) (ends disk (system h word i))
     (ecall_so h disk w) (system_so h word i)
 carried_out_so h disk word i does.Nothing w = refl
 carried_out_so h disk word i (does.Raise cause value) w = raised_so h cause value
@@ -168,9 +175,11 @@ instruction_so : (h : Hart) (disk : List ℕ) → StepsSo h.inside (instruction_
 unfolding instruction_step
 instruction_so h disk w =
     let found = ask_access h Fetch h.pc w in
-    let next : ℕ → Asking After = λ pa v. let word = ask_value pa 4 v in executed h disk word.answer (instruction word.answer) word.world in
+    let next : ℕ → Asking After = λ pa v. let word = ask_value pa 4 v in executed h disk word.answer
+    (instruction word.answer) word.world in
     or_trap_so h.inside h disk h.pc found.answer next refl
-    (λ pa v. let word = ask_value pa 4 v in executed_so h disk word.answer (instruction word.answer) word.world) found.world
+    (λ pa v. let word = ask_value pa 4 v in executed_so h disk word.answer
+    (instruction word.answer) word.world) found.world
 
 pub ticked_inside : (h : Hart) → (ticked h).inside ≡ h.inside
 unfolding ticked

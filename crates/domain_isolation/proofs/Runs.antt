@@ -1,6 +1,6 @@
 -- Which contexts of a program run on which harts, and what a step makes of that.
-use Rattle.std.proofs.Common.{◌≡◌, ◌≢◌, ◌<◌, ◌∙◌, not, nat_lt, length, ltb-true, ℕ, zero, suc, Bool, true, false, cond, List, [], ◌∷◌, Option, Some, None, refl, ap, sym, if◌then◌else◌, replicate}
-use Rattle.std.specs.Prelude.{slice_set, slice_index_or, is_none, is_some, position, unwrap_or}
+use Rattle.std.proofs.Common.{◌≡◌, ◌≢◌, ◌<◌, ◌∙◌, not, nat_lt, length, ltb-true, ℕ, zero, suc, Bool, true, false, cond, List, [], ◌∷◌, Option, Some, None, refl, ap, sym, if◌then◌else◌}
+use Rattle.std.specs.Prelude.{slice_set, slice_index_or, is_none, is_some, unwrap_or}
 use Rattle.std.specs.List.{prefix_len}
 use Rattle.std.proofs.lemmas.List.Sums.{prefix_len_stops}
 use Rattle.cloak_model.specs.declared.inside.Went.{Went}
@@ -17,7 +17,8 @@ runs_in hart contexts slot = runs_on hart (context_at contexts slot)
 
 -- a slot with a context that runs where the one before it ran
 pub set_same : (hart : ℕ) (contexts : List (Option Context)) (slot : ℕ) (o : Option Context) →
-    runs_on hart o ≡ runs_in hart contexts slot → (s : ℕ) → runs_in hart (slice_set contexts slot o) s ≡ runs_in hart contexts s
+    runs_on hart o ≡ runs_in hart contexts slot → (s : ℕ) → runs_in hart
+    (slice_set contexts slot o) s ≡ runs_in hart contexts s
 set_same hart [] slot o same s = refl
 set_same hart (c ∷ contexts) zero o same zero = same
 set_same hart (c ∷ contexts) zero o same (suc s) = refl
@@ -78,7 +79,8 @@ pub slot_kept : (slot : ℕ) (d : Control) → MovesSlot slot false d d
 slot_kept slot d = record { number = refl; others = λ hart s other. refl; own = λ hart. refl }
 
 -- it goes on, after a change that left all running as it was
-pub slot_goes_on : (slot : ℕ) (c : Context) (d d' : Control) → IsOnAs slot c d → RunsTheSame d d' → MovesSlot slot false d (with_slot slot c d')
+pub slot_goes_on : (slot : ℕ) (c : Context) (d d' : Control) → IsOnAs slot c d → RunsTheSame d d' →
+    MovesSlot slot false d (with_slot slot c d')
 slot_goes_on slot c d d' on same =
     let each : (hart s : ℕ) → runs_in hart (with_slot slot c d').contexts s ≡ runs_in hart d.contexts s =
     λ hart s. set_same hart d'.contexts slot (Some c) (on hart ∙ sym (same.each hart slot)) s ∙ same.each hart s in
@@ -91,18 +93,23 @@ slot_left slot c d = record {
   own = λ hart. set_idle hart d.contexts slot (Some (suspended c)) refl;
 }
 
-pub slot_ended : (slot : ℕ) (d d' : Control) → d'.number ≡ d.number → d'.contexts ≡ end_at slot d.contexts → MovesSlot slot true d d'
+pub slot_ended : (slot : ℕ) (d d' : Control) → d'.number ≡ d.number → d'.contexts ≡ end_at slot d.contexts →
+    MovesSlot slot true d d'
 slot_ended slot d d' number is = record {
   number = number;
-  others = λ hart s other. ap (λ (contexts : List (Option Context)). runs_in hart contexts s) is ∙ set_others hart d.contexts slot None s other;
-  own = λ hart. ap (λ (contexts : List (Option Context)). runs_in hart contexts slot) is ∙ set_idle hart d.contexts slot None refl;
+  others = λ hart s other. ap (λ (contexts : List (Option Context)). runs_in hart contexts s) is
+      ∙ set_others hart d.contexts slot None s other;
+  own = λ hart. ap (λ (contexts : List (Option Context)). runs_in hart contexts slot) is
+      ∙ set_idle hart d.contexts slot None refl;
 }
 
 -- a context that runs on no hart in a free slot
 pub free_taken : (c : Context) (contexts : List (Option Context)) → c.on ≡ None → is_some (first_free contexts) ≡ true →
-    (hart s : ℕ) → runs_in hart (with_context (unwrap_or (first_free contexts) 0) c contexts) s ≡ runs_in hart contexts s
+    (hart s : ℕ) → runs_in hart (with_context (unwrap_or
+    (first_free contexts) 0) c contexts) s ≡ runs_in hart contexts s
 free_taken c contexts idle free hart s =
-    set_same hart contexts (unwrap_or (first_free contexts) 0) (Some c) (ap (is_hart hart) idle ∙ sym (free_idle hart contexts free)) s
+    set_same hart contexts (unwrap_or (first_free contexts) 0) (Some c)
+    (ap (is_hart hart) idle ∙ sym (free_idle hart contexts free)) s
 
 -- the context left its hart
 abbrev pub has_left : Went → Bool

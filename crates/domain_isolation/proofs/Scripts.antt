@@ -93,8 +93,11 @@ ends_then : {d : ℕ} {A B : Type 0} (e : Ending A) (f : Ending B) (s : Script d
     EndsSo f (then_script s next)
 unfolding EndsSo
 ends_then e f (Gives a) next ends second stops = second a ends
-ends_then e f (Asks question more) next ends second stops =
-    ((λ answer. ends_then e f (more answer) next (ends.0 answer) second stops), stop_then e f (more Stopped) next ends.1 stops)
+ends_then e f (Asks question more) next ends second stops = (
+  (λ answer. ends_then e f (more answer) next (ends.0 answer) second stops),
+  stop_then e f
+      (more Stopped) next ends.1 stops,
+)
 ends_then e f (Reads q own at width more) next ends second stops =
     λ value. ends_then e f (more value) next (ends value) second stops
 ends_then e f (Changes change more) next ends second stops = ends_then e f more next ends second stops
@@ -116,7 +119,8 @@ stop_given P e (Asks question more) is = is
 stop_given P e (Reads q own at width more) is = is
 stop_given P e (Changes change more) is = is
 
-ends_given : {d : ℕ} {B : Type 0} (P : Type 0) (e : Ending B) (s : Script d B) → P → EndsSo (provided P e) s → EndsSo e s
+ends_given : {d : ℕ} {B : Type 0} (P : Type 0) (e : Ending B) (s : Script d B) → P → EndsSo (provided P e) s →
+    EndsSo e s
 unfolding EndsSo
 ends_given P e (Gives b) holds ends = ends holds
 ends_given P e (Asks question more) holds ends =
@@ -128,7 +132,8 @@ pub gives_so : (d : ℕ) {A : Type 0} (e : Ending A) (a : A) → e.each a → En
 unfolding EndsSo
 gives_so d e a is = is
 
-stop_under : {d : ℕ} {B : Type 0} (P Q : Type 0) (e : Ending B) (s : Script d B) → IsStop (provided P e) s → IsStop (provided Q e) s
+stop_under : {d : ℕ} {B : Type 0} (P Q : Type 0) (e : Ending B) (s : Script d B) → IsStop (provided P e) s → IsStop
+    (provided Q e) s
 unfolding IsStop
 stop_under P Q e (Gives b) is = is
 stop_under P Q e (Asks question more) is = is
@@ -136,7 +141,8 @@ stop_under P Q e (Reads q own at width more) is = is
 stop_under P Q e (Changes change more) is = is
 
 -- under a premise that implies it
-pub ends_under : {d : ℕ} {B : Type 0} (P Q : Type 0) (e : Ending B) (s : Script d B) → (Q → P) → EndsSo (provided P e) s → EndsSo (provided Q e) s
+pub ends_under : {d : ℕ} {B : Type 0} (P Q : Type 0) (e : Ending B) (s : Script d B) → (Q → P) → EndsSo
+    (provided P e) s → EndsSo (provided Q e) s
 unfolding EndsSo
 ends_under P Q e (Gives b) implies ends = λ holds. ends (implies holds)
 ends_under P Q e (Asks question more) implies ends =
@@ -144,8 +150,14 @@ ends_under P Q e (Asks question more) implies ends =
 ends_under P Q e (Reads q own at width more) implies ends = λ value. ends_under P Q e (more value) implies (ends value)
 ends_under P Q e (Changes change more) implies ends = ends_under P Q e more implies ends
 
-abbrev pub scripted_under : (d : ℕ) {A : Type 0} (P Q : Type 0) (e : Ending A) (ask : Asking A) → (Q → P) → Scripted d (provided P e) ask → Scripted d (provided Q e) ask
-scripted_under d P Q e ask implies s = record { script = s.script; plays = s.plays; ends = ends_under P Q e s.script implies s.ends }
+abbrev pub scripted_under : (d : ℕ) {A : Type 0} (P Q : Type 0) (e : Ending A) (ask : Asking A) → (Q → P) →
+    Scripted d (provided P e) ask → Scripted d (provided Q e) ask
+scripted_under d P Q e ask implies s = record {
+  script = s.script;
+  plays = s.plays;
+  ends =
+      ends_under P Q e s.script implies s.ends;
+}
 
 -- An answer.
 abbrev pub scripted_gives : (d : ℕ) {A : Type 0} (e : Ending A) (a : A) → e.each a → Scripted d e (answered a)
@@ -162,7 +174,8 @@ scripted_asks d e question next second stops = record {
   ends = ((λ a. (second a).ends), stops);
 }
 
-pub scripted_reads : (d : ℕ) {A : Type 0} (e : Ending A) (q : PageId) → q.domain ≡ d → (at width : ℕ) (next : ℕ → Asking A) →
+pub scripted_reads : (d : ℕ) {A : Type 0} (e : Ending A) (q : PageId) → q.domain ≡ d → (at width : ℕ)
+    (next : ℕ → Asking A) →
     ((value : ℕ) → Scripted d e (next value)) → Scripted d e (then_ask (ask_read q at width) next)
 unfolding EndsSo
 scripted_reads d e q own at width next second = record {

@@ -1,6 +1,6 @@
 -- What the joint machine's questions of a program leave: the newest bytes of each page, the view, and what each
 -- program was told; and what an answer adds to that.
-use Rattle.std.proofs.Common.{◌≡◌, ◌∙◌, true, false, cond, zero, suc, ◌+◌, ◌%◌, ◌^◌, ◌*◌, ℕ, Bool, List, [], ◌∷◌, ◌++◌, Option, Some, None, Result, Ok, Err, refl, ap, sym, append_assoc, append-nil, if◌then◌else◌}
+use Rattle.std.proofs.Common.{◌≡◌, ◌∙◌, true, false, cond, zero, suc, ◌+◌, ◌%◌, ◌^◌, ◌*◌, ℕ, Bool, List, [], ◌∷◌, ◌++◌, Option, Some, None, Result, Ok, Err, refl, ap, append-nil, if◌then◌else◌}
 use Rattle.std.specs.Prelude.{is_some, ◌||◌}
 use Rattle.std.specs.Str.{bytes_eq}
 use Rattle.std.proofs.lemmas.List.Elements.{filter-append}
@@ -16,7 +16,7 @@ use Rattle.cloak_model.specs.Memory.{frame_of}
 use Rattle.cloak_model.specs.Ledger.{vector_of}
 use Rattle.cloak_model.specs.Halves.{is_inward, inward_half}
 use Rattle.cloak_model.specs.Cloaking.{CloakedMemory, AfterSettling, AfterOffer, Offer, Ready, Mismatch, Missed, settle, settle_if, settle_owed, settle_frame_if, owing_frame, owes, owed_in, compared, unless_missed, offer}
-use Rattle.cloak_model.specs.World.{World, Cloak, Flat, Cloaked, Alone, plain_of, view_of, items_of, violation_of, is_missed, stored_at, settled, written, cipher_items}
+use Rattle.cloak_model.specs.World.{World, Flat, Cloaked, Alone, plain_of, view_of, items_of, violation_of, is_missed, stored_at, settled, written, cipher_items}
 use Rattle.cloak_model.specs.Asking.{Told, Asking}
 use Rattle.cloak_model.specs.Walk.{Walk, FirstWord, Ends, GoesOn, first_entry}
 use Rattle.cloak_model.specs.Ask.{ask_word, ask_second, ask_after, ask_first, ask_walk, ask_inside, ask_translate, ask_value}
@@ -29,7 +29,8 @@ is_cloaked (Alone h) = false
 
 -- Settling and offering change no page.
 
-settle_owed_plain : (f : ℕ) (q : PageId) (draw : Option (List ℕ × Random)) (m : CloakedMemory) → (settle_owed f q draw m).memory.plain ≡ m.plain
+settle_owed_plain : (f : ℕ) (q : PageId) (draw : Option (List ℕ × Random)) (m : CloakedMemory) →
+    (settle_owed f q draw m).memory.plain ≡ m.plain
 unfolding settle_owed
 settle_owed_plain f q None m = refl
 settle_owed_plain f q (Some draw) m = refl
@@ -51,23 +52,28 @@ either : {A : Type 0} (P : A → Type 0) (b : Bool) (x y : A) → P x → P y �
 either P true x y here there = here
 either P false x y here there = there
 
-compared_plain : (q : PageId) (g : ℕ) (write : Bool) (recorded : Option (List ℕ)) (m : CloakedMemory) → (compared q g write recorded m).memory.plain ≡ m.plain
+compared_plain : (q : PageId) (g : ℕ) (write : Bool) (recorded : Option (List ℕ)) (m : CloakedMemory) →
+    (compared q g write recorded m).memory.plain ≡ m.plain
 unfolding compared
 compared_plain q g write None m = refl
 compared_plain q g write (Some c) m =
-    either (λ (o : AfterOffer). o.memory.plain ≡ m.plain) (bytes_eq _ c) _ _ (either (λ (x : CloakedMemory). x.plain ≡ m.plain) write _ _ refl refl) refl
+    either (λ (o : AfterOffer). o.memory.plain ≡ m.plain) (bytes_eq _ c) _ _
+    (either (λ (x : CloakedMemory). x.plain ≡ m.plain) write _ _ refl refl) refl
 
-unless_missed_plain : (s : AfterSettling) (next : CloakedMemory → AfterOffer) → ((m : CloakedMemory) → (next m).memory.plain ≡ m.plain) →
+unless_missed_plain : (s : AfterSettling) (next : CloakedMemory → AfterOffer) →
+    ((m : CloakedMemory) → (next m).memory.plain ≡ m.plain) →
     (unless_missed s next).memory.plain ≡ s.memory.plain
 unfolding unless_missed
-unless_missed_plain s next keeps = either (λ (o : AfterOffer). o.memory.plain ≡ s.memory.plain) s.missed _ _ refl (keeps s.memory)
+unless_missed_plain s next keeps = either (λ (o : AfterOffer). o.memory.plain ≡ s.memory.plain) s.missed _ _ refl
+    (keeps s.memory)
 
 offer_plain : (q : PageId) (g : ℕ) (write : Bool) (m : CloakedMemory) → (offer q g write m).memory.plain ≡ m.plain
 unfolding offer
 offer_plain q g write m =
     either (λ (o : AfterOffer). o.memory.plain ≡ m.plain) (owes q (owed_in m g)) _ _ refl
     (unless_missed_plain (settle g m) _ (λ m'.
-    unless_missed_plain (settle_frame_if (owing_frame m' q) m') _ (λ m''. compared_plain q g write (m''.ledger.recorded q) m'')
+    unless_missed_plain (settle_frame_if (owing_frame m' q) m') _
+    (λ m''. compared_plain q g write (m''.ledger.recorded q) m'')
     ∙ settle_frame_if_plain (owing_frame m' q) m') ∙ settle_plain g m)
 
 -- A missing draw is marked.
@@ -75,7 +81,8 @@ offer_plain q g write m =
 abbrev SettlesMarked : AfterSettling → Type 0
 SettlesMarked s = s.missed ≡ true → s.memory.ledger.missed ≡ true
 
-settle_owed_marked : (f : ℕ) (q : PageId) (draw : Option (List ℕ × Random)) (m : CloakedMemory) → SettlesMarked (settle_owed f q draw m)
+settle_owed_marked : (f : ℕ) (q : PageId) (draw : Option (List ℕ × Random)) (m : CloakedMemory) → SettlesMarked
+    (settle_owed f q draw m)
 unfolding settle_owed
 settle_owed_marked f q None m missed = refl
 settle_owed_marked f q (Some draw) m missed = absurd (false≢true missed)
@@ -96,18 +103,23 @@ settle_frame_marked (Some f) m missed = settle_marked f m missed
 abbrev OffersMarked : AfterOffer → Type 0
 OffersMarked o = o.answer ≡ Missed → o.memory.ledger.missed ≡ true
 
-compared_marked : (q : PageId) (g : ℕ) (write : Bool) (recorded : Option (List ℕ)) (m : CloakedMemory) → OffersMarked (compared q g write recorded m)
+compared_marked : (q : PageId) (g : ℕ) (write : Bool) (recorded : Option (List ℕ)) (m : CloakedMemory) →
+    OffersMarked (compared q g write recorded m)
 unfolding compared
 compared_marked q g write None m = λ is. let clash : Ready ≡ Missed = is in absurd cc
 compared_marked q g write (Some c) m =
-    either OffersMarked (bytes_eq _ c) _ _ (λ is. let clash : Ready ≡ Missed = is in absurd cc) (λ is. let clash : Mismatch ≡ Missed = is in absurd cc)
+    either OffersMarked (bytes_eq _ c) _ _ (λ is. let clash : Ready ≡ Missed = is in absurd cc)
+    (λ is. let clash : Mismatch ≡ Missed = is in absurd cc)
 
-either_marked : (missed : Bool) (s : AfterSettling) (o : AfterOffer) → s.missed ≡ missed → SettlesMarked s → OffersMarked o →
-    OffersMarked (if missed then record { memory = s.memory; ciphers = s.ciphers; answer = Missed } else record { memory = o.memory; ciphers = s.ciphers ++ o.ciphers; answer = o.answer })
+either_marked : (missed : Bool) (s : AfterSettling) (o : AfterOffer) → s.missed ≡ missed → SettlesMarked s →
+    OffersMarked o →
+    OffersMarked (if missed then record { memory = s.memory; ciphers = s.ciphers; answer = Missed } else
+    record { memory = o.memory; ciphers = s.ciphers ++ o.ciphers; answer = o.answer })
 either_marked true s o is settles offers same = settles is
 either_marked false s o is settles offers same = offers same
 
-unless_missed_marked : (s : AfterSettling) (next : CloakedMemory → AfterOffer) → SettlesMarked s → ((m : CloakedMemory) → OffersMarked (next m)) →
+unless_missed_marked : (s : AfterSettling) (next : CloakedMemory → AfterOffer) → SettlesMarked s →
+    ((m : CloakedMemory) → OffersMarked (next m)) →
     OffersMarked (unless_missed s next)
 unfolding unless_missed
 unless_missed_marked s next settles offers = either_marked s.missed s (next s.memory) refl settles (offers s.memory)
@@ -126,9 +138,11 @@ ciphers_half : (d : ℕ) (ciphers : List (ℕ × List ℕ)) → inward_half d (c
 ciphers_half d [] = refl
 ciphers_half d (c ∷ ciphers) = ciphers_half d ciphers
 
-pub ciphers_told : (d : ℕ) (items : List Item) (ciphers : List (ℕ × List ℕ)) → inward_half d (items ++ cipher_items ciphers) ≡ inward_half d items
+pub ciphers_told : (d : ℕ) (items : List Item) (ciphers : List (ℕ × List ℕ)) → inward_half d
+    (items ++ cipher_items ciphers) ≡ inward_half d items
 ciphers_told d items ciphers =
-    filter-append (is_inward d) items (cipher_items ciphers) ∙ ap (λ (l : List Item). inward_half d items ++ l) (ciphers_half d ciphers)
+    filter-append (is_inward d) items (cipher_items ciphers) ∙ ap (λ (l : List Item). inward_half d items ++ l)
+    (ciphers_half d ciphers)
     ∙ append-nil (inward_half d items)
 
 -- What a question leaves before its answer.
@@ -143,16 +157,29 @@ Steady-refl w = record { plain = refl; view = refl; form = refl; items = λ d. r
 
 pub Steady-trans : (u v w : World) → Steady u v → Steady v w → Steady u w
 Steady-trans u v w p q =
-    record { plain = q.plain ∙ p.plain; view = q.view ∙ p.view; form = q.form ∙ p.form; items = λ d. q.items d ∙ p.items d }
+    record {
+      plain = q.plain ∙ p.plain;
+      view = q.view ∙ p.view;
+      form = q.form ∙ p.form;
+      items = λ d. q.items d
+          ∙ p.items d;
+    }
 
-Steady-either : {A : Type 0} (b : Bool) (m n : Told A) (w : World) → Steady w m.world → Steady w n.world → Steady w (cond b m n).world
+Steady-either : {A : Type 0} (b : Bool) (m n : Told A) (w : World) → Steady w m.world → Steady w n.world → Steady w
+    (cond b m n).world
 Steady-either true m n w p q = p
 Steady-either false m n w p q = q
 
 Steady-settled : (f : ℕ) (w : World) → Steady w (settled f w)
 Steady-settled f (Flat ram) = Steady-refl (Flat ram)
 Steady-settled f (Cloaked c) =
-    record { plain = settle_plain f c.memory; view = refl; form = refl; items = λ d. ciphers_told d c.items (settle f c.memory).ciphers }
+    record {
+      plain = settle_plain f c.memory;
+      view = refl;
+      form = refl;
+      items = λ d. ciphers_told d c.items
+          (settle f c.memory).ciphers;
+    }
 Steady-settled f (Alone h) = Steady-refl (Alone h)
 
 Steady-stored_at : (pa width value : ℕ) (w : World) → Steady w (stored_at pa width value w)
@@ -167,7 +194,8 @@ Steady-written i (Cloaked c) outward = record {
   view = refl;
   form = refl;
   items = λ d.
-      filter-append (is_inward d) c.items (i ∷ []) ∙ ap (λ (b : Bool). inward_half d c.items ++ cond b (i ∷ []) []) (outward d)
+      filter-append (is_inward d) c.items (i ∷ []) ∙ ap (λ (b : Bool). inward_half d c.items ++ cond b (i ∷ []) [])
+      (outward d)
       ∙ append-nil (inward_half d c.items);
 }
 Steady-written i (Alone h) outward = Steady-refl (Alone h)
@@ -219,7 +247,8 @@ pub record Replied (w : World) (t : Told Answer) : Type 0 where
   pub plain : plain_of t.world ≡ plain_of w
   pub view : view_of t.world ≡ view_of w
   pub form : is_cloaked t.world ≡ is_cloaked w
-  pub items : (d : ℕ) → inward_half d (items_of t.world) ≡ inward_half d (items_of w) ++ inward_half d (answer_item (view_of w).domain t.answer ∷ [])
+  pub items : (d : ℕ) → inward_half d (items_of t.world) ≡ inward_half d (items_of w) ++ inward_half d
+      (answer_item (view_of w).domain t.answer ∷ [])
   pub stops : t.answer ≡ told.Stopped → is_halted t.world ≡ true
 
 replied_after : (u v : World) (t : Told Answer) → Steady u v → Replied v t → Replied u t
@@ -233,7 +262,8 @@ replied_after u v t s r = record {
   stops = r.stops;
 }
 
-replied : (a : Answer) (w : World) → is_cloaked w ≡ true → (a ≡ told.Stopped → is_halted w ≡ true) → Replied w (replies a w)
+replied : (a : Answer) (w : World) → is_cloaked w ≡ true → (a ≡ told.Stopped → is_halted w ≡ true) → Replied w
+    (replies a w)
 unfolding replies
 replied a (Flat ram) cloaked halted = absurd (false≢true cloaked)
 replied a (Cloaked c) cloaked halted = record {
@@ -248,7 +278,8 @@ replied a (Alone h) cloaked halted = absurd (false≢true cloaked)
 missed_halted : (w : World) → is_missed w ≡ true → is_halted w ≡ true
 missed_halted w missed = ap (λ (b : Bool). b || is_some (violation_of w)) missed
 
-replied_if_drawn : (missed : Bool) (ask : Asking Answer) (w : World) → is_missed w ≡ missed → is_cloaked w ≡ true → Replied w (ask w) →
+replied_if_drawn : (missed : Bool) (ask : Asking Answer) (w : World) → is_missed w ≡ missed → is_cloaked w ≡ true →
+    Replied w (ask w) →
     Replied w (if missed then replies told.Stopped w else ask w)
 replied_if_drawn true ask w is cloaked next = replied told.Stopped w cloaked (λ e. missed_halted w is)
 replied_if_drawn false ask w is cloaked next = next
@@ -257,7 +288,8 @@ replied_drawn : (ask : Asking Answer) (w : World) → is_cloaked w ≡ true → 
 unfolding if_drawn
 replied_drawn ask w cloaked next = replied_if_drawn (is_missed w) ask w refl cloaked next
 
-replied_offered : (q : PageId) (g : ℕ) (o : Offer) (w : World) → is_cloaked w ≡ true → (o ≡ Missed → is_missed w ≡ true) → Replied w (offered_by q g o w)
+replied_offered : (q : PageId) (g : ℕ) (o : Offer) (w : World) → is_cloaked w ≡ true →
+    (o ≡ Missed → is_missed w ≡ true) → Replied w (offered_by q g o w)
 unfolding offered_by
 replied_offered q g Ready w cloaked marked = replied told.Ok w cloaked (λ e. absurd cc)
 replied_offered q g Missed w cloaked marked = replied told.Stopped w cloaked (λ e. missed_halted w (marked refl))
@@ -271,28 +303,38 @@ replied_offered q g Mismatch (Cloaked c) cloaked marked =
     violation_halted false = refl
 replied_offered q g Mismatch (Alone h) cloaked marked = absurd (false≢true cloaked)
 
-replied_offer : (q : PageId) (g : ℕ) (write : Bool) (w : World) → is_cloaked w ≡ true → Replied w (ask_offer q g write w)
+replied_offer : (q : PageId) (g : ℕ) (write : Bool) (w : World) → is_cloaked w ≡ true → Replied w
+    (ask_offer q g write w)
 unfolding ask_offer
 replied_offer q g write (Flat ram) cloaked = absurd (false≢true cloaked)
 replied_offer q g write (Cloaked c) cloaked =
     let o = offer q g write c.memory in
     replied_after (Cloaked c) (Cloaked _) _
-    (record { plain = offer_plain q g write c.memory; view = refl; form = refl; items = λ d. ciphers_told d c.items o.ciphers })
+    (record {
+      plain = offer_plain q g write c.memory;
+      view = refl;
+      form = refl;
+      items = λ d.
+          ciphers_told d c.items o.ciphers;
+    })
     (replied_offered q g o.answer (Cloaked _) refl (offer_marked q g write c.memory))
 replied_offer q g write (Alone h) cloaked = absurd (false≢true cloaked)
 
-replied_reached : (q : PageId) (kind : Kind) (to : Result ℕ ℕ) (w : World) → is_cloaked w ≡ true → Replied w (reached q kind to w)
+replied_reached : (q : PageId) (kind : Kind) (to : Result ℕ ℕ) (w : World) → is_cloaked w ≡ true → Replied w
+    (reached q kind to w)
 unfolding reached
 replied_reached q kind (Err cause) w cloaked = replied (told.Absent cause) w cloaked (λ e. absurd cc)
 replied_reached q kind (Ok pa) w cloaked = replied_offer q _ _ w cloaked
 
-pub replied_reach : (q : PageId) (va : ℕ) (kind : Kind) (w : World) → is_cloaked w ≡ true → Replied w (reach_by_table q va kind w)
+pub replied_reach : (q : PageId) (va : ℕ) (kind : Kind) (w : World) → is_cloaked w ≡ true → Replied w
+    (reach_by_table q va kind w)
 unfolding reach_by_table
 replied_reach q va kind w cloaked =
     let to = ask_inside_address va kind w in
     let steady = steady_inside_address va kind w in
     let cloaked' : is_cloaked to.world ≡ true = steady.form ∙ cloaked in
-    replied_after w to.world _ steady (replied_drawn (reached q kind to.answer) to.world cloaked' (replied_reached q kind to.answer to.world cloaked'))
+    replied_after w to.world _ steady (replied_drawn (reached q kind to.answer) to.world cloaked'
+    (replied_reached q kind to.answer to.world cloaked'))
 
 replied_got : (width : ℕ) (to : Result ℕ ℕ) (w : World) → is_cloaked w ≡ true → Replied w (got width to w)
 unfolding got
@@ -302,7 +344,8 @@ replied_got width (Ok pa) w cloaked =
     let steady = steady_value pa width w in
     let cloaked' : is_cloaked v.world ≡ true = steady.form ∙ cloaked in
     let answer = told.Word (v.answer % 2 ^ (8 * width)) in
-    replied_after w v.world _ steady (replied_drawn (replies answer) v.world cloaked' (replied answer v.world cloaked' (λ e. absurd cc)))
+    replied_after w v.world _ steady (replied_drawn (replies answer) v.world cloaked'
+    (replied answer v.world cloaked' (λ e. absurd cc)))
 
 pub replied_get : (va width : ℕ) (w : World) → is_cloaked w ≡ true → Replied w (get_by_table va width w)
 unfolding get_by_table
@@ -310,7 +353,8 @@ replied_get va width w cloaked =
     let to = ask_inside_address va _ w in
     let steady = steady_inside_address va _ w in
     let cloaked' : is_cloaked to.world ≡ true = steady.form ∙ cloaked in
-    replied_after w to.world _ steady (replied_drawn (got width to.answer) to.world cloaked' (replied_got width to.answer to.world cloaked'))
+    replied_after w to.world _ steady (replied_drawn (got width to.answer) to.world cloaked'
+    (replied_got width to.answer to.world cloaked'))
 
 replied_put_at : (pa width value : ℕ) (w : World) → is_cloaked w ≡ true → Replied w (put_at pa width value w)
 unfolding put_at
@@ -318,13 +362,15 @@ replied_put_at pa width value w cloaked =
     let steady = Steady-trans _ _ _ (Steady-stored_at pa width value w) (Steady-written _ _ (λ d. refl)) in
     replied_after w _ _ steady (replied told.Ok _ (steady.form ∙ cloaked) (λ e. absurd cc))
 
-replied_stored : (width value : ℕ) (to : Result ℕ ℕ) (w : World) → is_cloaked w ≡ true → Replied w (stored_inside width value to w)
+replied_stored : (width value : ℕ) (to : Result ℕ ℕ) (w : World) → is_cloaked w ≡ true → Replied w
+    (stored_inside width value to w)
 unfolding stored_inside
 replied_stored width value (Err cause) w cloaked = replied (told.Absent cause) w cloaked (λ e. absurd cc)
 replied_stored width value (Ok pa) w cloaked =
     let steady = Steady-settled (frame_of pa) w in
     let cloaked' : is_cloaked (settled (frame_of pa) w) ≡ true = steady.form ∙ cloaked in
-    replied_after w _ _ steady (replied_drawn (put_at pa width value) _ cloaked' (replied_put_at pa width value _ cloaked'))
+    replied_after w _ _ steady (replied_drawn (put_at pa width value) _ cloaked'
+    (replied_put_at pa width value _ cloaked'))
 
 pub replied_put : (va width value : ℕ) (w : World) → is_cloaked w ≡ true → Replied w (put_by_table va width value w)
 unfolding put_by_table
@@ -332,20 +378,24 @@ replied_put va width value w cloaked =
     let to = ask_inside_address va _ w in
     let steady = steady_inside_address va _ w in
     let cloaked' : is_cloaked to.world ≡ true = steady.form ∙ cloaked in
-    replied_after w to.world _ steady (replied_drawn (stored_inside width value to.answer) to.world cloaked' (replied_stored width value to.answer to.world cloaked'))
+    replied_after w to.world _ steady (replied_drawn (stored_inside width value to.answer) to.world cloaked'
+    (replied_stored width value to.answer to.world cloaked'))
 
 either_world : (b : Bool) (w v : World) → Steady w v → Steady w (if b then v else w)
 either_world true w v steady = steady
 either_world false w v steady = Steady-refl w
 
-steady_if_marked : (domain : ℕ) (marked : List Bool) (f : ℕ) (w : World) → Steady w (settled_if_marked domain marked f w)
+steady_if_marked : (domain : ℕ) (marked : List Bool) (f : ℕ) (w : World) → Steady w
+    (settled_if_marked domain marked f w)
 unfolding settled_if_marked
 steady_if_marked domain marked f w = either_world _ w (settled f w) (Steady-settled f w)
 
-pub replied_clear : (domain : ℕ) (marked : List Bool) (f n : ℕ) (w : World) → is_cloaked w ≡ true → Replied w (clear_from domain marked f n w)
+pub replied_clear : (domain : ℕ) (marked : List Bool) (f n : ℕ) (w : World) → is_cloaked w ≡ true → Replied w
+    (clear_from domain marked f n w)
 unfolding clear_from
 replied_clear domain marked f zero w cloaked = replied told.Ok w cloaked (λ e. absurd cc)
 replied_clear domain marked f (suc n) w cloaked =
     let steady = steady_if_marked domain marked f w in
     let cloaked' : is_cloaked (settled_if_marked domain marked f w) ≡ true = steady.form ∙ cloaked in
-    replied_after w _ _ steady (replied_drawn (clear_from domain marked (f + 1) n) _ cloaked' (replied_clear domain marked (f + 1) n _ cloaked'))
+    replied_after w _ _ steady (replied_drawn (clear_from domain marked (f + 1) n) _ cloaked'
+    (replied_clear domain marked (f + 1) n _ cloaked'))

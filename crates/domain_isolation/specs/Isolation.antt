@@ -55,7 +55,8 @@ DomainEndsAlone =
     (b : Bundle) (d : ℕ) (p : Program) (r : Run) → Hosts b d p r →
     HasDomain (domain_alone d b.kernel.schedule p (exchange r)) (domain_part r.closed.joint d)
 
--- Two runs agree in a domain: they made as many steps, and after each of them, and as they were closed, its part is one.
+-- Two runs agree in a domain: they made as many steps, and after each of them, and as they were closed, its part is
+-- one.
 pub record AgreeInDomain (d : ℕ) (r r' : Run) : Type 0 where
   pub steps : length r'.turns ≡ length r.turns
   pub after : (n : ℕ) → n ≤ length r.turns → domain_part (joint_until n r') d ≡ domain_part (joint_until n r) d
