@@ -95,12 +95,12 @@ begins d schedule k items p n =
     (slot_on hart 0 p.domain.control.contexts))) items) before
 
 -- Close ends it
-pub closes : (d : ℕ) (schedule : List ℕ) (k : ℕ) (s : DomainAlone) (p : DomainPart) (stops : Bool) → RestsAt
-    (ended s) p stops →
+pub closes : (d : ℕ) (schedule : List ℕ) (k : ℕ) (s : DomainAlone) (p : DomainPart) (stops : Bool) →
+    RestsAt (ended s) p stops →
     domain_taken d schedule s (item.Close k ∷ []) ≡ ended s
 unfolding domain_taken domain_takes
-closes d schedule k s p stops rests = item_taken d schedule s (item.Close k)
-    (ended_fits s.place s (ap (λ (t : DomainAlone). t.unfit) rests.is))
+closes d schedule k s p stops rests =
+    item_taken d schedule s (item.Close k) (ended_fits s.place s (ap (λ (t : DomainAlone). t.unfit) rests.is))
 
 -- The steps of other harts.
 
@@ -122,8 +122,8 @@ resume_rests d schedule p k hart ctx reply stops own granted =
     let r = resume_slot (slot_of ctx) hart reply p.domain.control in
     let after = alone_at (with_control r.control p) k Done in
     let taken : domain_taken d schedule s (item.Resume d ctx reply ∷ []) ≡ after =
-    same_number d (take_resume d s.place ctx reply s) s ∙ ap
-    (λ (b : Bool). cond b (resumed_by r s) (alone.domain_unfit s)) (eq-eqb (domain_of ctx) d own)
+    same_number d (take_resume d s.place ctx reply s) s
+    ∙ ap (λ (b : Bool). cond b (resumed_by r s) (alone.domain_unfit s)) (eq-eqb (domain_of ctx) d own)
     ∙ ap (λ (b : Bool). cond b after (alone.domain_unfit s)) granted in
     subst (λ (t : DomainAlone). RestsAt (ended t) (with_control r.control p) stops) (sym taken)
     (record { steps = k; place = Between; is = refl; between = λ goes. refl })
@@ -161,8 +161,8 @@ tried_all slot d w serving =
     ∙ played_alone s w serving [])
 
 -- with a front of them it wants more
-tried_front : (slot : ℕ) (d : Domain) (w : World) → IsServing d.control.number w → (front : List Answer)
-    (a : Answer) (more : List Answer) →
+tried_front : (slot : ℕ) (d : Domain) (w : World) → IsServing d.control.number w →
+    (front : List Answer) (a : Answer) (more : List Answer) →
     front ++ a ∷ more ≡ answers_of (step_scripted slot d).script w → try_with slot front (part_in d w) ≡ Wants
 unfolding try_with tried
 tried_front slot d w serving front a more is =
@@ -236,8 +236,8 @@ answers_rest schedule k slot d w serving stops before (a ∷ []) is stop =
     (λ (l : List Answer). try_with slot l (part_in d w)) is ∙ tried_all slot d w serving in
     let taken : take_domain_item n schedule s (answer_item n a) ≡ alone_at p k
     (if is_stopped a then Stopped else Done) =
-    answer_taken n schedule (part_in d w) k slot before a ∙ ap
-    (λ (r : alone.Tried). answered_by slot before a r s) over in
+    answer_taken n schedule (part_in d w) k slot before a
+    ∙ ap (λ (r : alone.Tried). answered_by slot before a r s) over in
     subst (λ (u : DomainAlone). RestsAt (ended u) p stops) (sym taken)
     (over_rests p k (is_stopped a) stops (λ stopped. stop (ap (λ (b : Bool). b || false) stopped)))
 answers_rest schedule k slot d w serving stops before (a ∷ b ∷ after) is stop =

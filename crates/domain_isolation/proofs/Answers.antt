@@ -35,8 +35,8 @@ told_either : (P : Answer → Type 0) (b : Bool) (m n : Told Answer) → P m.ans
 told_either P true m n p q = p
 told_either P false m n p q = q
 
-drawn_has : (P : Answer → Type 0) (ask : Asking Answer) (w : World) → P told.Stopped → P (ask w).answer → P
-    (if_drawn ask w).answer
+drawn_has : (P : Answer → Type 0) (ask : Asking Answer) (w : World) → P told.Stopped → P (ask w).answer →
+    P (if_drawn ask w).answer
 unfolding if_drawn replies
 drawn_has P ask w stopped there = told_either P (is_missed w) _ _ stopped there
 
@@ -83,8 +83,8 @@ put_at_has pa width value w = refl
 stored_has : (width value : ℕ) (to : Result ℕ ℕ) (w : World) → ForAccess (stored_inside width value to w).answer
 unfolding stored_inside replies
 stored_has width value (Err cause) w = refl
-stored_has width value (Ok pa) w = drawn_has ForAccess (put_at pa width value) (settled (frame_of pa) w) refl
-    (put_at_has pa width value _)
+stored_has width value (Ok pa) w =
+    drawn_has ForAccess (put_at pa width value) (settled (frame_of pa) w) refl (put_at_has pa width value _)
 
 put_has : (va width value : ℕ) (w : World) → ForAccess (put_by_table va width value w).answer
 unfolding put_by_table
@@ -111,12 +111,12 @@ get_has va width w =
     drawn_has (ForValue width) (got width to.answer) to.world (record { kind = refl; narrow = refl })
     (got_has width to.answer to.world)
 
-clear_has : (domain : ℕ) (marked : List Bool) (f n : ℕ) (w : World) → ForClearing
-    (clear_from domain marked f n w).answer
+clear_has : (domain : ℕ) (marked : List Bool) (f n : ℕ) (w : World) →
+    ForClearing (clear_from domain marked f n w).answer
 unfolding clear_from replies
 clear_has domain marked f zero w = refl
-clear_has domain marked f (suc n) w = drawn_has ForClearing (clear_from domain marked (f + 1) n) _ refl
-    (clear_has domain marked (f + 1) n _)
+clear_has domain marked f (suc n) w =
+    drawn_has ForClearing (clear_from domain marked (f + 1) n) _ refl (clear_has domain marked (f + 1) n _)
 
 -- A program that runs alone takes it.
 
@@ -194,24 +194,24 @@ stuck_with plain = Alone (record { plain = plain; answers = []; unfit = true })
 abbrev pub IsStuck : World → Type 0
 IsStuck w = (plain : ℕ → ℕ → List ℕ) × (w ≡ stuck_with plain)
 
-pub question_missing : {d : ℕ} (question : Question d) (plain : PageId → List ℕ) → IsStuck
-    (asked question (alone_with d plain [])).world
+pub question_missing : {d : ℕ} (question : Question d) (plain : PageId → List ℕ) →
+    IsStuck (asked question (alone_with d plain [])).world
 unfolding ask_reach ask_get ask_put ask_clear next_answer
 question_missing {d} (Reach q own va kind) plain = (domain_pages d plain, refl)
 question_missing {d} (Get va width) plain = (domain_pages d plain, refl)
 question_missing {d} (Put va width value) plain = (domain_pages d plain, refl)
 question_missing {d} (Clear marked) plain = (domain_pages d plain, refl)
 
-pub question_stuck : {d : ℕ} (question : Question d) (plain : ℕ → ℕ → List ℕ) → IsStuck
-    (asked question (stuck_with plain)).world
+pub question_stuck : {d : ℕ} (question : Question d) (plain : ℕ → ℕ → List ℕ) →
+    IsStuck (asked question (stuck_with plain)).world
 unfolding ask_reach ask_get ask_put ask_clear next_answer
 question_stuck (Reach q own va kind) plain = (plain, refl)
 question_stuck (Get va width) plain = (plain, refl)
 question_stuck (Put va width value) plain = (plain, refl)
 question_stuck (Clear marked) plain = (plain, refl)
 
-pub change_stuck : {d : ℕ} (change : Change d) (plain : ℕ → ℕ → List ℕ) → IsStuck
-    (changed change (stuck_with plain)).world
+pub change_stuck : {d : ℕ} (change : Change d) (plain : ℕ → ℕ → List ℕ) →
+    IsStuck (changed change (stuck_with plain)).world
 unfolding ask_write ask_copy ask_forget
 change_stuck (Write q own at width value) plain = (_, refl)
 change_stuck (Copy from to) plain = (_, refl)
@@ -270,13 +270,13 @@ never_same_page : (d e : ℕ) (q : PageId) → q.domain ≡ d → e ≢ d → (r
 unfolding same_page
 never_same_page d e q own other resource page = other_and e q.domain _ (λ same. other (same ∙ own))
 
-never_of : (d e n : ℕ) → e ≢ d → (resource page : ℕ) → is_of d n
-    (record { domain = e; resource = resource; page = page }) ≡ false
+never_of : (d e n : ℕ) → e ≢ d → (resource page : ℕ) →
+    is_of d n (record { domain = e; resource = resource; page = page }) ≡ false
 unfolding is_of
 never_of d e n other resource page = other_and e d _ other
 
-pub change_leaves : {d : ℕ} (change : Change d) (w : World) → is_cloaked w ≡ true → LeavesOthers d w
-    (changed change w).world
+pub change_leaves : {d : ℕ} (change : Change d) (w : World) → is_cloaked w ≡ true →
+    LeavesOthers d w (changed change w).world
 unfolding ask_write ask_copy ask_forget copy_pages drop_pages
 change_leaves change (Flat ram) cloaked = absurd (false≢true cloaked)
 change_leaves change (Alone h) cloaked = absurd (false≢true cloaked)

@@ -35,8 +35,8 @@ parsed : List Item → Parsed
 parsed [] = record { front = []; steps = [] }
 parsed (i ∷ items) = parsed_before i (parsed items)
 
-parsed_one : (i : Item) (rest : Parsed) → IsOfStep i → parsed_before i rest ≡
-    record { front = i ∷ rest.front; steps = rest.steps }
+parsed_one : (i : Item) (rest : Parsed) → IsOfStep i →
+    parsed_before i rest ≡ record { front = i ∷ rest.front; steps = rest.steps }
 parsed_one (item.Step number) rest is = absurd cc
 parsed_one (item.Close steps) rest is = absurd cc
 parsed_one item.End rest is = refl
@@ -55,11 +55,11 @@ parsed_step : (told items : List Item) → AllByRecursion IsOfStep told →
 unfolding parsed
 parsed_step [] items all = refl
 parsed_step (i ∷ told) items all =
-    ap (parsed_before i) (parsed_step told items all.1) ∙ parsed_one i
-    (record { front = told ++ (parsed items).front; steps = (parsed items).steps }) all.0
+    ap (parsed_before i) (parsed_step told items all.1)
+    ∙ parsed_one i (record { front = told ++ (parsed items).front; steps = (parsed items).steps }) all.0
 
-parsed_steps : (k closing : ℕ) (steps : List (List Item)) (rest : List Item) → AllByRecursion
-    (AllByRecursion IsOfStep) steps →
+parsed_steps : (k closing : ℕ) (steps : List (List Item)) (rest : List Item) →
+    AllByRecursion (AllByRecursion IsOfStep) steps →
     parsed (steps_items k steps ++ item.Close closing ∷ rest) ≡ record { front = []; steps = steps }
 unfolding parsed steps_items
 parsed_steps k closing [] rest all = refl
@@ -74,8 +74,8 @@ parsed_steps k closing (told ∷ steps) rest all =
 
 -- The half of an exchange.
 
-half_steps : (d k : ℕ) (turns : List Turn) → inward_half d
-    (steps_items k (map (λ (t : Turn). t.items) turns)) ≡ steps_items k (told_by d turns)
+half_steps : (d k : ℕ) (turns : List Turn) →
+    inward_half d (steps_items k (map (λ (t : Turn). t.items) turns)) ≡ steps_items k (told_by d turns)
 unfolding steps_items
 half_steps d k [] = refl
 half_steps d k (t ∷ turns) =
@@ -139,8 +139,8 @@ pub domain_depends_on_half : DomainDependsOnHalf
 domain_depends_on_half b b' d p r r' h h' schedule half =
     let t = tells b d p r h in
     let t' = tells b' d p r' h' in
-    let told : told_by d r'.turns ≡ told_by d r.turns = sym t'.steps ∙ ap
-    (λ (items : List Item). (parsed items).steps) half ∙ t.steps in
+    let told : told_by d r'.turns ≡ told_by d r.turns = sym t'.steps
+    ∙ ap (λ (items : List Item). (parsed items).steps) half ∙ t.steps in
     let steps : length r'.turns ≡ length r.turns =
     sym (length-map r'.turns (λ (t : Turn). inward_half d t.items)) ∙ ap (λ (l : List (List Item)). length l) told
     ∙ length-map r.turns (λ (t : Turn). inward_half d t.items) in
@@ -151,8 +151,8 @@ domain_depends_on_half b b' d p r r' h h' schedule half =
       after = λ n le.
           let le' : n ≤ length r'.turns = subst (λ (x : ℕ). n ≤ x) (sym steps) le in
           same_domain d b.kernel.schedule b'.kernel.schedule p _ _ _ _ schedule
-          (t'.until n ∙ ap (λ (l : List (List Item)). steps_items 1 (take n l) ++ item.Close n ∷ []) told ∙ sym
-          (t.until n))
+          (t'.until n ∙ ap (λ (l : List (List Item)). steps_items 1 (take n l) ++ item.Close n ∷ []) told
+          ∙ sym (t.until n))
           (domain_is_alone b d p r h n le) (domain_is_alone b' d p r' h' n le');
       closed = same_domain d b.kernel.schedule b'.kernel.schedule p (run_inward_half d r)
           (run_inward_half d r') _ _ schedule half

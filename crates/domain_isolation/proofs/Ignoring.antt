@@ -34,8 +34,8 @@ takes_others d schedule s (item.Resume domain ctx reply) is = not_chosen _ _ _ i
 item_ignored : (d : ℕ) (schedule : List ℕ) (s : DomainAlone) (i : Item) → is_inward d i ≡ false →
     take_domain_item d schedule s i ≡ s
 unfolding take_domain_item
-item_ignored d schedule s i is = either_same (is_some s.unfit) s (domain_takes d schedule i s)
-    (takes_others d schedule s i is)
+item_ignored d schedule s i is =
+    either_same (is_some s.unfit) s (domain_takes d schedule i s) (takes_others d schedule s i is)
 
 half_one : (d : ℕ) (schedule : List ℕ) (s : DomainAlone) (i : Item) (items half : List Item) (test : Bool) →
     is_inward d i ≡ test →
@@ -47,8 +47,8 @@ half_one d schedule s i items half false is others =
     others s ∙ ap (λ (t : DomainAlone). domain_taken d schedule t items) (sym (item_ignored d schedule s i is))
 
 -- the half suffices, from every state on
-pub half_taken : (d : ℕ) (schedule : List ℕ) (s : DomainAlone) (items : List Item) → domain_taken d schedule s
-    (inward_half d items) ≡ domain_taken d schedule s items
+pub half_taken : (d : ℕ) (schedule : List ℕ) (s : DomainAlone) (items : List Item) →
+    domain_taken d schedule s (inward_half d items) ≡ domain_taken d schedule s items
 half_taken d schedule s [] = refl
 half_taken d schedule s (i ∷ items) =
     half_one d schedule s i items (inward_half d items) (is_inward d i) refl (λ t. half_taken d schedule t items)
@@ -57,8 +57,8 @@ pub inward_half_suffices : InwardHalfSuffices
 inward_half_suffices d schedule p items = half_taken d schedule (opened_domain d p) items
 
 -- what is taken one after another
-pub taken_append : (d : ℕ) (schedule : List ℕ) (s : DomainAlone) (a b : List Item) → domain_taken d schedule s
-    (a ++ b) ≡ domain_taken d schedule (domain_taken d schedule s a) b
+pub taken_append : (d : ℕ) (schedule : List ℕ) (s : DomainAlone) (a b : List Item) →
+    domain_taken d schedule s (a ++ b) ≡ domain_taken d schedule (domain_taken d schedule s a) b
 unfolding domain_taken
 taken_append d schedule s [] b = refl
 taken_append d schedule s (i ∷ a) b = taken_append d schedule (take_domain_item d schedule s i) a b

@@ -49,17 +49,17 @@ pub started_outside : (entry n : ℕ) → (started entry n).inside ≡ None
 unfolding started
 started_outside entry n = refl
 
-pub inside_set_same : (harts : List Hart) (n : ℕ) (h : Hart) → n < length harts → inside_at
-    (slice_set harts n h) n ≡ h.inside
+pub inside_set_same : (harts : List Hart) (n : ℕ) (h : Hart) → n < length harts →
+    inside_at (slice_set harts n h) n ≡ h.inside
 inside_set_same harts n h within = ap (λ (x : Hart). x.inside) (get_or-set_same harts n h (started 0 0) within)
 
-pub inside_set_other : (harts : List Hart) (n m : ℕ) (h : Hart) → m ≢ n → inside_at
-    (slice_set harts n h) m ≡ inside_at harts m
+pub inside_set_other : (harts : List Hart) (n m : ℕ) (h : Hart) → m ≢ n →
+    inside_at (slice_set harts n h) m ≡ inside_at harts m
 inside_set_other harts n m h other = ap (λ (x : Hart). x.inside) (get_or-set_other harts n m h (started 0 0) other)
 
 -- a hart that stays where it is
-pub inside_set_kept : (harts : List Hart) (n : ℕ) (h : Hart) → h.inside ≡ inside_at harts n → (m : ℕ) → inside_at
-    (slice_set harts n h) m ≡ inside_at harts m
+pub inside_set_kept : (harts : List Hart) (n : ℕ) (h : Hart) → h.inside ≡ inside_at harts n → (m : ℕ) →
+    inside_at (slice_set harts n h) m ≡ inside_at harts m
 inside_set_kept harts n h kept m = elim (decided m n) [
   | inl same ↦ elim (cases_lt n (length harts)) [
     | inl within ↦ subst (λ (k : ℕ). inside_at (slice_set harts n h) k ≡ inside_at harts k) (sym same)
@@ -77,20 +77,20 @@ pub running_within : (harts : List Hart) (n ctx : ℕ) → inside_at harts n ≡
 running_within harts n ctx is = elim (cases_lt n (length harts)) [
   | inl within ↦ within
   | inr past ↦
-      let clash : None ≡ Some ctx = sym (started_outside 0 0) ∙ ap (λ (x : Hart). x.inside)
-      (sym (get_or_past harts n (started 0 0) past)) ∙ is in absurd cc
+      let clash : None ≡ Some ctx = sym (started_outside 0 0)
+      ∙ ap (λ (x : Hart). x.inside) (sym (get_or_past harts n (started 0 0) past)) ∙ is in absurd cc
 ]
 
 -- Domains.
 
-pub get_set_same : {A : Type 0} (xs : List A) (i : ℕ) (old new : A) → slice_get xs i ≡ Some old → slice_get
-    (slice_set xs i new) i ≡ Some new
+pub get_set_same : {A : Type 0} (xs : List A) (i : ℕ) (old new : A) → slice_get xs i ≡ Some old →
+    slice_get (slice_set xs i new) i ≡ Some new
 get_set_same [] i old new is = absurd cc
 get_set_same (x ∷ xs) zero old new is = refl
 get_set_same (x ∷ xs) (suc i) old new is = get_set_same xs i old new is
 
-pub get_set_other : {A : Type 0} (xs : List A) (i k : ℕ) (new : A) → k ≢ i → slice_get
-    (slice_set xs i new) k ≡ slice_get xs k
+pub get_set_other : {A : Type 0} (xs : List A) (i k : ℕ) (new : A) → k ≢ i →
+    slice_get (slice_set xs i new) k ≡ slice_get xs k
 get_set_other [] i k new other = refl
 get_set_other (x ∷ xs) zero zero new other = absurd (other refl)
 get_set_other (x ∷ xs) zero (suc k) new other = refl
@@ -101,8 +101,8 @@ get_set_other (x ∷ xs) (suc i) (suc k) new other = get_set_other xs i k new (�
 
 -- the harts of another domain's contexts
 abbrev OthersKept : ℕ → List Hart → List Hart → Type 0
-OthersKept e harts harts' = (d slot m : ℕ) → d ≢ e → is_running d slot (inside_at harts' m) ≡ is_running d slot
-    (inside_at harts m)
+OthersKept e harts harts' =
+    (d slot m : ℕ) → d ≢ e → is_running d slot (inside_at harts' m) ≡ is_running d slot (inside_at harts m)
 
 -- the contexts of this domain
 abbrev RunsSo : ℕ → List Hart → List (Option Context) → Type 0
@@ -126,8 +126,8 @@ with_one count harts harts' domains e old new order is counted number runs other
         | inl same ↦
             let it : domain ≡ new = same_some domain new (sym found ∙ ap (slice_get (slice_set domains e new)) same
             ∙ get_set_same domains e old new is) in
-            ap (λ (x : Domain). runs_in m x.control.contexts slot) it ∙ runs m slot ∙ ap
-            (λ (k : ℕ). is_running k slot (inside_at harts' m)) (sym same)
+            ap (λ (x : Domain). runs_in m x.control.contexts slot) it ∙ runs m slot
+            ∙ ap (λ (k : ℕ). is_running k slot (inside_at harts' m)) (sym same)
         | inr other ↦
             order.runs d domain (sym (get_set_other domains e d new other) ∙ found) m slot ∙ sym (others d slot m other)
       ];
@@ -141,8 +141,8 @@ pub order_kept : (count : ℕ) (harts : List Hart) (domains : List Domain) (n : 
 order_kept count harts domains n h order kept = record {
   harts_count = length-set harts n h ∙ order.harts_count;
   numbers = order.numbers;
-  runs = λ d domain found m slot. order.runs d domain found m slot ∙ ap (is_running d slot)
-      (sym (inside_set_kept harts n h kept m));
+  runs = λ d domain found m slot. order.runs d domain found m slot
+      ∙ ap (is_running d slot) (sym (inside_set_kept harts n h kept m));
 }
 
 moves_nothing : (slot : ℕ) (old new : Control) → MovesSlot slot false old new → (m s : ℕ) →
@@ -158,8 +158,8 @@ pub order_stays : (count : ℕ) (harts : List Hart) (domains : List Domain) (n :
     InOrder count (slice_set harts n h) (slice_set domains e new)
 order_stays count harts domains n h e slot old new order is kept moves =
     with_one count harts (slice_set harts n h) domains e old new order is (length-set harts n h) moves.number
-    (λ m s. moves_nothing slot old.control new.control moves m s ∙ order.runs e old is m s ∙ ap (is_running e s)
-    (sym (inside_set_kept harts n h kept m)))
+    (λ m s. moves_nothing slot old.control new.control moves m s ∙ order.runs e old is m s
+    ∙ ap (is_running e s) (sym (inside_set_kept harts n h kept m)))
     (λ d s m other. ap (is_running d s) (inside_set_kept harts n h kept m))
 
 -- A hart that leaves its context.
@@ -195,8 +195,8 @@ runs_once m n (Some c) is other = hart_once m n c.on is other
 
 pub order_leaves : (count : ℕ) (harts : List Hart) (domains : List Domain) (n : ℕ) (h : Hart) (ctx : ℕ)
     (old new : Domain) → InOrder count harts domains →
-    slice_get domains (domain_of ctx) ≡ Some old → inside_at harts n ≡ Some ctx → h.inside ≡ None → MovesSlot
-    (slot_of ctx) true old.control new.control →
+    slice_get domains (domain_of ctx) ≡ Some old → inside_at harts n ≡ Some ctx → h.inside ≡ None →
+    MovesSlot (slot_of ctx) true old.control new.control →
     InOrder count (slice_set harts n h) (slice_set domains (domain_of ctx) new)
 order_leaves count harts domains n h ctx old new order is runs out moves =
     let e = domain_of ctx in
@@ -218,8 +218,8 @@ order_leaves count harts domains n h ctx old new order is runs out moves =
       | inr apart ↦
           (elim (decided s slot) [
             | inl it ↦
-                ap (runs_in m new.control.contexts) it ∙ moves.own m ∙ sym
-                (runs_once m n (context_at old.control.contexts slot) here apart)
+                ap (runs_in m new.control.contexts) it ∙ moves.own m
+                ∙ sym (runs_once m n (context_at old.control.contexts slot) here apart)
                 ∙ ap (runs_in m old.control.contexts) (sym it) ∙ order.runs e old is m s
             | inr other ↦ moves.others m s other ∙ order.runs e old is m s
           ]) ∙ ap (is_running e s) (sym (inside_set_other harts n m h apart))
@@ -259,8 +259,8 @@ order_resumes count harts domains n h ctx old new order is within runs goes resu
                 ap (runs_in n new.control.contexts) it ∙ resumes.here n ∙ eq-eqb n n refl ∙ sym (running_own ctx)
                 ∙ ap (λ (x : ℕ). is_running e x (Some ctx)) (sym it) ∙ ap (is_running e s) (sym in_it)
             | inr other ↦
-                resumes.others n s other ∙ order.runs e old is n s ∙ ap (is_running e s) runs ∙ sym
-                (running_other_slot ctx e s other) ∙ ap (is_running e s) (sym in_it)
+                resumes.others n s other ∙ order.runs e old is n s ∙ ap (is_running e s) runs
+                ∙ sym (running_other_slot ctx e s other) ∙ ap (is_running e s) (sym in_it)
           ])
       | inr apart ↦
           (elim (decided s slot) [
@@ -330,8 +330,8 @@ resumed_there slot hart answer c old is idle =
       number = answer_taken_number slot answer o d;
       idle = λ m. ap (runs_on m) is ∙ ap (is_hart m) idle;
       here = λ m. answer_taken_runs slot answer o d refl m slot ∙ set_here m old.contexts slot c new is;
-      others = λ m s other. answer_taken_runs slot answer o d refl m s ∙ set_others m old.contexts slot
-          (Some new) s other;
+      others = λ m s other. answer_taken_runs slot answer o d refl m s
+          ∙ set_others m old.contexts slot (Some new) s other;
     }
 
 resumed_on : (slot hart answer : ℕ) (on : Option HartId) (c : Context) (old : Control) →
@@ -356,12 +356,12 @@ unfolding resume_if resume_told
 resumed_if slot hart answer None old is granted = absurd (false≢true granted)
 resumed_if slot hart answer (Some c) old is granted = resumed_on slot hart answer c.on c old is refl granted
 
-pub resume_resumes : (slot hart answer : ℕ) (old : Control) → is_granted
-    (resume_slot slot hart answer old).answer ≡ true →
+pub resume_resumes : (slot hart answer : ℕ) (old : Control) →
+    is_granted (resume_slot slot hart answer old).answer ≡ true →
     SlotResumed slot hart old (resume_slot slot hart answer old).control
 unfolding resume_slot resume_at
-resume_resumes slot hart answer old granted = resumed_if slot hart answer
-    (context_at old.contexts slot) old refl granted
+resume_resumes slot hart answer old granted =
+    resumed_if slot hart answer (context_at old.contexts slot) old refl granted
 
 -- The slot that runs on a hart.
 
@@ -370,8 +370,8 @@ pub slot_none : (hart k : ℕ) (contexts : List (Option Context)) → ((s : ℕ)
 unfolding slot_on
 slot_none hart k [] none = refl
 slot_none hart k (c ∷ contexts) none =
-    ap (λ (b : Bool). cond b (Some k) (slot_on hart (k + 1) contexts)) (none 0) ∙ slot_none hart (k + 1) contexts
-    (λ s. none (suc s))
+    ap (λ (b : Bool). cond b (Some k) (slot_on hart (k + 1) contexts)) (none 0)
+    ∙ slot_none hart (k + 1) contexts (λ s. none (suc s))
 
 pub slot_found : (hart k slot : ℕ) (contexts : List (Option Context)) → runs_in hart contexts slot ≡ true →
     ((s : ℕ) → s ≢ slot → runs_in hart contexts s ≡ false) →

@@ -48,8 +48,8 @@ record IsSchedule (count : ℕ) (schedule : List ℕ) : Type 0 where
   pub some : 1 ≤ length schedule
   pub turns : All (λ h. h < count) schedule
 
-hart_within : (count : ℕ) (schedule : List ℕ) (k : ℕ) → IsSchedule count schedule → slice_index schedule
-    (k % length schedule) < count
+hart_within : (count : ℕ) (schedule : List ℕ) (k : ℕ) → IsSchedule count schedule →
+    slice_index schedule (k % length schedule) < count
 hart_within count schedule k is = is.turns (k % length schedule) 0 (mod-lt k is.some)
 
 after_none : (d : ℕ) (schedule : List ℕ) (k : ℕ) (j : Joint) (s : DomainAlone) (p : DomainPart) (n : ℕ) →
@@ -88,8 +88,8 @@ after_more d schedule k j s t turns told after =
       stops = after.stops;
       rests =
           subst (λ (x : DomainAlone). RestsAt (ended x) after.part after.stops)
-          (ap (λ (m : ℕ). domain_taken d schedule (domain_taken d schedule s all) (items_behind m turns)) next ∙ sym
-          (taken_append d schedule s all (items_behind (suc k) turns)))
+          (ap (λ (m : ℕ). domain_taken d schedule (domain_taken d schedule s all) (items_behind m turns)) next
+          ∙ sym (taken_append d schedule s all (items_behind (suc k) turns)))
           after.rests;
       told = (told, after.told);
     }
@@ -114,11 +114,12 @@ moment schedule k j = record { schedule = schedule; steps = k; joint = j }
 
 fronts_one : (d count : ℕ) (schedule : List ℕ) (k : ℕ) (j : Joint) (t : Turn) (turns : List Turn) (s : DomainAlone)
     (p : DomainPart) (n : ℕ) → HoldsPart d j p → ended s ≡ alone_at p n Between →
-    AllByRecursion IsOfStep (inward_half d t.items) → Fronts d schedule (k + 1) t.joint turns
-    (domain_taken d schedule s (item.Step (suc k) ∷ t.items)) → Fronts d schedule k j (t ∷ turns) s
+    AllByRecursion IsOfStep (inward_half d t.items) →
+    Fronts d schedule (k + 1) t.joint turns (domain_taken d schedule s (item.Step (suc k) ∷ t.items)) →
+    Fronts d schedule k j (t ∷ turns) s
 fronts_one d count schedule k j t turns s p n has is told rest zero le = after_none d schedule k j s p n has is
-fronts_one d count schedule k j t turns s p n has is told rest (suc m) le = after_more d schedule k j s t
-    (take m turns) told (rest m (omega (arith, le)))
+fronts_one d count schedule k j t turns s p n has is told rest (suc m) le =
+    after_more d schedule k j s t (take m turns) told (rest m (omega (arith, le)))
 
 rests_between : (s : DomainAlone) (p : DomainPart) (stops : Bool) (rests : RestsAt s p stops) → stops ≡ false →
     s ≡ alone_at p rests.steps Between
@@ -132,21 +133,21 @@ FrontsFrom budget d count schedule =
     Fronts d schedule k j (turns_from budget (moment schedule k j)) s
 
 -- what follows a step, by whether it stops the run
-fronts_unless : (budget d count : ℕ) (schedule : List ℕ) → FrontsFrom budget d count schedule → (k : ℕ) (t : Turn)
-    (s : DomainAlone) (p : DomainPart) (o : Option Stop) →
+fronts_unless : (budget d count : ℕ) (schedule : List ℕ) → FrontsFrom budget d count schedule →
+    (k : ℕ) (t : Turn) (s : DomainAlone) (p : DomainPart) (o : Option Stop) →
     stop_of t ≡ o → (stop_of t ≡ None → InOrder count t.joint.harts t.joint.domains) → HoldsPart d t.joint p →
     RestsAt (ended s) p (is_some (stop_of t)) →
     Fronts d schedule (k + 1) t.joint (unless_stopped o (turns_from budget) (moment schedule (k + 1) t.joint)) s
-fronts_unless budget d count schedule rest k t s p (Some cause) is order has rests = fronts_none d schedule
-    (k + 1) t.joint s p (is_some (stop_of t)) has rests
+fronts_unless budget d count schedule rest k t s p (Some cause) is order has rests =
+    fronts_none d schedule (k + 1) t.joint s p (is_some (stop_of t)) has rests
 fronts_unless budget d count schedule rest k t s p None is order has rests =
     rest (k + 1) t.joint s p rests.steps (order is) has
     (rests_between (ended s) p (is_some (stop_of t)) rests (ap is_some is))
 
 fronts : (budget d count : ℕ) (schedule : List ℕ) → IsSchedule count schedule → FrontsFrom budget d count schedule
 unfolding turns_from joint_step
-fronts zero d count schedule is k j s p n order has rests = fronts_none d schedule k j s p false has
-    (record { steps = n; place = Between; is = rests; between = λ goes. refl })
+fronts zero d count schedule is k j s p n order has rests =
+    fronts_none d schedule k j s p false has (record { steps = n; place = Between; is = rests; between = λ goes. refl })
 fronts (suc budget) d count schedule is k j s p n order has rests =
     let hart = slice_index schedule (k % length schedule) in
     let t = turn_of j hart (hart_in j hart) (hart_in j hart).inside in

@@ -91,8 +91,8 @@ other_alone d count schedule k hart p t none half has order = record {
 
 -- Stops.
 
-stops_if : (missed : Bool) (o : Option Stop) (cause : Stop) → o ≡ Some cause → is_some
-    (if missed then Some stop.NoRandom else o) ≡ true
+stops_if : (missed : Bool) (o : Option Stop) (cause : Stop) → o ≡ Some cause →
+    is_some (if missed then Some stop.NoRandom else o) ≡ true
 stops_if true o cause is = refl
 stops_if false o cause is = ap is_some is
 
@@ -116,8 +116,8 @@ while_plain : (frames : List (List ℕ) → List ℕ) (n : ℕ) (m : CloakedMemo
     (settle_while frames n m).memory.plain ≡ m.plain
 unfolding settle_while
 while_plain frames zero m = refl
-while_plain frames (suc n) m = found_plain (find (is_owed m) (frames m.ram)) (settle_while frames n) m
-    (while_plain frames n)
+while_plain frames (suc n) m =
+    found_plain (find (is_owed m) (frames m.ram)) (settle_while frames n) m (while_plain frames n)
 
 touched_plain : (h : Hart) (disk : List ℕ) (m : CloakedMemory) → (settle_touched h disk m).memory.plain ≡ m.plain
 unfolding settle_touched
@@ -128,13 +128,13 @@ settled_step_plain : (h : Hart) (disk : List ℕ) (c : Cloak) (m : CloakedMemory
 unfolding settled_step made_after
 settled_step_plain h disk c m = touched_plain h disk c.memory
 
-settled_step_items : (d : ℕ) (h : Hart) (disk : List ℕ) (c : Cloak) → inward_half d
-    (items_of (settled_step h disk c).world) ≡ inward_half d c.items
+settled_step_items : (d : ℕ) (h : Hart) (disk : List ℕ) (c : Cloak) →
+    inward_half d (items_of (settled_step h disk c).world) ≡ inward_half d c.items
 unfolding settled_step made_after
 settled_step_items d h disk c = ciphers_told d c.items (settle_touched h disk c.memory).ciphers
 
-settled_step_inside : (h : Hart) (disk : List ℕ) (c : Cloak) → let a = (settled_step h disk c).answer in
-    a.hart.inside ≡ inside_after a.ending h.inside
+settled_step_inside : (h : Hart) (disk : List ℕ) (c : Cloak) →
+    let a = (settled_step h disk c).answer in a.hart.inside ≡ inside_after a.ending h.inside
 unfolding settled_step made_after
 settled_step_inside h disk c = kernel_step_inside h disk (Flat (settle_touched h disk c.memory).memory.ram)
 
@@ -142,8 +142,8 @@ settled_step_inside h disk c = kernel_step_inside h disk (Flat (settle_touched h
 resumed_half : (e d ctx reply : ℕ) (items : List Item) → inward_half d items ≡ [] →
     inward_half d (items ++ item.Resume e ctx reply ∷ []) ≡ (if e == d then item.Resume e ctx reply ∷ [] else [])
 resumed_half e d ctx reply items half =
-    filter-append (is_inward d) items (item.Resume e ctx reply ∷ []) ∙ ap
-    (λ (l : List Item). l ++ inward_half d (item.Resume e ctx reply ∷ [])) half
+    filter-append (is_inward d) items (item.Resume e ctx reply ∷ [])
+    ∙ ap (λ (l : List Item). l ++ inward_half d (item.Resume e ctx reply ∷ [])) half
 
 -- a step of a hart outside that got to here: the kernel's part of it is done
 record OutsideStep (d count n : ℕ) (p : DomainPart) (j : Joint) (h : Hart) (disk : List ℕ) (m : CloakedMemory)
@@ -251,8 +251,8 @@ resumed_turn items r = record (quiet r.joint (items ++ r.items)) { violation = r
 
 refused_alone : (d count : ℕ) (schedule : List ℕ) (k n : ℕ) (p : DomainPart) (j : Joint) (h : Hart) (disk : List ℕ)
     (m : CloakedMemory) (items : List Item) (v : Violation) →
-    OutsideStep d count n p j h disk m items → StepAlone d count schedule k n p
-    (resumed_turn items (violated (stepped_to n j h disk m) v))
+    OutsideStep d count n p j h disk m items →
+    StepAlone d count schedule k n p (resumed_turn items (violated (stepped_to n j h disk m) v))
 refused_alone d count schedule k n p j h disk m items v o =
     other_alone d count schedule k n p (resumed_turn items (violated (stepped_to n j h disk m) v)) o.none
     (ap (inward_half d) (append-nil items) ∙ o.half) (outside_has d count n p j h disk m items o)
@@ -490,8 +490,8 @@ ended_plain j n h e w (went.SpaceGone space s) = refl
 with_leave : (d : ℕ) (items : List Item) (s : Shown) → inward_half d (items ++ item.Leave s ∷ []) ≡ inward_half d items
 with_leave d items s = filter-append (is_inward d) items (item.Leave s ∷ []) ∙ append-nil (inward_half d items)
 
-ended_items : (d : ℕ) (j : Joint) (n : ℕ) (h : Hart) (e : ℕ) (w : World) (g : Went) → inward_half d
-    (domain_ended j n h e w g).items ≡ inward_half d (items_of w)
+ended_items : (d : ℕ) (j : Joint) (n : ℕ) (h : Hart) (e : ℕ) (w : World) (g : Went) →
+    inward_half d (domain_ended j n h e w g).items ≡ inward_half d (items_of w)
 unfolding domain_ended
 ended_items d j n h e w went.Stay = refl
 ended_items d j n h e w went.Stopped = refl
@@ -506,8 +506,8 @@ ended_order : (count : ℕ) (j : Joint) (m : CloakedMemory) (n : ℕ) (h : Hart)
     let t = domain_ended (with_step (domain_of ctx) new m j) n h (domain_of ctx) w g in
     InOrder count t.joint.harts t.joint.domains
 unfolding domain_ended
-ended_order count j m n h w ctx old new went.Stay order is runs kept moves = order_stays count j.harts j.domains n h
-    (domain_of ctx) (slot_of ctx) old new order is kept moves
+ended_order count j m n h w ctx old new went.Stay order is runs kept moves =
+    order_stays count j.harts j.domains n h (domain_of ctx) (slot_of ctx) old new order is kept moves
 ended_order count j m n h w ctx old new went.Stopped order is runs kept moves =
     order_stays count j.harts j.domains n h (domain_of ctx) (slot_of ctx) old new order is kept moves
 ended_order count j m n h w ctx old new (went.Remapped space) order is runs kept moves =
@@ -528,8 +528,8 @@ ended_stops : (j : Joint) (n : ℕ) (h : Hart) (e : ℕ) (w : World) (g : Went) 
     g ≡ went.Stopped → is_halted w ≡ true →
     is_some (stop_of (domain_ended j n h e w g)) ≡ true
 unfolding domain_ended
-ended_stops j n h e w went.Stopped missed is halted = halted_if j.memory.ledger.missed (is_missed w)
-    (violation_of w) missed halted
+ended_stops j n h e w went.Stopped missed is halted =
+    halted_if j.memory.ledger.missed (is_missed w) (violation_of w) missed halted
 ended_stops j n h e w g missed is halted = absurd cc
 
 inward_elsewhere : (e d : ℕ) (a : Answer) → d ≢ e → is_inward d (answer_item e a) ≡ false
@@ -550,11 +550,11 @@ either_of_step : (test : Bool) (i : Item) (items : List Item) → IsOfStep i →
 either_of_step true i items is all = (is, all)
 either_of_step false i items is all = all
 
-half_of_step : (d : ℕ) (items : List Item) → AllByRecursion IsOfStep items → AllByRecursion IsOfStep
-    (inward_half d items)
+half_of_step : (d : ℕ) (items : List Item) → AllByRecursion IsOfStep items →
+    AllByRecursion IsOfStep (inward_half d items)
 half_of_step d [] all = tt
-half_of_step d (i ∷ items) all = either_of_step (is_inward d i) i (inward_half d items) all.0
-    (half_of_step d items all.1)
+half_of_step d (i ∷ items) all =
+    either_of_step (is_inward d i) i (inward_half d items) all.0 (half_of_step d items all.1)
 
 answer_of_step : (e : ℕ) (a : Answer) → IsOfStep (answer_item e a)
 answer_of_step e told.Ok = refl
@@ -602,8 +602,8 @@ played_alone_so d count schedule k n p j h ctx old w order has is runs kept serv
     (λ goes. ended_order count j m n h v ctx old new g order is runs kept moves)
     (λ other. (
       half d ∙ answers_elsewhere old.control.number d answers (λ same. other (same ∙ number)),
-      ap (domain_pages d) plain' ∙ played_others S.script w serving d (λ same. other (same ∙ number)) ∙ ap
-          (domain_pages d) plain,
+      ap (domain_pages d) plain' ∙ played_others S.script w serving d (λ same. other (same ∙ number))
+          ∙ ap (domain_pages d) plain,
     ))
     (subst (λ (s : DomainAlone). RestsAt (ended s)
     (record { domain = new; plain = domain_pages e t.joint.memory.plain }) (is_some (stop_of t)))
@@ -649,8 +649,8 @@ inside_alone : (d count : ℕ) (schedule : List ℕ) (k n : ℕ) (p : DomainPart
     StepAlone d count schedule k n p (inside_step j n h (domain_of ctx) (slot_of ctx) found)
 unfolding inside_step
 inside_alone d count schedule k n p j h ctx None order has is runs kept =
-    let other : d ≢ domain_of ctx = λ same. let clash : Some p.domain ≡ None = sym has.domain ∙ ap
-    (slice_get j.domains) same ∙ is in absurd cc in
+    let other : d ≢ domain_of ctx = λ same. let clash : Some p.domain ≡ None = sym has.domain
+    ∙ ap (slice_get j.domains) same ∙ is in absurd cc in
     other_alone d count schedule k n p (quiet (with_hart n h j) [])
     (slot_other count j.harts j.domains d p.domain n ctx order has.domain runs other) refl
     (record { domain = has.domain; plain = has.plain }) (λ stops. order_kept count j.harts j.domains n h order kept)
@@ -671,5 +671,5 @@ of_hart_alone d count schedule k n p j (Some ctx) order has within is =
 pub turn_alone : (d count : ℕ) (schedule : List ℕ) (k n : ℕ) (p : DomainPart) (j : Joint) →
     InOrder count j.harts j.domains → HoldsPart d j p → n < length j.harts →
     StepAlone d count schedule k n p (turn_of j n (hart_in j n) (hart_in j n).inside)
-turn_alone d count schedule k n p j order has within = of_hart_alone d count schedule k n p j
-    (hart_in j n).inside order has within refl
+turn_alone d count schedule k n p j order has within =
+    of_hart_alone d count schedule k n p j (hart_in j n).inside order has within refl

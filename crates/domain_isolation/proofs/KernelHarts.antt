@@ -141,11 +141,12 @@ ecall_in_so S h disk w = host_call_so h disk w
 
 ecall_so : (h : Hart) (disk : List ℕ) → StepsSo h.inside (ecall h disk)
 unfolding ecall resumed
-ecall_so h disk w = steps_either h.inside (register h.regs 17 == 0x4F560000) (ends disk (resumed h))
-    (ecall_in h.mode h disk) (λ v. refl) (ecall_in_so h.mode h disk) w
+ecall_so h disk w =
+    steps_either h.inside (register h.regs 17 == 0x4F560000) (ends disk (resumed h)) (ecall_in h.mode h disk)
+    (λ v. refl) (ecall_in_so h.mode h disk) w
 
-carried_out_so : (h : Hart) (disk : List ℕ) (word : ℕ) (i : Instr) (e : Effect) → StepsSo h.inside
-    (carried_out h disk word i e)
+carried_out_so : (h : Hart) (disk : List ℕ) (word : ℕ) (i : Instr) (e : Effect) →
+    StepsSo h.inside (carried_out h disk word i e)
 unfolding carried_out
 carried_out_so h disk word i (does.Write rd value) w = refl
 carried_out_so h disk word i (does.Jump rd link target) w = refl

@@ -53,8 +53,8 @@ before f (Some a) b is = record { value = a; was = refl; next = is }
 
 -- the first pages of a program, up to this many, are so
 abbrev pages_to : Program → ℕ → (ℕ → ℕ → List ℕ) → ℕ → ℕ → List ℕ
-pages_to p n plain resource page = if
-    (resource == 0) && nat_lt page n then program_page p.bytes page else plain resource page
+pages_to p n plain resource page =
+    if (resource == 0) && nat_lt page n then program_page p.bytes page else plain resource page
 
 abbrev page_zero : ℕ → ℕ → PageId
 page_zero d n = record { domain = d; resource = 0; page = n }
@@ -63,8 +63,8 @@ chosen_none : {A : Type 0} (a c : Bool) (y z : A) → c ≡ false → cond (a &&
 chosen_none true c y z is = ap (λ (b : Bool). cond b y z) is
 chosen_none false c y z is = refl
 
-chosen_or : {A : Type 0} (a b c : Bool) (x y z : A) → (b ≡ true → x ≡ y) → cond (a && b) x
-    (cond (a && c) y z) ≡ cond (a && (b || c)) y z
+chosen_or : {A : Type 0} (a b c : Bool) (x y z : A) → (b ≡ true → x ≡ y) →
+    cond (a && b) x (cond (a && c) y z) ≡ cond (a && (b || c)) y z
 chosen_or true true c x y z same = same refl
 chosen_or true false c x y z same = refl
 chosen_or false b c x y z same = refl
@@ -94,8 +94,8 @@ own_page_placed d n p plain =
     ap (λ (b : Bool). cond (b && ((resource == 0) && nat_eq page n)) (program_page p.bytes n)
     (domain_pages d plain resource page)) (eq-eqb d d refl)))
 
-other_page_placed : (d e n : ℕ) (bytes : List ℕ) (plain : PageId → List ℕ) → e ≢ d → domain_pages e
-    (with_page plain (page_zero d n) bytes) ≡ domain_pages e plain
+other_page_placed : (d e n : ℕ) (bytes : List ℕ) (plain : PageId → List ℕ) → e ≢ d →
+    domain_pages e (with_page plain (page_zero d n) bytes) ≡ domain_pages e plain
 unfolding same_page
 other_page_placed d e n bytes plain other =
     fun_ext (λ resource. fun_ext (λ page.
@@ -139,11 +139,12 @@ pages_placed d p (suc n) m m' is =
     record {
       own =
           ap (domain_pages d) plain ∙ own_page_placed d n p b.value.plain
-          ∙ ap (λ (pages : ℕ → ℕ → List ℕ). let f : ℕ → ℕ → List ℕ = λ resource page. if
-          (resource == 0) && nat_eq page n then program_page p.bytes n else pages resource page in f) first.own
+          ∙ ap (λ (pages : ℕ → ℕ → List ℕ). let f : ℕ → ℕ →
+          List ℕ = λ resource page. if (resource == 0) && nat_eq page n then program_page p.bytes n else pages
+          resource page in f) first.own
           ∙ pages_next p n (domain_pages d m.plain);
-      others = λ e other. ap (domain_pages e) plain ∙ other_page_placed d e n
-          (program_page p.bytes n) b.value.plain other ∙ first.others e other;
+      others = λ e other. ap (domain_pages e) plain
+          ∙ other_page_placed d e n (program_page p.bytes n) b.value.plain other ∙ first.others e other;
     }
 
 -- The pages of all programs.
@@ -158,8 +159,8 @@ pages_below d e (p ∷ programs) m m' is less =
 
 programs_placed : (d k : ℕ) (programs : List Program) (p : Program) (m m' : CloakedMemory) →
     place_programs d programs m ≡ Some m' → slice_get programs k ≡ Some p →
-    ((e : ℕ) → d ≤ e → domain_pages e m.plain ≡ (λ resource page. zero_page)) → domain_pages
-    (d + k) m'.plain ≡ started_page p
+    ((e : ℕ) → d ≤ e → domain_pages e m.plain ≡ (λ resource page. zero_page)) →
+    domain_pages (d + k) m'.plain ≡ started_page p
 programs_placed d k [] p m m' is found zeros = absurd cc
 programs_placed d zero (x ∷ programs) p m m' is found zeros =
     let b = before (place_programs (d + 1) programs) (place_pages d x x.start.pages m) m' is in
@@ -172,18 +173,18 @@ programs_placed d (suc k) (x ∷ programs) p m m' is found zeros =
     let same : d + suc k ≡ (d + 1) + k = omega arith in
     ap (λ (e : ℕ). domain_pages e m'.plain) same
     ∙ programs_placed (d + 1) k programs p b.value m' b.next found
-    (λ e more. (pages_placed d x x.start.pages m b.value b.was).others e (λ is'. omega (arith, is', more)) ∙ zeros e
-    (omega (arith, more)))
+    (λ e more. (pages_placed d x x.start.pages m b.value b.was).others e (λ is'. omega (arith, is', more))
+    ∙ zeros e (omega (arith, more)))
 
 -- The programs.
 
-domains_started : (d k : ℕ) (programs : List Program) (p : Program) → slice_get programs k ≡ Some p → slice_get
-    (started_domains d programs) k ≡ Some (started_domain (d + k) p.start)
+domains_started : (d k : ℕ) (programs : List Program) (p : Program) → slice_get programs k ≡ Some p →
+    slice_get (started_domains d programs) k ≡ Some (started_domain (d + k) p.start)
 domains_started d k [] p found = absurd cc
 domains_started d zero (x ∷ programs) p found =
     let same : d ≡ d + 0 = omega arith in
-    ap (λ (q : Program). Some (started_domain d q.start)) (same_some x p found) ∙ ap
-    (λ (e : ℕ). Some (started_domain e p.start)) same
+    ap (λ (q : Program). Some (started_domain d q.start)) (same_some x p found)
+    ∙ ap (λ (e : ℕ). Some (started_domain e p.start)) same
 domains_started d (suc k) (x ∷ programs) p found =
     let same : (d + 1) + k ≡ d + suc k = omega arith in
     domains_started (d + 1) k programs p found ∙ ap (λ (e : ℕ). Some (started_domain e p.start)) same
@@ -210,8 +211,8 @@ started_idle d start = record {
       (new_context 0 start.entry start.sp 0) refl;
 }
 
-domains_idle : (d k : ℕ) (programs : List Program) (domain : Domain) → slice_get
-    (started_domains d programs) k ≡ Some domain → IsIdle (d + k) domain
+domains_idle : (d k : ℕ) (programs : List Program) (domain : Domain) →
+    slice_get (started_domains d programs) k ≡ Some domain → IsIdle (d + k) domain
 domains_idle d k [] domain found = absurd cc
 domains_idle d zero (x ∷ programs) domain found =
     let same : d ≡ d + 0 = omega arith in
@@ -231,8 +232,8 @@ append_outside (x ∷ harts) h each out (suc m) = append_outside harts h (λ n. 
 
 harts_outside : (entry n m : ℕ) → inside_at (started_harts entry n) m ≡ None
 harts_outside entry zero m = started_outside 0 0
-harts_outside entry (suc n) m = append_outside (started_harts entry n) (started entry n) (harts_outside entry n)
-    (started_outside entry n) m
+harts_outside entry (suc n) m =
+    append_outside (started_harts entry n) (started entry n) (harts_outside entry n) (started_outside entry n) m
 
 harts_counted : (entry n : ℕ) → length (started_harts entry n) ≡ n
 harts_counted entry zero = refl
@@ -277,8 +278,8 @@ opened_of b key stream (Some m) o is made =
 opened_from : (b : Bundle) (draw : Option (List ℕ × Random)) (o : Opened) → opened_by b draw ≡ Ok o → IsOpened b o
 unfolding opened_by
 opened_from b None o made = absurd cc
-opened_from b (Some draw) o made = opened_of b draw.0 draw.1
-    (place_programs 0 b.programs (started_memory b.kernel draw.0 draw.1)) o refl made
+opened_from b (Some draw) o made =
+    opened_of b draw.0 draw.1 (place_programs 0 b.programs (started_memory b.kernel draw.0 draw.1)) o refl made
 
 pub is_opened : (b : Bundle) (stream : Random) (o : Opened) → opening b stream ≡ Ok o → IsOpened b o
 is_opened b stream o made = opened_from b (next_draw stream) o made
@@ -288,13 +289,14 @@ abbrev pub started_part : ℕ → Program → DomainPart
 started_part d p = record { domain = started_domain d p.start; plain = started_page p }
 
 -- what the kernel is shown is told to no program
-shown_half : (d : ℕ) (ram : List (List ℕ)) (frames : List ℕ) → inward_half d
-    (map (λ f. Cipher f (slice_index_or ram f [])) frames) ≡ []
+shown_half : (d : ℕ) (ram : List (List ℕ)) (frames : List ℕ) →
+    inward_half d (map (λ f. Cipher f (slice_index_or ram f [])) frames) ≡ []
 shown_half d ram [] = refl
 shown_half d ram (f ∷ frames) = shown_half d ram frames
 
 pub opened_half : (b : Bundle) (o : Opened) (d : ℕ) → IsOpened b o → inward_half d o.items ≡ []
-opened_half b o d opened = ap (inward_half d) opened.items ∙ shown_half d opened.memory.ram
+opened_half b o d opened =
+    ap (inward_half d) opened.items ∙ shown_half d opened.memory.ram
     (filter (is_placed b.programs) (numbers_below (length opened.memory.ram)))
 
 pub opened_order : (b : Bundle) (o : Opened) → IsOpened b o → InOrder b.kernel.harts o.joint.harts o.joint.domains
@@ -306,12 +308,12 @@ opened_order b o opened =
       numbers = λ d domain found. let same : 0 + d ≡ d = omega arith in
           (domains_idle 0 d b.programs domain found).number ∙ same;
       runs = λ d domain found hart slot.
-          (domains_idle 0 d b.programs domain found).idle hart slot ∙ ap (is_running d slot)
-          (sym (harts_outside b.kernel.entry b.kernel.harts hart));
+          (domains_idle 0 d b.programs domain found).idle hart slot
+          ∙ ap (is_running d slot) (sym (harts_outside b.kernel.entry b.kernel.harts hart));
     })
 
-opened_zeros : (b : Bundle) (key : List ℕ) (stream : Random) (e : ℕ) → domain_pages e
-    (started_memory b.kernel key stream).plain ≡ (λ resource page. zero_page)
+opened_zeros : (b : Bundle) (key : List ℕ) (stream : Random) (e : ℕ) →
+    domain_pages e (started_memory b.kernel key stream).plain ≡ (λ resource page. zero_page)
 unfolding started_memory
 opened_zeros b key stream e = refl
 
@@ -342,9 +344,9 @@ settles_below d (suc n) c =
     let rest = settles_below d n c in
     let c' = settled_below n c in
     record {
-      plain = settle_plain n c'.memory ∙ rest.plain;
-      half = ciphers_told d c'.items
-          (settle n c'.memory).ciphers ∙ rest.half;
+      plain = settle_plain n c'.memory
+          ∙ rest.plain;
+      half = ciphers_told d c'.items (settle n c'.memory).ciphers ∙ rest.half;
     }
 
 pub closing_half : (d : ℕ) (j : Joint) → inward_half d (closing j).items ≡ []

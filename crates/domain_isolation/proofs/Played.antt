@@ -17,13 +17,13 @@ use Rattle.domain_isolation.proofs.Scripts.{Question, Change, Script, Gives, Ask
 use Rattle.domain_isolation.proofs.Steady.{is_halted}
 use Rattle.domain_isolation.proofs.Answers.{alone_with, IsServing, question_answered, IsStuck, question_missing, question_stuck, change_stuck, read_same, change_same, change_leaves}
 
--- the answers that a script is provided in a world
+-- the answers that a script is given in a world
 abbrev pub answers_of : {d : ℕ} {A : Type 0} → Script d A → World → List Answer
 answers_of (Gives a) w = []
-answers_of (Asks question more) w = (asked question w).answer ∷ answers_of (more (asked question w).answer)
-    (asked question w).world
-answers_of (Reads q own at width more) w = answers_of (more (ask_read q at width w).answer)
-    (ask_read q at width w).world
+answers_of (Asks question more) w =
+    (asked question w).answer ∷ answers_of (more (asked question w).answer) (asked question w).world
+answers_of (Reads q own at width more) w =
+    answers_of (more (ask_read q at width w).answer) (ask_read q at width w).world
 answers_of (Changes change more) w = answers_of more (changed change w).world
 
 -- the items of answers to a domain
@@ -45,11 +45,11 @@ changed_serving change w s =
 pub played_serving : {d : ℕ} {A : Type 0} (s : Script d A) (w : World) → IsServing d w → IsServing d (played s w).world
 unfolding ask_read
 played_serving (Gives a) w serving = serving
-played_serving (Asks question more) w serving = played_serving (more (asked question w).answer)
-    (asked question w).world (asked_serving question w serving)
+played_serving (Asks question more) w serving =
+    played_serving (more (asked question w).answer) (asked question w).world (asked_serving question w serving)
 played_serving (Reads q own at width more) w serving = played_serving (more (ask_read q at width w).answer) w serving
-played_serving (Changes change more) w serving = played_serving more (changed change w).world
-    (changed_serving change w serving)
+played_serving (Changes change more) w serving =
+    played_serving more (changed change w).world (changed_serving change w serving)
 
 -- each program is told these answers, or nothing
 pub played_items : {d : ℕ} {A : Type 0} (s : Script d A) (w : World) → IsServing d w → (e : ℕ) →
@@ -82,21 +82,22 @@ played_others (Asks question more) w serving e other =
     let r = (question_answered question w serving.form).replied in
     played_others (more (asked question w).answer) (asked question w).world
     (asked_serving question w serving) e other ∙ ap (domain_pages e) r.plain
-played_others (Reads q own at width more) w serving e other = played_others
-    (more (ask_read q at width w).answer) w serving e other
+played_others (Reads q own at width more) w serving e other =
+    played_others (more (ask_read q at width w).answer) w serving e other
 played_others (Changes change more) w serving e other =
-    played_others more (changed change w).world (changed_serving change w serving) e other ∙
-    (change_leaves change w serving.form).others e other
+    played_others more (changed change w).world (changed_serving change w serving) e other
+    ∙ (change_leaves change w serving.form).others e other
 
 -- it ends so
-pub played_ends : {d : ℕ} {A : Type 0} (e : Ending A) (s : Script d A) (w : World) → EndsSo e s → e.each
-    (played s w).answer
+pub played_ends : {d : ℕ} {A : Type 0} (e : Ending A) (s : Script d A) (w : World) → EndsSo e s →
+    e.each (played s w).answer
 unfolding EndsSo
 played_ends e (Gives a) w ends = ends
-played_ends e (Asks question more) w ends = played_ends e (more (asked question w).answer) (asked question w).world
-    (ends.0 (asked question w).answer)
-played_ends e (Reads q own at width more) w ends = played_ends e (more (ask_read q at width w).answer)
-    (ask_read q at width w).world (ends (ask_read q at width w).answer)
+played_ends e (Asks question more) w ends =
+    played_ends e (more (asked question w).answer) (asked question w).world (ends.0 (asked question w).answer)
+played_ends e (Reads q own at width more) w ends =
+    played_ends e (more (ask_read q at width w).answer) (ask_read q at width w).world
+    (ends (ask_read q at width w).answer)
 played_ends e (Changes change more) w ends = played_ends e more (changed change w).world ends
 
 -- A stop.
@@ -139,8 +140,8 @@ played_stopped e (Asks question more) w ends serving any =
     (ends.0 (asked question w).answer) (asked_serving question w serving) later) any
 played_stopped e (Reads q own at width more) w ends serving any =
     played_stopped e (more (ask_read q at width w).answer) w (ends (ask_read q at width w).answer) serving any
-played_stopped e (Changes change more) w ends serving any = played_stopped e more (changed change w).world ends
-    (changed_serving change w serving) any
+played_stopped e (Changes change more) w ends serving any =
+    played_stopped e more (changed change w).world ends (changed_serving change w serving) any
 
 -- What it is over the program alone.
 
@@ -181,8 +182,8 @@ tail_of [] = []
 tail_of (a ∷ answers) = answers
 
 -- with a front of its answers, but not all
-pub played_short : {d : ℕ} {A : Type 0} (s : Script d A) (w : World) → IsServing d w → (front : List Answer)
-    (a : Answer) (more : List Answer) →
+pub played_short : {d : ℕ} {A : Type 0} (s : Script d A) (w : World) → IsServing d w →
+    (front : List Answer) (a : Answer) (more : List Answer) →
     front ++ a ∷ more ≡ answers_of s w → IsStuck (played s (alone_with d (plain_of w) front)).world
 unfolding ask_read tail_of
 played_short (Gives x) w serving [] a more is = absurd cc

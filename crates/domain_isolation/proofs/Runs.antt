@@ -17,8 +17,8 @@ runs_in hart contexts slot = runs_on hart (context_at contexts slot)
 
 -- a slot with a context that runs where the one before it ran
 pub set_same : (hart : ℕ) (contexts : List (Option Context)) (slot : ℕ) (o : Option Context) →
-    runs_on hart o ≡ runs_in hart contexts slot → (s : ℕ) → runs_in hart
-    (slice_set contexts slot o) s ≡ runs_in hart contexts s
+    runs_on hart o ≡ runs_in hart contexts slot → (s : ℕ) →
+    runs_in hart (slice_set contexts slot o) s ≡ runs_in hart contexts s
 set_same hart [] slot o same s = refl
 set_same hart (c ∷ contexts) zero o same zero = same
 set_same hart (c ∷ contexts) zero o same (suc s) = refl

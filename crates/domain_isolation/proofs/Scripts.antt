@@ -132,8 +132,8 @@ pub gives_so : (d : ℕ) {A : Type 0} (e : Ending A) (a : A) → e.each a → En
 unfolding EndsSo
 gives_so d e a is = is
 
-stop_under : {d : ℕ} {B : Type 0} (P Q : Type 0) (e : Ending B) (s : Script d B) → IsStop (provided P e) s → IsStop
-    (provided Q e) s
+stop_under : {d : ℕ} {B : Type 0} (P Q : Type 0) (e : Ending B) (s : Script d B) → IsStop (provided P e) s →
+    IsStop (provided Q e) s
 unfolding IsStop
 stop_under P Q e (Gives b) is = is
 stop_under P Q e (Asks question more) is = is
@@ -141,8 +141,8 @@ stop_under P Q e (Reads q own at width more) is = is
 stop_under P Q e (Changes change more) is = is
 
 -- under a premise that implies it
-pub ends_under : {d : ℕ} {B : Type 0} (P Q : Type 0) (e : Ending B) (s : Script d B) → (Q → P) → EndsSo
-    (provided P e) s → EndsSo (provided Q e) s
+pub ends_under : {d : ℕ} {B : Type 0} (P Q : Type 0) (e : Ending B) (s : Script d B) → (Q → P) →
+    EndsSo (provided P e) s → EndsSo (provided Q e) s
 unfolding EndsSo
 ends_under P Q e (Gives b) implies ends = λ holds. ends (implies holds)
 ends_under P Q e (Asks question more) implies ends =
@@ -174,8 +174,8 @@ scripted_asks d e question next second stops = record {
   ends = ((λ a. (second a).ends), stops);
 }
 
-pub scripted_reads : (d : ℕ) {A : Type 0} (e : Ending A) (q : PageId) → q.domain ≡ d → (at width : ℕ)
-    (next : ℕ → Asking A) →
+pub scripted_reads : (d : ℕ) {A : Type 0} (e : Ending A) (q : PageId) → q.domain ≡ d →
+    (at width : ℕ) (next : ℕ → Asking A) →
     ((value : ℕ) → Scripted d e (next value)) → Scripted d e (then_ask (ask_read q at width) next)
 unfolding EndsSo
 scripted_reads d e q own at width next second = record {

@@ -64,8 +64,8 @@ unless_missed_plain : (s : AfterSettling) (next : CloakedMemory → AfterOffer) 
     ((m : CloakedMemory) → (next m).memory.plain ≡ m.plain) →
     (unless_missed s next).memory.plain ≡ s.memory.plain
 unfolding unless_missed
-unless_missed_plain s next keeps = either (λ (o : AfterOffer). o.memory.plain ≡ s.memory.plain) s.missed _ _ refl
-    (keeps s.memory)
+unless_missed_plain s next keeps =
+    either (λ (o : AfterOffer). o.memory.plain ≡ s.memory.plain) s.missed _ _ refl (keeps s.memory)
 
 offer_plain : (q : PageId) (g : ℕ) (write : Bool) (m : CloakedMemory) → (offer q g write m).memory.plain ≡ m.plain
 unfolding offer
@@ -81,8 +81,8 @@ offer_plain q g write m =
 abbrev SettlesMarked : AfterSettling → Type 0
 SettlesMarked s = s.missed ≡ true → s.memory.ledger.missed ≡ true
 
-settle_owed_marked : (f : ℕ) (q : PageId) (draw : Option (List ℕ × Random)) (m : CloakedMemory) → SettlesMarked
-    (settle_owed f q draw m)
+settle_owed_marked : (f : ℕ) (q : PageId) (draw : Option (List ℕ × Random)) (m : CloakedMemory) →
+    SettlesMarked (settle_owed f q draw m)
 unfolding settle_owed
 settle_owed_marked f q None m missed = refl
 settle_owed_marked f q (Some draw) m missed = absurd (false≢true missed)
@@ -138,11 +138,11 @@ ciphers_half : (d : ℕ) (ciphers : List (ℕ × List ℕ)) → inward_half d (c
 ciphers_half d [] = refl
 ciphers_half d (c ∷ ciphers) = ciphers_half d ciphers
 
-pub ciphers_told : (d : ℕ) (items : List Item) (ciphers : List (ℕ × List ℕ)) → inward_half d
-    (items ++ cipher_items ciphers) ≡ inward_half d items
+pub ciphers_told : (d : ℕ) (items : List Item) (ciphers : List (ℕ × List ℕ)) →
+    inward_half d (items ++ cipher_items ciphers) ≡ inward_half d items
 ciphers_told d items ciphers =
-    filter-append (is_inward d) items (cipher_items ciphers) ∙ ap (λ (l : List Item). inward_half d items ++ l)
-    (ciphers_half d ciphers)
+    filter-append (is_inward d) items (cipher_items ciphers)
+    ∙ ap (λ (l : List Item). inward_half d items ++ l) (ciphers_half d ciphers)
     ∙ append-nil (inward_half d items)
 
 -- What a question leaves before its answer.
@@ -165,8 +165,8 @@ Steady-trans u v w p q =
           ∙ p.items d;
     }
 
-Steady-either : {A : Type 0} (b : Bool) (m n : Told A) (w : World) → Steady w m.world → Steady w n.world → Steady w
-    (cond b m n).world
+Steady-either : {A : Type 0} (b : Bool) (m n : Told A) (w : World) → Steady w m.world → Steady w n.world →
+    Steady w (cond b m n).world
 Steady-either true m n w p q = p
 Steady-either false m n w p q = q
 
@@ -194,8 +194,8 @@ Steady-written i (Cloaked c) outward = record {
   view = refl;
   form = refl;
   items = λ d.
-      filter-append (is_inward d) c.items (i ∷ []) ∙ ap (λ (b : Bool). inward_half d c.items ++ cond b (i ∷ []) [])
-      (outward d)
+      filter-append (is_inward d) c.items (i ∷ [])
+      ∙ ap (λ (b : Bool). inward_half d c.items ++ cond b (i ∷ []) []) (outward d)
       ∙ append-nil (inward_half d c.items);
 }
 Steady-written i (Alone h) outward = Steady-refl (Alone h)
@@ -262,8 +262,8 @@ replied_after u v t s r = record {
   stops = r.stops;
 }
 
-replied : (a : Answer) (w : World) → is_cloaked w ≡ true → (a ≡ told.Stopped → is_halted w ≡ true) → Replied w
-    (replies a w)
+replied : (a : Answer) (w : World) → is_cloaked w ≡ true → (a ≡ told.Stopped → is_halted w ≡ true) →
+    Replied w (replies a w)
 unfolding replies
 replied a (Flat ram) cloaked halted = absurd (false≢true cloaked)
 replied a (Cloaked c) cloaked halted = record {
@@ -303,8 +303,8 @@ replied_offered q g Mismatch (Cloaked c) cloaked marked =
     violation_halted false = refl
 replied_offered q g Mismatch (Alone h) cloaked marked = absurd (false≢true cloaked)
 
-replied_offer : (q : PageId) (g : ℕ) (write : Bool) (w : World) → is_cloaked w ≡ true → Replied w
-    (ask_offer q g write w)
+replied_offer : (q : PageId) (g : ℕ) (write : Bool) (w : World) → is_cloaked w ≡ true →
+    Replied w (ask_offer q g write w)
 unfolding ask_offer
 replied_offer q g write (Flat ram) cloaked = absurd (false≢true cloaked)
 replied_offer q g write (Cloaked c) cloaked =
@@ -320,14 +320,14 @@ replied_offer q g write (Cloaked c) cloaked =
     (replied_offered q g o.answer (Cloaked _) refl (offer_marked q g write c.memory))
 replied_offer q g write (Alone h) cloaked = absurd (false≢true cloaked)
 
-replied_reached : (q : PageId) (kind : Kind) (to : Result ℕ ℕ) (w : World) → is_cloaked w ≡ true → Replied w
-    (reached q kind to w)
+replied_reached : (q : PageId) (kind : Kind) (to : Result ℕ ℕ) (w : World) → is_cloaked w ≡ true →
+    Replied w (reached q kind to w)
 unfolding reached
 replied_reached q kind (Err cause) w cloaked = replied (told.Absent cause) w cloaked (λ e. absurd cc)
 replied_reached q kind (Ok pa) w cloaked = replied_offer q _ _ w cloaked
 
-pub replied_reach : (q : PageId) (va : ℕ) (kind : Kind) (w : World) → is_cloaked w ≡ true → Replied w
-    (reach_by_table q va kind w)
+pub replied_reach : (q : PageId) (va : ℕ) (kind : Kind) (w : World) → is_cloaked w ≡ true →
+    Replied w (reach_by_table q va kind w)
 unfolding reach_by_table
 replied_reach q va kind w cloaked =
     let to = ask_inside_address va kind w in
@@ -362,8 +362,8 @@ replied_put_at pa width value w cloaked =
     let steady = Steady-trans _ _ _ (Steady-stored_at pa width value w) (Steady-written _ _ (λ d. refl)) in
     replied_after w _ _ steady (replied told.Ok _ (steady.form ∙ cloaked) (λ e. absurd cc))
 
-replied_stored : (width value : ℕ) (to : Result ℕ ℕ) (w : World) → is_cloaked w ≡ true → Replied w
-    (stored_inside width value to w)
+replied_stored : (width value : ℕ) (to : Result ℕ ℕ) (w : World) → is_cloaked w ≡ true →
+    Replied w (stored_inside width value to w)
 unfolding stored_inside
 replied_stored width value (Err cause) w cloaked = replied (told.Absent cause) w cloaked (λ e. absurd cc)
 replied_stored width value (Ok pa) w cloaked =
@@ -385,13 +385,13 @@ either_world : (b : Bool) (w v : World) → Steady w v → Steady w (if b then v
 either_world true w v steady = steady
 either_world false w v steady = Steady-refl w
 
-steady_if_marked : (domain : ℕ) (marked : List Bool) (f : ℕ) (w : World) → Steady w
-    (settled_if_marked domain marked f w)
+steady_if_marked : (domain : ℕ) (marked : List Bool) (f : ℕ) (w : World) →
+    Steady w (settled_if_marked domain marked f w)
 unfolding settled_if_marked
 steady_if_marked domain marked f w = either_world _ w (settled f w) (Steady-settled f w)
 
-pub replied_clear : (domain : ℕ) (marked : List Bool) (f n : ℕ) (w : World) → is_cloaked w ≡ true → Replied w
-    (clear_from domain marked f n w)
+pub replied_clear : (domain : ℕ) (marked : List Bool) (f n : ℕ) (w : World) → is_cloaked w ≡ true →
+    Replied w (clear_from domain marked f n w)
 unfolding clear_from
 replied_clear domain marked f zero w cloaked = replied told.Ok w cloaked (λ e. absurd cc)
 replied_clear domain marked f (suc n) w cloaked =

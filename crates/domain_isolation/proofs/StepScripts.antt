@@ -66,8 +66,8 @@ loaded_scripted : (d : ℕ) (c : Context) (rd va width : ℕ) (is_signed : Bool)
 unfolding inside.loaded_inside
 loaded_scripted d c rd va width is_signed value = scripted_gives d (of_instruction c) _ refl
 
-unfoldable load_reached_scripted : (d : ℕ) (c : Context) (q : PageId) → q.domain ≡ d → (rd va width : ℕ)
-    (is_signed : Bool) (a : Answer) →
+unfoldable load_reached_scripted : (d : ℕ) (c : Context) (q : PageId) → q.domain ≡ d →
+    (rd va width : ℕ) (is_signed : Bool) (a : Answer) →
     Scripted d (of_instruction c) (inside.load_reached c q rd va width is_signed a)
 unfolding inside.load_reached
 load_reached_scripted d c q own rd va width is_signed told.Ok =
@@ -95,8 +95,8 @@ load_scripted d c rd va width is_signed None own =
     scripted_asks d (of_instruction c) (Get va width) (inside.load_got c rd va width is_signed)
     (load_got_scripted d c rd va width is_signed) refl
 
-unfoldable store_reached_scripted : (d : ℕ) (c : Context) (q : PageId) → q.domain ≡ d → (va width value : ℕ)
-    (a : Answer) →
+unfoldable store_reached_scripted : (d : ℕ) (c : Context) (q : PageId) → q.domain ≡ d →
+    (va width value : ℕ) (a : Answer) →
     Scripted d (of_instruction c) (inside.store_reached c q va width value a)
 unfolding inside.store_reached
 store_reached_scripted d c q own va width value told.Ok =
@@ -106,8 +106,8 @@ store_reached_scripted d c q own va width value (told.Absent cause) = scripted_g
 store_reached_scripted d c q own va width value (told.Word other) = scripted_gives d (of_instruction c) _ refl
 store_reached_scripted d c q own va width value told.Stopped = scripted_gives d (of_instruction c) _ refl
 
-unfoldable store_put_scripted : (d : ℕ) (c : Context) (va : ℕ) (a : Answer) → Scripted d (of_instruction c)
-    (inside.store_put c va a)
+unfoldable store_put_scripted : (d : ℕ) (c : Context) (va : ℕ) (a : Answer) →
+    Scripted d (of_instruction c) (inside.store_put c va a)
 unfolding inside.store_put
 store_put_scripted d c va told.Ok = scripted_gives d (of_instruction c) _ refl
 store_put_scripted d c va (told.Absent cause) = scripted_gives d (of_instruction c) _ refl
@@ -129,28 +129,28 @@ system_scripted d c Ecall = scripted_gives d (of_instruction c) _ refl
 system_scripted d c Ebreak = scripted_gives d (of_instruction c) _ refl
 system_scripted d c i = scripted_gives d (of_instruction c) _ refl
 
-done_scripted : (d : ℕ) (r : Resources) (c : Context) (i : Instr) (e : Effect) → Scripted d (of_instruction c)
-    (inside.done_inside d r c i e)
+done_scripted : (d : ℕ) (r : Resources) (c : Context) (i : Instr) (e : Effect) →
+    Scripted d (of_instruction c) (inside.done_inside d r c i e)
 unfolding inside.done_inside
 done_scripted d r c i (does.Write rd value) = scripted_gives d (of_instruction c) _ refl
 done_scripted d r c i (does.Jump rd link target) = scripted_gives d (of_instruction c) _ refl
 done_scripted d r c i (does.Go target) = scripted_gives d (of_instruction c) _ refl
-done_scripted d r c i (does.Load rd va width is_signed) = load_scripted d c rd va width is_signed
-    (page_at d r c.space va) (own_page d r c.space va)
-done_scripted d r c i (does.Store va width value) = store_scripted d c va width value (page_at d r c.space va)
-    (own_page d r c.space va)
+done_scripted d r c i (does.Load rd va width is_signed) =
+    load_scripted d c rd va width is_signed (page_at d r c.space va) (own_page d r c.space va)
+done_scripted d r c i (does.Store va width value) =
+    store_scripted d c va width value (page_at d r c.space va) (own_page d r c.space va)
 done_scripted d r c i does.System = system_scripted d c i
 done_scripted d r c i does.Nothing = scripted_gives d (of_instruction c) _ refl
 done_scripted d r c i (does.Raise cause value) = scripted_gives d (of_instruction c) _ refl
 
-decoded_scripted : (d : ℕ) (r : Resources) (c : Context) (o : Option Instr) → Scripted d (of_instruction c)
-    (inside.decoded_inside d r c o)
+decoded_scripted : (d : ℕ) (r : Resources) (c : Context) (o : Option Instr) →
+    Scripted d (of_instruction c) (inside.decoded_inside d r c o)
 unfolding inside.decoded_inside
 decoded_scripted d r c None = scripted_gives d (of_instruction c) _ refl
 decoded_scripted d r c (Some i) = done_scripted d r c i (effect i c.regs c.pc)
 
-executed_scripted : (d : ℕ) (r : Resources) (c : Context) (word : ℕ) → Scripted d (of_instruction c)
-    (inside.executed_inside d r c word)
+executed_scripted : (d : ℕ) (r : Resources) (c : Context) (word : ℕ) →
+    Scripted d (of_instruction c) (inside.executed_inside d r c word)
 unfolding inside.executed_inside
 executed_scripted d r c word = decoded_scripted d r c (instruction word)
 
@@ -163,16 +163,16 @@ fetched_scripted d r c q own (told.Absent cause) = scripted_gives d (of_instruct
 fetched_scripted d r c q own (told.Word value) = scripted_gives d (of_instruction c) _ refl
 fetched_scripted d r c q own told.Stopped = scripted_gives d (of_instruction c) _ refl
 
-fetch_scripted : (d : ℕ) (r : Resources) (c : Context) (o : Option PageId) → IsOwn d o → Scripted d
-    (of_instruction c) (inside.fetch d r c o)
+fetch_scripted : (d : ℕ) (r : Resources) (c : Context) (o : Option PageId) → IsOwn d o →
+    Scripted d (of_instruction c) (inside.fetch d r c o)
 unfolding inside.fetch fetched_scripted IsStop
 fetch_scripted d r c None own = scripted_gives d (of_instruction c) _ refl
 fetch_scripted d r c (Some q) own =
     scripted_asks d (of_instruction c) (Reach q own c.pc Fetch) (inside.fetched_inside d r c q)
     (fetched_scripted d r c q own) refl
 
-instruction_scripted : (d : ℕ) (r : Resources) (c : Context) → Scripted d (of_instruction c)
-    (inside.instruction_inside d r c)
+instruction_scripted : (d : ℕ) (r : Resources) (c : Context) →
+    Scripted d (of_instruction c) (inside.instruction_inside d r c)
 unfolding inside.instruction_inside
 instruction_scripted d r c = fetch_scripted d r c (page_at d r c.space c.pc) (own_page d r c.space c.pc)
 
@@ -181,8 +181,8 @@ instruction_scripted d r c = fetch_scripted d r c (page_at d r c.space c.pc) (ow
 abbrev pub of_copy : Context → Ending calls.Copy
 of_copy c = record { each = λ m. m.context.on ≡ c.on; stopped = λ m. m.ending ≡ copied.Stopped }
 
-unfoldable in_put_scripted : (d : ℕ) (c : Context) (done byte : ℕ) (a : Answer) → Scripted d (of_copy c)
-    (calls.in_put c done byte a)
+unfoldable in_put_scripted : (d : ℕ) (c : Context) (done byte : ℕ) (a : Answer) →
+    Scripted d (of_copy c) (calls.in_put c done byte a)
 unfolding calls.in_put
 in_put_scripted d c done byte told.Ok = scripted_gives d (of_copy c) _ refl
 in_put_scripted d c done byte (told.Absent cause) = scripted_gives d (of_copy c) _ refl
@@ -217,8 +217,8 @@ in_placed_scripted d c done (Some q) false own =
     scripted_asks d (of_copy c) (Reach q own (calls.byte_address (calls.buffer c) done) Load)
     (calls.in_reached c q done) (in_reached_scripted d c q own done) refl
 
-in_step_scripted : (d : ℕ) (all : Bool) (r : Resources) (c : Context) (done : ℕ) → Scripted d (of_copy c)
-    (calls.in_step all d r c done)
+in_step_scripted : (d : ℕ) (all : Bool) (r : Resources) (c : Context) (done : ℕ) →
+    Scripted d (of_copy c) (calls.in_step all d r c done)
 unfolding calls.in_step
 in_step_scripted d true r c done = scripted_gives d (of_copy c) _ refl
 in_step_scripted d false r c done =
@@ -226,13 +226,13 @@ in_step_scripted d false r c done =
     in_placed_scripted d c done (page_at d r c.space at)
     (calls.is_cloaked r c (calls.byte_address (calls.area c) done)) (own_page d r c.space at)
 
-copy_in_scripted : (d : ℕ) (r : Resources) (c : Context) (done : ℕ) → Scripted d (of_copy c)
-    (calls.copy_in_step d r c done)
+copy_in_scripted : (d : ℕ) (r : Resources) (c : Context) (done : ℕ) →
+    Scripted d (of_copy c) (calls.copy_in_step d r c done)
 unfolding calls.copy_in_step
 copy_in_scripted d r c done = in_step_scripted d (nat_le (calls.call_length c) done) r c done
 
-unfoldable out_reached_scripted : (d : ℕ) (c : Context) (q : PageId) → q.domain ≡ d → (done total byte : ℕ)
-    (a : Answer) →
+unfoldable out_reached_scripted : (d : ℕ) (c : Context) (q : PageId) → q.domain ≡ d →
+    (done total byte : ℕ) (a : Answer) →
     Scripted d (of_copy c) (calls.out_reached c q done total byte a)
 unfolding calls.out_reached
 out_reached_scripted d c q own done total byte told.Ok =
@@ -262,8 +262,8 @@ out_placed_scripted d c done total (Some q) false own =
     scripted_asks d (of_copy c) (Get (calls.byte_address (calls.area c) done) 1) (calls.out_got c q done total)
     (out_got_scripted d c q own done total) refl
 
-out_step_scripted : (d : ℕ) (all : Bool) (r : Resources) (c : Context) (done total : ℕ) → Scripted d (of_copy c)
-    (calls.out_step all d r c done total)
+out_step_scripted : (d : ℕ) (all : Bool) (r : Resources) (c : Context) (done total : ℕ) →
+    Scripted d (of_copy c) (calls.out_step all d r c done total)
 unfolding calls.out_step
 out_step_scripted d true r c done total = scripted_gives d (of_copy c) _ refl
 out_step_scripted d false r c done total =
@@ -271,8 +271,8 @@ out_step_scripted d false r c done total =
     out_placed_scripted d c done total (page_at d r c.space at)
     (calls.is_cloaked r c (calls.byte_address (calls.area c) done)) (own_page d r c.space at)
 
-copy_out_scripted : (d : ℕ) (r : Resources) (c : Context) (done total : ℕ) → Scripted d (of_copy c)
-    (calls.copy_out_step d r c done total)
+copy_out_scripted : (d : ℕ) (r : Resources) (c : Context) (done total : ℕ) →
+    Scripted d (of_copy c) (calls.copy_out_step d r c done total)
 unfolding calls.copy_out_step
 copy_out_scripted d r c done total = out_step_scripted d (nat_le total done) r c done total
 
@@ -301,10 +301,10 @@ unfoldable fork_cleared_scripted : (d : ℕ) (c : Context) (slot new : ℕ) (r :
 unfolding forks.fork_cleared forks.forked
 fork_cleared_scripted d c slot new r contexts free told.Ok =
     copies_scripted d (of_fork contexts) (forks.copies c.space r) _ (scripted_gives d (of_fork contexts) _ free)
-fork_cleared_scripted d c slot new r contexts free (told.Absent cause) = scripted_gives d (of_fork contexts) _
-    (λ hart s. refl)
-fork_cleared_scripted d c slot new r contexts free (told.Word value) = scripted_gives d (of_fork contexts) _
-    (λ hart s. refl)
+fork_cleared_scripted d c slot new r contexts free (told.Absent cause) =
+    scripted_gives d (of_fork contexts) _ (λ hart s. refl)
+fork_cleared_scripted d c slot new r contexts free (told.Word value) =
+    scripted_gives d (of_fork contexts) _ (λ hart s. refl)
 fork_cleared_scripted d c slot new r contexts free told.Stopped = scripted_gives d (of_fork contexts) _ (λ hart s. refl)
 
 -- what fits has a free slot
@@ -318,8 +318,8 @@ has_free_if contexts true true is = is
 has_free_if contexts true false is = tt
 has_free_if contexts false b is = tt
 
-has_free : (space : ℕ) (r : Resources) (contexts : List (Option Context)) → HasFree contexts
-    (forks.fork_fits space r contexts)
+has_free : (space : ℕ) (r : Resources) (contexts : List (Option Context)) →
+    HasFree contexts (forks.fork_fits space r contexts)
 unfolding forks.fork_fits
 has_free space r contexts = has_free_if contexts (is_some (first_free contexts)) _ refl
 
@@ -334,11 +334,11 @@ fork_if_scripted d (Ok fits) c r contexts free =
     scripted_asks d (of_fork contexts) (Clear (forks.marked c.space r)) (forks.fork_cleared d c slot new r contexts)
     (fork_cleared_scripted d c slot new r contexts (free_taken (forks.child new c) contexts refl free)) refl
 
-fork_scripted : (d : ℕ) (c : Context) (r : Resources) (contexts : List (Option Context)) → Scripted d
-    (of_fork contexts) (forks.fork d c r contexts)
+fork_scripted : (d : ℕ) (c : Context) (r : Resources) (contexts : List (Option Context)) →
+    Scripted d (of_fork contexts) (forks.fork d c r contexts)
 unfolding forks.fork
-fork_scripted d c r contexts = fork_if_scripted d (forks.fork_fits c.space r contexts) c r contexts
-    (has_free c.space r contexts)
+fork_scripted d c r contexts =
+    fork_if_scripted d (forks.fork_fits c.space r contexts) c r contexts (has_free c.space r contexts)
 
 -- End.
 
@@ -363,12 +363,12 @@ unfolding forks.end_cleared
 end_cleared_scripted d slot space r contexts told.Ok =
     forgets_scripted d (of_end slot contexts) (forks.private_numbers space r) _
     (scripted_gives d (of_end slot contexts) _ (λ goes. refl))
-end_cleared_scripted d slot space r contexts (told.Absent cause) = scripted_gives d (of_end slot contexts) _
-    (λ goes. absurd (goes refl))
-end_cleared_scripted d slot space r contexts (told.Word value) = scripted_gives d (of_end slot contexts) _
-    (λ goes. absurd (goes refl))
-end_cleared_scripted d slot space r contexts told.Stopped = scripted_gives d (of_end slot contexts) _
-    (λ goes. absurd (goes refl))
+end_cleared_scripted d slot space r contexts (told.Absent cause) =
+    scripted_gives d (of_end slot contexts) _ (λ goes. absurd (goes refl))
+end_cleared_scripted d slot space r contexts (told.Word value) =
+    scripted_gives d (of_end slot contexts) _ (λ goes. absurd (goes refl))
+end_cleared_scripted d slot space r contexts told.Stopped =
+    scripted_gives d (of_end slot contexts) _ (λ goes. absurd (goes refl))
 
 end_if_scripted : (d : ℕ) (others : Bool) (slot space : ℕ) (r : Resources) (contexts : List (Option Context)) →
     Scripted d (of_end slot contexts) (forks.end_if others d slot space r contexts)
@@ -378,11 +378,11 @@ end_if_scripted d false slot space r contexts =
     scripted_asks d (of_end slot contexts) (Clear (forks.marked space r))
     (forks.end_cleared d slot space r contexts) (end_cleared_scripted d slot space r contexts) refl
 
-end_scripted : (d slot space : ℕ) (r : Resources) (contexts : List (Option Context)) → Scripted d
-    (of_end slot contexts) (forks.end_context d slot space r contexts)
+end_scripted : (d slot space : ℕ) (r : Resources) (contexts : List (Option Context)) →
+    Scripted d (of_end slot contexts) (forks.end_context d slot space r contexts)
 unfolding forks.end_context
-end_scripted d slot space r contexts = end_if_scripted d
-    (list_any (forks.is_of_space space) (end_at slot contexts)) slot space r contexts
+end_scripted d slot space r contexts =
+    end_if_scripted d (list_any (forks.is_of_space space) (end_at slot contexts)) slot space r contexts
 
 -- Hypercalls.
 
@@ -471,8 +471,8 @@ call_begun_moves slot c (Err fault) d on = slot_goes_on slot _ d d on (same_cont
 call_begun_moves slot c (Ok begun.Copying) d on = slot_goes_on slot c d d on (same_control d)
 call_begun_moves slot c (Ok begun.Leave) d on = slot_left slot c d
 
-kernel_call_moves : (slot : ℕ) (c : Context) (d : Control) → IsOnAs slot c d → MovesSo slot d
-    (hyper.kernel_call slot c d)
+kernel_call_moves : (slot : ℕ) (c : Context) (d : Control) → IsOnAs slot c d →
+    MovesSo slot d (hyper.kernel_call slot c d)
 unfolding hyper.kernel_call
 kernel_call_moves slot c d on =
     let begins = calls.begin_call d.resources (moved_on c) in
@@ -486,11 +486,11 @@ fork_told_moves : (slot : ℕ) (c : Context) (d : Control) (f : forks.Fork)
 unfolding hyper.fork_told
 fork_told_moves slot c d f (Err fault) same on = answers_moves slot c (hyper.fault_word fault) d d on (same_control d)
 fork_told_moves slot c d f (Ok None) same on = slot_kept slot d
-fork_told_moves slot c d f (Ok (Some ctx)) same on = answers_moves slot c ctx.0 d (hyper.with_spaces f.spaces d) on
-    (record { number = refl; each = same })
+fork_told_moves slot c d f (Ok (Some ctx)) same on =
+    answers_moves slot c ctx.0 d (hyper.with_spaces f.spaces d) on (record { number = refl; each = same })
 
-fork_call_scripted : (slot : ℕ) (c : Context) (d : Control) → Scripted d.number
-    (provided (IsOnAs slot c d) (of_stepped slot d)) (hyper.fork_call slot c d)
+fork_call_scripted : (slot : ℕ) (c : Context) (d : Control) →
+    Scripted d.number (provided (IsOnAs slot c d) (of_stepped slot d)) (hyper.fork_call slot c d)
 unfolding hyper.fork_call hyper.fork_told IsStop
 fork_call_scripted slot c d =
     scripted_then d.number (of_fork d.contexts) (provided (IsOnAs slot c d) (of_stepped slot d))
@@ -506,15 +506,16 @@ end_told_moves : (slot : ℕ) (c : Context) (d : Control) (x : forks.End) (ended
     (of_end slot d.contexts).each x →
     MovesSo slot d (hyper.end_told slot c d ended (hyper.with_spaces x.spaces d))
 unfolding hyper.end_told
-end_told_moves slot c d x ends.Kept is freed = slot_ended slot d (hyper.with_spaces x.spaces d) refl
+end_told_moves slot c d x ends.Kept is freed =
+    slot_ended slot d (hyper.with_spaces x.spaces d) refl
     (freed (λ stopped. let clash : ends.Kept ≡ ends.Stopped = sym is ∙ stopped in cc))
 end_told_moves slot c d x (ends.SpaceGone space) is freed =
     slot_ended slot d (hyper.with_spaces x.spaces d) refl
     (freed (λ stopped. let clash : ends.SpaceGone space ≡ ends.Stopped = sym is ∙ stopped in cc))
 end_told_moves slot c d x ends.Stopped is freed = slot_kept slot d
 
-exit_call_scripted : (slot : ℕ) (c : Context) (d : Control) → Scripted d.number
-    (provided (IsOnAs slot c d) (of_stepped slot d)) (hyper.exit_call slot c d)
+exit_call_scripted : (slot : ℕ) (c : Context) (d : Control) →
+    Scripted d.number (provided (IsOnAs slot c d) (of_stepped slot d)) (hyper.exit_call slot c d)
 unfolding hyper.exit_call hyper.end_told IsStop
 exit_call_scripted slot c d =
     scripted_then d.number (of_end slot d.contexts) (provided (IsOnAs slot c d) (of_stepped slot d))
@@ -525,8 +526,8 @@ exit_call_scripted slot c d =
     (provided (IsOnAs slot c d) (of_stepped slot d))) _ (λ freed on. end_told_moves slot c d x x.ending refl freed))
     (λ x is. ap (λ (ended : Ended). (hyper.end_told slot c d ended (hyper.with_spaces x.spaces d)).went) is)
 
-hypercall_scripted : (h : hyper.Hypercall) (slot : ℕ) (c : Context) (d : Control) → Scripted d.number
-    (provided (IsOnAs slot c d) (of_stepped slot d)) (hyper.hypercall h slot c d)
+hypercall_scripted : (h : hyper.Hypercall) (slot : ℕ) (c : Context) (d : Control) →
+    Scripted d.number (provided (IsOnAs slot c d) (of_stepped slot d)) (hyper.hypercall h slot c d)
 unfolding hyper.hypercall hyper.new_call hyper.map_call hyper.unmap_call hyper.file_call
 hypercall_scripted hyper.New slot c d =
     scripted_gives d.number (provided (IsOnAs slot c d) (of_stepped slot d)) _
@@ -540,12 +541,12 @@ hypercall_scripted hyper.Unmap slot c d =
 hypercall_scripted hyper.File slot c d =
     scripted_gives d.number (provided (IsOnAs slot c d) (of_stepped slot d)) _
     (λ on. answers_moves slot c _ d _ on (with_resources d _))
-hypercall_scripted hyper.Thread slot c d = scripted_gives d.number
-    (provided (IsOnAs slot c d) (of_stepped slot d)) _ (λ on. thread_moves slot c d on)
+hypercall_scripted hyper.Thread slot c d =
+    scripted_gives d.number (provided (IsOnAs slot c d) (of_stepped slot d)) _ (λ on. thread_moves slot c d on)
 hypercall_scripted hyper.ForkSpace slot c d = fork_call_scripted slot c d
 hypercall_scripted hyper.Exit slot c d = exit_call_scripted slot c d
-hypercall_scripted hyper.Call slot c d = scripted_gives d.number (provided (IsOnAs slot c d) (of_stepped slot d)) _
-    (λ on. kernel_call_moves slot c d on)
+hypercall_scripted hyper.Call slot c d =
+    scripted_gives d.number (provided (IsOnAs slot c d) (of_stepped slot d)) _ (λ on. kernel_call_moves slot c d on)
 hypercall_scripted hyper.Unknown slot c d =
     scripted_gives d.number (provided (IsOnAs slot c d) (of_stepped slot d)) _
     (λ on. answers_moves slot c hyper.bad_call d d on (same_control d))
@@ -568,12 +569,12 @@ stays_moves slot c d on = slot_goes_on slot c d d on (same_control d)
 unfoldable instruction_ended_scripted : (slot : ℕ) (d : Domain) (c : Context) (e : Ran) →
     Scripted d.control.number (of_context slot c d) (steps.instruction_ended slot d c e)
 unfolding steps.instruction_ended IsStop
-instruction_ended_scripted slot d c ran.Stay = scripted_gives d.control.number (of_context slot c d) _
-    (stays_moves slot c d.control)
-instruction_ended_scripted slot d c (ran.Loaded address value) = scripted_gives d.control.number
-    (of_context slot c d) _ (stays_moves slot c d.control)
-instruction_ended_scripted slot d c (ran.Trap cause address) = scripted_gives d.control.number
-    (of_context slot c d) _ (λ on. slot_left slot c d.control)
+instruction_ended_scripted slot d c ran.Stay =
+    scripted_gives d.control.number (of_context slot c d) _ (stays_moves slot c d.control)
+instruction_ended_scripted slot d c (ran.Loaded address value) =
+    scripted_gives d.control.number (of_context slot c d) _ (stays_moves slot c d.control)
+instruction_ended_scripted slot d c (ran.Trap cause address) =
+    scripted_gives d.control.number (of_context slot c d) _ (λ on. slot_left slot c d.control)
 instruction_ended_scripted slot d c ran.Ecall =
     scripted_then d.control.number (provided (IsOnAs slot c d.control) (of_stepped slot d.control))
     (of_context slot c d)
@@ -582,8 +583,8 @@ instruction_ended_scripted slot d c ran.Ecall =
     (λ step. scripted_gives d.control.number (provided (IsOnAs slot c d.control → MovesSo slot d.control step)
     (of_context slot c d)) _ (λ moves on. moves on))
     (λ step is. is)
-instruction_ended_scripted slot d c ran.Stopped = scripted_gives d.control.number (of_context slot c d) _
-    (λ on. slot_kept slot d.control)
+instruction_ended_scripted slot d c ran.Stopped =
+    scripted_gives d.control.number (of_context slot c d) _ (λ on. slot_kept slot d.control)
 
 copy_ended_moves : (slot : ℕ) (d : Domain) (c : Context) (e : Copied) → IsOnAs slot c d.control →
     (of_domain slot d).each (steps.copy_ended slot d c e)
@@ -630,12 +631,12 @@ phase_scripted Plain slot c d on =
     (steps.instruction_ended slot d m.context m.ending) (implies m)
     (instruction_ended_scripted slot d m.context m.ending))
     (λ m is. stopped_instruction slot d m.context (m.context.on ≡ c.on) (implies m) m.ending is)
-phase_scripted (CopyIn done) slot c d on = copy_scripted slot c d on _
-    (copy_in_scripted d.control.number d.control.resources c done)
-phase_scripted Waiting slot c d on = scripted_gives d.control.number (of_domain slot d) _
-    (stays_moves slot c d.control on)
-phase_scripted (CopyOut done total) slot c d on = copy_scripted slot c d on _
-    (copy_out_scripted d.control.number d.control.resources c done total)
+phase_scripted (CopyIn done) slot c d on =
+    copy_scripted slot c d on _ (copy_in_scripted d.control.number d.control.resources c done)
+phase_scripted Waiting slot c d on =
+    scripted_gives d.control.number (of_domain slot d) _ (stays_moves slot c d.control on)
+phase_scripted (CopyOut done total) slot c d on =
+    copy_scripted slot c d on _ (copy_out_scripted d.control.number d.control.resources c done total)
 
 step_if_scripted : (o : Option Context) (slot : ℕ) (d : Domain) → context_at d.control.contexts slot ≡ o →
     Scripted d.control.number (of_domain slot d) (steps.step_if o slot d)
