@@ -23,7 +23,8 @@ use Rattle.domain_isolation.specs.Isolation.{HasDomain, Hosts, items_until, Doma
 use Rattle.domain_isolation.proofs.Ignoring.{half_taken, taken_append, taken_half, item_taken}
 use Rattle.domain_isolation.proofs.Alone.{alone_at, ended, RestsAt, from_ended, begins, closes}
 use Rattle.domain_isolation.proofs.InOrder.{InOrder}
-use Rattle.domain_isolation.proofs.JointSteps.{HoldsPart, has_part, StepAlone, turn_alone}
+use Rattle.domain_isolation.proofs.JointSteps.{HoldsPart, has_part, StepAlone}
+use Rattle.domain_isolation.proofs.InsideSteps.{turn_alone}
 use Rattle.domain_isolation.proofs.Opened.{IsOpened, is_opened, started_part, opened_half, opened_order, opened_has, closing_half, closing_has}
 
 -- the items of these steps, behind so many others
@@ -261,10 +262,6 @@ closing_ignored d schedule j s fits =
 
 pub all_taken : (turns : List Turn) → take (length turns) turns ≡ turns
 all_taken turns = take_all (length turns) turns (omega arith)
-
-pub map_length : (turns : List Turn) → length (map (λ (t : Turn). t.items) turns) ≡ length turns
-map_length [] = refl
-map_length (t ∷ turns) = ap suc (map_length turns)
 
 pub domain_ends_alone : DomainEndsAlone
 unfolding run_of

@@ -1,6 +1,9 @@
 pub mod Ignoring
 pub mod Scripts
 pub mod Runs
+pub mod InstructionScripts
+pub mod CopyScripts
+pub mod ForkScripts
 pub mod StepScripts
 pub mod Steady
 pub mod Answers
@@ -9,6 +12,8 @@ pub mod Alone
 pub mod InOrder
 pub mod KernelHarts
 pub mod JointSteps
+pub mod OutsideSteps
+pub mod InsideSteps
 pub mod Opened
 pub mod Isolated
 pub mod Halves

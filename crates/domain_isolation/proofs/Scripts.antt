@@ -95,8 +95,7 @@ unfolding EndsSo
 ends_then e f (Gives a) next ends second stops = second a ends
 ends_then e f (Asks question more) next ends second stops = (
   (λ answer. ends_then e f (more answer) next (ends.0 answer) second stops),
-  stop_then e f
-      (more Stopped) next ends.1 stops,
+  stop_then e f (more Stopped) next ends.1 stops,
 )
 ends_then e f (Reads q own at width more) next ends second stops =
     λ value. ends_then e f (more value) next (ends value) second stops
