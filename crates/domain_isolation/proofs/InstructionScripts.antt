@@ -1,0 +1,153 @@
+-- One instruction of a context is a script.
+use Rattle.std.proofs.Common.{◌≡◌, ℕ, ◌%◌, Bool, Option, Some, None, refl}
+use Rattle.std.specs.Prelude.{option_map}
+use Rattle.cloak_base.specs.declared.names.Kind.TheVariants.{Fetch, Load, Store}
+use Rattle.cloak_base.specs.declared.names.PageId.{PageId}
+use Rattle.rv_isa.specs.Table.{instruction}
+use Rattle.rv_isa.specs.declared.instr.Instr.{Instr}
+use Rattle.rv_isa.specs.declared.instr.Instr.TheVariants.{Ecall, Ebreak}
+use Rattle.cloak_model.specs.declared.answer.Answer.{Answer}
+use Rattle.cloak_model.specs.declared.answer.Answer.TheVariants as told
+use Rattle.cloak_model.specs.declared.outcome.Effect.{Effect}
+use Rattle.cloak_model.specs.declared.outcome.Effect.TheVariants as does
+use Rattle.cloak_model.specs.declared.inside.Ran.TheVariants as ran
+use Rattle.cloak_model.specs.Effect.{effect}
+use Rattle.cloak_model.specs.Resources.{Resources, lookup, page_id, page_at}
+use Rattle.cloak_model.specs.Contexts.{Context}
+use Rattle.cloak_model.specs.InsideStep as inside
+use Rattle.domain_isolation.proofs.Scripts.{Reach, Get, Put, Write, Ending, IsStop, Scripted, scripted_gives, scripted_asks, scripted_reads, scripted_changes}
+
+-- Pages are the program's own.
+
+abbrev pub IsOwn : ℕ → Option PageId → Type 0
+IsOwn d None = Unit {0}
+IsOwn d (Some q) = q.domain ≡ d
+
+own_place : (d : ℕ) (place : Option (ℕ × ℕ)) → IsOwn d (option_map (page_id d) place)
+own_place d None = tt
+own_place d (Some place) = refl
+
+pub own_page : (d : ℕ) (r : Resources) (space va : ℕ) → IsOwn d (page_at d r space va)
+unfolding page_at
+own_page d r space va = own_place d (lookup r space va)
+
+-- An instruction.
+
+-- the context stays on its hart
+abbrev pub of_instruction : Context → Ending inside.AfterInstruction
+of_instruction c = record { each = λ m. m.context.on ≡ c.on; stopped = λ m. m.ending ≡ ran.Stopped }
+
+loaded_scripted : (d : ℕ) (c : Context) (rd va width : ℕ) (is_signed : Bool) (value : ℕ) →
+    Scripted d (of_instruction c) (inside.loaded_inside c rd va width is_signed value)
+unfolding inside.loaded_inside
+loaded_scripted d c rd va width is_signed value = scripted_gives d (of_instruction c) _ refl
+
+unfoldable load_reached_scripted : (d : ℕ) (c : Context) (q : PageId) → q.domain ≡ d →
+    (rd va width : ℕ) (is_signed : Bool) (a : Answer) →
+    Scripted d (of_instruction c) (inside.load_reached c q rd va width is_signed a)
+unfolding inside.load_reached
+load_reached_scripted d c q own rd va width is_signed told.Ok =
+    scripted_reads d (of_instruction c) q own (va % 4096) width (inside.loaded_inside c rd va width is_signed)
+    (loaded_scripted d c rd va width is_signed)
+load_reached_scripted d c q own rd va width is_signed (told.Absent cause) = scripted_gives d (of_instruction c) _ refl
+load_reached_scripted d c q own rd va width is_signed (told.Word value) = scripted_gives d (of_instruction c) _ refl
+load_reached_scripted d c q own rd va width is_signed told.Stopped = scripted_gives d (of_instruction c) _ refl
+
+unfoldable load_got_scripted : (d : ℕ) (c : Context) (rd va width : ℕ) (is_signed : Bool) (a : Answer) →
+    Scripted d (of_instruction c) (inside.load_got c rd va width is_signed a)
+unfolding inside.load_got
+load_got_scripted d c rd va width is_signed (told.Word value) = scripted_gives d (of_instruction c) _ refl
+load_got_scripted d c rd va width is_signed (told.Absent cause) = scripted_gives d (of_instruction c) _ refl
+load_got_scripted d c rd va width is_signed told.Ok = scripted_gives d (of_instruction c) _ refl
+load_got_scripted d c rd va width is_signed told.Stopped = scripted_gives d (of_instruction c) _ refl
+
+load_scripted : (d : ℕ) (c : Context) (rd va width : ℕ) (is_signed : Bool) (o : Option PageId) → IsOwn d o →
+    Scripted d (of_instruction c) (inside.load_inside c rd va width is_signed o)
+unfolding inside.load_inside load_reached_scripted load_got_scripted IsStop
+load_scripted d c rd va width is_signed (Some q) own =
+    scripted_asks d (of_instruction c) (Reach q own va Load) (inside.load_reached c q rd va width is_signed)
+    (load_reached_scripted d c q own rd va width is_signed) refl
+load_scripted d c rd va width is_signed None own =
+    scripted_asks d (of_instruction c) (Get va width) (inside.load_got c rd va width is_signed)
+    (load_got_scripted d c rd va width is_signed) refl
+
+unfoldable store_reached_scripted : (d : ℕ) (c : Context) (q : PageId) → q.domain ≡ d →
+    (va width value : ℕ) (a : Answer) →
+    Scripted d (of_instruction c) (inside.store_reached c q va width value a)
+unfolding inside.store_reached
+store_reached_scripted d c q own va width value told.Ok =
+    scripted_changes d (of_instruction c) (Write q own (va % 4096) width value) (inside.goes_on c)
+    (scripted_gives d (of_instruction c) _ refl)
+store_reached_scripted d c q own va width value (told.Absent cause) = scripted_gives d (of_instruction c) _ refl
+store_reached_scripted d c q own va width value (told.Word other) = scripted_gives d (of_instruction c) _ refl
+store_reached_scripted d c q own va width value told.Stopped = scripted_gives d (of_instruction c) _ refl
+
+unfoldable store_put_scripted : (d : ℕ) (c : Context) (va : ℕ) (a : Answer) →
+    Scripted d (of_instruction c) (inside.store_put c va a)
+unfolding inside.store_put
+store_put_scripted d c va told.Ok = scripted_gives d (of_instruction c) _ refl
+store_put_scripted d c va (told.Absent cause) = scripted_gives d (of_instruction c) _ refl
+store_put_scripted d c va (told.Word value) = scripted_gives d (of_instruction c) _ refl
+store_put_scripted d c va told.Stopped = scripted_gives d (of_instruction c) _ refl
+
+store_scripted : (d : ℕ) (c : Context) (va width value : ℕ) (o : Option PageId) → IsOwn d o →
+    Scripted d (of_instruction c) (inside.store_inside c va width value o)
+unfolding inside.store_inside store_reached_scripted store_put_scripted IsStop
+store_scripted d c va width value (Some q) own =
+    scripted_asks d (of_instruction c) (Reach q own va Store) (inside.store_reached c q va width value)
+    (store_reached_scripted d c q own va width value) refl
+store_scripted d c va width value None own =
+    scripted_asks d (of_instruction c) (Put va width value) (inside.store_put c va) (store_put_scripted d c va) refl
+
+system_scripted : (d : ℕ) (c : Context) (i : Instr) → Scripted d (of_instruction c) (inside.system_inside c i)
+unfolding inside.system_inside
+system_scripted d c Ecall = scripted_gives d (of_instruction c) _ refl
+system_scripted d c Ebreak = scripted_gives d (of_instruction c) _ refl
+system_scripted d c i = scripted_gives d (of_instruction c) _ refl
+
+done_scripted : (d : ℕ) (r : Resources) (c : Context) (i : Instr) (e : Effect) →
+    Scripted d (of_instruction c) (inside.done_inside d r c i e)
+unfolding inside.done_inside
+done_scripted d r c i (does.Write rd value) = scripted_gives d (of_instruction c) _ refl
+done_scripted d r c i (does.Jump rd link target) = scripted_gives d (of_instruction c) _ refl
+done_scripted d r c i (does.Go target) = scripted_gives d (of_instruction c) _ refl
+done_scripted d r c i (does.Load rd va width is_signed) =
+    load_scripted d c rd va width is_signed (page_at d r c.space va) (own_page d r c.space va)
+done_scripted d r c i (does.Store va width value) =
+    store_scripted d c va width value (page_at d r c.space va) (own_page d r c.space va)
+done_scripted d r c i does.System = system_scripted d c i
+done_scripted d r c i does.Nothing = scripted_gives d (of_instruction c) _ refl
+done_scripted d r c i (does.Raise cause value) = scripted_gives d (of_instruction c) _ refl
+
+decoded_scripted : (d : ℕ) (r : Resources) (c : Context) (o : Option Instr) →
+    Scripted d (of_instruction c) (inside.decoded_inside d r c o)
+unfolding inside.decoded_inside
+decoded_scripted d r c None = scripted_gives d (of_instruction c) _ refl
+decoded_scripted d r c (Some i) = done_scripted d r c i (effect i c.regs c.pc)
+
+executed_scripted : (d : ℕ) (r : Resources) (c : Context) (word : ℕ) →
+    Scripted d (of_instruction c) (inside.executed_inside d r c word)
+unfolding inside.executed_inside
+executed_scripted d r c word = decoded_scripted d r c (instruction word)
+
+unfoldable fetched_scripted : (d : ℕ) (r : Resources) (c : Context) (q : PageId) → q.domain ≡ d → (a : Answer) →
+    Scripted d (of_instruction c) (inside.fetched_inside d r c q a)
+unfolding inside.fetched_inside
+fetched_scripted d r c q own told.Ok =
+    scripted_reads d (of_instruction c) q own (c.pc % 4096) 4 (inside.executed_inside d r c) (executed_scripted d r c)
+fetched_scripted d r c q own (told.Absent cause) = scripted_gives d (of_instruction c) _ refl
+fetched_scripted d r c q own (told.Word value) = scripted_gives d (of_instruction c) _ refl
+fetched_scripted d r c q own told.Stopped = scripted_gives d (of_instruction c) _ refl
+
+fetch_scripted : (d : ℕ) (r : Resources) (c : Context) (o : Option PageId) → IsOwn d o →
+    Scripted d (of_instruction c) (inside.fetch d r c o)
+unfolding inside.fetch fetched_scripted IsStop
+fetch_scripted d r c None own = scripted_gives d (of_instruction c) _ refl
+fetch_scripted d r c (Some q) own =
+    scripted_asks d (of_instruction c) (Reach q own c.pc Fetch) (inside.fetched_inside d r c q)
+    (fetched_scripted d r c q own) refl
+
+pub instruction_scripted : (d : ℕ) (r : Resources) (c : Context) →
+    Scripted d (of_instruction c) (inside.instruction_inside d r c)
+unfolding inside.instruction_inside
+instruction_scripted d r c = fetch_scripted d r c (page_at d r c.space c.pc) (own_page d r c.space c.pc)

@@ -1,0 +1,280 @@
+-- A program's half of isolation, step by step.
+use Rattle.std.proofs.Common.{◌≡◌, ◌∙◌, ◌+◌, ◌%◌, ◌<◌, ◌≤◌, false, suc, zero, ℕ, Bool, List, [], ◌∷◌, ◌++◌, Option, Some, None, Result, Ok, Err, refl, ap, sym, subst, arith, add-one, length, map, take, mod-lt}
+use Rattle.std.specs.Prelude.{is_some, slice_get, slice_index, All}
+use Rattle.std.specs.List.{AllByRecursion}
+use Rattle.std.specs.Result.{result_map_both}
+use Rattle.std.proofs.lemmas.List.{take_all}
+use Rattle.cloak_base.specs.Random.{Random}
+use Rattle.cloak_base.specs.declared.causes.Stop.{Stop}
+use Rattle.cloak_model.specs.declared.image.Bundle.{Bundle}
+use Rattle.cloak_model.specs.declared.image.Program.{Program}
+use Rattle.cloak_model.specs.declared.item.Item.{Item}
+use Rattle.cloak_model.specs.declared.item.Item.TheVariants as item
+use Rattle.cloak_model.specs.Bundle.{IsInGrammar}
+use Rattle.cloak_model.specs.Halves.{inward_half}
+use Rattle.cloak_model.specs.Exchange.{steps_items}
+use Rattle.cloak_model.specs.Record.{IsOfStep}
+use Rattle.cloak_model.specs.Opening.{Lack, Opened, opening}
+use Rattle.cloak_model.specs.Parts.{Joint, DomainPart, domain_part}
+use Rattle.cloak_model.specs.Joint.{Moment, Turn, joint_step, stop_of, hart_in, turn_of}
+use Rattle.cloak_model.specs.Run.{Run, unless_stopped, turns_from, joint_after, closing, first_moment, run_of, exchange}
+use Rattle.cloak_model.specs.DomainAlone.{DomainAlone, Between, domain_step_ended, domain_taken, domain_takes, opened_domain, domain_alone}
+use Rattle.domain_isolation.specs.Isolation.{HasDomain, Hosts, items_until, DomainIsAlone, DomainEndsAlone}
+use Rattle.domain_isolation.proofs.Ignoring.{half_taken, taken_append, taken_half, item_taken}
+use Rattle.domain_isolation.proofs.Alone.{alone_at, ended, RestsAt, from_ended, begins, closes}
+use Rattle.domain_isolation.proofs.InOrder.{InOrder}
+use Rattle.domain_isolation.proofs.JointSteps.{HoldsPart, has_part, StepAlone}
+use Rattle.domain_isolation.proofs.InsideSteps.{turn_alone}
+use Rattle.domain_isolation.proofs.Opened.{IsOpened, is_opened, started_part, opened_half, opened_order, opened_has, closing_half, closing_has}
+
+-- the items of these steps, behind so many others
+abbrev pub items_behind : ℕ → List Turn → List Item
+items_behind k turns = steps_items (suc k) (map (λ (t : Turn). t.items) turns)
+
+-- what each of these steps told the program
+abbrev pub told_by : ℕ → List Turn → List (List Item)
+told_by d turns = map (λ (t : Turn). inward_half d t.items) turns
+
+-- the program alone, on the items of these steps, has what the joint machine has behind them
+pub record FrontAlone (d : ℕ) (schedule : List ℕ) (k : ℕ) (j : Joint) (turns : List Turn)
+    (s : DomainAlone) : Type 0 where
+  pub part : DomainPart
+  pub has : HoldsPart d (joint_after j turns) part
+  pub stops : Bool
+  pub rests : RestsAt (ended (domain_taken d schedule s (items_behind k turns))) part stops
+  pub told : AllByRecursion (AllByRecursion IsOfStep) (told_by d turns)
+
+-- a schedule that names harts
+record IsSchedule (count : ℕ) (schedule : List ℕ) : Type 0 where
+  pub some : 1 ≤ length schedule
+  pub turns : All (λ h. h < count) schedule
+
+hart_within : (count : ℕ) (schedule : List ℕ) (k : ℕ) → IsSchedule count schedule →
+    slice_index schedule (k % length schedule) < count
+hart_within count schedule k is = is.turns (k % length schedule) 0 (mod-lt k is.some)
+
+after_none : (d : ℕ) (schedule : List ℕ) (k : ℕ) (j : Joint) (s : DomainAlone) (p : DomainPart) (n : ℕ) →
+    HoldsPart d j p → ended s ≡ alone_at p n Between → FrontAlone d schedule k j [] s
+unfolding joint_after steps_items domain_taken
+after_none d schedule k j s p n has is =
+    record {
+      part = p;
+      has = has;
+      stops = false;
+      rests =
+          record { steps = n; place = Between; is = is; between = λ goes. refl };
+      told = tt;
+    }
+
+-- one step, and then others
+after_one : (d count : ℕ) (schedule : List ℕ) (k : ℕ) (j : Joint) (s : DomainAlone) (p : DomainPart) (n : ℕ)
+    (t : Turn) → ended s ≡ alone_at p n Between →
+    (step : StepAlone d count schedule k (slice_index schedule (k % length schedule)) p t) →
+    RestsAt (ended (domain_taken d schedule s (item.Step (suc k) ∷ t.items))) step.part (is_some (stop_of t))
+after_one d count schedule k j s p n t is step =
+    subst (λ (x : DomainAlone). RestsAt (ended x) step.part (is_some (stop_of t)))
+    (sym (from_ended d schedule (suc k) t.items s p n is ∙ begins d schedule k t.items p n)) step.rests
+
+after_more : (d : ℕ) (schedule : List ℕ) (k : ℕ) (j : Joint) (s : DomainAlone) (t : Turn) (turns : List Turn) →
+    AllByRecursion IsOfStep (inward_half d t.items) →
+    FrontAlone d schedule (k + 1) t.joint turns (domain_taken d schedule s (item.Step (suc k) ∷ t.items)) →
+    FrontAlone d schedule k j (t ∷ turns) s
+unfolding joint_after steps_items
+after_more d schedule k j s t turns told after =
+    let next : k + 1 ≡ suc k = add-one k in
+    let all = item.Step (suc k) ∷ t.items in
+    record {
+      part = after.part;
+      has = after.has;
+      stops = after.stops;
+      rests =
+          subst (λ (x : DomainAlone). RestsAt (ended x) after.part after.stops)
+          (ap (λ (m : ℕ). domain_taken d schedule (domain_taken d schedule s all) (items_behind m turns)) next
+          ∙ sym (taken_append d schedule s all (items_behind (suc k) turns)))
+          after.rests;
+      told = (told, after.told);
+    }
+
+after_last : (d : ℕ) (schedule : List ℕ) (k : ℕ) (j : Joint) (s : DomainAlone) (p : DomainPart) (stops : Bool) →
+    HoldsPart d j p → RestsAt (ended s) p stops → FrontAlone d schedule k j [] s
+unfolding joint_after steps_items domain_taken
+after_last d schedule k j s p stops has rests = record { part = p; has = has; stops = stops; rests = rests; told = tt }
+
+-- the front of a run, behind its first step
+abbrev pub Fronts : ℕ → List ℕ → ℕ → Joint → List Turn → DomainAlone → Type 0
+Fronts d schedule k j turns s = (n : ℕ) → n ≤ length turns → FrontAlone d schedule k j (take n turns) s
+
+fronts_none : (d : ℕ) (schedule : List ℕ) (k : ℕ) (j : Joint) (s : DomainAlone) (p : DomainPart) (stops : Bool) →
+    HoldsPart d j p → RestsAt (ended s) p stops → Fronts d schedule k j [] s
+fronts_none d schedule k j s p stops has rests zero le = after_last d schedule k j s p stops has rests
+fronts_none d schedule k j s p stops has rests (suc n) le = absurd (omega (arith, le))
+
+-- a moment of a run
+abbrev moment : List ℕ → ℕ → Joint → Moment
+moment schedule k j = record { schedule = schedule; steps = k; joint = j }
+
+fronts_one : (d count : ℕ) (schedule : List ℕ) (k : ℕ) (j : Joint) (t : Turn) (turns : List Turn) (s : DomainAlone)
+    (p : DomainPart) (n : ℕ) → HoldsPart d j p → ended s ≡ alone_at p n Between →
+    AllByRecursion IsOfStep (inward_half d t.items) →
+    Fronts d schedule (k + 1) t.joint turns (domain_taken d schedule s (item.Step (suc k) ∷ t.items)) →
+    Fronts d schedule k j (t ∷ turns) s
+fronts_one d count schedule k j t turns s p n has is told rest zero le = after_none d schedule k j s p n has is
+fronts_one d count schedule k j t turns s p n has is told rest (suc m) le =
+    after_more d schedule k j s t (take m turns) told (rest m (omega (arith, le)))
+
+rests_between : (s : DomainAlone) (p : DomainPart) (stops : Bool) (rests : RestsAt s p stops) → stops ≡ false →
+    s ≡ alone_at p rests.steps Between
+rests_between s p stops rests goes = rests.is ∙ ap (alone_at p rests.steps) (rests.between goes)
+
+-- every front of a run from a moment on
+abbrev FrontsFrom : ℕ → ℕ → ℕ → List ℕ → Type 0
+FrontsFrom budget d count schedule =
+    (k : ℕ) (j : Joint) (s : DomainAlone) (p : DomainPart) (n : ℕ) → InOrder count j.harts j.domains →
+    HoldsPart d j p → ended s ≡ alone_at p n Between →
+    Fronts d schedule k j (turns_from budget (moment schedule k j)) s
+
+-- what follows a step, by whether it stops the run
+fronts_unless : (budget d count : ℕ) (schedule : List ℕ) → FrontsFrom budget d count schedule →
+    (k : ℕ) (t : Turn) (s : DomainAlone) (p : DomainPart) (o : Option Stop) →
+    stop_of t ≡ o → (stop_of t ≡ None → InOrder count t.joint.harts t.joint.domains) → HoldsPart d t.joint p →
+    RestsAt (ended s) p (is_some (stop_of t)) →
+    Fronts d schedule (k + 1) t.joint (unless_stopped o (turns_from budget) (moment schedule (k + 1) t.joint)) s
+fronts_unless budget d count schedule rest k t s p (Some cause) is order has rests =
+    fronts_none d schedule (k + 1) t.joint s p (is_some (stop_of t)) has rests
+fronts_unless budget d count schedule rest k t s p None is order has rests =
+    rest (k + 1) t.joint s p rests.steps (order is) has
+    (rests_between (ended s) p (is_some (stop_of t)) rests (ap is_some is))
+
+fronts : (budget d count : ℕ) (schedule : List ℕ) → IsSchedule count schedule → FrontsFrom budget d count schedule
+unfolding turns_from joint_step
+fronts zero d count schedule is k j s p n order has rests =
+    fronts_none d schedule k j s p false has (record { steps = n; place = Between; is = rests; between = λ goes. refl })
+fronts (suc budget) d count schedule is k j s p n order has rests =
+    let hart = slice_index schedule (k % length schedule) in
+    let t = turn_of j hart (hart_in j hart) (hart_in j hart).inside in
+    let within : hart < length j.harts = subst (λ (c : ℕ). hart < c) (sym order.harts_count)
+    (hart_within count schedule k is) in
+    let step = turn_alone d count schedule k hart p j order has within in
+    fronts_one d count schedule k j t _ s p n has rests step.told
+    (fronts_unless budget d count schedule (fronts budget d count schedule is) k t _ step.part
+    (stop_of t) refl step.order step.has (after_one d count schedule k j s p n t rests step))
+
+-- A run.
+
+-- a run of a bundle, as it was opened
+pub record RunsOf (b : Bundle) (budget : ℕ) (r : Run) : Type 0 where
+  pub opened : Opened
+  pub is_opened : IsOpened b opened
+  pub is : run_of b budget opened ≡ r
+
+run_value : Run → Result Run Lack → Run
+run_value d (Ok r) = r
+run_value d (Err lack) = d
+
+runs_of : (b : Bundle) (stream : Random) (budget : ℕ) (r : Run) (made : Result Opened Lack) →
+    opening b stream ≡ made → result_map_both (run_of b budget) (λ lack. lack) made ≡ Ok r → RunsOf b budget r
+unfolding run_value
+runs_of b stream budget r (Err lack) is made = absurd cc
+runs_of b stream budget r (Ok o) is made = record {
+  opened = o;
+  is_opened = is_opened b stream o is;
+  is = ap
+      (run_value r) made;
+}
+
+pub hosted : (b : Bundle) (d : ℕ) (p : Program) (r : Run) (h : Hosts b d p r) → RunsOf b h.budget r
+hosted b d p r h = runs_of b h.stream h.budget r (opening b h.stream) refl h.runs
+
+schedule_of : (b : Bundle) → IsInGrammar b → IsSchedule b.kernel.harts b.kernel.schedule
+schedule_of b g = record { some = g.kernel.some_turns; turns = g.kernel.turns }
+
+nothing_taken : (d : ℕ) (schedule : List ℕ) (s : DomainAlone) → domain_taken d schedule s [] ≡ s
+unfolding domain_taken
+nothing_taken d schedule s = refl
+
+starts_between : (d : ℕ) (p : Program) → ended (opened_domain d p) ≡ alone_at (started_part d p) 0 Between
+unfolding domain_step_ended
+starts_between d p = refl
+
+-- the front of the run: behind the opening's items
+pub run_after : (b : Bundle) (d : ℕ) (p : Program) (budget : ℕ) (o : Opened) → IsInGrammar b → IsOpened b o →
+    slice_get b.programs d ≡ Some p →
+    Fronts d b.kernel.schedule 0 o.joint (turns_from budget (first_moment b o.joint))
+    (domain_taken d b.kernel.schedule (opened_domain d p) o.items)
+run_after b d p budget o g opened found =
+    let start = opened_domain d p in
+    let none : domain_taken d b.kernel.schedule start o.items ≡ start =
+    taken_half d b.kernel.schedule start o.items [] (opened_half b o d opened)
+    ∙ nothing_taken d b.kernel.schedule start in
+    fronts budget d b.kernel.harts b.kernel.schedule (schedule_of b g) 0 o.joint _ (started_part d p) 0
+    (opened_order b o opened) (opened_has b o d p opened found)
+    (ap ended none ∙ starts_between d p)
+
+-- with Close behind it, and items that are not told
+closed_part : (d : ℕ) (schedule : List ℕ) (p : Program) (opening : List Item) (k : ℕ) (j j' : Joint)
+    (turns : List Turn) (rest : List Item) →
+    FrontAlone d schedule 0 j turns (domain_taken d schedule (opened_domain d p) opening) →
+    ((s : DomainAlone) → s.unfit ≡ None → domain_taken d schedule s rest ≡ s) →
+    ((q : DomainPart) → HoldsPart d (joint_after j turns) q → HoldsPart d j' q) →
+    HasDomain (domain_alone d schedule p (opening ++ (items_behind 0 turns ++ item.Close k ∷ rest))) (domain_part j' d)
+closed_part d schedule p opening k j j' turns rest after ignored kept =
+    let start = opened_domain d p in
+    let first = domain_taken d schedule start opening in
+    let s = domain_taken d schedule first (items_behind 0 turns) in
+    let end = alone_at after.part after.rests.steps after.rests.place in
+    let all : domain_alone d schedule p (opening ++ (items_behind 0 turns ++ item.Close k ∷ rest)) ≡ end =
+    taken_append d schedule start opening (items_behind 0 turns ++ item.Close k ∷ rest)
+    ∙ taken_append d schedule first (items_behind 0 turns) (item.Close k ∷ rest)
+    ∙ taken_append d schedule s (item.Close k ∷ []) rest
+    ∙ ap (λ (x : DomainAlone). domain_taken d schedule x rest)
+    (closes d schedule k s after.part after.stops after.rests ∙ after.rests.is)
+    ∙ ignored end refl in
+    record {
+      fits = ap (λ (x : DomainAlone). x.unfit) all;
+      same = ap (λ (x : DomainAlone). Some x.part) all ∙ sym (has_part d j' after.part (kept after.part after.has));
+    }
+
+pub domain_is_alone : DomainIsAlone
+unfolding run_of
+domain_is_alone b d p r h n le =
+    let runs = hosted b d p r h in
+    subst (λ (x : Run). n ≤ length x.turns → HasDomain
+    (domain_alone d b.kernel.schedule p (inward_half d (items_until n x)))
+    (domain_part (joint_after x.opened.joint (take n x.turns)) d)) runs.is
+    (λ le'.
+    let o = runs.opened in
+    let turns = turns_from h.budget (first_moment b o.joint) in
+    subst (λ (s : DomainAlone). HasDomain s (domain_part (joint_after o.joint (take n turns)) d))
+    (sym (half_taken d b.kernel.schedule (opened_domain d p) (items_until n (run_of b h.budget o))))
+    (closed_part d b.kernel.schedule p o.items n o.joint (joint_after o.joint (take n turns)) (take n turns) []
+    (run_after b d p h.budget o h.in_grammar runs.is_opened h.program n le')
+    (λ s fits. nothing_taken d b.kernel.schedule s) (λ q has. has))) le
+
+-- what is shown as the run closes, and End
+closing_ignored : (d : ℕ) (schedule : List ℕ) (j : Joint) (s : DomainAlone) → s.unfit ≡ None →
+    domain_taken d schedule s ((closing j).items ++ item.End ∷ []) ≡ s
+unfolding domain_taken domain_takes
+closing_ignored d schedule j s fits =
+    taken_append d schedule s (closing j).items (item.End ∷ [])
+    ∙ ap (λ (x : DomainAlone). domain_taken d schedule x (item.End ∷ []))
+    (taken_half d schedule s (closing j).items [] (closing_half d j))
+    ∙ item_taken d schedule s item.End fits
+
+pub all_taken : (turns : List Turn) → take (length turns) turns ≡ turns
+all_taken turns = take_all (length turns) turns (omega arith)
+
+pub domain_ends_alone : DomainEndsAlone
+unfolding run_of
+domain_ends_alone b d p r h =
+    let runs = hosted b d p r h in
+    subst (λ (x : Run). HasDomain (domain_alone d b.kernel.schedule p (exchange x))
+    (domain_part x.closed.joint d)) runs.is
+    (let o = runs.opened in
+    let turns = turns_from h.budget (first_moment b o.joint) in
+    let j = joint_after o.joint turns in
+    closed_part d b.kernel.schedule p o.items (length (map (λ (t : Turn). t.items) turns)) o.joint
+    (closing j).joint turns ((closing j).items ++ item.End ∷ [])
+    (subst (λ (l : List Turn). FrontAlone d b.kernel.schedule 0 o.joint l
+    (domain_taken d b.kernel.schedule (opened_domain d p) o.items)) (all_taken turns)
+    (run_after b d p h.budget o h.in_grammar runs.is_opened h.program (length turns) (omega arith)))
+    (closing_ignored d b.kernel.schedule j) (closing_has d j))

@@ -1,0 +1,202 @@
+-- Where a hart is inside after a step outside: in the context that it resumes, or where it was.
+use Rattle.std.proofs.Common.{◌≡◌, true, false, cond, ℕ, Bool, List, Option, Some, None, Result, Ok, Err, refl, subst, ◌^◌, ◌-◌}
+use Rattle.std.specs.Prelude.{◌==◌}
+use Rattle.cloak_base.specs.Registers.{register}
+use Rattle.cloak_base.specs.declared.names.Mode.{Mode}
+use Rattle.cloak_base.specs.declared.names.Mode.TheVariants.{U, S}
+use Rattle.cloak_base.specs.declared.names.Kind.TheVariants.{Fetch, Load, Store}
+use Rattle.rv_isa.specs.Table.{instruction}
+use Rattle.rv_isa.specs.declared.instr.Instr.{Instr}
+use Rattle.rv_isa.specs.declared.instr.Instr.TheVariants.{Csrrw, Csrrs, Csrrc, Csrrwi, Csrrsi, Csrrci, Ebreak, Sret, Wfi, SfenceVma}
+use Rattle.cloak_model.specs.declared.outcome.Kernel.{Kernel}
+use Rattle.cloak_model.specs.declared.outcome.Kernel.TheVariants.{Stay, Put, Halt, Resume}
+use Rattle.cloak_model.specs.declared.outcome.Effect.{Effect}
+use Rattle.cloak_model.specs.declared.outcome.Effect.TheVariants as does
+use Rattle.cloak_model.specs.Csr.{csr_read, interrupt_due, with_pending}
+use Rattle.cloak_model.specs.Memory.{frame_of}
+use Rattle.cloak_model.specs.Effect.{effect}
+use Rattle.cloak_model.specs.Hart.{Hart}
+use Rattle.cloak_model.specs.World.{World}
+use Rattle.cloak_model.specs.Asking.{Asking, then_ask}
+use Rattle.cloak_model.specs.Ask.{ask_value, ask_store, ask_count, ask_fill, ask_frame}
+use Rattle.cloak_model.specs.HartStep.{Made, with_word, gone_on, stays, raised, csr_written, csr_found, csr_step, returned, idle, system}
+use Rattle.cloak_model.specs.HostCalls.{After, is_transfer, block_at, with_block, ends, host_answers, put_call, timer_call, halt_call, read_block, write_block, read_call, write_call, host_call, resumed, ecall_in, ecall}
+use Rattle.cloak_model.specs.KernelStep.{ask_access, extended, is_ecall, or_trap, carried_out, executed, instruction_step, ticked, kernel_step}
+
+abbrev pub inside_after : Kernel → Option ℕ → Option ℕ
+inside_after Stay was = was
+inside_after (Put byte) was = was
+inside_after (Halt value) was = was
+inside_after (Resume ctx answer) was = Some ctx
+
+abbrev MadeSo : Option ℕ → Made → Type 0
+MadeSo was m = m.hart.inside ≡ inside_after m.ending was
+
+-- whatever the world is
+abbrev StepsSo : Option ℕ → Asking After → Type 0
+StepsSo was ask = (w : World) → (ask w).answer.hart.inside ≡ inside_after (ask w).answer.ending was
+
+either_so : {A : Type 0} (P : A → Type 0) (test : Bool) (x y : A) → P x → P y → P (cond test x y)
+either_so P true x y first second = first
+either_so P false x y first second = second
+
+steps_either : (was : Option ℕ) (test : Bool) (x y : Asking After) → StepsSo was x → StepsSo was y → (w : World) →
+    (cond test (x w) (y w)).answer.hart.inside ≡ inside_after (cond test (x w) (y w)).answer.ending was
+steps_either was true x y first second w = first w
+steps_either was false x y first second w = second w
+
+raised_so : (h : Hart) (cause value : ℕ) → MadeSo h.inside (raised h cause value)
+unfolding raised
+raised_so h cause value = refl
+
+or_trap_so : (was : Option ℕ) (h : Hart) (disk : List ℕ) (va : ℕ) (to : Result ℕ ℕ) (next : ℕ → Asking After) →
+    h.inside ≡ was → ((pa : ℕ) → StepsSo was (next pa)) →
+    StepsSo was (or_trap h disk va to next)
+or_trap_so was h disk va (Err cause) next is rest w =
+    subst (λ (x : Option ℕ). MadeSo x (raised h cause va)) is (raised_so h cause va)
+or_trap_so was h disk va (Ok pa) next is rest w = rest pa w
+
+csr_written_so : (h : Hart) (rd n was : ℕ) (new : Option ℕ) → MadeSo h.inside (csr_written h rd n was new)
+unfolding csr_written
+csr_written_so h rd n was None = refl
+csr_written_so h rd n was (Some new) = refl
+
+csr_found_so : (h : Hart) (w rd n : ℕ) (new found : Option ℕ) → MadeSo h.inside (csr_found h w rd n new found)
+unfolding csr_found
+csr_found_so h w rd n new None = raised_so h 2 w
+csr_found_so h w rd n new (Some was) = csr_written_so h rd n was new
+
+csr_step_so : (m : Mode) (h : Hart) (w rd n : ℕ) (new : Option ℕ) → MadeSo h.inside (csr_step m h w rd n new)
+unfolding csr_step
+csr_step_so U h w rd n new = raised_so h 2 w
+csr_step_so S h w rd n new = csr_found_so h w rd n new (csr_read h.csrs n)
+
+returned_so : (m : Mode) (h : Hart) (w : ℕ) → MadeSo h.inside (returned m h w)
+unfolding returned
+returned_so U h w = raised_so h 2 w
+returned_so S h w = refl
+
+idle_so : (m : Mode) (h : Hart) (w : ℕ) → MadeSo h.inside (idle m h w)
+unfolding idle
+idle_so U h w = raised_so h 2 w
+idle_so S h w = refl
+
+system_so : (h : Hart) (w : ℕ) (i : Instr) → MadeSo h.inside (system h w i)
+unfolding system
+system_so h w (Csrrw rd rs1 n) = csr_step_so h.mode h w rd n _
+system_so h w (Csrrs rd rs1 n) = csr_step_so h.mode h w rd n _
+system_so h w (Csrrc rd rs1 n) = csr_step_so h.mode h w rd n _
+system_so h w (Csrrwi rd uimm n) = csr_step_so h.mode h w rd n _
+system_so h w (Csrrsi rd uimm n) = csr_step_so h.mode h w rd n _
+system_so h w (Csrrci rd uimm n) = csr_step_so h.mode h w rd n _
+system_so h w Ebreak = raised_so h 3 0
+system_so h w Sret = returned_so h.mode h w
+system_so h w Wfi = idle_so h.mode h w
+system_so h w (SfenceVma rs1 rs2) = idle_so h.mode h w
+system_so h w i = raised_so h 2 w
+
+read_block_so : (h : Hart) (disk : List ℕ) (frames : ℕ) → StepsSo h.inside (read_block h disk frames)
+unfolding read_block
+read_block_so h disk frames w =
+    steps_either h.inside (is_transfer frames disk (register h.regs 10) (register h.regs 11))
+    (then_ask (ask_fill (frame_of (register h.regs 11)) (block_at disk (register h.regs 10)))
+    (λ done. ends disk (host_answers h 0)))
+    (ends disk (host_answers h 1)) (λ v. refl) (λ v. refl) w
+
+write_block_so : (h : Hart) (disk : List ℕ) (frames : ℕ) → StepsSo h.inside (write_block h disk frames)
+unfolding write_block
+write_block_so h disk frames w =
+    steps_either h.inside (is_transfer frames disk (register h.regs 10) (register h.regs 11))
+    (then_ask (ask_frame (frame_of (register h.regs 11)))
+    (λ bytes. ends (with_block disk (register h.regs 10) bytes) (host_answers h 0)))
+    (ends disk (host_answers h 1)) (λ v. refl) (λ v. refl) w
+
+read_so : (h : Hart) (disk : List ℕ) → StepsSo h.inside (read_call h disk)
+unfolding read_call
+read_so h disk w = read_block_so h disk (ask_count w).answer (ask_count w).world
+
+write_so : (h : Hart) (disk : List ℕ) → StepsSo h.inside (write_call h disk)
+unfolding write_call
+write_so h disk w = write_block_so h disk (ask_count w).answer (ask_count w).world
+
+host_call_so : (h : Hart) (disk : List ℕ) → StepsSo h.inside (host_call h disk)
+unfolding host_call put_call timer_call halt_call
+host_call_so h disk w =
+    let n = register h.regs 17 in
+    let any : Asking After = ends disk (host_answers h (2 ^ 32 - 1)) in
+    let fourth : Asking After = λ v. cond (n == 4) (ends disk (halt_call h) v) (any v) in
+    let third : Asking After = λ v. cond (n == 3) (write_call h disk v) (fourth v) in
+    let second : Asking After = λ v. cond (n == 2) (read_call h disk v) (third v) in
+    let first : Asking After = λ v. cond (n == 1) (ends disk (timer_call h) v) (second v) in
+    steps_either h.inside (n == 0) (ends disk (put_call h)) first (λ v. refl)
+    (steps_either h.inside (n == 1) (ends disk (timer_call h)) second (λ v. refl)
+    (steps_either h.inside (n == 2) (read_call h disk) third (read_so h disk)
+    (steps_either h.inside (n == 3) (write_call h disk) fourth (write_so h disk)
+    (steps_either h.inside (n == 4) (ends disk (halt_call h)) any (λ v. refl) (λ v. refl))))) w
+
+ecall_in_so : (m : Mode) (h : Hart) (disk : List ℕ) → StepsSo h.inside (ecall_in m h disk)
+unfolding ecall_in
+ecall_in_so U h disk w = raised_so h 8 0
+ecall_in_so S h disk w = host_call_so h disk w
+
+ecall_so : (h : Hart) (disk : List ℕ) → StepsSo h.inside (ecall h disk)
+unfolding ecall resumed
+ecall_so h disk w =
+    steps_either h.inside (register h.regs 17 == 0x4F560000) (ends disk (resumed h)) (ecall_in h.mode h disk)
+    (λ v. refl) (ecall_in_so h.mode h disk) w
+
+carried_out_so : (h : Hart) (disk : List ℕ) (word : ℕ) (i : Instr) (e : Effect) →
+    StepsSo h.inside (carried_out h disk word i e)
+unfolding carried_out
+carried_out_so h disk word i (does.Write rd value) w = refl
+carried_out_so h disk word i (does.Jump rd link target) w = refl
+carried_out_so h disk word i (does.Go target) w = refl
+carried_out_so h disk word i (does.Load rd va width is_signed) w =
+    let found = ask_access h Load va w in
+    let next : ℕ → Asking After = λ pa v.
+    let value = ask_value pa width v in ends disk
+    (stays (gone_on (with_word h rd (extended is_signed width value.answer)))) value.world in
+    or_trap_so h.inside h disk va found.answer next refl (λ pa v. refl) found.world
+carried_out_so h disk word i (does.Store va width value) w =
+    let found = ask_access h Store va w in
+    let next : ℕ → Asking After = λ pa v. ends disk (stays (gone_on h)) (ask_store pa width value v).world in
+    or_trap_so h.inside h disk va found.answer next refl (λ pa v. refl) found.world
+carried_out_so h disk word i does.System w =
+    either_so (λ (ask : Asking After). (ask w).answer.hart.inside ≡ inside_after (ask w).answer.ending h.inside)
+    (is_ecall i) (ecall h disk) (ends disk (system h word i))
+    (ecall_so h disk w) (system_so h word i)
+carried_out_so h disk word i does.Nothing w = refl
+carried_out_so h disk word i (does.Raise cause value) w = raised_so h cause value
+
+executed_so : (h : Hart) (disk : List ℕ) (word : ℕ) (o : Option Instr) → StepsSo h.inside (executed h disk word o)
+executed_so h disk word None w = raised_so h 2 word
+executed_so h disk word (Some i) w = carried_out_so h disk word i (effect i h.regs h.pc) w
+
+instruction_so : (h : Hart) (disk : List ℕ) → StepsSo h.inside (instruction_step h disk)
+unfolding instruction_step
+instruction_so h disk w =
+    let found = ask_access h Fetch h.pc w in
+    let next : ℕ → Asking After = λ pa v. let word = ask_value pa 4 v in executed h disk word.answer
+    (instruction word.answer) word.world in
+    or_trap_so h.inside h disk h.pc found.answer next refl
+    (λ pa v. let word = ask_value pa 4 v in executed_so h disk word.answer
+    (instruction word.answer) word.world) found.world
+
+pub ticked_inside : (h : Hart) → (ticked h).inside ≡ h.inside
+unfolding ticked
+ticked_inside h =
+    let falls : Hart = record h { timer = h.timer - 1 } in
+    let due : Hart = record h { timer = 0; csrs = with_pending true h.csrs } in
+    either_so (λ (x : Hart). x.inside ≡ h.inside) (h.timer == 0) h (cond (h.timer == 1) due falls) refl
+    (either_so (λ (x : Hart). x.inside ≡ h.inside) (h.timer == 1) due falls refl refl)
+
+pub kernel_step_inside : (h : Hart) (disk : List ℕ) (w : World) →
+    let a = (kernel_step h disk w).answer in a.hart.inside ≡ inside_after a.ending h.inside
+unfolding kernel_step
+kernel_step_inside h disk w =
+    let h' = ticked h in
+    let a = (kernel_step h disk w).answer in
+    subst (λ (was : Option ℕ). a.hart.inside ≡ inside_after a.ending was) (ticked_inside h)
+    (either_so (λ (ask : Asking After). (ask w).answer.hart.inside ≡ inside_after (ask w).answer.ending h'.inside)
+    (interrupt_due h'.mode h'.csrs) (ends disk (raised h' 0x80000005 0)) (instruction_step h' disk)
+    (raised_so h' 0x80000005 0) (instruction_so h' disk w))

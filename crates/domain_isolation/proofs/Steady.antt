@@ -1,0 +1,401 @@
+-- What the joint machine's questions of a program leave: the newest bytes of each page, the view, and what each
+-- program was told; and what an answer adds to that.
+use Rattle.std.proofs.Common.{◌≡◌, ◌∙◌, true, false, cond, zero, suc, ◌+◌, ◌%◌, ◌^◌, ◌*◌, ℕ, Bool, List, [], ◌∷◌, ◌++◌, Option, Some, None, Result, Ok, Err, refl, ap, append-nil, if◌then◌else◌}
+use Rattle.std.specs.Prelude.{is_some, ◌||◌}
+use Rattle.std.specs.Str.{bytes_eq}
+use Rattle.std.proofs.lemmas.List.Elements.{filter-append}
+use Rattle.std.proofs.lemmas.Bool.{false≢true}
+use Rattle.cloak_base.specs.declared.names.Kind.{Kind}
+use Rattle.cloak_base.specs.declared.names.PageId.{PageId}
+use Rattle.cloak_base.specs.Random.{Random}
+use Rattle.cloak_model.specs.declared.access.Access.{Access}
+use Rattle.cloak_model.specs.declared.answer.Answer.{Answer}
+use Rattle.cloak_model.specs.declared.answer.Answer.TheVariants as told
+use Rattle.cloak_model.specs.declared.item.Item.{Item}
+use Rattle.cloak_model.specs.Memory.{frame_of}
+use Rattle.cloak_model.specs.Ledger.{vector_of}
+use Rattle.cloak_model.specs.Halves.{is_inward, inward_half}
+use Rattle.cloak_model.specs.Cloaking.{CloakedMemory, AfterSettling, AfterOffer, Offer, Ready, Mismatch, Missed, settle, settle_if, settle_owed, settle_frame_if, owing_frame, owes, owed_in, compared, unless_missed, offer}
+use Rattle.cloak_model.specs.World.{World, Flat, Cloaked, Alone, plain_of, view_of, items_of, violation_of, is_missed, stored_at, settled, written, cipher_items}
+use Rattle.cloak_model.specs.Asking.{Told, Asking}
+use Rattle.cloak_model.specs.Walk.{Walk, FirstWord, Ends, GoesOn, first_entry}
+use Rattle.cloak_model.specs.Ask.{ask_word, ask_second, ask_after, ask_first, ask_walk, ask_inside, ask_translate, ask_value}
+use Rattle.cloak_model.specs.AskPages.{answer_item, replies, if_drawn, ask_inside_address, offered_by, ask_offer, reached, reach_by_table, got, get_by_table, put_at, stored_inside, put_by_table, settled_if_marked, clear_from}
+
+abbrev pub is_cloaked : World → Bool
+is_cloaked (Flat ram) = false
+is_cloaked (Cloaked c) = true
+is_cloaked (Alone h) = false
+
+-- Settling and offering change no page.
+
+settle_owed_plain : (f : ℕ) (q : PageId) (draw : Option (List ℕ × Random)) (m : CloakedMemory) →
+    (settle_owed f q draw m).memory.plain ≡ m.plain
+unfolding settle_owed
+settle_owed_plain f q None m = refl
+settle_owed_plain f q (Some draw) m = refl
+
+settle_if_plain : (f : ℕ) (owed : Option PageId) (m : CloakedMemory) → (settle_if f owed m).memory.plain ≡ m.plain
+unfolding settle_if
+settle_if_plain f None m = refl
+settle_if_plain f (Some q) m = settle_owed_plain f q (vector_of m.ledger q) m
+
+pub settle_plain : (f : ℕ) (m : CloakedMemory) → (settle f m).memory.plain ≡ m.plain
+unfolding settle
+settle_plain f m = settle_if_plain f (owed_in m f) m
+
+settle_frame_if_plain : (f : Option ℕ) (m : CloakedMemory) → (settle_frame_if f m).memory.plain ≡ m.plain
+settle_frame_if_plain None m = refl
+settle_frame_if_plain (Some f) m = settle_plain f m
+
+either : {A : Type 0} (P : A → Type 0) (b : Bool) (x y : A) → P x → P y → P (if b then x else y)
+either P true x y here there = here
+either P false x y here there = there
+
+compared_plain : (q : PageId) (g : ℕ) (write : Bool) (recorded : Option (List ℕ)) (m : CloakedMemory) →
+    (compared q g write recorded m).memory.plain ≡ m.plain
+unfolding compared
+compared_plain q g write None m = refl
+compared_plain q g write (Some c) m =
+    either (λ (o : AfterOffer). o.memory.plain ≡ m.plain) (bytes_eq _ c) _ _
+    (either (λ (x : CloakedMemory). x.plain ≡ m.plain) write _ _ refl refl) refl
+
+unless_missed_plain : (s : AfterSettling) (next : CloakedMemory → AfterOffer) →
+    ((m : CloakedMemory) → (next m).memory.plain ≡ m.plain) →
+    (unless_missed s next).memory.plain ≡ s.memory.plain
+unfolding unless_missed
+unless_missed_plain s next keeps =
+    either (λ (o : AfterOffer). o.memory.plain ≡ s.memory.plain) s.missed _ _ refl (keeps s.memory)
+
+offer_plain : (q : PageId) (g : ℕ) (write : Bool) (m : CloakedMemory) → (offer q g write m).memory.plain ≡ m.plain
+unfolding offer
+offer_plain q g write m =
+    either (λ (o : AfterOffer). o.memory.plain ≡ m.plain) (owes q (owed_in m g)) _ _ refl
+    (unless_missed_plain (settle g m) _ (λ m'.
+    unless_missed_plain (settle_frame_if (owing_frame m' q) m') _
+    (λ m''. compared_plain q g write (m''.ledger.recorded q) m'')
+    ∙ settle_frame_if_plain (owing_frame m' q) m') ∙ settle_plain g m)
+
+-- A missing draw is marked.
+
+abbrev SettlesMarked : AfterSettling → Type 0
+SettlesMarked s = s.missed ≡ true → s.memory.ledger.missed ≡ true
+
+settle_owed_marked : (f : ℕ) (q : PageId) (draw : Option (List ℕ × Random)) (m : CloakedMemory) →
+    SettlesMarked (settle_owed f q draw m)
+unfolding settle_owed
+settle_owed_marked f q None m missed = refl
+settle_owed_marked f q (Some draw) m missed = absurd (false≢true missed)
+
+settle_if_marked : (f : ℕ) (owed : Option PageId) (m : CloakedMemory) → SettlesMarked (settle_if f owed m)
+unfolding settle_if
+settle_if_marked f None m missed = absurd (false≢true missed)
+settle_if_marked f (Some q) m missed = settle_owed_marked f q (vector_of m.ledger q) m missed
+
+settle_marked : (f : ℕ) (m : CloakedMemory) → SettlesMarked (settle f m)
+unfolding settle
+settle_marked f m missed = settle_if_marked f (owed_in m f) m missed
+
+settle_frame_marked : (f : Option ℕ) (m : CloakedMemory) → SettlesMarked (settle_frame_if f m)
+settle_frame_marked None m missed = absurd (false≢true missed)
+settle_frame_marked (Some f) m missed = settle_marked f m missed
+
+abbrev OffersMarked : AfterOffer → Type 0
+OffersMarked o = o.answer ≡ Missed → o.memory.ledger.missed ≡ true
+
+compared_marked : (q : PageId) (g : ℕ) (write : Bool) (recorded : Option (List ℕ)) (m : CloakedMemory) →
+    OffersMarked (compared q g write recorded m)
+unfolding compared
+compared_marked q g write None m = λ is. let clash : Ready ≡ Missed = is in absurd cc
+compared_marked q g write (Some c) m =
+    either OffersMarked (bytes_eq _ c) _ _ (λ is. let clash : Ready ≡ Missed = is in absurd cc)
+    (λ is. let clash : Mismatch ≡ Missed = is in absurd cc)
+
+either_marked : (missed : Bool) (s : AfterSettling) (o : AfterOffer) → s.missed ≡ missed → SettlesMarked s →
+    OffersMarked o →
+    OffersMarked (if missed then record { memory = s.memory; ciphers = s.ciphers; answer = Missed } else
+    record { memory = o.memory; ciphers = s.ciphers ++ o.ciphers; answer = o.answer })
+either_marked true s o is settles offers same = settles is
+either_marked false s o is settles offers same = offers same
+
+unless_missed_marked : (s : AfterSettling) (next : CloakedMemory → AfterOffer) → SettlesMarked s →
+    ((m : CloakedMemory) → OffersMarked (next m)) →
+    OffersMarked (unless_missed s next)
+unfolding unless_missed
+unless_missed_marked s next settles offers = either_marked s.missed s (next s.memory) refl settles (offers s.memory)
+
+offer_marked : (q : PageId) (g : ℕ) (write : Bool) (m : CloakedMemory) → OffersMarked (offer q g write m)
+unfolding offer
+offer_marked q g write m =
+    either OffersMarked (owes q (owed_in m g)) _ _ (λ is. let clash : Ready ≡ Missed = is in absurd cc)
+    (unless_missed_marked (settle g m) _ (settle_marked g m) (λ m'.
+    unless_missed_marked (settle_frame_if (owing_frame m' q) m') _ (settle_frame_marked (owing_frame m' q) m') (λ m''.
+    compared_marked q g write (m''.ledger.recorded q) m'')))
+
+-- What is shown to the kernel is told to no program.
+
+ciphers_half : (d : ℕ) (ciphers : List (ℕ × List ℕ)) → inward_half d (cipher_items ciphers) ≡ []
+ciphers_half d [] = refl
+ciphers_half d (c ∷ ciphers) = ciphers_half d ciphers
+
+pub ciphers_told : (d : ℕ) (items : List Item) (ciphers : List (ℕ × List ℕ)) →
+    inward_half d (items ++ cipher_items ciphers) ≡ inward_half d items
+ciphers_told d items ciphers =
+    filter-append (is_inward d) items (cipher_items ciphers)
+    ∙ ap (λ (l : List Item). inward_half d items ++ l) (ciphers_half d ciphers)
+    ∙ append-nil (inward_half d items)
+
+-- What a question leaves before its answer.
+pub record Steady (w v : World) : Type 0 where
+  pub plain : plain_of v ≡ plain_of w
+  pub view : view_of v ≡ view_of w
+  pub form : is_cloaked v ≡ is_cloaked w
+  pub items : (d : ℕ) → inward_half d (items_of v) ≡ inward_half d (items_of w)
+
+pub Steady-refl : (w : World) → Steady w w
+Steady-refl w = record { plain = refl; view = refl; form = refl; items = λ d. refl }
+
+pub Steady-trans : (u v w : World) → Steady u v → Steady v w → Steady u w
+Steady-trans u v w p q =
+    record {
+      plain = q.plain ∙ p.plain;
+      view = q.view ∙ p.view;
+      form = q.form ∙ p.form;
+      items = λ d. q.items d
+          ∙ p.items d;
+    }
+
+Steady-either : {A : Type 0} (b : Bool) (m n : Told A) (w : World) → Steady w m.world → Steady w n.world →
+    Steady w (cond b m n).world
+Steady-either true m n w p q = p
+Steady-either false m n w p q = q
+
+Steady-settled : (f : ℕ) (w : World) → Steady w (settled f w)
+Steady-settled f (Flat ram) = Steady-refl (Flat ram)
+Steady-settled f (Cloaked c) =
+    record {
+      plain = settle_plain f c.memory;
+      view = refl;
+      form = refl;
+      items = λ d. ciphers_told d c.items
+          (settle f c.memory).ciphers;
+    }
+Steady-settled f (Alone h) = Steady-refl (Alone h)
+
+Steady-stored_at : (pa width value : ℕ) (w : World) → Steady w (stored_at pa width value w)
+Steady-stored_at pa width value (Flat ram) = record { plain = refl; view = refl; form = refl; items = λ d. refl }
+Steady-stored_at pa width value (Cloaked c) = record { plain = refl; view = refl; form = refl; items = λ d. refl }
+Steady-stored_at pa width value (Alone h) = Steady-refl (Alone h)
+
+Steady-written : (i : Item) (w : World) → ((d : ℕ) → is_inward d i ≡ false) → Steady w (written i w)
+Steady-written i (Flat ram) outward = Steady-refl (Flat ram)
+Steady-written i (Cloaked c) outward = record {
+  plain = refl;
+  view = refl;
+  form = refl;
+  items = λ d.
+      filter-append (is_inward d) c.items (i ∷ [])
+      ∙ ap (λ (b : Bool). inward_half d c.items ++ cond b (i ∷ []) []) (outward d)
+      ∙ append-nil (inward_half d c.items);
+}
+Steady-written i (Alone h) outward = Steady-refl (Alone h)
+
+steady_word : (pa : ℕ) (w : World) → Steady w (ask_word pa w).world
+unfolding ask_word
+steady_word pa w = Steady-either _ _ _ w (Steady-settled (frame_of pa) w) (Steady-refl w)
+
+steady_second : (a : Access) (at1 at0 : ℕ) (w : World) → Steady w (ask_second a at1 at0 w).world
+unfolding ask_second
+steady_second a at1 at0 w = steady_word at0 w
+
+steady_after : (a : Access) (at1 : ℕ) (word : FirstWord) (w : World) → Steady w (ask_after a at1 word w).world
+unfolding ask_after
+steady_after a at1 (Ends walk) w = Steady-refl w
+steady_after a at1 (GoesOn at0) w = steady_second a at1 at0 w
+
+steady_first : (a : Access) (at1 : ℕ) (w : World) → Steady w (ask_first a at1 w).world
+unfolding ask_first
+steady_first a at1 w = Steady-trans _ _ _ (steady_word at1 w) (steady_after a at1 _ _)
+
+steady_walk : (satp : ℕ) (a : Access) (w : World) → Steady w (ask_walk satp a w).world
+unfolding ask_walk
+steady_walk satp a w = Steady-either _ _ _ w (steady_first a (first_entry satp a.va) w) (Steady-refl w)
+
+steady_inside : (a : Access) (walk : Walk) (w : World) → Steady w (ask_inside a walk w).world
+unfolding ask_inside
+steady_inside a (Err cause) w = Steady-refl w
+steady_inside a (Ok walked) w = Steady-refl w
+
+steady_translate : (satp : ℕ) (a : Access) (w : World) → Steady w (ask_translate satp a w).world
+unfolding ask_translate
+steady_translate satp a w = Steady-trans _ _ _ (steady_walk satp a w) (steady_inside a _ _)
+
+steady_value : (pa width : ℕ) (w : World) → Steady w (ask_value pa width w).world
+unfolding ask_value
+steady_value pa width w = Steady-settled (frame_of pa) w
+
+steady_inside_address : (va : ℕ) (kind : Kind) (w : World) → Steady w (ask_inside_address va kind w).world
+unfolding ask_inside_address
+steady_inside_address va kind w = steady_translate _ _ w
+
+-- A step that is to stop the run: a draw was missing, or the kernel presented what is not recorded.
+abbrev pub is_halted : World → Bool
+is_halted w = is_missed w || is_some (violation_of w)
+
+-- What a question leaves with its answer.
+pub record Replied (w : World) (t : Told Answer) : Type 0 where
+  pub plain : plain_of t.world ≡ plain_of w
+  pub view : view_of t.world ≡ view_of w
+  pub form : is_cloaked t.world ≡ is_cloaked w
+  pub items : (d : ℕ) → inward_half d (items_of t.world) ≡ inward_half d (items_of w) ++ inward_half d
+      (answer_item (view_of w).domain t.answer ∷ [])
+  pub stops : t.answer ≡ told.Stopped → is_halted t.world ≡ true
+
+replied_after : (u v : World) (t : Told Answer) → Steady u v → Replied v t → Replied u t
+replied_after u v t s r = record {
+  plain = r.plain ∙ s.plain;
+  view = r.view ∙ s.view;
+  form = r.form ∙ s.form;
+  items = λ d.
+      r.items d ∙ ap (λ (l : List Item). l ++ inward_half d (answer_item (view_of v).domain t.answer ∷ [])) (s.items d)
+      ∙ ap (λ (view : _). inward_half d (items_of u) ++ inward_half d (answer_item view.domain t.answer ∷ [])) s.view;
+  stops = r.stops;
+}
+
+replied : (a : Answer) (w : World) → is_cloaked w ≡ true → (a ≡ told.Stopped → is_halted w ≡ true) →
+    Replied w (replies a w)
+unfolding replies
+replied a (Flat ram) cloaked halted = absurd (false≢true cloaked)
+replied a (Cloaked c) cloaked halted = record {
+  plain = refl;
+  view = refl;
+  form = refl;
+  items = λ d. filter-append (is_inward d) c.items (answer_item c.view.domain a ∷ []);
+  stops = halted;
+}
+replied a (Alone h) cloaked halted = absurd (false≢true cloaked)
+
+missed_halted : (w : World) → is_missed w ≡ true → is_halted w ≡ true
+missed_halted w missed = ap (λ (b : Bool). b || is_some (violation_of w)) missed
+
+replied_if_drawn : (missed : Bool) (ask : Asking Answer) (w : World) → is_missed w ≡ missed → is_cloaked w ≡ true →
+    Replied w (ask w) →
+    Replied w (if missed then replies told.Stopped w else ask w)
+replied_if_drawn true ask w is cloaked next = replied told.Stopped w cloaked (λ e. missed_halted w is)
+replied_if_drawn false ask w is cloaked next = next
+
+replied_drawn : (ask : Asking Answer) (w : World) → is_cloaked w ≡ true → Replied w (ask w) → Replied w (if_drawn ask w)
+unfolding if_drawn
+replied_drawn ask w cloaked next = replied_if_drawn (is_missed w) ask w refl cloaked next
+
+replied_offered : (q : PageId) (g : ℕ) (o : Offer) (w : World) → is_cloaked w ≡ true →
+    (o ≡ Missed → is_missed w ≡ true) → Replied w (offered_by q g o w)
+unfolding offered_by
+replied_offered q g Ready w cloaked marked = replied told.Ok w cloaked (λ e. absurd cc)
+replied_offered q g Missed w cloaked marked = replied told.Stopped w cloaked (λ e. missed_halted w (marked refl))
+replied_offered q g Mismatch (Flat ram) cloaked marked = absurd (false≢true cloaked)
+replied_offered q g Mismatch (Cloaked c) cloaked marked =
+    replied_after (Cloaked c) (Cloaked _) _ (record { plain = refl; view = refl; form = refl; items = λ d. refl })
+    (replied told.Stopped (Cloaked _) refl (λ e. violation_halted c.memory.ledger.missed))
+  where
+    violation_halted : (b : Bool) → (b || true) ≡ true
+    violation_halted true = refl
+    violation_halted false = refl
+replied_offered q g Mismatch (Alone h) cloaked marked = absurd (false≢true cloaked)
+
+replied_offer : (q : PageId) (g : ℕ) (write : Bool) (w : World) → is_cloaked w ≡ true →
+    Replied w (ask_offer q g write w)
+unfolding ask_offer
+replied_offer q g write (Flat ram) cloaked = absurd (false≢true cloaked)
+replied_offer q g write (Cloaked c) cloaked =
+    let o = offer q g write c.memory in
+    replied_after (Cloaked c) (Cloaked _) _
+    (record {
+      plain = offer_plain q g write c.memory;
+      view = refl;
+      form = refl;
+      items = λ d.
+          ciphers_told d c.items o.ciphers;
+    })
+    (replied_offered q g o.answer (Cloaked _) refl (offer_marked q g write c.memory))
+replied_offer q g write (Alone h) cloaked = absurd (false≢true cloaked)
+
+replied_reached : (q : PageId) (kind : Kind) (to : Result ℕ ℕ) (w : World) → is_cloaked w ≡ true →
+    Replied w (reached q kind to w)
+unfolding reached
+replied_reached q kind (Err cause) w cloaked = replied (told.Absent cause) w cloaked (λ e. absurd cc)
+replied_reached q kind (Ok pa) w cloaked = replied_offer q _ _ w cloaked
+
+pub replied_reach : (q : PageId) (va : ℕ) (kind : Kind) (w : World) → is_cloaked w ≡ true →
+    Replied w (reach_by_table q va kind w)
+unfolding reach_by_table
+replied_reach q va kind w cloaked =
+    let to = ask_inside_address va kind w in
+    let steady = steady_inside_address va kind w in
+    let cloaked' : is_cloaked to.world ≡ true = steady.form ∙ cloaked in
+    replied_after w to.world _ steady (replied_drawn (reached q kind to.answer) to.world cloaked'
+    (replied_reached q kind to.answer to.world cloaked'))
+
+replied_got : (width : ℕ) (to : Result ℕ ℕ) (w : World) → is_cloaked w ≡ true → Replied w (got width to w)
+unfolding got
+replied_got width (Err cause) w cloaked = replied (told.Absent cause) w cloaked (λ e. absurd cc)
+replied_got width (Ok pa) w cloaked =
+    let v = ask_value pa width w in
+    let steady = steady_value pa width w in
+    let cloaked' : is_cloaked v.world ≡ true = steady.form ∙ cloaked in
+    let answer = told.Word (v.answer % 2 ^ (8 * width)) in
+    replied_after w v.world _ steady (replied_drawn (replies answer) v.world cloaked'
+    (replied answer v.world cloaked' (λ e. absurd cc)))
+
+pub replied_get : (va width : ℕ) (w : World) → is_cloaked w ≡ true → Replied w (get_by_table va width w)
+unfolding get_by_table
+replied_get va width w cloaked =
+    let to = ask_inside_address va _ w in
+    let steady = steady_inside_address va _ w in
+    let cloaked' : is_cloaked to.world ≡ true = steady.form ∙ cloaked in
+    replied_after w to.world _ steady (replied_drawn (got width to.answer) to.world cloaked'
+    (replied_got width to.answer to.world cloaked'))
+
+replied_put_at : (pa width value : ℕ) (w : World) → is_cloaked w ≡ true → Replied w (put_at pa width value w)
+unfolding put_at
+replied_put_at pa width value w cloaked =
+    let steady = Steady-trans _ _ _ (Steady-stored_at pa width value w) (Steady-written _ _ (λ d. refl)) in
+    replied_after w _ _ steady (replied told.Ok _ (steady.form ∙ cloaked) (λ e. absurd cc))
+
+replied_stored : (width value : ℕ) (to : Result ℕ ℕ) (w : World) → is_cloaked w ≡ true →
+    Replied w (stored_inside width value to w)
+unfolding stored_inside
+replied_stored width value (Err cause) w cloaked = replied (told.Absent cause) w cloaked (λ e. absurd cc)
+replied_stored width value (Ok pa) w cloaked =
+    let steady = Steady-settled (frame_of pa) w in
+    let cloaked' : is_cloaked (settled (frame_of pa) w) ≡ true = steady.form ∙ cloaked in
+    replied_after w _ _ steady (replied_drawn (put_at pa width value) _ cloaked'
+    (replied_put_at pa width value _ cloaked'))
+
+pub replied_put : (va width value : ℕ) (w : World) → is_cloaked w ≡ true → Replied w (put_by_table va width value w)
+unfolding put_by_table
+replied_put va width value w cloaked =
+    let to = ask_inside_address va _ w in
+    let steady = steady_inside_address va _ w in
+    let cloaked' : is_cloaked to.world ≡ true = steady.form ∙ cloaked in
+    replied_after w to.world _ steady (replied_drawn (stored_inside width value to.answer) to.world cloaked'
+    (replied_stored width value to.answer to.world cloaked'))
+
+either_world : (b : Bool) (w v : World) → Steady w v → Steady w (if b then v else w)
+either_world true w v steady = steady
+either_world false w v steady = Steady-refl w
+
+steady_if_marked : (domain : ℕ) (marked : List Bool) (f : ℕ) (w : World) →
+    Steady w (settled_if_marked domain marked f w)
+unfolding settled_if_marked
+steady_if_marked domain marked f w = either_world _ w (settled f w) (Steady-settled f w)
+
+pub replied_clear : (domain : ℕ) (marked : List Bool) (f n : ℕ) (w : World) → is_cloaked w ≡ true →
+    Replied w (clear_from domain marked f n w)
+unfolding clear_from
+replied_clear domain marked f zero w cloaked = replied told.Ok w cloaked (λ e. absurd cc)
+replied_clear domain marked f (suc n) w cloaked =
+    let steady = steady_if_marked domain marked f w in
+    let cloaked' : is_cloaked (settled_if_marked domain marked f w) ≡ true = steady.form ∙ cloaked in
+    replied_after w _ _ steady (replied_drawn (clear_from domain marked (f + 1) n) _ cloaked'
+    (replied_clear domain marked (f + 1) n _ cloaked'))

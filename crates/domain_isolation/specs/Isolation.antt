@@ -1,0 +1,70 @@
+-- A program's half of isolation: what a program has is a function of its image, the schedule and its own half of the
+-- exchange.
+use Rattle.std.specs.Prelude.{ℕ, ◌≡◌, ◌≤◌, List, [], ◌∷◌, ◌++◌, length, map, take, slice_get, Option, Some, None, Ok}
+use Rattle.cloak_base.specs.Random.{Random}
+use Rattle.cloak_model.specs.declared.image.Bundle.{Bundle}
+use Rattle.cloak_model.specs.declared.image.Program.{Program}
+use Rattle.cloak_model.specs.declared.item.Item.{Item}
+use Rattle.cloak_model.specs.declared.item.Item.TheVariants as item
+use Rattle.cloak_model.specs.Bundle.{IsInGrammar}
+use Rattle.cloak_model.specs.Exchange.{steps_items}
+use Rattle.cloak_model.specs.Halves.{inward_half}
+use Rattle.cloak_model.specs.Parts.{Joint, DomainPart, domain_part}
+use Rattle.cloak_model.specs.Joint.{Turn}
+use Rattle.cloak_model.specs.Run.{Run, joint_run, joint_after, exchange, run_inward_half}
+use Rattle.cloak_model.specs.DomainAlone.{DomainAlone, domain_alone}
+
+-- The program alone ignores the items that are not in its half.
+abbrev pub InwardHalfSuffices : Type 0
+InwardHalfSuffices =
+    (d : ℕ) (schedule : List ℕ) (p : Program) (items : List Item) →
+    domain_alone d schedule p (inward_half d items) ≡ domain_alone d schedule p items
+
+-- A run of a bundle in which this program is domain d.
+pub record Hosts (b : Bundle) (d : ℕ) (p : Program) (r : Run) : Type 0 where
+  pub in_grammar : IsInGrammar b
+  pub program : slice_get b.programs d ≡ Some p
+  pub stream : Random
+  pub budget : ℕ
+  pub runs : joint_run b stream budget ≡ Ok r
+
+-- what a run wrote in its opening and its first n steps, with their markers, and a Close behind it
+abbrev pub items_until : ℕ → Run → List Item
+items_until n r =
+    r.opened.items ++ (steps_items 1 (map (λ (t : Turn). t.items) (take n r.turns)) ++ item.Close n ∷ [])
+
+-- the joint machine behind the opening and the first n steps
+abbrev pub joint_until : ℕ → Run → Joint
+joint_until n r = joint_after r.opened.joint (take n r.turns)
+
+-- The program alone has the part that there is in the joint machine, and no item was unfit.
+pub record HasDomain (s : DomainAlone) (part : Option DomainPart) : Type 0 where
+  pub fits : s.unfit ≡ None
+  pub same : Some s.part ≡ part
+
+-- After the opening and after each step the joint machine has the domain part of the program alone, which has read its
+-- inward half so far.
+abbrev pub DomainIsAlone : Type 0
+DomainIsAlone =
+    (b : Bundle) (d : ℕ) (p : Program) (r : Run) → Hosts b d p r → (n : ℕ) → n ≤ length r.turns →
+    HasDomain (domain_alone d b.kernel.schedule p (inward_half d (items_until n r))) (domain_part (joint_until n r) d)
+
+-- So it is as the run was closed, with all that it wrote.
+abbrev pub DomainEndsAlone : Type 0
+DomainEndsAlone =
+    (b : Bundle) (d : ℕ) (p : Program) (r : Run) → Hosts b d p r →
+    HasDomain (domain_alone d b.kernel.schedule p (exchange r)) (domain_part r.closed.joint d)
+
+-- Two runs agree in a domain: they made as many steps, and after each of them, and as they were closed, its part is
+-- one.
+pub record AgreeInDomain (d : ℕ) (r r' : Run) : Type 0 where
+  pub steps : length r'.turns ≡ length r.turns
+  pub after : (n : ℕ) → n ≤ length r.turns → domain_part (joint_until n r') d ≡ domain_part (joint_until n r) d
+  pub closed : domain_part r'.closed.joint d ≡ domain_part r.closed.joint d
+
+-- Whatever kernels, other programs, streams and budgets they have, runs with one schedule, one program as domain d and
+-- one inward half for it do.
+abbrev pub DomainDependsOnHalf : Type 0
+DomainDependsOnHalf =
+    (b b' : Bundle) (d : ℕ) (p : Program) (r r' : Run) → Hosts b d p r → Hosts b' d p r' →
+    b'.kernel.schedule ≡ b.kernel.schedule → run_inward_half d r' ≡ run_inward_half d r → AgreeInDomain d r r'
