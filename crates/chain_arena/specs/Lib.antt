@@ -1,0 +1,5 @@
+pub mod BlockLends
+pub mod Blocks
+pub mod Lends
+pub mod Ownership
+pub mod Places
