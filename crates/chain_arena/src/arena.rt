@@ -123,7 +123,8 @@ impl<T: Copy> ChainArena<T> {
     /// An arena with this many slots, all free, and this many heads of each kind. `empty` is what lies in the nodes that
     /// hold nothing. This is the one call that takes memory, and it takes one block.
     pub fn open(alloc: Global, nodes: u32, heads: u32, empty: T) -> Result<ChainArena<T>, NoMemory>
-        ensures { IfOk result (λ a. a ≡ empty_arena nodes heads) }
+        ensures empty { IfOk result (λ a. a ≡ empty_arena nodes heads) }
+        ensures tidy { IfOk result (λ a. IsTidyArena a) }
     {
         let slots = nodes as usize;
         let lists = heads as usize;
@@ -144,6 +145,7 @@ impl<T: Copy> ChainArena<T> {
         ensures full { IfNone result (((s : ℕ) → IsFree self.old s → ⊥) × (self.new ≡ self.old)) }
         ensures taken { IfSome result (λ s. IsFree self.old s × (self.new ≡ with_payload self.old s (Some value))) }
         ensures apart { IfSome result (λ s. (c : Chain) → Stands self.new c s → ⊥) }
+        ensures tidy { IsTidyArena self.new }
     {
         let at = self.nodes + self.heads;
         let s = self.block.get(at).next.get(Link::Free);
@@ -160,7 +162,8 @@ impl<T: Copy> ChainArena<T> {
     pub fn give_back(&mut self, s: Slot)
         requires in_use { IsInUse self.old s }
         requires apart { (c : Chain) → Stands self.old c s → ⊥ }
-        ensures { self.new ≡ with_payload self.old s None }
+        ensures freed { self.new ≡ with_payload self.old s None }
+        ensures tidy { IsTidyArena self.new }
     {
         let at = self.nodes + self.heads;
         let value = self.block.get(s.index).value;
@@ -173,7 +176,8 @@ impl<T: Copy> ChainArena<T> {
         requires in_use { IsInUse self.old s }
         requires within { head < self.old.heads }
         requires apart { Stands self.old c s → ⊥ }
-        ensures { self.new ≡ hooked self.old c head s }
+        ensures hooked { self.new ≡ hooked self.old c head s }
+        ensures tidy { IsTidyArena self.new }
     {
         let at = self.nodes + head as usize;
         link_in(&mut self.block, c.link(), s.index, at);
@@ -183,7 +187,8 @@ impl<T: Copy> ChainArena<T> {
     pub fn unhook(&mut self, s: Slot, c: Chain)
         requires in_use { IsInUse self.old s }
         requires stands { Stands self.old c s }
-        ensures { self.new ≡ unhooked self.old c s }
+        ensures unhooked { self.new ≡ unhooked self.old c s }
+        ensures tidy { IsTidyArena self.new }
     {
         take_out(&mut self.block, c.link(), s.index);
     }
@@ -212,12 +217,5 @@ impl<T: Copy> ChainArena<T> {
         ensures { slice_get self.now.payloads s ≡ Some (Some result) }
     {
         self.block.get(s.index).value
-    }
-
-    /// What holds of every arena, for the proofs of callers. It does nothing.
-    pub fn tidy(&self)
-        ensures { IsTidyArena self.now }
-    {
-        let _block = &self.block;
     }
 }

@@ -1,14 +1,15 @@
 //! Slots that are taken, hooked, unhooked and given back, and the payloads along each chain then.
 ghost use Rattle.std.specs.Prelude.{◌<◌};
+ghost use Rattle.chain_arena.specs.Arena.{IsTidyArena};
 
 use super::*;
 use cloak_base::NoMemory;
 
 /// Whether the slots of a chain have these payloads, from the first to the last.
 fn holds(arena: &ChainArena<u32>, c: Chain, head: u32, payloads: &[u32]) -> bool
-    requires { head < arena.now.heads }
+    requires within { head < arena.now.heads }
+    requires tidy { IsTidyArena arena.now }
 {
-    arena.tidy();
     let mut at = arena.first(c, head);
     for payload in payloads {
         let Some(s) = at else {

@@ -5,7 +5,7 @@ use Rattle.chain_arena.specs.Arena.{IsInUse, Stands, with_payload}
 use Rattle.chain_arena.specs.Inside.{arena_of}
 use Rattle.chain_arena.specs.Nodes.{next_of, linked_in}
 use Rattle.chain_arena.proofs.Arenas.{carried, in_block}
-use Rattle.chain_arena.proofs.Takes.{back_long, back_next, back_keeps, back_shows}
+use Rattle.chain_arena.proofs.Takes.{every_tidy, back_long, back_next, back_keeps, back_shows}
 use Rattle.chain_arena.proofs.arena.ChainArena.give_back.Goals as goal
 
 pub overflow_add-at : goal.overflow_add-at
@@ -38,10 +38,15 @@ invariant_of-self g c =
     let out = λ (k : Chain) (st : Stands (arena_of a) k s). c.requires.apart k (carried (λ v i. Stands v k i) (sym c.self.view_is) (sym c.s.view_is) st) in
     back_keeps a c.self.invariant s u out c.get.result.now.value c.link_in.new.block (c.link_in.ensures ∙ ap (linked_in link.Free s (a.nodes + a.heads)) c.set_content.ensures)
 
-pub returns : goal.returns
-returns g c =
+pub returns-clause-freed : goal.returns-clause-freed
+returns-clause-freed g c =
     let a = c.self.inside in let s = c.s.inside.index in
     let u = carried IsInUse c.self.view_is c.s.view_is c.requires.in_use in
     let out = λ (k : Chain) (st : Stands (arena_of a) k s). c.requires.apart k (carried (λ v i. Stands v k i) (sym c.self.view_is) (sym c.s.view_is) st) in
     back_shows a c.self.invariant s u out c.get.result.now.value c.link_in.new.block (c.link_in.ensures ∙ ap (linked_in link.Free s (a.nodes + a.heads)) c.set_content.ensures)
     ∙ (λ i. with_payload (c.self.view_is i) (c.s.view_is i) None)
+
+pub returns-clause-tidy : goal.returns-clause-tidy
+returns-clause-tidy g c =
+    let a = c.self.inside in
+    every_tidy (record { block = c.link_in.new.block; nodes = a.nodes; heads = a.heads }) (invariant_of-self g c)

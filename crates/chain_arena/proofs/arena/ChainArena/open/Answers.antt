@@ -4,6 +4,7 @@ use Rattle.chain_arena.specs.Inside.{AreMade}
 use Rattle.chain_arena.specs.Nodes.{payload_of}
 use Rattle.chain_arena.proofs.Nodes.{payload-linked_in}
 use Rattle.chain_arena.proofs.Opens.{begun, alone_made, begun_more, free_next, opened, opened_shows}
+use Rattle.chain_arena.proofs.Takes.{every_tidy}
 use Rattle.chain_arena.proofs.arena.ChainArena.open.Goals as goal
 
 pub loop-i-init : goal.loop-i-init
@@ -27,8 +28,12 @@ invariant_of-result g c =
     let all : c.loop-i.i ≡ n = omega arith in
     opened c.loop-i.block n m (subst (λ i. AreMade c.loop-i.block n m (begun m i)) all c.loop-i.invariant.made) c.loop-i.invariant.empty (omega arith)
 
-pub returns : goal.returns
-returns g c =
+pub returns-clause-empty : goal.returns-clause-empty
+returns-clause-empty g c =
     let n = c.args.nodes in let m = c.args.heads in
     let all : c.loop-i.i ≡ n = omega arith in
     opened_shows c.loop-i.block n m (subst (λ i. AreMade c.loop-i.block n m (begun m i)) all c.loop-i.invariant.made) c.loop-i.invariant.empty
+
+pub returns-clause-tidy : goal.returns-clause-tidy
+returns-clause-tidy g c =
+    every_tidy (record { block = c.loop-i.block; nodes = c.args.nodes; heads = c.args.heads }) (invariant_of-result g c)

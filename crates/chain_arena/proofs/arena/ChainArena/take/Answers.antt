@@ -1,9 +1,9 @@
 use Rattle.std.proofs.Common.{ℕ, ◌+◌, ◌<◌, ◌≤◌, Some, true, length, subst, sym, ap, ◌∙◌, refl, arith}
 use Rattle.chain_arena.specs.declared.node.Link.TheVariants as link
-use Rattle.chain_arena.specs.Arena.{IsFree, with_payload}
+use Rattle.chain_arena.specs.Arena.{IsFree, IsTidyArena, with_payload}
 use Rattle.chain_arena.specs.Nodes as nodes
 use Rattle.chain_arena.proofs.Nodes.{read_next, length-taken_out}
-use Rattle.chain_arena.proofs.Takes.{all_taken, was_free, take_after, take_before, slot_in_block, take_keeps, take_shows, take_apart}
+use Rattle.chain_arena.proofs.Takes.{every_tidy, all_taken, was_free, take_after, take_before, slot_in_block, take_keeps, take_shows, take_apart}
 use Rattle.chain_arena.proofs.arena.ChainArena.take.Goals as goal
 
 pub overflow_add-at : goal.overflow_add-at
@@ -54,3 +54,11 @@ returns-else-s-self-clause-full g c =
     let a = c.self.inside in
     let is_first = c.get-s.ensures ∙ read_next link.Free (a.nodes + a.heads) a.block c.get.result.now c.get.ensures in
     (subst (λ v. (s : ℕ) → IsFree v s → ⊥) c.self.view_is (all_taken a c.self.invariant (subst (λ i. a.nodes ≤ i) is_first c.if-s-self.false)), refl)
+
+pub returns-then-s-self-clause-tidy : goal.returns-then-s-self-clause-tidy
+returns-then-s-self-clause-tidy g c =
+    let a = c.self.inside in
+    every_tidy (record { block = c.set_content.new.block; nodes = a.nodes; heads = a.heads }) (invariant_of-self g c)
+
+pub returns-else-s-self-clause-tidy : goal.returns-else-s-self-clause-tidy
+returns-else-s-self-clause-tidy g c = subst IsTidyArena c.self.view_is (every_tidy c.self.inside c.self.invariant)
