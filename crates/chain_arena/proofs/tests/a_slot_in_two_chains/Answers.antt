@@ -80,7 +80,7 @@ hook-requires-2-clause-in_use g c = subst (λ A. IsInUse A c.in-Some-take.b) (sy
 
 pub hook-requires-3-clause-in_use : goal.hook-requires-3-clause-in_use
 hook-requires-3-clause-in_use g c = let b = c.in-Some-take.b in
-    subst (λ A. IsInUse A b) (sym c.hook-2.ensures) (used_hooked c.take-2.new.self chain.Bucket 0 b b (subst (λ A. IsInUse A b) (sym c.in-Some-take.ensures.taken.1) (used_now c.hook.new.self b 20 c.in-Some-take.ensures.taken.0)))
+    subst (λ A. IsInUse A b) (sym c.hook-2.ensures.hooked) (used_hooked c.take-2.new.self chain.Bucket 0 b b (subst (λ A. IsInUse A b) (sym c.in-Some-take.ensures.taken.1) (used_now c.hook.new.self b 20 c.in-Some-take.ensures.taken.0)))
 
 pub hook-requires-4-clause-in_use : goal.hook-requires-4-clause-in_use
 hook-requires-4-clause-in_use g c = let s = c.in-Some-take-2.c in subst (λ A. IsInUse A s) (sym c.in-Some-take-2.ensures.taken.1) (used_now c.hook-3.new.self s 30 c.in-Some-take-2.ensures.taken.0)
@@ -88,28 +88,28 @@ hook-requires-4-clause-in_use g c = let s = c.in-Some-take-2.c in subst (λ A. I
 pub unhook-requires-clause-in_use : goal.unhook-requires-clause-in_use
 unhook-requires-clause-in_use g c =
     b_used7 c.in_ok-arena.arena c.take.new.self c.hook.new.self c.take-2.new.self c.hook-2.new.self c.hook-3.new.self c.take-3.new.self c.hook-4.new.self c.in-Some.a c.in-Some-take.b c.in-Some-take-2.c
-    c.in_ok-arena.ensures c.in-Some.ensures.taken c.hook.ensures c.in-Some-take.ensures.taken c.hook-2.ensures c.hook-3.ensures c.in-Some-take-2.ensures.taken c.hook-4.ensures
+    c.in_ok-arena.ensures.empty c.in-Some.ensures.taken c.hook.ensures.hooked c.in-Some-take.ensures.taken c.hook-2.ensures.hooked c.hook-3.ensures.hooked c.in-Some-take-2.ensures.taken c.hook-4.ensures.hooked
 
 pub unhook-requires-clause-stands : goal.unhook-requires-clause-stands
 unhook-requires-clause-stands g c =
     b_in_bucket c.in_ok-arena.arena c.take.new.self c.hook.new.self c.take-2.new.self c.hook-2.new.self c.hook-3.new.self c.take-3.new.self c.hook-4.new.self c.in-Some.a c.in-Some-take.b c.in-Some-take-2.c
-    c.in_ok-arena.ensures c.in-Some.ensures.taken c.hook.ensures c.in-Some-take.ensures.taken c.hook-2.ensures c.hook-3.ensures c.in-Some-take-2.ensures.taken c.hook-4.ensures
+    c.in_ok-arena.ensures.empty c.in-Some.ensures.taken c.hook.ensures.hooked c.in-Some-take.ensures.taken c.hook-2.ensures.hooked c.hook-3.ensures.hooked c.in-Some-take-2.ensures.taken c.hook-4.ensures.hooked
 
 pub unhook-requires-2-clause-in_use : goal.unhook-requires-2-clause-in_use
 unhook-requires-2-clause-in_use g c =
     let used = b_used7 c.in_ok-arena.arena c.take.new.self c.hook.new.self c.take-2.new.self c.hook-2.new.self c.hook-3.new.self c.take-3.new.self c.hook-4.new.self c.in-Some.a c.in-Some-take.b c.in-Some-take-2.c
-    c.in_ok-arena.ensures c.in-Some.ensures.taken c.hook.ensures c.in-Some-take.ensures.taken c.hook-2.ensures c.hook-3.ensures c.in-Some-take-2.ensures.taken c.hook-4.ensures in
-    subst (λ A. IsInUse A c.in-Some-take.b) (sym c.unhook.ensures) (used_unhooked c.hook-4.new.self chain.Bucket c.in-Some-take.b c.in-Some-take.b used)
+    c.in_ok-arena.ensures.empty c.in-Some.ensures.taken c.hook.ensures.hooked c.in-Some-take.ensures.taken c.hook-2.ensures.hooked c.hook-3.ensures.hooked c.in-Some-take-2.ensures.taken c.hook-4.ensures.hooked in
+    subst (λ A. IsInUse A c.in-Some-take.b) (sym c.unhook.ensures.unhooked) (used_unhooked c.hook-4.new.self chain.Bucket c.in-Some-take.b c.in-Some-take.b used)
 
 pub unhook-requires-2-clause-stands : goal.unhook-requires-2-clause-stands
 unhook-requires-2-clause-stands g c =
     let st = b_in_first c.in_ok-arena.arena c.take.new.self c.hook.new.self c.take-2.new.self c.hook-2.new.self c.hook-3.new.self c.take-3.new.self c.hook-4.new.self c.in-Some.a c.in-Some-take.b c.in-Some-take-2.c
-    c.in_ok-arena.ensures c.in-Some.ensures.taken c.hook.ensures c.in-Some-take.ensures.taken c.hook-2.ensures c.hook-3.ensures c.in-Some-take-2.ensures.taken c.hook-4.ensures in
-    subst (λ A. Stands A chain.First c.in-Some-take.b) (sym c.unhook.ensures) (unhooked_stands c.hook-4.new.self chain.Bucket c.in-Some-take.b chain.First c.in-Some-take.b (inr (λ e. cc)) st)
+    c.in_ok-arena.ensures.empty c.in-Some.ensures.taken c.hook.ensures.hooked c.in-Some-take.ensures.taken c.hook-2.ensures.hooked c.hook-3.ensures.hooked c.in-Some-take-2.ensures.taken c.hook-4.ensures.hooked in
+    subst (λ A. Stands A chain.First c.in-Some-take.b) (sym c.unhook.ensures.unhooked) (unhooked_stands c.hook-4.new.self chain.Bucket c.in-Some-take.b chain.First c.in-Some-take.b (inr (λ e. cc)) st)
 
 pub give_back-requires-clause-in_use : goal.give_back-requires-clause-in_use
 give_back-requires-clause-in_use g c =
     let b = c.in-Some-take.b in
     let used = b_used7 c.in_ok-arena.arena c.take.new.self c.hook.new.self c.take-2.new.self c.hook-2.new.self c.hook-3.new.self c.take-3.new.self c.hook-4.new.self c.in-Some.a c.in-Some-take.b c.in-Some-take-2.c
-    c.in_ok-arena.ensures c.in-Some.ensures.taken c.hook.ensures c.in-Some-take.ensures.taken c.hook-2.ensures c.hook-3.ensures c.in-Some-take-2.ensures.taken c.hook-4.ensures in
-    subst (λ A. IsInUse A b) (sym c.unhook-2.ensures) (used_unhooked c.unhook.new.self chain.First b b (subst (λ A. IsInUse A b) (sym c.unhook.ensures) (used_unhooked c.hook-4.new.self chain.Bucket b b used)))
+    c.in_ok-arena.ensures.empty c.in-Some.ensures.taken c.hook.ensures.hooked c.in-Some-take.ensures.taken c.hook-2.ensures.hooked c.hook-3.ensures.hooked c.in-Some-take-2.ensures.taken c.hook-4.ensures.hooked in
+    subst (λ A. IsInUse A b) (sym c.unhook-2.ensures.unhooked) (used_unhooked c.unhook.new.self chain.First b b (subst (λ A. IsInUse A b) (sym c.unhook.ensures.unhooked) (used_unhooked c.hook-4.new.self chain.Bucket b b used)))
