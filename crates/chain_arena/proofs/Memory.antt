@@ -1,5 +1,6 @@
 -- What the walks over the block share. Assumes `Logic`.
---     value_seen, value_out, value_in     a value of the row is seen by its `&`; taken out of the row; and put back, or another in its place
+-- value_seen, value_out, value_in     a value of the row is seen by its `&`; taken out of the row; and put back, or
+-- another in its place
 --     one_more, all_forgotten     a value is written behind the others; all values are forgotten
 --     asked     of a `requires` under one type parameter, what its author wrote
 use mathlib.Core.Path.{◌≡◌, refl, sym, ap, subst, ◌∙◌}
@@ -49,7 +50,8 @@ args E = layouts (a_type ∷ []) (E.row, tt)
 abbrev pub mark : Val
 mark = vstruct (vcons (vstruct vnil) vnil)
 
-pub asked : {M : Type 1} (𝓤 : Ura M) (φ ψ : Type 0) (P : SProp 𝓤) {Q : SProp 𝓤} → (ψ → ent 𝓤 P Q) → ent 𝓤 (sep 𝓤 P (sep 𝓤 (fact 𝓤 φ) (fact 𝓤 ψ))) Q
+pub asked : {M : Type 1} (𝓤 : Ura M) (φ ψ : Type 0) (P : SProp 𝓤) {Q : SProp 𝓤} → (ψ → ent 𝓤 P Q)
+    → ent 𝓤 (sep 𝓤 P (sep 𝓤 (fact 𝓤 φ) (fact 𝓤 ψ))) Q
 asked 𝓤 φ ψ P k =
     let both = sep 𝓤 (fact 𝓤 φ) (fact 𝓤 ψ) in
     fact_use 𝓤 ψ (via 𝓤 both (snd∗ 𝓤 P both) (snd∗ 𝓤 (fact 𝓤 φ) (fact 𝓤 ψ))) (λ x. via 𝓤 P (fst∗ 𝓤 P both) (k x))
@@ -73,67 +75,87 @@ module _ (E : El) {M : Type 1} {𝓤 : Ura M} (𝓛 : Logic 𝓤) where
   Others xs i b o = others (shares (R E)) full_share xs i b o
 
   pub nowhere : (n : ℕ) (xs : List X) → ent 𝓤 (sem 𝓛 (cells_own (R E) null_ptr n xs)) (never 𝓤)
-  nowhere n xs = qed 𝓛 (‵ (cells_own (R E) null_ptr n xs) ∷ []) ∵ fsplit ! $ drop ! $ fsplit ! $ keep ! (0 ∷ []) $ done !
+  nowhere n xs = qed 𝓛 (‵ (cells_own (R E) null_ptr n xs) ∷ []) ∵ fsplit ! $ drop ! $ fsplit ! $ keep ! (0 ∷ []) $
+      done !
 
   at_place : (b : ℕ) (κ : Lft) (xs : List X) (i : ℕ) (d : X) (o : ℕ) → i < length xs
       → ent 𝓤 (sem 𝓛 (elements_shared (R E) xs b o κ)) (sem 𝓛 (shared_of (R E) (get_or xs i d) b (place s o i) κ))
   at_place b κ [] i d o l = absurd (omega arith)
-  at_place b κ (x ∷ xs) zero d o l = qed 𝓛 (‵ (elements_shared (R E) (x ∷ xs) b o κ) ∷ []) ∵ fsplit ! $ keep ! (0 ∷ []) $ done !
-  at_place b κ (x ∷ xs) (suc i) d o l = qed 𝓛 (‵ (elements_shared (R E) (x ∷ xs) b o κ) ∷ []) ∵ fsplit ! $ drop ! $ by ! (at_place b κ xs i d (o + s) (omega arith))
+  at_place b κ (x ∷ xs) zero d o l = qed 𝓛 (‵ (elements_shared (R E) (x ∷ xs) b o κ) ∷ []) ∵ fsplit ! $
+      keep ! (0 ∷ []) $ done !
+  at_place b κ (x ∷ xs) (suc i) d o l = qed 𝓛 (‵ (elements_shared (R E) (x ∷ xs) b o κ) ∷ []) ∵ fsplit ! $ drop ! $
+      by ! (at_place b κ xs i d (o + s) (omega arith))
 
   pub value_seen : (b : ℕ) (κ : Lft) (xs : List X) (i : ℕ) (d : X) (o : ℕ) → i < length xs
       → ent 𝓤 (sem 𝓛 (elements_shared (R E) xs b o κ)) (sem 𝓛 (shared_of (R E) (get_or xs i d) b (i * s + o) κ))
   value_seen b κ xs i d o l =
-      subst (λ (k : ℕ). ent 𝓤 (sem 𝓛 (elements_shared (R E) xs b o κ)) (sem 𝓛 (shared_of (R E) (get_or xs i d) b k κ))) (place_is s o i) (at_place b κ xs i d o l)
+      subst (λ (k : ℕ). ent 𝓤 (sem 𝓛 (elements_shared (R E) xs b o κ))
+      (sem 𝓛 (shared_of (R E) (get_or xs i d) b k κ))) (place_is s o i) (at_place b κ xs i d o l)
 
   pub value_out : (xs : List X) (i : ℕ) (d : X) (b o : ℕ) → i < length xs
-      → ent 𝓤 (sem 𝓛 (Row xs b o)) (sep 𝓤 (sem 𝓛 (part_at (R E) full_share (get_or xs i d) b (i * s + o))) (sem 𝓛 (Others xs i b o)))
+      → ent 𝓤 (sem 𝓛 (Row xs b o)) (sep 𝓤 (sem 𝓛 (part_at (R E) full_share (get_or xs i d) b (i * s + o)))
+      (sem 𝓛 (Others xs i b o)))
   value_out xs i d b o l =
-      qed 𝓛 (‵ (Row xs b o) ∷ []) ∵ use1 𝓛 (given (length xs ≡ length xs) (‵ (row (R E) full_share xs b o))) (apart E 𝓛 full_share (length xs) xs b o) $ learn ! (λ _.
-      use1 𝓛 (‵ (part_at (R E) full_share (get_or xs i d) b (place s o i)) ⊛ ‵ (Others xs i b o)) (takes (shares (R E)) full_share 𝓛 xs i d b o l) $ split ! $
+      qed 𝓛 (‵ (Row xs b o) ∷ []) ∵ use1 𝓛 (given (length xs ≡ length xs) (‵ (row (R E) full_share xs b o)))
+      (apart E 𝓛 full_share (length xs) xs b o) $ learn ! (λ _.
+      use1 𝓛 (‵ (part_at (R E) full_share (get_or xs i d) b (place s o i)) ⊛ ‵ (Others xs i b o))
+      (takes (shares (R E)) full_share 𝓛 xs i d b o l) $ split ! $
       rewrite ! 0 (λ (k : ℕ). ‵ (part_at (R E) full_share (get_or xs i d) b k)) (place_is s o i) refl $ done !)
 
   pub value_in : (xs : List X) (i : ℕ) (y : X) (b o : ℕ) → i < length xs
-      → ent 𝓤 (sep 𝓤 (sem 𝓛 (part_at (R E) full_share y b (i * s + o))) (sem 𝓛 (Others xs i b o))) (sem 𝓛 (Row (set xs i y) b o))
+      → ent 𝓤 (sep 𝓤 (sem 𝓛 (part_at (R E) full_share y b (i * s + o))) (sem 𝓛 (Others xs i b o)))
+      (sem 𝓛 (Row (set xs i y) b o))
   value_in xs i y b o l =
       qed 𝓛 (‵ (part_at (R E) full_share y b (i * s + o)) ∷ ‵ (Others xs i b o) ∷ []) ∵
       rewrite ! 0 (λ (k : ℕ). ‵ (part_at (R E) full_share y b k)) (sym (place_is s o i)) refl $
-      use2 𝓛 (‵ (row (R E) full_share (set xs i y) b o)) (puts (shares (R E)) full_share 𝓛 xs i y b o l) $ by ! (whole E 𝓛 full_share (length (set xs i y)) (set xs i y) b o refl)
+      use2 𝓛 (‵ (row (R E) full_share (set xs i y) b o)) (puts (shares (R E)) full_share 𝓛 xs i y b o l) $
+      by ! (whole E 𝓛 full_share (length (set xs i y)) (set xs i y) b o refl)
 
   -- the first place of the room, and the room that is left
-  pub place_out : (n k b o : ℕ) → k < n → ent 𝓤 (sem 𝓛 (Room n k b o)) (sep 𝓤 (sem 𝓛 (froom (elτ E) b (k * s + o))) (sem 𝓛 (Room n (k + 1) b o)))
+  pub place_out : (n k b o : ℕ) → k < n → ent 𝓤 (sem 𝓛 (Room n k b o))
+      (sep 𝓤 (sem 𝓛 (froom (elτ E) b (k * s + o))) (sem 𝓛 (Room n (k + 1) b o)))
   place_out n k b o l =
       qed 𝓛 (‵ (Room n k b o) ∷ []) ∵ as_written ! (ty_array (elτ E) (n - k)) b (o + k * s) $
-      use1 𝓛 (‵ (froom (elτ E) b (k * s + o)) ⊛ ‵ (froom (ty_array (elτ E) (n - (k + 1))) b (o + (k + 1) * s))) (spare E 𝓛 b o k n l) $ split ! $ move ! (1 ∷ []) $
+      use1 𝓛 (‵ (froom (elτ E) b (k * s + o)) ⊛ ‵ (froom (ty_array (elτ E) (n - (k + 1))) b (o + (k + 1) * s)))
+      (spare E 𝓛 b o k n l) $ split ! $ move ! (1 ∷ []) $
       as_raw ! (ty_array (elτ E) (n - (k + 1))) b (o + (k + 1) * s) $ move ! (1 ∷ 0 ∷ []) $ done !
 
   -- the owner of the places, of its parts
   pub owner_of : (n : ℕ) (xs : List X) (b o k : ℕ) → length xs ≡ k → k < n + 1 → n * s < 2 ^ 63
       → ent 𝓤 (sep 𝓤 (sem 𝓛 (Row xs b o)) (sem 𝓛 (Room n k b o))) (sem 𝓛 (cells_own (R E) (block_ptr b o) n xs))
   owner_of n xs b o k long most small =
-      qed 𝓛 (‵ (Row xs b o) ∷ ‵ (Room n k b o) ∷ []) ∵ move ! (1 ∷ []) $ rewrite ! 0 (λ (m : ℕ). ‵ (Room n m b o)) (sym long) refl $ move ! (1 ∷ 0 ∷ []) $ fjoin ! $
-      flt_i ! (n * s) (2 ^ 63) small $ flt_i ! (length xs) (n + 1) (subst (λ (m : ℕ). m < n + 1) (sym long) most) $ fjoin ! $ fjoin ! $ done !
+      qed 𝓛 (‵ (Row xs b o) ∷ ‵ (Room n k b o) ∷ []) ∵ move ! (1 ∷ []) $
+      rewrite ! 0 (λ (m : ℕ). ‵ (Room n m b o)) (sym long) refl $ move ! (1 ∷ 0 ∷ []) $ fjoin ! $
+      flt_i ! (n * s) (2 ^ 63) small $ flt_i ! (length xs) (n + 1) (subst (λ (m : ℕ). m < n + 1) (sym long) most) $
+      fjoin ! $ fjoin ! $ done !
 
   -- a value is written behind the others
   pub one_more : (n : ℕ) (xs : List X) (y : X) (b o : ℕ) → length xs < n → n * s < 2 ^ 63
-      → ent 𝓤 (sep 𝓤 (sem 𝓛 (part_at (R E) full_share y b (length xs * s + o))) (sep 𝓤 (sem 𝓛 (Row xs b o)) (sem 𝓛 (Room n (length xs + 1) b o))))
+      → ent 𝓤 (sep 𝓤 (sem 𝓛 (part_at (R E) full_share y b (length xs * s + o)))
+      (sep 𝓤 (sem 𝓛 (Row xs b o)) (sem 𝓛 (Room n (length xs + 1) b o))))
       (sem 𝓛 (cells_own (R E) (block_ptr b o) n (xs ++ y ∷ [])))
   one_more n xs y b o l small =
       let k = length xs in let ys = xs ++ y ∷ [] in let long : length ys ≡ k + 1 = length-append xs (y ∷ []) in
-      qed 𝓛 (‵ (part_at (R E) full_share y b (k * s + o)) ∷ ‵ (Row xs b o) ∷ ‵ (Room n (k + 1) b o) ∷ []) ∵ move ! (1 ∷ 0 ∷ []) $
+      qed 𝓛 (‵ (part_at (R E) full_share y b (k * s + o)) ∷ ‵ (Row xs b o) ∷ ‵ (Room n (k + 1) b o) ∷ []) ∵
+      move ! (1 ∷ 0 ∷ []) $
       use2 𝓛 (‵ (part_at (Array (R E) (k + 1)) full_share ys b o)) (snoc E 𝓛 b o k xs y) $
-      rewrite ! 0 (λ (m : ℕ). ‵ (part_at (Array (R E) m) full_share ys b o)) (sym long) refl $ by ! (owner_of n ys b o (k + 1) long (omega arith) small)
+      rewrite ! 0 (λ (m : ℕ). ‵ (part_at (Array (R E) m) full_share ys b o)) (sym long) refl $
+      by ! (owner_of n ys b o (k + 1) long (omega arith) small)
 
   -- all values are forgotten: the block is room again
   pub all_forgotten : (Z : Al) (n : ℕ) (xs : List X) (b o : ℕ) → length xs < n + 1
-      → ent 𝓤 (sep 𝓤 (sem 𝓛 (Row xs b o)) (sem 𝓛 (Room n (length xs) b o))) (sem 𝓛 (froom (bare (ty_array (elτ E) n)) b o))
+      → ent 𝓤 (sep 𝓤 (sem 𝓛 (Row xs b o)) (sem 𝓛 (Room n (length xs) b o)))
+      (sem 𝓛 (froom (bare (ty_array (elτ E) n)) b o))
   all_forgotten Z n xs b o most =
       let k = length xs in let both : Both.El = record { row = E.row; laws = E.laws; al = Z } in
-      qed 𝓛 (‵ (Row xs b o) ∷ ‵ (Room n k b o) ∷ []) ∵ move ! (1 ∷ []) $ as_written ! (ty_array (elτ E) (n - k)) b (o + k * s) $ move ! (1 ∷ 0 ∷ []) $
-      use2 𝓛 (‵ (froom (ty_array (elτ E) n) b o)) (all_room both 𝓛 b o k n xs (omega arith)) $ as_raw ! (ty_array (elτ E) n) b o $ done !
+      qed 𝓛 (‵ (Row xs b o) ∷ ‵ (Room n k b o) ∷ []) ∵ move ! (1 ∷ []) $
+      as_written ! (ty_array (elτ E) (n - k)) b (o + k * s) $ move ! (1 ∷ 0 ∷ []) $
+      use2 𝓛 (‵ (froom (ty_array (elτ E) n) b o)) (all_room both 𝓛 b o k n xs (omega arith)) $
+      as_raw ! (ty_array (elτ E) n) b o $ done !
 
   -- a new block is all room
-  pub all_room_left : (n b o : ℕ) → n * s < 2 ^ 63 → ent 𝓤 (sem 𝓛 (froom (bare (ty_array (elτ E) n)) b o)) (sem 𝓛 (cells_own (R E) (block_ptr b o) n []))
+  pub all_room_left : (n b o : ℕ) → n * s < 2 ^ 63
+      → ent 𝓤 (sem 𝓛 (froom (bare (ty_array (elτ E) n)) b o)) (sem 𝓛 (cells_own (R E) (block_ptr b o) n []))
   all_room_left n b o small =
       let after_none : o ≡ o + 0 * s = omega (arith, zero-mul s) in let all : n ≡ n - 0 = omega arith in
       qed 𝓛 (‵ (froom (bare (ty_array (elτ E) n)) b o) ∷ []) ∵

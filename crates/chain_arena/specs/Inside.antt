@@ -1,4 +1,5 @@
--- How an arena lies in its block: the slots are the first nodes; behind them come the heads, each a node for all four kinds; the last node is the head of the chain of the free slots.
+-- How an arena lies in its block: the slots are the first nodes; behind them come the heads, each a node for all four
+-- kinds; the last node is the head of the chain of the free slots.
 use Rattle.std.specs.Prelude.{◌≡◌, ℕ, ◌+◌, ◌^◌, ◌<◌, List, [], map, length, get_or, Option, None}
 use Rattle.std.specs.List.{range_with_len}
 use Rattle.chain_arena.specs.declared.node.Node.{Node}
@@ -43,10 +44,13 @@ module _ {X : Type 0} where
   pub record AreSorted (xs : List (Node X)) (n m : ℕ) (css : Link → List (List ℕ)) : Type 0 where
     pub free : (i : ℕ) → i < n → payload_of xs i ≡ None → IsIn i (get_or (css link.Free) 0 [])
     pub spare : (i : ℕ) → IsIn i (get_or (css link.Free) 0 []) → payload_of xs i ≡ None
-    pub in_use : (k : Link) (h i : ℕ) → (k ≡ link.Free → ⊥) → h < m → IsIn i (get_or (css k) h []) → payload_of xs i ≡ None → ⊥
+    pub in_use : (k : Link) (h i : ℕ) → (k ≡ link.Free → ⊥) → h < m → IsIn i (get_or (css k) h [])
+        → payload_of xs i ≡ None → ⊥
 
   abbrev pub arena_of : Inside X → Arena X
-  arena_of a = arena (payloads_of a.block a.nodes) a.heads (held a.block a.nodes a.heads link.Bucket) (held a.block a.nodes a.heads link.Target) (held a.block a.nodes a.heads link.First) (held a.block a.nodes a.heads link.Second)
+  arena_of a = arena (payloads_of a.block a.nodes) a.heads (held a.block a.nodes a.heads link.Bucket)
+      (held a.block a.nodes a.heads link.Target) (held a.block a.nodes a.heads link.First)
+      (held a.block a.nodes a.heads link.Second)
 
   pub record IsArena (a : Inside X) : Type 0 where
     pub made : AreMade a.block a.nodes a.heads (held a.block a.nodes a.heads)

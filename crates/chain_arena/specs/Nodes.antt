@@ -40,11 +40,13 @@ module _ {X : Type 0} where
 
   -- the node s is put behind the node a
   abbrev pub linked_in : Link → ℕ → ℕ → List (Node X) → List (Node X)
-  linked_in k s a xs = with_next k a s (with_previous k (next_of k xs a) s (with_previous k s a (with_next k s (next_of k xs a) xs)))
+  linked_in k s a xs = with_next k a s (with_previous k (next_of k xs a) s
+      (with_previous k s a (with_next k s (next_of k xs a) xs)))
 
   -- the node s is taken out from between its neighbours
   abbrev pub taken_out : Link → ℕ → List (Node X) → List (Node X)
-  taken_out k s xs = with_previous k (next_of k xs s) (previous_of k xs s) (with_next k (previous_of k xs s) (next_of k xs s) xs)
+  taken_out k s xs = with_previous k (next_of k xs s) (previous_of k xs s)
+      (with_next k (previous_of k xs s) (next_of k xs s) xs)
 
   -- n nodes that hold nothing and are their own neighbours
   pub record AreAlone (xs : List (Node X)) (n : ℕ) : Type 0 where

@@ -120,8 +120,8 @@ impl<T: Copy> Model for ChainArena<T> {
 }
 
 impl<T: Copy> ChainArena<T> {
-    /// An arena with this many slots, all free, and this many heads of each kind. `empty` is what lies in the nodes that
-    /// hold nothing. This is the one call that takes memory, and it takes one block.
+    /// An arena with this many slots, all free, and this many heads of each kind. `empty` is what lies in the nodes
+    /// that hold nothing. This is the one call that takes memory, and it takes one block.
     pub fn open(alloc: Global, nodes: u32, heads: u32, empty: T) -> Result<ChainArena<T>, NoMemory>
         ensures empty { IfOk result (λ a. a ≡ empty_arena nodes heads) }
         ensures tidy { IfOk result (λ a. IsTidyArena a) }

@@ -25,25 +25,34 @@ pub link_in-requires : goal.link_in-requires
 link_in-requires g c =
     let a = c.self.inside in let s = c.s.inside.index in
     let u = carried IsInUse c.self.view_is c.s.view_is c.requires.in_use in
-    let out = λ (k : Chain) (st : Stands (arena_of a) k s). c.requires.apart k (carried (λ v i. Stands v k i) (sym c.self.view_is) (sym c.s.view_is) st) in
+    let out = λ (k : Chain) (st : Stands (arena_of a) k s). c.requires.apart k
+    (carried (λ v i. Stands v k i) (sym c.self.view_is) (sym c.s.view_is) st) in
     let value = c.get.result.now.value in
     let long = ap length c.set_content.ensures ∙ back_long a c.self.invariant s u out value in
-    let made = c.self.invariant.made.long in
-    (subst (λ k. s < k) (sym long) (in_block a c.self.invariant s u), omega (arith, long), subst (λ b. next_of link.Free b (a.nodes + a.heads) < length b) (sym c.set_content.ensures) (back_next a c.self.invariant s u out value))
+    let made = c.self.invariant.made.long in (
+      subst (λ k. s < k) (sym long) (in_block a c.self.invariant s u),
+      omega (arith, long),
+      subst (λ b. next_of link.Free b (a.nodes + a.heads) < length b) (sym c.set_content.ensures)
+          (back_next a c.self.invariant s u out value),
+    )
 
 pub invariant_of-self : goal.invariant_of-self
 invariant_of-self g c =
     let a = c.self.inside in let s = c.s.inside.index in
     let u = carried IsInUse c.self.view_is c.s.view_is c.requires.in_use in
-    let out = λ (k : Chain) (st : Stands (arena_of a) k s). c.requires.apart k (carried (λ v i. Stands v k i) (sym c.self.view_is) (sym c.s.view_is) st) in
-    back_keeps a c.self.invariant s u out c.get.result.now.value c.link_in.new.block (c.link_in.ensures ∙ ap (linked_in link.Free s (a.nodes + a.heads)) c.set_content.ensures)
+    let out = λ (k : Chain) (st : Stands (arena_of a) k s). c.requires.apart k
+    (carried (λ v i. Stands v k i) (sym c.self.view_is) (sym c.s.view_is) st) in
+    back_keeps a c.self.invariant s u out c.get.result.now.value c.link_in.new.block (c.link_in.ensures
+    ∙ ap (linked_in link.Free s (a.nodes + a.heads)) c.set_content.ensures)
 
 pub returns-clause-freed : goal.returns-clause-freed
 returns-clause-freed g c =
     let a = c.self.inside in let s = c.s.inside.index in
     let u = carried IsInUse c.self.view_is c.s.view_is c.requires.in_use in
-    let out = λ (k : Chain) (st : Stands (arena_of a) k s). c.requires.apart k (carried (λ v i. Stands v k i) (sym c.self.view_is) (sym c.s.view_is) st) in
-    back_shows a c.self.invariant s u out c.get.result.now.value c.link_in.new.block (c.link_in.ensures ∙ ap (linked_in link.Free s (a.nodes + a.heads)) c.set_content.ensures)
+    let out = λ (k : Chain) (st : Stands (arena_of a) k s). c.requires.apart k
+    (carried (λ v i. Stands v k i) (sym c.self.view_is) (sym c.s.view_is) st) in
+    back_shows a c.self.invariant s u out c.get.result.now.value c.link_in.new.block (c.link_in.ensures
+    ∙ ap (linked_in link.Free s (a.nodes + a.heads)) c.set_content.ensures)
     ∙ (λ i. with_payload (c.self.view_is i) (c.s.view_is i) None)
 
 pub returns-clause-tidy : goal.returns-clause-tidy

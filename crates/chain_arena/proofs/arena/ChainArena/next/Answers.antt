@@ -18,10 +18,12 @@ pub returns : goal.returns
 returns g c h p =
     let a = c.self.inside in let s = c.s.inside.index in let x = c.get-2.result in
     let is_next : x ≡ _ = c.get-2.ensures ∙ read_next c.link.result s a.block c.get.result.now c.get.ensures
-        ∙ ap (λ k. next_of k a.block s) c.link.ensures in
-    let there : IsIn s (chain_at (arena_of a) c.args.c h) = carried (λ v i. IsIn i (chain_at v c.args.c h)) c.self.view_is c.s.view_is p in
+    ∙ ap (λ k. next_of k a.block s) c.link.ensures in
+    let there : IsIn s (chain_at (arena_of a) c.args.c h) =
+    carried (λ v i. IsIn i (chain_at v c.args.c h)) c.self.view_is c.s.view_is p in
     let within = in_some_chain (chains (arena_of a) c.args.c) h s there in
-    let f = behind_of a c.self.invariant c.args.c s h (subst (λ k. h < k) ((every_tidy a c.self.invariant).heads c.args.c) within) there in
+    let f = behind_of a c.self.invariant c.args.c s h
+    (subst (λ k. h < k) ((every_tidy a c.self.invariant).heads c.args.c) within) there in
     elim (cases_lt x a.nodes) [
       | inl q ↦ c.slot_at.ensures.below q ∙ ap Some is_next ∙ f.0 (subst (λ i. i < a.nodes) is_next q)
       | inr q ↦ c.slot_at.ensures.past q ∙ f.1 (subst (λ i. a.nodes ≤ i) is_next q)

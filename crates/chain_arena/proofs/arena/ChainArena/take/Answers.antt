@@ -26,20 +26,23 @@ pub set_content-requires : goal.set_content-requires
 set_content-requires g c =
     let a = c.self.inside in let s = c.get-s.result in
     let is_first = c.get-s.ensures ∙ read_next link.Free (a.nodes + a.heads) a.block c.get.result.now c.get.ensures in
-    subst (λ k. s < k) (sym (ap length c.take_out.ensures ∙ length-taken_out link.Free s a.block)) (slot_in_block a c.self.invariant s is_first c.if-s-self.true)
+    subst (λ k. s < k) (sym (ap length c.take_out.ensures ∙ length-taken_out link.Free s a.block))
+    (slot_in_block a c.self.invariant s is_first c.if-s-self.true)
 
 pub invariant_of-self : goal.invariant_of-self
 invariant_of-self g c =
     let a = c.self.inside in let s = c.get-s.result in
     let is_first = c.get-s.ensures ∙ read_next link.Free (a.nodes + a.heads) a.block c.get.result.now c.get.ensures in
-    take_keeps a c.self.invariant s is_first c.if-s-self.true c.args.value c.set_content.new.block (c.set_content.ensures ∙ ap (nodes.with_content s true c.args.value) c.take_out.ensures)
+    take_keeps a c.self.invariant s is_first c.if-s-self.true c.args.value c.set_content.new.block
+    (c.set_content.ensures ∙ ap (nodes.with_content s true c.args.value) c.take_out.ensures)
 
 pub returns-then-s-self-clause-taken : goal.returns-then-s-self-clause-taken
 returns-then-s-self-clause-taken g c =
     let a = c.self.inside in let s = c.get-s.result in
     let is_first = c.get-s.ensures ∙ read_next link.Free (a.nodes + a.heads) a.block c.get.result.now c.get.ensures in (
       subst (λ v. IsFree v s) c.self.view_is (was_free a c.self.invariant s is_first c.if-s-self.true),
-      take_shows a c.self.invariant s is_first c.if-s-self.true c.args.value c.set_content.new.block (c.set_content.ensures ∙ ap (nodes.with_content s true c.args.value) c.take_out.ensures)
+      take_shows a c.self.invariant s is_first c.if-s-self.true c.args.value c.set_content.new.block
+          (c.set_content.ensures ∙ ap (nodes.with_content s true c.args.value) c.take_out.ensures)
           ∙ ap (λ v. with_payload v s (Some c.args.value)) c.self.view_is,
     )
 
@@ -47,13 +50,17 @@ pub returns-then-s-self-clause-apart : goal.returns-then-s-self-clause-apart
 returns-then-s-self-clause-apart g c =
     let a = c.self.inside in let s = c.get-s.result in
     let is_first = c.get-s.ensures ∙ read_next link.Free (a.nodes + a.heads) a.block c.get.result.now c.get.ensures in
-    take_apart a c.self.invariant s is_first c.if-s-self.true c.args.value c.set_content.new.block (c.set_content.ensures ∙ ap (nodes.with_content s true c.args.value) c.take_out.ensures)
+    take_apart a c.self.invariant s is_first c.if-s-self.true c.args.value c.set_content.new.block
+    (c.set_content.ensures ∙ ap (nodes.with_content s true c.args.value) c.take_out.ensures)
 
 pub returns-else-s-self-clause-full : goal.returns-else-s-self-clause-full
 returns-else-s-self-clause-full g c =
     let a = c.self.inside in
-    let is_first = c.get-s.ensures ∙ read_next link.Free (a.nodes + a.heads) a.block c.get.result.now c.get.ensures in
-    (subst (λ v. (s : ℕ) → IsFree v s → ⊥) c.self.view_is (all_taken a c.self.invariant (subst (λ i. a.nodes ≤ i) is_first c.if-s-self.false)), refl)
+    let is_first = c.get-s.ensures ∙ read_next link.Free (a.nodes + a.heads) a.block c.get.result.now c.get.ensures in (
+      subst (λ v. (s : ℕ) → IsFree v s → ⊥) c.self.view_is
+          (all_taken a c.self.invariant (subst (λ i. a.nodes ≤ i) is_first c.if-s-self.false)),
+      refl,
+    )
 
 pub returns-then-s-self-clause-tidy : goal.returns-then-s-self-clause-tidy
 returns-then-s-self-clause-tidy g c =

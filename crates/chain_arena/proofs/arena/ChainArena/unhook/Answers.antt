@@ -21,13 +21,15 @@ pub invariant_of-self : goal.invariant_of-self
 invariant_of-self g c =
     let a = c.self.inside in let s = c.s.inside.index in
     let st = carried (λ v i. Stands v c.args.c i) c.self.view_is c.s.view_is c.requires.stands in
-    unhook_keeps a c.self.invariant c.args.c s st c.take_out.new.block (c.take_out.ensures ∙ ap (λ k. taken_out k s a.block) c.link.ensures)
+    unhook_keeps a c.self.invariant c.args.c s st c.take_out.new.block (c.take_out.ensures
+    ∙ ap (λ k. taken_out k s a.block) c.link.ensures)
 
 pub returns-clause-unhooked : goal.returns-clause-unhooked
 returns-clause-unhooked g c =
     let a = c.self.inside in let s = c.s.inside.index in
     let st = carried (λ v i. Stands v c.args.c i) c.self.view_is c.s.view_is c.requires.stands in
-    unhook_shows a c.self.invariant c.args.c s st c.take_out.new.block (c.take_out.ensures ∙ ap (λ k. taken_out k s a.block) c.link.ensures)
+    unhook_shows a c.self.invariant c.args.c s st c.take_out.new.block (c.take_out.ensures
+    ∙ ap (λ k. taken_out k s a.block) c.link.ensures)
     ∙ (λ i. unhooked (c.self.view_is i) c.args.c (c.s.view_is i))
 
 pub returns-clause-tidy : goal.returns-clause-tidy

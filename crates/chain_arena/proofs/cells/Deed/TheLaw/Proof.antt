@@ -14,6 +14,7 @@ use Rattle.chain_arena.proofs.cells.Deed.TheLaw.Statement.{statement}
 pub shares : (R A : RattleType) (g : Ghosts A.Denot) (L : Laws R) (K : Laws A) → statement R A g L K
 shares R A g L K =
     let heap = D.the_heap R A g in
-    of_Lends (D.struct R A g) (D.the_codes R.Denot A.Denot R.coded A.coded (marker.the_row RawPtr).coded) heap (D.the_lent R A g)
+    of_Lends (D.struct R A g) (D.the_codes R.Denot A.Denot R.coded A.coded (marker.the_row RawPtr).coded) heap
+    (D.the_lent R A g)
     (λ d p. nothing_shr_laws) (copy_shared (marker.the_field RawPtr) (field_copy (marker.the_type RawPtr) tt), tt)
     (λ M 𝓤 𝓛 d p. Lends-nothing 𝓛 (heap d) (D.the_row R A g).lives)
