@@ -3,8 +3,8 @@
 -- another in its place
 --     one_more, all_forgotten     a value is written behind the others; all values are forgotten
 --     asked     of a `requires` under one type parameter, what its author wrote
-use mathlib.Core.Path.{◌≡◌, refl, sym, ap, subst, ◌∙◌}
-use Prim.Native.Nat.{ℕ, zero, suc, ◌+◌, ◌-◌, ◌*◌, ◌≤◌, ◌<◌, ◌^◌}
+use mathlib.Core.Path.{◌≡◌, refl, sym, subst}
+use Prim.Native.Nat.{ℕ, zero, suc, ◌+◌, ◌-◌, ◌*◌, ◌<◌, ◌^◌}
 use native.Mathlib.Omega.{arith}
 use native.Mathlib.Nat.{zero-mul}
 use mathlib.Core.List.{List, [], ◌∷◌, ◌++◌}
@@ -14,7 +14,7 @@ use base.Fraction.{full_share}
 use mir.Syntax.{Args, ty_array, a_type}
 use mir.Raw.{raw as bare}
 use mir.Val.{Val, vstruct, vcons, vnil}
-use base.Logic.{SProp, ent, sep, emp, never, via, fst∗, snd∗, mono_r}
+use base.Logic.{SProp, ent, sep, never, via, fst∗, snd∗}
 use base.Fml.{Fml, Lft, froom}
 use types.Logic.{Logic, sem}
 use types.Kit.{‵, ◌⊛◌, given, ◌$◌, ◌∵◌, !, qed, by, move, drop, keep, use0, use1, use2, split, learn, rewrite, fsplit, fjoin, flt_i, done}
@@ -24,7 +24,7 @@ use denote.Array.{Array}
 use denote.Memory.{part_at, shared_of, shares}
 use denote.Index.{place, place_is, others, takes, puts, row}
 use denote.Param.{layouts, param}
-use denote.RawPtr.{Ptr, block_ptr, null_ptr, lies_at, room_for, ◌+ₚ◌}
+use denote.RawPtr.{block_ptr, null_ptr, room_for, ◌+ₚ◌}
 use denote.Slice.{elements_shared}
 use Rattle.core.proofs.alloc.Calls.{Al}
 use Rattle.core.proofs.ptr.Rows.{El, R, sz, el_x, elτ, apart, whole, empty, snoc, spare}

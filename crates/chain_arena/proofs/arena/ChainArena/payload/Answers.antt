@@ -1,4 +1,4 @@
-use Rattle.std.proofs.Common.{Some, slice_get, subst, sym, ap, ◌∙◌}
+use Rattle.std.proofs.Common.{Some, slice_get, sym, ap, ◌∙◌}
 use Rattle.std.proofs.lemmas.Option.{cond_some}
 use Rattle.chain_arena.specs.Arena.{IsInUse}
 use Rattle.chain_arena.proofs.Nodes.{read_payload}

@@ -29,7 +29,6 @@ use types.ByLocal.{alloc_all, pass_all, free_all, look_at, get, get_in, get_tag,
 use denote.Builtin.{RefOf, usize}
 use denote.Exit.{yes}
 use denote.RattleType.{RattleType, owns}
-use denote.Memory.{hidden_shr}
 use denote.Param.{layout}
 use denote.RawPtr.{Ptr, block_ptr}
 use denote.Ref.{Bor, ShrRef}
@@ -44,7 +43,7 @@ use denote.Triple.Clauses.{Clauses, Ended}
 use denote.Triple.Entry.{on_entry}
 use denote.Triple.Statement.{Triple}
 use denote.Triple.Walked.{says, needs, Stays, stay_dropped, Goes-dropped, walk_of, ends_at}
-use Rattle.core.proofs.alloc.Calls.{Al, second, token, takes_key, Takes, at_takes, Takes-goes, Takes-gives, Answered, Answer-typed, answers}
+use Rattle.core.proofs.alloc.Calls.{Al, second, takes_key, Takes, at_takes, Takes-goes, Takes-gives, Answered, Answer-typed, answers}
 use Rattle.core.proofs.mem.Param as one_param
 use Rattle.core.proofs.ptr.Rows.{El, R, sz, elτ}
 use Rattle.core.proofs.slots.Leases.{uncapped, block_ty, block_size, block_align, args, P}

@@ -4,7 +4,6 @@ use Prim.Native.Nat.{ℕ, ◌*◌, ◌<◌, ◌^◌}
 use native.Mathlib.Omega.{arith}
 use mathlib.Core.List.{List, [], ◌∷◌, ◌++◌}
 use lib.Dec.{T}
-use lib.ListN.{length}
 use seplogic.Ra.Ura.{Ura}
 use mir.Syntax.{Fn, named, w64, ty_array, ty_unit}
 use mir.Raw.{raw as bare}
@@ -28,7 +27,6 @@ use types.ByLocal.{alloc_all, pass_all, free_all, look_at, get, get_in, sets, la
 use denote.Builtin.{RefOf, usize}
 use denote.Exit.{yes, no}
 use denote.RattleType.{RattleType, owns}
-use denote.Memory.{hidden_shr}
 use denote.Param.Laws.{param_laws}
 use denote.RawPtr.{Ptr, block_ptr, in_a_block}
 use denote.Ref.{Bor, ShrRef}
@@ -41,7 +39,7 @@ use denote.Triple.Statement.{Triple}
 use denote.Triple.Walked.{needs, Stays, stay_dropped, Goes-dropped, walk_of, ends_at}
 use Rattle.core.proofs.alloc.Calls.{Al, second, token, gives_key, Gives, at_gives, Gives-goes, Gives-Gives, Goes-blank}
 use Rattle.core.proofs.mem.Param as one_param
-use Rattle.core.proofs.ptr.Rows.{El, R, sz, el_x, elτ}
+use Rattle.core.proofs.ptr.Rows.{El, R, sz, elτ}
 use Rattle.core.proofs.slots.Leases.{uncapped, block_ty, block_size, block_align, args, P}
 use Rattle.std.proofs.raw_atomic.Walks.{proved_at}
 use Rattle.std_alloc.proofs.RcSteps.{word, word-Good}

@@ -1,5 +1,5 @@
 -- `get` lends one of the values that are written. Assumes `Logic`.
-use mathlib.Core.Path.{◌≡◌, refl, sym, ap, ◌∙◌}
+use mathlib.Core.Path.{◌≡◌, refl, ap, ◌∙◌}
 use Prim.Native.Nat.{ℕ, ◌+◌, ◌*◌, ◌≤◌, ◌<◌, ◌^◌}
 use native.Mathlib.Omega.{arith}
 use mathlib.Core.List.{List, [], ◌∷◌, ◌++◌}
@@ -17,7 +17,7 @@ use types.Logic.{Logic}
 use contract.BorrowLft.{◌⊑◌}
 use contract.Monad.{Fun, fact}
 use contract.Running.{tables}
-use types.Kit.{‵, raw, ⋆, prop, ◌⊛◌, at_ret, ◌$◌, ◌∵◌, !, qed, by, move, keep, drop, use1, split, join, regoal, fsplit, fjoin, feq_i, flt_l, suffices, frame, done}
+use types.Kit.{‵, raw, ⋆, prop, ◌⊛◌, at_ret, ◌$◌, ◌∵◌, !, qed, by, move, keep, drop, use1, split, join, regoal, fsplit, fjoin, feq_i, flt_l, suffices, done}
 use types.Part.{whole, sub}
 use types.Run.{stop, fld, of_opd, bin, size_lit, addr, first, blocks, exec, returns, enter}
 use types.ByLocal.{alloc_all, pass_all, free_all, look_at, get, get_in, through, sets, sets_last, env}

@@ -1,5 +1,5 @@
 -- `get_mut` lends one of the values that are written, and the places follow it. Assumes `Logic`.
-use mathlib.Core.Path.{◌≡◌, refl, sym, ap, subst, ◌∙◌}
+use mathlib.Core.Path.{◌≡◌, refl, sym, ◌∙◌}
 use Prim.Native.Nat.{ℕ, ◌+◌, ◌*◌, ◌≤◌, ◌<◌, ◌^◌}
 use native.Mathlib.Omega.{arith}
 use mathlib.Core.List.{List, [], ◌∷◌, ◌++◌}
@@ -18,11 +18,11 @@ use types.Logic.{Logic, sem}
 use contract.BorrowLft.{◌⊑◌}
 use contract.Monad.{Fun}
 use contract.Running.{tables}
-use types.Kit.{Item, ‵, raw, ⋆, prop, ◌⊛◌, some, later, at_ret, ◌$◌, ◌∵◌, !, qed, by, move, keep, drop, use1, use2, split, join, group, regoal, rewrite, fsplit, fsplit3, fjoin, fpack, flt_l, pick, await, suffices, frame, done}
+use types.Kit.{Item, ‵, raw, ⋆, prop, ◌⊛◌, some, later, at_ret, ◌$◌, ◌∵◌, !, qed, by, move, keep, use1, use2, split, join, group, regoal, rewrite, fsplit, fsplit3, fjoin, fpack, flt_l, pick, await, suffices, frame, done}
 use types.Part.{whole, sub}
 use types.Run.{stop, fld, of_opd, bin, size_lit, addr, first, blocks, exec, returns, enter}
 use types.ByLocal.{alloc_all, pass_all, free_all, look_at, get, get_in, through, sets, sets_last, take_at, give_at, env}
-use denote.Builtin.{RefMutOf, usize}
+use denote.Builtin.{usize}
 use denote.Exit.{yes, no}
 use denote.Follow.{follows, Part, lends_Part}
 use denote.RattleType.{RattleType, owns}

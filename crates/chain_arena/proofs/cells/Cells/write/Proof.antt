@@ -23,7 +23,7 @@ use types.Kit.{‵, ⋆, prop, ◌⊛◌, at_ret, ◌$◌, ◌∵◌, !, qed, by
 use types.Part.{whole, sub}
 use types.Run.{init, stop, fld, of_opd, unit_lit, bin, size_lit, assigns_last, first, blocks, exec, returns, enter}
 use types.ByLocal.{alloc_all, pass_all, free_all, look_at, get, get_in, through, sets, take_at, give_at, env}
-use denote.Builtin.{RefMutOf, usize, unit}
+use denote.Builtin.{usize}
 use denote.Exit.{yes, no}
 use denote.RattleType.{RattleType, owns}
 use denote.Memory.{mem, part_at}
@@ -43,7 +43,7 @@ use Rattle.std_alloc.proofs.RcSteps.{word, word-Good}
 use Rattle.std_alloc.proofs.VecSteps.Shapes.{after}
 use Rattle.chain_arena.specs.Ownership.{cells_own}
 use Rattle.chain_arena.specs.Lends.{with_values}
-use Rattle.chain_arena.proofs.Memory.{args, CellsOf, BaseOf, asked, Row, Room, nowhere, place_out, one_more}
+use Rattle.chain_arena.proofs.Memory.{args, CellsOf, BaseOf, asked, Room, nowhere, place_out, one_more}
 use Rattle.chain_arena.proofs.cells.Base.TheLaws as base_laws
 use Rattle.chain_arena.specs.contracts.cells.Cells.write as F
 use Rattle.chain_arena.specs.contracts.cells.Cells.write.Key.{name as #self}
