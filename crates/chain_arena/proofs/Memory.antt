@@ -1,7 +1,8 @@
 -- What the walks over the block share. Assumes `Logic`.
--- value_seen, value_out, value_in     a value of the row is seen by its `&`; taken out of the row; and put back, or
--- another in its place
---     one_more, all_forgotten     a value is written behind the others; all values are forgotten
+--     value_seen     a `&` to each of a row of values is one to the value at the index
+--     value_out, value_in     a value is taken out of the row, and put back, or another in its place
+--     place_out, one_more     the room's first place is taken out, and a value in it is one of the row
+--     all_room_left, all_forgotten     a block is room before its first value is written, and again once it is freed
 --     asked     of a `requires` under one type parameter, what its author wrote
 use mathlib.Core.Path.{◌≡◌, refl, sym, subst}
 use Prim.Native.Nat.{ℕ, zero, suc, ◌+◌, ◌-◌, ◌*◌, ◌<◌, ◌^◌}

@@ -142,8 +142,10 @@ impl<T: Copy> ChainArena<T> {
 
     /// Takes a free slot for a payload. None where all are in use.
     pub fn take(&mut self, value: T) -> Option<Slot>
-        ensures full { IfNone result (((s : ℕ) → IsFree self.old s → ⊥) × (self.new ≡ self.old)) }
-        ensures taken { IfSome result (λ s. IsFree self.old s × (self.new ≡ with_payload self.old s (Some value))) }
+        ensures full { IfNone result ((s : ℕ) → IsFree self.old s → ⊥) }
+        ensures unchanged { IfNone result (self.new ≡ self.old) }
+        ensures free { IfSome result (λ s. IsFree self.old s) }
+        ensures taken { IfSome result (λ s. self.new ≡ with_payload self.old s (Some value)) }
         ensures apart { IfSome result (λ s. (c : Chain) → Stands self.new c s → ⊥) }
         ensures tidy { IsTidyArena self.new }
     {

@@ -1,4 +1,4 @@
-use Rattle.std.proofs.Common.{ℕ, ◌+◌, ◌<◌, ◌≤◌, Some, true, length, subst, sym, ap, ◌∙◌, refl, arith}
+use Rattle.std.proofs.Common.{ℕ, ◌+◌, ◌<◌, ◌≤◌, Some, true, length, subst, sym, ap, ◌∙◌, arith}
 use Rattle.chain_arena.specs.declared.node.Link.TheVariants as link
 use Rattle.chain_arena.specs.Arena.{IsFree, IsTidyArena, with_payload}
 use Rattle.chain_arena.specs.Nodes as nodes
@@ -36,15 +36,19 @@ invariant_of-self g c =
     take_keeps a c.self.invariant s is_first c.if-s-self.true c.args.value c.set_content.new.block
     (c.set_content.ensures ∙ ap (nodes.with_content s true c.args.value) c.take_out.ensures)
 
+pub returns-then-s-self-clause-free : goal.returns-then-s-self-clause-free
+returns-then-s-self-clause-free g c =
+    let a = c.self.inside in let s = c.get-s.result in
+    let is_first = c.get-s.ensures ∙ read_next link.Free (a.nodes + a.heads) a.block c.get.result.now c.get.ensures in
+    subst (λ v. IsFree v s) c.self.view_is (was_free a c.self.invariant s is_first c.if-s-self.true)
+
 pub returns-then-s-self-clause-taken : goal.returns-then-s-self-clause-taken
 returns-then-s-self-clause-taken g c =
     let a = c.self.inside in let s = c.get-s.result in
-    let is_first = c.get-s.ensures ∙ read_next link.Free (a.nodes + a.heads) a.block c.get.result.now c.get.ensures in (
-      subst (λ v. IsFree v s) c.self.view_is (was_free a c.self.invariant s is_first c.if-s-self.true),
-      take_shows a c.self.invariant s is_first c.if-s-self.true c.args.value c.set_content.new.block
-          (c.set_content.ensures ∙ ap (nodes.with_content s true c.args.value) c.take_out.ensures)
-          ∙ ap (λ v. with_payload v s (Some c.args.value)) c.self.view_is,
-    )
+    let is_first = c.get-s.ensures ∙ read_next link.Free (a.nodes + a.heads) a.block c.get.result.now c.get.ensures in
+    take_shows a c.self.invariant s is_first c.if-s-self.true c.args.value c.set_content.new.block
+    (c.set_content.ensures ∙ ap (nodes.with_content s true c.args.value) c.take_out.ensures)
+    ∙ ap (λ v. with_payload v s (Some c.args.value)) c.self.view_is
 
 pub returns-then-s-self-clause-apart : goal.returns-then-s-self-clause-apart
 returns-then-s-self-clause-apart g c =
@@ -56,11 +60,9 @@ returns-then-s-self-clause-apart g c =
 pub returns-else-s-self-clause-full : goal.returns-else-s-self-clause-full
 returns-else-s-self-clause-full g c =
     let a = c.self.inside in
-    let is_first = c.get-s.ensures ∙ read_next link.Free (a.nodes + a.heads) a.block c.get.result.now c.get.ensures in (
-      subst (λ v. (s : ℕ) → IsFree v s → ⊥) c.self.view_is
-          (all_taken a c.self.invariant (subst (λ i. a.nodes ≤ i) is_first c.if-s-self.false)),
-      refl,
-    )
+    let is_first = c.get-s.ensures ∙ read_next link.Free (a.nodes + a.heads) a.block c.get.result.now c.get.ensures in
+    subst (λ v. (s : ℕ) → IsFree v s → ⊥) c.self.view_is
+    (all_taken a c.self.invariant (subst (λ i. a.nodes ≤ i) is_first c.if-s-self.false))
 
 pub returns-then-s-self-clause-tidy : goal.returns-then-s-self-clause-tidy
 returns-then-s-self-clause-tidy g c =
