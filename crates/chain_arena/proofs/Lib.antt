@@ -1,0 +1,10 @@
+pub mod AllChains
+pub mod Arenas
+pub mod Callers
+pub mod Chains
+pub mod Made
+pub mod Memory
+pub mod Nodes
+pub mod Opens
+pub mod Takes
+pub mod Triples

@@ -1,0 +1,10 @@
+pub mod Arena
+pub mod BlockLends
+pub mod Blocks
+pub mod Chains
+pub mod Inside
+pub mod Lends
+pub mod Links
+pub mod Nodes
+pub mod Ownership
+pub mod Places
