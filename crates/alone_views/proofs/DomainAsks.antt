@@ -1,7 +1,6 @@
 -- A step of a program that runs alone asks at most two questions, and changes its pages only behind the last one. So
 -- where an answer is missing, nothing has changed.
-use Rattle.std.proofs.Common.{◌≡◌, ◌<◌, ◌≤◌, ◌+◌, ◌%◌, ◌⊎◌, inl, inr, leb, ℕ, Bool, true, false, cond, List, [], ◌∷◌, length, Option, Some, None, Result, Ok, Err, refl, ap, sym, subst, ◌∙◌, arith, unwrap_or}
-use Rattle.std.specs.List.{list_any}
+use Rattle.std.proofs.Common.{◌≡◌, ◌<◌, ◌≤◌, ◌+◌, ◌⊎◌, inl, inr, ℕ, Bool, true, false, cond, List, [], ◌∷◌, length, Option, Some, None, Result, Ok, Err, refl, ap, sym, subst, arith, unwrap_or}
 use Rattle.cloak_base.specs.declared.names.Kind.{Kind}
 use Rattle.cloak_base.specs.declared.names.Kind.TheVariants.{Fetch, Load, Store}
 use Rattle.cloak_base.specs.declared.names.PageId.{PageId}
@@ -22,7 +21,7 @@ use Rattle.cloak_model.specs.declared.outcome.Effect.TheVariants as does
 use Rattle.cloak_model.specs.declared.resource.MapFault.{MapFault}
 use Rattle.cloak_model.specs.Effect.{effect}
 use Rattle.cloak_model.specs.World.{World, Flat, Cloaked, Alone, Handed}
-use Rattle.cloak_model.specs.Asking.{Told, Asking, answered, then_ask}
+use Rattle.cloak_model.specs.Asking.{Told, Asking, answered}
 use Rattle.cloak_model.specs.AskPages.{next_answer, unfit, is_for_access, is_for_value, is_for_clearing, of_width, ask_reach, ask_read, ask_write, ask_get, ask_put, ask_clear, ask_copy, ask_forget}
 use Rattle.cloak_model.specs.Contexts.{Context, context_at, context_number, end_at}
 use Rattle.cloak_model.specs.Resources.{Resources, page_at, first_free, drop_space}

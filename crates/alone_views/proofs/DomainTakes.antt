@@ -1,5 +1,5 @@
 -- What the calls of a program that runs alone make of the states that it stands for.
-use Rattle.std.proofs.Common.{◌≡◌, ◌≢◌, ◌∙◌, ◌<◌, ◌+◌, ◌/◌, ◌%◌, ℕ, Bool, true, false, cond, eqb, eq-eqb, ne_eqb, List, [], ◌∷◌, ◌++◌, length, Option, Some, None, Result, Ok, Err, refl, ap, sym, subst, arith}
+use Rattle.std.proofs.Common.{◌≡◌, ◌≢◌, ◌∙◌, ◌<◌, ◌/◌, ◌%◌, ℕ, Bool, true, false, cond, eq-eqb, ne_eqb, List, [], ◌∷◌, ◌++◌, length, Option, Some, None, Result, Ok, Err, refl, ap, sym, subst, arith}
 use Rattle.std.specs.Prelude.{is_some}
 use Rattle.cloak_model.specs.declared.answer.Answer.{Answer}
 use Rattle.cloak_model.specs.declared.context.ResumeFault.{ResumeFault}
@@ -22,7 +22,7 @@ use Rattle.alone_views.specs.declared.side.Handing.TheVariants as handing
 use Rattle.alone_views.specs.declared.unfit.Unfit.{Unfit}
 use Rattle.alone_views.specs.DomainPages.{HasPlain}
 use Rattle.alone_views.specs.Side.{answers_in, one_answer}
-use Rattle.alone_views.specs.DomainStanding.{StandsForPart, StandsWhileFit, StandsForState, StandsForDomain, StaysBeside, IsTried, TakesAs, TakesItem, KeepsSetting, answer_by, hart_at, interrupted, number_in, place_told, schedule_in, step_of, then_begun}
+use Rattle.alone_views.specs.DomainStanding.{StandsForPart, StandsWhileFit, StandsForState, StandsForDomain, IsTried, TakesAs, TakesDomainItem, KeepsSetting, answer_by, hart_at, timer_taken, number_in, place_told, schedule_in, step_of, then_begun}
 use Rattle.alone_views.proofs.DomainSlots.{slots_interrupt, slots_resume}
 
 -- While no item was unfit.
@@ -263,7 +263,7 @@ answer_elsewhere old machine s a stands never unfit =
 
 -- The timer.
 
-pub timer_running : (old machine : DomainAlone) (s : model.DomainAlone) (slot : ℕ) → StandsWhileFit old s → old.place ≡ place.Running slot None → StandsForState machine (interrupted slot s) →
+pub timer_running : (old machine : DomainAlone) (s : model.DomainAlone) (slot : ℕ) → StandsWhileFit old s → old.place ≡ place.Running slot None → StandsForState machine (timer_taken slot s) →
     StandsForState machine (take_timer s.place s)
 unfolding take_timer
 timer_running old machine s slot stands is there = placed old machine s (place.Running slot None) (λ p. take_timer p s) stands is there
@@ -290,7 +290,7 @@ timer_elsewhere old machine s stands never unfit =
     (subst (λ (x : model.DomainAlone). StandsForState machine x) (sym (timer_at old.place _ s never)) (stands_unfit machine s old.steps unfit stands.steps))
 
 pub interrupts : (old machine : DomainAlone) (s : model.DomainAlone) (slot : ℕ) → StandsWhileFit old s → StandsFor machine.domain (record s.part.domain { control = (interrupt slot s.part.domain.control).control }) →
-    machine.side ≡ old.side → machine.steps ≡ old.steps → machine.unfit ≡ old.unfit → machine.place ≡ place.Done → StandsForState machine (interrupted slot s)
+    machine.side ≡ old.side → machine.steps ≡ old.steps → machine.unfit ≡ old.unfit → machine.place ≡ place.Done → StandsForState machine (timer_taken slot s)
 interrupts old machine s slot stands domain side steps unfit at =
     stands_at machine s (with_control (interrupt slot s.part.domain.control).control s.part) model.Done stands.fit (unfit ∙ stands.unfit) (steps ∙ stands.steps)
     (record {
@@ -305,7 +305,7 @@ unfolding interrupt interrupt_if
 interrupt_free slot d free = ap (λ (o : Option Context). (interrupt_if o slot d).control) free
 
 pub interrupts_free : (old machine : DomainAlone) (s : model.DomainAlone) (slot : ℕ) → StandsWhileFit old s → context_at s.part.domain.control.contexts slot ≡ None → machine.domain ≡ old.domain →
-    machine.side ≡ old.side → machine.steps ≡ old.steps → machine.unfit ≡ old.unfit → machine.place ≡ place.Done → StandsForState machine (interrupted slot s)
+    machine.side ≡ old.side → machine.steps ≡ old.steps → machine.unfit ≡ old.unfit → machine.place ≡ place.Done → StandsForState machine (timer_taken slot s)
 interrupts_free old machine s slot stands free domain side steps unfit at =
     interrupts old machine s slot stands
     (subst (λ (k : Control). StandsFor machine.domain (record s.part.domain { control = k })) (sym (interrupt_free slot s.part.domain.control free))
@@ -395,23 +395,23 @@ ignored machine d schedule (item.Stopped n) s step close ok absent word timer re
 -- The answer of a call.
 
 pub takes_item : (number : ℕ) (schedule : List ℕ) (machine : DomainAlone) (s : model.DomainAlone) (given : Result (Unit {0}) Unfit) → number_in machine ≡ number → schedule_in machine ≡ schedule → StandsForState machine s →
-    given ≡ answer_by (step_of machine.unfit) → TakesItem number schedule machine given s
+    given ≡ answer_by (step_of machine.unfit) → TakesDomainItem number schedule machine given s
 takes_item number schedule machine s given numbered turns stands is = record {
   answer = is ∙ ap answer_by stands.unfit;
   stands = record { numbered = numbered; scheduled = turns; state = stands };
 }
 
 pub takes_unfit : (number : ℕ) (schedule : List ℕ) (machine : DomainAlone) (s : model.DomainAlone) (i : Item) (u : Unfit) → machine.unfit ≡ Some u → StandsForDomain number schedule machine s →
-    TakesItem number schedule machine (Err u) (take_domain_item number schedule s i)
+    TakesDomainItem number schedule machine (Err u) (take_domain_item number schedule s i)
 unfolding take_domain_item
 takes_unfit number schedule machine s i u is stands =
     let told : s.unfit ≡ Some u.step = sym stands.state.unfit ∙ ap step_of is in
-    subst (λ (b : Bool). TakesItem number schedule machine (Err u) (cond b s (domain_takes number schedule i s))) (sym (ap (λ (o : Option ℕ). is_some o) told))
+    subst (λ (b : Bool). TakesDomainItem number schedule machine (Err u) (cond b s (domain_takes number schedule i s))) (sym (ap (λ (o : Option ℕ). is_some o) told))
     (record { answer = sym (ap answer_by told); stands = stands })
 
 pub takes_fit : (number : ℕ) (schedule : List ℕ) (old machine : DomainAlone) (s : model.DomainAlone) (i : Item) (given : Result (Unit {0}) Unfit) → old.unfit ≡ None → StandsForDomain number schedule old s →
     TakesAs old machine (domain_takes (number_in old) (schedule_in old) i) → KeepsSetting old machine → given ≡ answer_by (step_of machine.unfit) →
-    TakesItem number schedule machine given (take_domain_item number schedule s i)
+    TakesDomainItem number schedule machine given (take_domain_item number schedule s i)
 unfolding take_domain_item
 takes_fit number schedule old machine s i given none stands takes keeps is =
     let fit : s.unfit ≡ None = sym stands.state.unfit ∙ ap step_of none in
@@ -419,5 +419,5 @@ takes_fit number schedule old machine s i given none stands takes keeps is =
     let told : StandsForState machine (domain_takes number schedule i s) =
     subst (λ (n : ℕ). StandsForState machine (domain_takes n schedule i s)) stands.numbered
     (subst (λ (l : List ℕ). StandsForState machine (domain_takes (number_in old) l i s)) stands.scheduled there) in
-    subst (λ (b : Bool). TakesItem number schedule machine given (cond b s (domain_takes number schedule i s))) (sym (ap (λ (o : Option ℕ). is_some o) fit))
+    subst (λ (b : Bool). TakesDomainItem number schedule machine given (cond b s (domain_takes number schedule i s))) (sym (ap (λ (o : Option ℕ). is_some o) fit))
     (takes_item number schedule machine (domain_takes number schedule i s) given (keeps.number ∙ stands.numbered) (keeps.schedule ∙ stands.scheduled) told is)

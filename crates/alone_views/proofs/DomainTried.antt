@@ -4,9 +4,7 @@ use Rattle.std.specs.Prelude.{option_map, is_some}
 use Rattle.std.proofs.lemmas.Bool.{false≢true}
 use Rattle.cloak_base.specs.declared.names.HartId.{HartId}
 use Rattle.cloak_model.specs.declared.answer.Answer.{Answer}
-use Rattle.cloak_model.specs.declared.inside.Went.TheVariants.{Stay}
 use Rattle.cloak_model.specs.World.{World, Flat, Cloaked, Alone, Handed, is_clashed}
-use Rattle.cloak_model.specs.Asking.{Told}
 use Rattle.cloak_model.specs.AskPages.{HasPages}
 use Rattle.cloak_model.specs.Contexts.{Context, context_at}
 use Rattle.cloak_model.specs.Resources.{Resources}
@@ -19,11 +17,10 @@ use Rattle.hypercalls.specs.Standing.{StandsFor, HasPagesOf, control_of}
 use Rattle.alone_views.specs.declared.domain.DomainAlone.{DomainAlone}
 use Rattle.alone_views.specs.declared.side.HandedSide.{HandedSide}
 use Rattle.alone_views.specs.declared.side.Handing.{Handing}
-use Rattle.alone_views.specs.declared.side.Handing.TheVariants as handing
 use Rattle.alone_views.specs.DomainPages.{HasPlain}
 use Rattle.alone_views.specs.Side.{StandsForHanded, IsAloneNow, answers_in, answers_of, handing_of}
-use Rattle.alone_views.specs.DomainStanding.{StandsForPart, StandsWhileFit, StepsAlone, IsTried}
-use Rattle.alone_views.proofs.DomainAsks.{Lacks, Outcome, Steps, asks_step}
+use Rattle.alone_views.specs.DomainStanding.{StepsAlone, IsTried}
+use Rattle.alone_views.proofs.DomainAsks.{Lacks, Steps, asks_step}
 use Rattle.alone_views.proofs.DomainSlots.{slots_step}
 
 -- The premises of the step.

@@ -18,16 +18,23 @@ same_length old new same = sym (ap (λ (w : World). length (ram_of w)) same)
 
 -- what follows a walk and then the test of the address follows the translation
 pub follows_translate : (old new : FlatRam) (satp : ℕ) (a : Access) (walk : Walk) (given : Result ℕ ℕ) →
-    Follows is_world old new walk (ask_walk satp a) → given ≡ (ask_inside a walk (Flat new.frames.items)).answer → Follows is_world old new given (ask_translate satp a)
+    Follows is_world old new walk (ask_walk satp a) → given ≡ (ask_inside a walk (Flat new.frames.items)).answer →
+    Follows is_world old new given (ask_translate satp a)
 unfolding ask_translate ask_inside
 follows_translate old new satp a walk given follows answer =
-    then_follows is_world old new new walk given (ask_walk satp a) (ask_inside a) (λ x w. later_inside a x w) follows (tested walk answer)
+    then_follows is_world old new new walk given (ask_walk satp a) (ask_inside a) (λ x w. later_inside a x w) follows
+    (tested walk answer)
   where
-    unmoved : (w : World) (r : Result ℕ ℕ) (walk : Walk) → w ≡ Flat new.frames.items → r ≡ (ask_inside a walk (Flat new.frames.items)).answer → FollowsFrom (is_world new) new r (ask_inside a walk w)
+    unmoved : (w : World) (r : Result ℕ ℕ) (walk : Walk) → w ≡ Flat new.frames.items →
+        r ≡ (ask_inside a walk (Flat new.frames.items)).answer → FollowsFrom (is_world new) new r (ask_inside a walk w)
     unmoved w r (Err cause) stands is = record { answer = is; stands = stands }
-    unmoved w r (Ok walked) stands is = record { answer = is ∙ ap (λ (v : World). (ask_inside a (Ok walked) v).answer) (sym stands); stands = stands }
+    unmoved w r (Ok walked) stands is = record {
+      answer = is ∙ ap (λ (v : World). (ask_inside a (Ok walked) v).answer) (sym stands);
+      stands = stands;
+    }
 
-    tested : (walk : Walk) → given ≡ (ask_inside a walk (Flat new.frames.items)).answer → Follows is_world new new given (ask_inside a walk)
+    tested : (walk : Walk) → given ≡ (ask_inside a walk (Flat new.frames.items)).answer →
+        Follows is_world new new given (ask_inside a walk)
     tested walk is first w stands unclashed = unmoved w given walk stands is
 
 -- an address that is in RAM or not

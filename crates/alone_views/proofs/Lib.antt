@@ -1,5 +1,10 @@
+mod KernelEnds
+mod KernelFits
+mod KernelGains
+mod KernelHarts
 mod KernelItems
 mod KernelRam
+mod KernelSteps
 pub mod DomainAsks
 pub mod DomainHarts
 pub mod DomainLoads

@@ -1,8 +1,8 @@
 -- The next of the answers that are left.
-use Rattle.std.proofs.Common.{◌≡◌, refl, ap, sym, subst, ◌∙◌, ℕ, Bool, true, false, List, [], ◌∷◌, Option, Some, None}
+use Rattle.std.proofs.Common.{◌≡◌, refl, ap, sym, subst, ◌∙◌, ℕ, Bool, true, false, List, Option, Some, None}
 use Rattle.cloak_model.specs.declared.answer.Answer.{Answer}
 use Rattle.cloak_model.specs.declared.answer.Answer.TheVariants as answer
-use Rattle.cloak_model.specs.World.{World, Alone, Handed}
+use Rattle.cloak_model.specs.World.{Alone, Handed}
 use Rattle.cloak_model.specs.Asking.{FollowsFrom}
 use Rattle.cloak_model.specs.AskPages.{next_answer, unfit}
 use Rattle.alone_views.specs.DomainPages.{HasPlain}

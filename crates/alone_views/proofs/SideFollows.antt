@@ -9,7 +9,7 @@ use Rattle.cloak_base.proofs.Pages.{told, same_numbers, same_page_tells, is_of_t
 use Rattle.cloak_model.specs.declared.answer.Answer.{Answer}
 use Rattle.cloak_model.specs.Memory.{with_value_in}
 use Rattle.cloak_model.specs.Asking.{Follows, FollowsWhere, FollowsFrom}
-use Rattle.cloak_model.specs.World.{World, Flat, Cloaked, Alone, Handed, HasPage, plain_of}
+use Rattle.cloak_model.specs.World.{Flat, Cloaked, Alone, Handed, HasPage, plain_of}
 use Rattle.cloak_model.specs.AskPages.{next_answer, is_for_access, is_for_value, is_for_clearing, of_width, ask_reach, ask_write, ask_get, ask_put, ask_clear, ask_copy, ask_forget}
 use Rattle.alone_views.specs.Side.{IsPageOf, StandsForHanded, IsAloneNow, IsAlone, answers_of}
 use Rattle.alone_views.specs.declared.side.HandedSide.{HandedSide}

@@ -10,5 +10,5 @@ HasPlain pages plain = (resource page : ℕ) → resource < 16 → page < 1024 �
     slice_index_or pages (resource * 1024 + page) [] ≡ plain resource page
 
 -- the page at a place among them, as a program starts: one of its own, or zeros
-abbrev pub page_placed : Program → ℕ → List ℕ
-page_placed p place = if nat_lt place p.start.pages then program_page p.bytes place else zero_page
+abbrev pub page_at_start : Program → ℕ → List ℕ
+page_at_start p place = if nat_lt place p.start.pages then program_page p.bytes place else zero_page

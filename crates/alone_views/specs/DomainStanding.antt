@@ -6,7 +6,7 @@ use Rattle.cloak_model.specs.DomainAlone as model
 use Rattle.cloak_model.specs.DomainAlone.{Tried, Over, Wants, Wrong, with_control, domain_step_begun}
 use Rattle.cloak_model.specs.Asking.{Told}
 use Rattle.cloak_model.specs.DomainStep.{DomainStepped, interrupt}
-use Rattle.hypercalls.specs.Standing.{StandsFor, control_of}
+use Rattle.hypercalls.specs.Standing.{StandsFor}
 use Rattle.alone_views.specs.declared.domain.DomainAlone.{DomainAlone}
 use Rattle.alone_views.specs.declared.domain.DomainPlace.{DomainPlace}
 use Rattle.alone_views.specs.declared.domain.DomainPlace.TheVariants as place
@@ -24,7 +24,7 @@ number_in machine = machine.side.domain
 abbrev pub schedule_in : DomainAlone → List ℕ
 schedule_in machine = machine.schedule.items
 
--- the item that was unfit
+-- what was unfit, if anything was
 abbrev pub unfit_in : DomainAlone → Option Unfit
 unfit_in machine = machine.unfit
 
@@ -40,6 +40,7 @@ place_told hart (place.Running slot answer) = model.Running slot (one_answer ans
 place_told hart place.Done = model.Done
 place_told hart place.Stopped = model.Stopped
 
+-- the step in which an item was unfit
 abbrev pub step_of : Option Unfit → Option ℕ
 step_of unfit = option_map (λ (u : Unfit). u.step) unfit
 
@@ -74,7 +75,7 @@ answer_by None = Ok tt
 answer_by (Some number) = Err (record { step = number })
 
 -- An item was answered as this state tells, and the machine stands for it.
-pub record TakesItem (number : ℕ) (schedule : List ℕ) (machine : DomainAlone) (given : Result (Unit {0}) Unfit)
+pub record TakesDomainItem (number : ℕ) (schedule : List ℕ) (machine : DomainAlone) (given : Result (Unit {0}) Unfit)
     (s : model.DomainAlone) : Type 0 where
   pub answer : given ≡ answer_by s.unfit
   pub stands : StandsForDomain number schedule machine s
@@ -83,12 +84,12 @@ pub record TakesItem (number : ℕ) (schedule : List ℕ) (machine : DomainAlone
 abbrev pub TakesAs : DomainAlone → DomainAlone → (model.DomainAlone → model.DomainAlone) → Type 0
 TakesAs old new told = (s : model.DomainAlone) → StandsWhileFit old s → StandsForState new (told s)
 
--- number and schedule stay
+-- Number and schedule stay.
 pub record KeepsSetting (old new : DomainAlone) : Type 0 where
   pub number : number_in new ≡ number_in old
   pub schedule : schedule_in new ≡ schedule_in old
 
--- What a step may not change that was tried.
+-- All but the program and its pages stays.
 pub record StaysBeside (old new : DomainAlone) : Type 0 where
   pub number : number_in new ≡ number_in old
   pub schedule : new.schedule ≡ old.schedule
@@ -115,8 +116,8 @@ IsTried machine handing.Wrong answers s Wants = ⊥
 IsTried machine handing.Wrong answers s Wrong = Unit {0}
 
 -- the context of a slot left for the timer interrupt, and the step has its items
-abbrev pub interrupted : ℕ → model.DomainAlone → model.DomainAlone
-interrupted slot s = record s {
+abbrev pub timer_taken : ℕ → model.DomainAlone → model.DomainAlone
+timer_taken slot s = record s {
   part = with_control (interrupt slot s.part.domain.control).control s.part;
   place = model.Done;
 }

@@ -52,7 +52,7 @@ pub struct DomainAlone {
 }
 
 impl DomainAlone {
-    ghost use Rattle.alone_views.specs.DomainStanding.{StandsForDomain, StandsWhileFit, TakesAs, TakesItem, KeepsSetting, StaysBeside, StepsAlone, IsTried, answer_by, interrupted, step_of, then_begun, number_in, schedule_in, unfit_in, hart_at};
+    ghost use Rattle.alone_views.specs.DomainStanding.{StandsForDomain, StandsWhileFit, TakesAs, TakesDomainItem, KeepsSetting, StaysBeside, StepsAlone, IsTried, answer_by, timer_taken, step_of, then_begun, number_in, schedule_in, unfit_in, hart_at};
     ghost use Rattle.alone_views.specs.Side.{StandsForHanded};
 
     /// The program of this number as its run begins. The one call that takes memory.
@@ -85,7 +85,7 @@ impl DomainAlone {
     pub fn take(&mut self, i: &Item) -> Result<(), Unfit>
         ensures takes { (number : ℕ) (schedule : List ℕ) (s : spec.DomainAlone) →
             StandsForDomain number schedule self.old s →
-            TakesItem number schedule self.new result (spec.take_domain_item number schedule s i.now) }
+            TakesDomainItem number schedule self.new result (spec.take_domain_item number schedule s i.now) }
         ensures stays_unfit { (u : Unfit) → unfit_in self.old ≡ Some u → (result ≡ Err u) × (self.new ≡ self.old) }
     {
         match self.unfit {
@@ -168,7 +168,8 @@ impl DomainAlone {
     /// Takes a resuming, if it is for this domain.
     fn take_resume_for(&mut self, domain: u8, ctx: u32, answer: u32)
         ensures takes { TakesAs self.old self.new
-            (λ s. if domain == number_in self.old then spec.take_resume (number_in self.old) s.place ctx answer s else s) }
+            (λ s. if domain == number_in self.old
+            then spec.take_resume (number_in self.old) s.place ctx answer s else s) }
         ensures keeps { KeepsSetting self.old self.new }
     {
         if domain as u32 == self.side.domain {
@@ -347,7 +348,7 @@ impl DomainAlone {
 
     /// The context of a slot leaves for the timer interrupt, and the step has its items.
     fn interrupt(&mut self, slot: u32)
-        ensures takes { TakesAs self.old self.new (interrupted slot) }
+        ensures takes { TakesAs self.old self.new (timer_taken slot) }
         ensures keeps { KeepsSetting self.old self.new }
     {
         self.place = DomainPlace::Done;

@@ -3,7 +3,7 @@ ghost use Rattle.std.specs.Prelude.{◌≡◌, ◌<◌, ◌≤◌, ◌+◌, ◌*
 ghost use Rattle.cloak_base.specs.Pages.{zero_page};
 ghost use Rattle.cloak_model.specs.DomainAlone.{started_page};
 ghost use Rattle.cloak_model.specs.Opening.{program_page};
-ghost use Rattle.alone_views.specs.DomainPages.{HasPlain, page_placed};
+ghost use Rattle.alone_views.specs.DomainPages.{HasPlain, page_at_start};
 
 use cloak_base::{NoMemory, PageId};
 use cloak_model::Program;
@@ -38,7 +38,7 @@ pub(crate) fn started_pages(alloc: Global, p: &Program) -> Result<Vec<[u8; 4096]
 /// The page at a place among those of all resources, as a program starts: one of its own, or zeros.
 fn page_at(p: &Program, place: u32) -> [u8; 4096]
     requires { length p.now.bytes ≡ 4096 * p.now.start.pages }
-    ensures { result ≡ page_placed p.now place }
+    ensures { result ≡ page_at_start p.now place }
 {
     if place < p.start.pages {
         *page_bytes(p, place)

@@ -7,7 +7,7 @@ ghost use Rattle.cloak_model.specs.Exchange.{EmitsSome};
 ghost use Rattle.cloak_model.specs.KernelAlone as spec;
 ghost use Rattle.cloak_model.specs.Record.{IsItem};
 ghost use Rattle.cloak_model.specs.Report.{kernel_lines};
-ghost use Rattle.outside_io.specs.Told.{Puts};
+ghost use Rattle.outside_io.specs.Told.{Counts, Puts};
 ghost use Rattle.alone_views.specs.KernelPlaces.{IsPlaceAmong};
 
 use crate::kernel_place::KernelPlace;
@@ -142,11 +142,14 @@ impl KernelAlone {
         self.take_next(i, e);
         self.answer()
     }
+
     /// Writes the kernel's lines of the report. One that failed has written a front of them.
     pub fn report<O: Sink>(self, out: &mut O) -> Result<(), Failed>
-        ensures { (turns : List ℕ) (s : spec.KernelAlone) → StandsForKernel self turns s →
-            length s.kernel.console < 2 ^ 64 → Puts (O.taken out.old) (O.taken out.new) (O.faults out.old) (O.faults out.new)
+        ensures puts { (turns : List ℕ) (s : spec.KernelAlone) → StandsForKernel self turns s →
+            length s.kernel.console < 2 ^ 64 →
+            Puts (O.taken out.old) (O.taken out.new) (O.faults out.old) (O.faults out.new)
             (kernel_lines s.kernel) result }
+        ensures faults { Counts (O.faults out.old) (O.faults out.new) result }
     {
         let KernelAlone {
             harts,

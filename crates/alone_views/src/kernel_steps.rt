@@ -76,7 +76,8 @@ impl KernelAlone {
     /// Begins a step of a hart. Inside, its timer counts.
     fn begin_step(&mut self, hart: usize)
         requires { hart < length self.old.harts.items }
-        ensures { ChangesTo self.old self.new (λ s. spec.kernel_step_begun hart (spec.kernel_hart s.kernel hart).inside s) }
+        ensures { ChangesTo self.old self.new
+            (λ s. spec.kernel_step_begun hart (spec.kernel_hart s.kernel hart).inside s) }
     {
         match self.harts[hart].inside {
             None => self.place = KernelPlace::Outside { hart },

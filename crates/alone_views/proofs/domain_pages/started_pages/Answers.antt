@@ -1,4 +1,4 @@
-use Rattle.std.proofs.Common.{◌≡◌, ◌∙◌, ◌<◌, ◌+◌, ◌*◌, ℕ, sym, arith}
+use Rattle.std.proofs.Common.{◌∙◌, ◌<◌, ◌+◌, ◌*◌, arith}
 use Rattle.alone_views.proofs.DomainPlaces.{placed_as, pages_pushed}
 use Rattle.alone_views.proofs.domain_pages.started_pages.Goals as goal
 

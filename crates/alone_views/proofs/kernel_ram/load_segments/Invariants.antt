@@ -10,5 +10,6 @@ invariant-loop-made l = l.frames.items ≡ zero_ram l.made
 abbrev pub invariant-loop-segment : goal.invariant-loop-segment
 invariant-loop-segment l = record {
   count : length l.frames.items ≡ l.fn.count;
-  stored : with_segments l.frames.items (drop l.segment-index l.segments) ≡ with_segments (zero_ram l.fn.count) l.segments;
+  stored : with_segments l.frames.items (drop l.segment-index l.segments)
+      ≡ with_segments (zero_ram l.fn.count) l.segments;
 }

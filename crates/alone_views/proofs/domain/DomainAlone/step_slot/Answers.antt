@@ -1,4 +1,3 @@
-use Rattle.std.proofs.Common.{refl}
 use Rattle.cloak_model.specs.World.{Alone}
 use Rattle.alone_views.proofs.DomainTried.{free_slot, no_step, pages_alone, step_unclashed}
 use Rattle.alone_views.proofs.domain.DomainAlone.step_slot.Goals as goal

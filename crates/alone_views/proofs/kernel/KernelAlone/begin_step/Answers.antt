@@ -1,7 +1,7 @@
 use Rattle.std.proofs.Common.{ap, sym, ◌∙◌, refl}
 use Rattle.cloak_model.specs.Hart.{Hart}
 use Rattle.alone_views.specs.KernelStanding.{state_with}
-use Rattle.alone_views.proofs.KernelItems.{hart_there, begun_outside, begun_inside}
+use Rattle.alone_views.proofs.KernelHarts.{hart_there, begun_outside, begun_inside}
 use Rattle.alone_views.proofs.kernel.KernelAlone.begin_step.Goals as goal
 
 pub returns-in-None : goal.returns-in-None

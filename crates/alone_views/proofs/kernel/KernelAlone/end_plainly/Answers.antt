@@ -1,10 +1,10 @@
 use Rattle.std.proofs.Common.{refl}
-use Rattle.alone_views.proofs.KernelItems.{gains_byte}
+use Rattle.alone_views.proofs.KernelGains.{gains_byte}
 use Rattle.alone_views.proofs.kernel.KernelAlone.end_plainly.Goals as goal
 
 pub returns-clause-gains : goal.returns-clause-gains
 returns-clause-gains g c turns s stands =
     let step = c.step_plainly-ending in
-    gains_byte g.E.Emit.gave c.args.e.now c.show.new.e c.args.self.now step.new.self _ turns s c.args.hart step.result stands
-    step.ensures.state step.ensures.console (λ console. refl) step.ensures.schedule c.show.ensures.shows
+    gains_byte g.E.Emit.gave c.args.e.now c.show.new.e c.args.self.now step.new.self _ turns s c.args.hart step.result
+    stands step.ensures.state step.ensures.console (λ console. refl) step.ensures.schedule c.show.ensures.shows
     c.show.ensures.emits

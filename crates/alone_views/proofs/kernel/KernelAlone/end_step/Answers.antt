@@ -2,7 +2,8 @@ use Rattle.std.proofs.Common.{ap, refl}
 use Rattle.cloak_model.specs.KernelAlone as model
 use Rattle.cloak_model.specs.KernelAlone.{kernel_step_ended}
 use Rattle.alone_views.specs.KernelPlaces.{stood_place}
-use Rattle.alone_views.proofs.KernelItems.{at_place, gains_nothing, ends_outside}
+use Rattle.alone_views.proofs.KernelFits.{at_place}
+use Rattle.alone_views.proofs.KernelGains.{gains_nothing, ends_outside}
 use Rattle.alone_views.proofs.kernel.KernelAlone.end_step.Goals as goal
 
 pub returns-in-Between-clause-gains : goal.returns-in-Between-clause-gains

@@ -1,6 +1,6 @@
 use Rattle.std.proofs.Common.{◌≡◌, ◌==◌, false, sym, refl, eq-eqb, arith}
 use Rattle.alone_views.specs.KernelStanding.{state_with}
-use Rattle.alone_views.proofs.KernelItems.{hart_there, left_context, left_other}
+use Rattle.alone_views.proofs.KernelHarts.{hart_there, left_context, left_other}
 use Rattle.alone_views.proofs.kernel.KernelAlone.leave_context.Goals as goal
 
 pub returns-then-shown-ctx : goal.returns-then-shown-ctx
@@ -15,4 +15,6 @@ returns-then-shown-ctx c =
     }
 
 pub returns-else-shown-ctx : goal.returns-else-shown-ctx
-returns-else-shown-ctx c = left_other _ _ c.args.hart c.args.ctx c.args.shown.now (let e : (c.args.shown.now.ctx == c.args.ctx) ≡ false = grind arith in e) c.refuse.ensures
+returns-else-shown-ctx c =
+    let other : (c.args.shown.now.ctx == c.args.ctx) ≡ false = grind arith in
+    left_other _ _ c.args.hart c.args.ctx c.args.shown.now other c.refuse.ensures

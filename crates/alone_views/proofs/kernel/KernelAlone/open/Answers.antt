@@ -1,7 +1,7 @@
 use Rattle.std.proofs.Common.{◌∙◌, ap, refl}
 use Rattle.cloak_model.specs.Memory.{zero_ram}
 use Rattle.cloak_model.specs.Opening.{with_segments, started_kernel}
-use Rattle.alone_views.proofs.KernelItems.{opens_so, turns_inside}
+use Rattle.alone_views.proofs.KernelEnds.{opens_so, turns_inside}
 use Rattle.alone_views.proofs.kernel.KernelAlone.open.Goals as goal
 
 pub invariant_of-result-clause-turns : goal.invariant_of-result-clause-turns

@@ -1,7 +1,7 @@
-use Rattle.std.proofs.Common.{◌≡◌, length, nat_lt, refl, sym}
+use Rattle.std.proofs.Common.{length, nat_lt, refl, sym}
 use Rattle.cloak_model.specs.KernelAlone.{with_shown_bytes}
 use Rattle.alone_views.specs.KernelStanding.{state_with}
-use Rattle.alone_views.proofs.KernelItems.{cipher_shown, fits_not}
+use Rattle.alone_views.proofs.KernelFits.{cipher_shown, fits_not}
 use Rattle.alone_views.proofs.kernel.KernelAlone.show_cipher.Goals as goal
 
 pub returns-then-has_frame : goal.returns-then-has_frame
@@ -14,5 +14,6 @@ returns-then-has_frame c = record {
 
 pub returns-else-has_frame : goal.returns-else-has_frame
 returns-else-has_frame c =
-    fits_not c.args.self.now _ (λ s. nat_lt c.args.frame (length s.kernel.ram)) (with_shown_bytes c.args.frame c.args.bytes.now)
+    fits_not c.args.self.now _ (λ s. nat_lt c.args.frame (length s.kernel.ram))
+    (with_shown_bytes c.args.frame c.args.bytes.now)
     (λ console. sym c.if-has_frame.ensures) c.refuse.ensures

@@ -1,6 +1,7 @@
 use Rattle.std.proofs.Common.{sym}
 use Rattle.alone_views.specs.KernelStanding.{state_with}
-use Rattle.alone_views.proofs.KernelItems.{hart_there, step_over_ram, stepped_plainly}
+use Rattle.alone_views.proofs.KernelHarts.{hart_there}
+use Rattle.alone_views.proofs.KernelSteps.{step_over_ram, stepped_plainly}
 use Rattle.alone_views.proofs.kernel.KernelAlone.step_plainly.Goals as goal
 
 pub returns-clause-state : goal.returns-clause-state

@@ -2,7 +2,7 @@ use Rattle.std.proofs.Common.{length, refl, sym}
 use Rattle.cloak_model.specs.KernelAlone.{store_at}
 use Rattle.alone_views.specs.KernelChanges.{may_store}
 use Rattle.alone_views.specs.KernelStanding.{state_with}
-use Rattle.alone_views.proofs.KernelItems.{put_stored, fits_not}
+use Rattle.alone_views.proofs.KernelFits.{put_stored, fits_not}
 use Rattle.alone_views.proofs.kernel.KernelAlone.store.Goals as goal
 
 pub returns-then-may_store-clause-becomes : goal.returns-then-may_store-clause-becomes

@@ -5,8 +5,8 @@ use Rattle.alone_views.proofs.kernel.KernelAlone.take_fit.Goals as goal
 
 pub returns-in-Cipher-clause-gains : goal.returns-in-Cipher-clause-gains
 returns-in-Cipher-clause-gains g c turns s ranges stands =
-    takes_cipher g.E.Emit.gave c.args.e.now c.args.self.now _ turns s c.args.i.now _ _ c.in-Cipher.is c.take_cipher.ensures
-    stands
+    takes_cipher g.E.Emit.gave c.args.e.now c.args.self.now _ turns s c.args.i.now _ _ c.in-Cipher.is
+    c.take_cipher.ensures stands
 
 pub returns-in-Put-clause-gains : goal.returns-in-Put-clause-gains
 returns-in-Put-clause-gains g c turns s ranges stands =
@@ -15,7 +15,8 @@ returns-in-Put-clause-gains g c turns s ranges stands =
 
 pub returns-in-Leave-clause-gains : goal.returns-in-Leave-clause-gains
 returns-in-Leave-clause-gains g c turns s ranges stands =
-    takes_leave g.E.Emit.gave c.args.e.now c.args.self.now _ turns s c.args.i.now _ c.in-Leave.is c.take_leave.ensures stands
+    takes_leave g.E.Emit.gave c.args.e.now c.args.self.now _ turns s c.args.i.now _ c.in-Leave.is
+    c.take_leave.ensures stands
 
 pub returns-in-Step-clause-gains : goal.returns-in-Step-clause-gains
 returns-in-Step-clause-gains g c turns s ranges stands =

@@ -2,7 +2,7 @@ use Rattle.std.proofs.Common.{ap}
 use Rattle.cloak_model.specs.KernelAlone as model
 use Rattle.cloak_model.specs.KernelAlone.{take_leave}
 use Rattle.alone_views.specs.KernelPlaces.{stood_place}
-use Rattle.alone_views.proofs.KernelItems.{at_place}
+use Rattle.alone_views.proofs.KernelFits.{at_place}
 use Rattle.alone_views.proofs.kernel.KernelAlone.take_leave.Goals as goal
 
 pub returns-in-Inside : goal.returns-in-Inside

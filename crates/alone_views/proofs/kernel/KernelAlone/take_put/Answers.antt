@@ -2,20 +2,21 @@ use Rattle.std.proofs.Common.{ap}
 use Rattle.cloak_model.specs.KernelAlone as model
 use Rattle.cloak_model.specs.KernelAlone.{take_put}
 use Rattle.alone_views.specs.KernelPlaces.{stood_place}
-use Rattle.alone_views.proofs.KernelItems.{at_place}
+use Rattle.alone_views.proofs.KernelFits.{at_place}
 use Rattle.alone_views.proofs.kernel.KernelAlone.take_put.Goals as goal
 
 pub returns-in-Inside-clause-becomes : goal.returns-in-Inside-clause-becomes
 unfolding take_put
 returns-in-Inside-clause-becomes c width =
     at_place _ _ (model.Inside c.in-Inside.hart c.in-Inside.ctx)
-    (λ p. take_put p c.args.address c.args.width c.args.value) (ap stood_place c.in-Inside.is) (c.store.ensures.becomes width)
+    (λ p. take_put p c.args.address c.args.width c.args.value) (ap stood_place c.in-Inside.is)
+    (c.store.ensures.becomes width)
 
 pub returns-in-Between-clause-becomes : goal.returns-in-Between-clause-becomes
 unfolding take_put
 returns-in-Between-clause-becomes c width =
-    at_place _ _ model.Between (λ p. take_put p c.args.address c.args.width c.args.value) (ap stood_place c.in-Between.is)
-    c.refuse.ensures
+    at_place _ _ model.Between (λ p. take_put p c.args.address c.args.width c.args.value)
+    (ap stood_place c.in-Between.is) c.refuse.ensures
 
 pub returns-in-Outside-clause-becomes : goal.returns-in-Outside-clause-becomes
 unfolding take_put

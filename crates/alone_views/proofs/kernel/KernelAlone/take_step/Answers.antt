@@ -1,6 +1,6 @@
 use Rattle.std.proofs.Common.{◌∙◌, sym}
 use Rattle.alone_views.specs.KernelStanding.{state_with, schedule_of}
-use Rattle.alone_views.proofs.KernelItems.{step_halted, step_taken}
+use Rattle.alone_views.proofs.KernelSteps.{step_halted, step_taken}
 use Rattle.alone_views.proofs.kernel.KernelAlone.take_step.Goals as goal
 
 pub returns-then-self : goal.returns-then-self
@@ -11,8 +11,8 @@ returns c =
     let old = c.args.self.now in
     record {
       state = λ console. c.begin_step.ensures.state console
-          ∙ sym (step_taken (state_with old console) (schedule_of old) c.args.number c.hart_of-hart.result c.if-self.false
-          c.hart_of-hart.ensures.turn);
+          ∙ sym (step_taken (state_with old console) (schedule_of old) c.args.number c.hart_of-hart.result
+          c.if-self.false c.hart_of-hart.ensures.turn);
       console = c.begin_step.ensures.console;
       schedule = c.begin_step.ensures.schedule;
     }

@@ -1,0 +1,50 @@
+-- What single items make of a kernel that runs alone: where they stand, whether one fits, and what it does to RAM.
+use Rattle.std.proofs.Common.{◌≡◌, ℕ, nat_lt, Bool, true, false, List, length, slice_set, sym, ◌∙◌, ap}
+use Rattle.cloak_model.specs.KernelAlone as model
+use Rattle.cloak_model.specs.KernelAlone.{kernel_unfit, fits_if, show_cipher, with_shown_bytes, store_at}
+use Rattle.cloak_model.specs.Memory.{with_value_at}
+use Rattle.alone_views.specs.KernelPlaces.{stood_place}
+use Rattle.alone_views.specs.KernelChanges.{ChangesTo, may_store, store_or_unfit}
+use Rattle.alone_views.specs.KernelStanding.{state_with}
+use Rattle.alone_views.specs.declared.kernel.KernelAlone.{KernelAlone}
+
+-- the place is known
+pub at_place : (old new : KernelAlone) (place : model.KernelPlace)
+    (next : model.KernelPlace → model.KernelAlone → model.KernelAlone) → stood_place old.place ≡ place →
+    ChangesTo old new (next place) → ChangesTo old new (λ s. next s.place s)
+at_place old new place next is becomes = record {
+  state = λ console. becomes.state console ∙ ap (λ (p : model.KernelPlace). next p (state_with old console)) (sym is);
+  console = becomes.console;
+  schedule = becomes.schedule;
+}
+
+pub fits_not : (old new : KernelAlone) (test : model.KernelAlone → Bool)
+    (next : model.KernelAlone → model.KernelAlone) → ((console : List ℕ) → test (state_with old console) ≡ false) →
+    ChangesTo old new kernel_unfit →
+    ChangesTo old new (λ s. fits_if (test s) s (next s))
+fits_not old new test next is becomes = record {
+  state = λ console. becomes.state console
+      ∙ ap (λ (b : Bool). fits_if b (state_with old console) (next (state_with old console))) (sym (is console));
+  console = becomes.console;
+  schedule = becomes.schedule;
+}
+
+-- with another RAM
+abbrev pub with_ram : List (List ℕ) → model.KernelAlone → model.KernelAlone
+with_ram ram s = record s { kernel = record s.kernel { ram = ram } }
+
+-- the kernel is shown a frame
+pub cipher_shown : (s : model.KernelAlone) (f : ℕ) (bytes : List ℕ) (ram : List (List ℕ)) →
+    nat_lt f (length s.kernel.ram) ≡ true → ram ≡ slice_set s.kernel.ram f bytes →
+    show_cipher f bytes s ≡ with_ram ram s
+cipher_shown s f bytes ram there is =
+    ap (λ (b : Bool). fits_if b s (with_shown_bytes f bytes s)) there
+    ∙ ap (λ (r : List (List ℕ)). with_ram r s) (sym is)
+
+-- a value is stored
+pub put_stored : (s : model.KernelAlone) (address width value : ℕ) (ram : List (List ℕ)) →
+    may_store (length s.kernel.ram) address width ≡ true → ram ≡ with_value_at address width value s.kernel.ram →
+    store_or_unfit address width value s ≡ with_ram ram s
+put_stored s address width value ram may is =
+    ap (λ (b : Bool). fits_if b s (store_at address width value s)) may
+    ∙ ap (λ (r : List (List ℕ)). with_ram r s) (sym is)

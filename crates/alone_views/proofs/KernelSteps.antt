@@ -1,0 +1,90 @@
+-- The plain step of a hart, and the step of a number.
+use Rattle.std.proofs.Common.{◌≡◌, ◌-◌, ◌%◌, ℕ, Bool, true, false, List, length, slice_index, if◌then◌else◌, refl, sym, ◌∙◌, ap, subst}
+use Rattle.cloak_model.specs.Asking.{Told, Follows}
+use Rattle.cloak_model.specs.Hart.{Hart}
+use Rattle.cloak_model.specs.HostCalls.{After}
+use Rattle.cloak_model.specs.KernelAlone as model
+use Rattle.cloak_model.specs.KernelAlone.{kernel_hart, kernel_unfit, plain_step, take_kernel_step, kernel_step_begun, after_plain_step, has_halted}
+use Rattle.cloak_model.specs.KernelStep.{kernel_step}
+use Rattle.cloak_model.specs.World.{World, Flat}
+use Rattle.cloak_model.specs.declared.outcome.Kernel.{Kernel}
+use Rattle.cloak_model.proofs.Later.{unclashed_after_flat}
+use Rattle.step_parts.proofs.Same.{same_step}
+use Rattle.step_parts.proofs.StepLater.{later_step_in_parts}
+use Rattle.cloak_model.proofs.Later.{IsLater}
+use Rattle.alone_views.specs.KernelChanges.{ChangesTo}
+use Rattle.alone_views.specs.KernelStanding.{state_with}
+use Rattle.alone_views.specs.declared.kernel.KernelAlone.{KernelAlone}
+use Rattle.alone_views.specs.declared.kernel_ram.FlatRam.{FlatRam}
+
+-- what a step told, of this hart, disk and ending, and these frames
+abbrev pub told_of : Hart → List ℕ → Kernel → List (List ℕ) → Told After
+told_of h disk k ram = record { answer = record { hart = h; disk = disk; ending = k }; world = Flat ram }
+
+told_as : {A : Type 0} (told : Told A) (a : A) (w : World) → told.answer ≡ a → told.world ≡ w →
+    told ≡ record { answer = a; world = w }
+told_as told a w e f i = record { answer = e i; world = f i }
+
+later_kernel_step : (h : Hart) (disk : List ℕ) (w : World) → IsLater w (kernel_step h disk w).world
+later_kernel_step h disk w =
+    subst (λ (t : Told After). IsLater w t.world) (sym (same_step h disk w)) (later_step_in_parts h disk w)
+
+-- the step over frames without cloaked pages
+pub step_over_ram : (old new : FlatRam) (h h' : Hart) (disk disk' : List ℕ) (k : Kernel) →
+    Follows (λ (first side : FlatRam) w. w ≡ Flat side.frames.items) old new
+    (record { hart = h'; disk = disk'; ending = k }) (kernel_step h disk) →
+    kernel_step h disk (Flat old.frames.items) ≡ told_of h' disk' k new.frames.items
+step_over_ram old new h h' disk disk' k follows =
+    let followed = follows old (Flat old.frames.items) refl
+    (unclashed_after_flat old.frames.items _ (later_kernel_step h disk (Flat old.frames.items))) in
+    told_as _ _ _ (sym followed.answer) followed.stands
+
+pub stepped_plainly : (s : model.KernelAlone) (number : ℕ) (h h' : Hart) (disk : List ℕ) (k : Kernel)
+    (ram : List (List ℕ)) (halts : Bool) → kernel_hart s.kernel number ≡ h →
+    kernel_step h s.kernel.disk (Flat s.kernel.ram) ≡ told_of h' disk k ram → halts ≡ has_halted k →
+    plain_step number s ≡ record s {
+      kernel = after_plain_step s.kernel number (told_of h' disk k ram);
+      place = model.Between;
+      halted = halts;
+    }
+unfolding plain_step
+stepped_plainly s number h h' disk k ram halts is made halted =
+    ap (λ (told : Told After). let t : model.KernelAlone = record s {
+      kernel = after_plain_step s.kernel number told;
+      place = model.Between;
+      halted = has_halted told.answer.ending;
+    } in t) (ap (λ (x : Hart). kernel_step x s.kernel.disk (Flat s.kernel.ram)) is ∙ made)
+    ∙ ap (λ (b : Bool). let t : model.KernelAlone = record s {
+      kernel = after_plain_step s.kernel number (told_of h' disk k ram);
+      place = model.Between;
+      halted = b;
+    } in t) (sym halted)
+
+-- the hart of the step with this number
+abbrev turn_in : List ℕ → ℕ → ℕ
+turn_in schedule number = slice_index schedule ((number - 1) % length schedule)
+
+-- no step follows one that halted
+pub step_halted : (old new : KernelAlone) (schedule : List ℕ) (number : ℕ) → old.halted ≡ true →
+    ChangesTo old new kernel_unfit → ChangesTo old new (take_kernel_step schedule number)
+unfolding take_kernel_step
+step_halted old new schedule number halted becomes = record {
+  state = λ console. becomes.state console ∙ sym (unfit_then (state_with old console) halted);
+  console = becomes.console;
+  schedule = becomes.schedule;
+}
+  where
+    unfit_then : (s : model.KernelAlone) → s.halted ≡ true → take_kernel_step schedule number s ≡ kernel_unfit s
+    unfit_then s is = ap (λ (b : Bool). let t : model.KernelAlone = if b then kernel_unfit s
+        else kernel_step_begun (turn_in schedule number) (kernel_hart s.kernel (turn_in schedule number)).inside
+        (record s { steps = number }) in t) is
+
+pub step_taken : (s : model.KernelAlone) (schedule : List ℕ) (number hart : ℕ) → s.halted ≡ false →
+    hart ≡ turn_in schedule number → take_kernel_step schedule number s
+    ≡ kernel_step_begun hart (kernel_hart s.kernel hart).inside (record s { steps = number })
+unfolding take_kernel_step
+step_taken s schedule number hart on turn =
+    let begun : ℕ → model.KernelAlone =
+    λ h. kernel_step_begun h (kernel_hart s.kernel h).inside (record s { steps = number }) in
+    ap (λ (b : Bool). let t : model.KernelAlone = if b then kernel_unfit s else begun (turn_in schedule number) in t) on
+    ∙ ap begun (sym turn)
