@@ -1,5 +1,6 @@
 pub mod BundleFacts
 pub mod FaultFacts
 pub mod FileFacts
+pub mod PutFacts
 pub mod RefusalFacts
 pub mod Refused

@@ -7,6 +7,7 @@ use Rattle.cloak_model.specs.Exchange.{Piece, shown, Emits, shown_each}
 use Rattle.cloak_model.specs.Record.{IsItem}
 use Rattle.cloak_model.specs.KernelAlone as model
 use Rattle.cloak_model.specs.KernelAlone.{kernel_alone, kernel_taken, take_kernel_item, opened_kernel}
+use Rattle.cloak_model.specs.Opening.{started_kernel}
 use Rattle.alone_views.specs.declared.kernel.KernelAlone.{KernelAlone}
 use Rattle.alone_views.specs.declared.unfit.Unfit.{Unfit}
 use Rattle.alone_views.specs.KernelStanding.{StandsForKernel, TakesItem, answer_for}
@@ -46,7 +47,7 @@ at_front reader None front = tt
 pub kernel_opens : {E : Type 0} (gave : E → E → List Piece → Type 0) (e : E) (k : KernelImage) (machine : KernelAlone)
     (told : Option (List ℕ)) (reader : Reader) → StandsForKernel machine k.schedule (opened_kernel k) →
     ((bytes : List ℕ) → IsBehind reader bytes []) → KernelReads gave e e k machine told reader
-unfolding kernel_taken
+unfolding kernel_taken, started_kernel
 kernel_opens {E} gave e k machine told reader stands front = record {
   items = [];
   fits = refl;
@@ -59,6 +60,69 @@ kernel_opens {E} gave e k machine told reader stands front = record {
 -- one more item
 taken_more : (turns : List ℕ) (s : model.KernelAlone) (items : List Item) (i : Item) →
     kernel_taken turns s (items ++ i ∷ []) ≡ take_kernel_item turns (kernel_taken turns s items) i
-unfolding kernel_taken
+unfolding kernel_taken, started_kernel
 taken_more turns s [] i = refl
 taken_more turns s (x ∷ items) i = taken_more turns (take_kernel_item turns s x) items i
+
+-- An item was taken: the items so far, and what is now known of them.
+pub record KernelTook {E : Type 0} (gave : E → E → List Piece → Type 0) (e e' : E) (k : KernelImage)
+    (machine : KernelAlone) (told : Option (List ℕ)) (reader : Reader) (given : Result Unit Unfit) : Type 0 where
+  pub before : List Item
+  pub last : Item
+  pub fits : kernel_unfit k before ≡ None
+  pub answer : given ≡ answer_for (kernel_unfit k (before ++ last ∷ []))
+  pub stands : StandsForKernel machine k.schedule (kernel_alone k (before ++ last ∷ []))
+  pub behind : IfSome told (λ bytes. IsBehind reader (readable bytes) (before ++ last ∷ []))
+  pub shows : Emits gave e e' (shown_each (kernel_alone k (before ++ last ∷ [])).kernel.console)
+  pub few : length (kernel_alone k (before ++ last ∷ [])).kernel.console ≤ place_of reader
+
+shown_append : (a b : List ℕ) → shown_each (a ++ b) ≡ shown_each a ++ shown_each b
+shown_append a b = map-append (λ (x : ℕ). shown (x ∷ [])) a b
+
+pub kernel_takes_next : {E : Type 0} {gave : E → E → List Piece → Type 0} {e f h : E} {k : KernelImage}
+    {old new : KernelAlone} {told : Option (List ℕ)} {was now : Reader} (given : Result Unit Unfit) (i : Item) →
+    KernelReads gave e f k old told was → IsItem i →
+    ((turns : List ℕ) (s : model.KernelAlone) → IsItem i → StandsForKernel old turns s →
+    TakesItem gave f h new given turns s (take_kernel_item turns s i)) →
+    ((items : List Item) → IfSome told (λ bytes. IsBehind was (readable bytes) items) →
+    IfSome told (λ bytes. IsBehind now (readable bytes) (items ++ i ∷ []))) →
+    place_of was < place_of now → KernelTook gave e h k new told now given
+kernel_takes_next {E} {gave} {e} {f} {h} {k} {old} {new} {told} {was} {now} given i reads is takes next moved =
+    let took = takes k.schedule (kernel_alone k reads.items) is reads.stands in
+    let same = taken_more k.schedule (opened_kernel k) reads.items i in
+    let console : (kernel_alone k (reads.items ++ i ∷ [])).kernel.console ≡
+        (kernel_alone k reads.items).kernel.console ++ took.gains.more =
+    ap (λ (s : model.KernelAlone). s.kernel.console) same ∙ took.gains.console in
+    record {
+      before = reads.items;
+      last = i;
+      fits = reads.fits;
+      answer = took.answer ∙ ap (λ (s : model.KernelAlone). answer_for s.unfit) (sym same);
+      stands = subst (λ (s : model.KernelAlone). StandsForKernel new k.schedule s) (sym same) took.gains.stands;
+      behind = next reads.items reads.behind;
+      shows = subst (λ (l : List ℕ). Emits gave e h (shown_each l)) (sym console)
+          (subst (λ (ps : List Piece). Emits gave e h ps)
+          (sym (shown_append (kernel_alone k reads.items).kernel.console took.gains.more))
+          (emits_then reads.shows took.gains.emits));
+      few =
+          let long = ap (λ (l : List ℕ). length l) console
+          ∙ length-append (kernel_alone k reads.items).kernel.console took.gains.more in
+          let few = reads.few in let one = took.gains.at_most_one in omega (arith, long, few, one, moved);
+    }
+
+-- where it fits, reading goes on
+answer_fits : (u : Option ℕ) → Ok tt ≡ answer_for u → u ≡ None
+answer_fits None is = refl
+answer_fits (Some step) is = absurd (let clash : Ok tt ≡ Err (record { step = step }) = is in cc)
+
+pub kernel_goes_on : {E : Type 0} {gave : E → E → List Piece → Type 0} {e e' : E} {k : KernelImage}
+    {machine : KernelAlone} {told : Option (List ℕ)} {reader : Reader} (given : Result Unit Unfit) →
+    KernelTook gave e e' k machine told reader given → given ≡ Ok tt → KernelReads gave e e' k machine told reader
+kernel_goes_on {E} {gave} {e} {e'} {k} {machine} {told} {reader} given took ok = record {
+  items = took.before ++ took.last ∷ [];
+  fits = answer_fits _ (sym ok ∙ took.answer);
+  stands = took.stands;
+  behind = took.behind;
+  shows = took.shows;
+  few = took.few;
+}

@@ -1,1 +1,2 @@
 pub mod KernelReads
+pub mod ScreenFacts

@@ -261,20 +261,6 @@ pub Puts-parts : (old new : Option (List ℕ)) (before now : ℕ) (text : List �
 Puts-parts old new before now text (Ok u) puts = (puts.0, tt, puts.1)
 Puts-parts old new before now text (Err e) puts = (tt, puts.0, puts.1)
 
--- one byte that was put: it was taken, or nothing was
-
-pub put_one : (r : Result ℕ Failed) (old new : Option (List ℕ)) (b : ℕ) → IfOk r (λ n. n ≤ 1) →
-    IfOk r (λ n. 0 < 1 → 0 < n) → IfOk r (λ n. Grows old new (take n (b ∷ []))) → OnOk r (Grows old new (b ∷ []))
-put_one (Ok n) old new b within progress grows =
-    subst (λ (k : ℕ). Grows old new (take k (b ∷ [])))
-    (let some : 0 < n = progress (omega arith) in let e : n ≡ 1 = omega (arith, within, some) in e) grows
-put_one (Err e) old new b within progress grows = tt
-
-pub put_none : (r : Result ℕ Failed) (old new : Option (List ℕ)) (bytes : List ℕ) → OnErr r (new ≡ old) →
-    OnErr r (GrowsByFront old new bytes)
-put_none (Ok n) old new bytes same = tt
-put_none (Err e) old new bytes same = GrowsByFront-none old new bytes same
-
 -- A piece that was appended, before all is written out: it stays whole.
 
 pub flushed_whole : (r : Result Unit Failed) (old mid new : Option (List ℕ)) (piece : List ℕ) → Grows old mid piece →

@@ -1,5 +1,6 @@
 use Rattle.std.proofs.Common.{refl, [], ◌∷◌}
-use Rattle.run_command.proofs.OutletFacts.{emits_none, emits_shown, put_one, put_none}
+use Rattle.program_parts.proofs.PutFacts.{put_one, put_none}
+use Rattle.run_command.proofs.OutletFacts.{emits_none, emits_shown}
 use Rattle.run_command.proofs.outlet.OutletEmit.console.Goals as goal
 
 pub returns-then-self : goal.returns-then-self
