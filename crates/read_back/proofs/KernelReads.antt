@@ -47,7 +47,7 @@ at_front reader None front = tt
 pub kernel_opens : {E : Type 0} (gave : E → E → List Piece → Type 0) (e : E) (k : KernelImage) (machine : KernelAlone)
     (told : Option (List ℕ)) (reader : Reader) → StandsForKernel machine k.schedule (opened_kernel k) →
     ((bytes : List ℕ) → IsBehind reader bytes []) → KernelReads gave e e k machine told reader
-unfolding kernel_taken, started_kernel
+unfolding kernel_taken started_kernel
 kernel_opens {E} gave e k machine told reader stands front = record {
   items = [];
   fits = refl;
@@ -60,7 +60,7 @@ kernel_opens {E} gave e k machine told reader stands front = record {
 -- one more item
 taken_more : (turns : List ℕ) (s : model.KernelAlone) (items : List Item) (i : Item) →
     kernel_taken turns s (items ++ i ∷ []) ≡ take_kernel_item turns (kernel_taken turns s items) i
-unfolding kernel_taken, started_kernel
+unfolding kernel_taken started_kernel
 taken_more turns s [] i = refl
 taken_more turns s (x ∷ items) i = taken_more turns (take_kernel_item turns s x) items i
 
@@ -77,7 +77,8 @@ pub record KernelTook {E : Type 0} (gave : E → E → List Piece → Type 0) (e
   pub few : length (kernel_alone k (before ++ last ∷ [])).kernel.console ≤ place_of reader
 
 shown_append : (a b : List ℕ) → shown_each (a ++ b) ≡ shown_each a ++ shown_each b
-shown_append a b = map-append (λ (x : ℕ). shown (x ∷ [])) a b
+shown_append [] b = refl
+shown_append (x ∷ a) b = ap (λ (ps : List Piece). shown (x ∷ []) ∷ ps) (shown_append a b)
 
 pub kernel_takes_next : {E : Type 0} {gave : E → E → List Piece → Type 0} {e f h : E} {k : KernelImage}
     {old new : KernelAlone} {told : Option (List ℕ)} {was now : Reader} (given : Result Unit Unfit) (i : Item) →

@@ -1,2 +1,6 @@
+pub mod Answered
 pub mod KernelReads
+pub mod Lines
+pub mod ProgramReads
 pub mod ScreenFacts
+pub mod Shown

@@ -1,0 +1,104 @@
+-- A program that runs alone takes the items of a record, one after another.
+use Rattle.std.proofs.Common.{◌≡◌, ◌<◌, ◌≤◌, ◌+◌, ℕ, List, [], ◌∷◌, ◌++◌, length, Option, Some, None, IfSome, Result, Ok, Err, refl, sym, ap, subst, ◌∙◌, arith}
+use Rattle.cloak_model.specs.declared.image.KernelImage.{KernelImage}
+use Rattle.cloak_model.specs.declared.image.Program.{Program}
+use Rattle.cloak_model.specs.declared.item.Item.{Item}
+use Rattle.cloak_model.specs.DomainAlone as model
+use Rattle.cloak_model.specs.DomainAlone.{domain_alone, domain_taken, take_domain_item, opened_domain}
+use Rattle.cloak_model.specs.DomainState.{started_domain}
+use Rattle.alone_views.specs.declared.domain.DomainAlone.{DomainAlone}
+use Rattle.alone_views.specs.declared.unfit.Unfit.{Unfit}
+use Rattle.alone_views.specs.DomainStanding.{StandsForDomain, TakesDomainItem, answer_by}
+use Rattle.alone_views.proofs.DomainLoads.{few_taken}
+use Rattle.exchange_log.specs.Place.{IsBehind, place_of}
+use Rattle.exchange_log.specs.Reading.{readable}
+use Rattle.exchange_log.specs.declared.reader.Reader.{Reader}
+use Rattle.read_back.specs.Answering.{program_unfit}
+
+-- the loads that a program completed alone
+abbrev pub loads_in : ℕ → KernelImage → Program → List Item → ℕ
+loads_in d k p items = length (domain_alone d k.schedule p items).part.domain.loads
+
+-- no item that was read so far was unfit
+pub record ProgramReads (d : ℕ) (k : KernelImage) (p : Program) (machine : DomainAlone) (told : Option (List ℕ))
+    (reader : Reader) : Type 0 where
+  pub items : List Item
+  pub fits : program_unfit d k p items ≡ None
+  pub stands : StandsForDomain d k.schedule machine (domain_alone d k.schedule p items)
+  pub behind : IfSome told (λ bytes. IsBehind reader (readable bytes) items)
+  pub few : loads_in d k p items ≤ place_of reader
+
+at_front : (reader : Reader) (told : Option (List ℕ)) → ((bytes : List ℕ) → IsBehind reader bytes []) →
+    IfSome told (λ bytes. IsBehind reader (readable bytes) [])
+at_front reader (Some bytes) front = front (readable bytes)
+at_front reader None front = tt
+
+-- before the first item
+pub program_opens : (d : ℕ) (k : KernelImage) (p : Program) (machine : DomainAlone) (told : Option (List ℕ))
+    (reader : Reader) → StandsForDomain d k.schedule machine (opened_domain d p) →
+    ((bytes : List ℕ) → IsBehind reader bytes []) → ProgramReads d k p machine told reader
+unfolding domain_taken started_domain
+program_opens d k p machine told reader stands front = record {
+  items = [];
+  fits = refl;
+  stands = stands;
+  behind = at_front reader told front;
+  few = omega arith;
+}
+
+-- one more item
+taken_more : (d : ℕ) (turns : List ℕ) (s : model.DomainAlone) (items : List Item) (i : Item) →
+    domain_taken d turns s (items ++ i ∷ []) ≡ take_domain_item d turns (domain_taken d turns s items) i
+unfolding domain_taken
+taken_more d turns s [] i = refl
+taken_more d turns s (x ∷ items) i = taken_more d turns (take_domain_item d turns s x) items i
+
+-- An item was taken: the items so far, and what is now known of them.
+pub record ProgramTook (d : ℕ) (k : KernelImage) (p : Program) (machine : DomainAlone) (told : Option (List ℕ))
+    (reader : Reader) (given : Result Unit Unfit) : Type 0 where
+  pub before : List Item
+  pub last : Item
+  pub fits : program_unfit d k p before ≡ None
+  pub answer : given ≡ answer_by (program_unfit d k p (before ++ last ∷ []))
+  pub stands : StandsForDomain d k.schedule machine (domain_alone d k.schedule p (before ++ last ∷ []))
+  pub behind : IfSome told (λ bytes. IsBehind reader (readable bytes) (before ++ last ∷ []))
+  pub few : loads_in d k p (before ++ last ∷ []) ≤ place_of reader
+
+pub program_takes_next : {d : ℕ} {k : KernelImage} {p : Program} {old new : DomainAlone} {told : Option (List ℕ)}
+    {was now : Reader} (given : Result Unit Unfit) (i : Item) → ProgramReads d k p old told was →
+    ((number : ℕ) (turns : List ℕ) (s : model.DomainAlone) → StandsForDomain number turns old s →
+    TakesDomainItem number turns new given (take_domain_item number turns s i)) →
+    ((items : List Item) → IfSome told (λ bytes. IsBehind was (readable bytes) items) →
+    IfSome told (λ bytes. IsBehind now (readable bytes) (items ++ i ∷ []))) →
+    place_of was < place_of now → ProgramTook d k p new told now given
+program_takes_next {d} {k} {p} {old} {new} {told} {was} {now} given i reads takes next moved =
+    let took = takes d k.schedule (domain_alone d k.schedule p reads.items) reads.stands in
+    let same = taken_more d k.schedule (opened_domain d p) reads.items i in
+    record {
+      before = reads.items;
+      last = i;
+      fits = reads.fits;
+      answer = took.answer ∙ ap (λ (s : model.DomainAlone). answer_by s.unfit) (sym same);
+      stands = subst (λ (s : model.DomainAlone). StandsForDomain d k.schedule new s) (sym same) took.stands;
+      behind = next reads.items reads.behind;
+      few =
+          let long = ap (λ (s : model.DomainAlone). length s.part.domain.loads) same in
+          let one = few_taken d k.schedule (domain_alone d k.schedule p reads.items) i in
+          let few = reads.few in omega (arith, long, one, few, moved);
+    }
+
+answer_fits : (u : Option ℕ) → Ok tt ≡ answer_by u → u ≡ None
+answer_fits None is = refl
+answer_fits (Some step) is = absurd (let clash : Ok tt ≡ Err (record { step = step }) = is in cc)
+
+-- where it fits, reading goes on
+pub program_goes_on : {d : ℕ} {k : KernelImage} {p : Program} {machine : DomainAlone} {told : Option (List ℕ)}
+    {reader : Reader} (given : Result Unit Unfit) → ProgramTook d k p machine told reader given → given ≡ Ok tt →
+    ProgramReads d k p machine told reader
+program_goes_on {d} {k} {p} {machine} {told} {reader} given took ok = record {
+  items = took.before ++ took.last ∷ [];
+  fits = answer_fits _ (sym ok ∙ took.answer);
+  stands = took.stands;
+  behind = took.behind;
+  few = took.few;
+}

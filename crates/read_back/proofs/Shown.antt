@@ -1,0 +1,189 @@
+-- What was shown of a record that was read back.
+use Rattle.std.proofs.Common.{◌≡◌, ◌<◌, ◌-◌, ◌^◌, ℕ, Bool, true, false, List, [], ◌∷◌, ◌++◌, codes, Option, Some, None, Result, Ok, Err, refl, sym, ap, subst, ◌∙◌, inl, inr}
+use Rattle.cloak_base.specs.declared.causes.Failed.{Failed}
+use Rattle.outside_io.specs.Told.{Grows, GrowsByFront, Rose, Puts}
+use Rattle.outside_io.proofs.ToldFacts.{Grows-none, Grows-append, GrowsByFront-append, GrowsByFront-first, Rose-after}
+use Rattle.cloak_model.specs.declared.image.KernelImage.{KernelImage}
+use Rattle.cloak_model.specs.declared.image.Program.{Program}
+use Rattle.cloak_model.specs.declared.item.Item.{Item}
+use Rattle.cloak_model.specs.Exchange.{Piece, shown, shown_each, shown_bytes, Emits}
+use Rattle.cloak_model.specs.DomainAlone.{domain_alone}
+use Rattle.cloak_model.specs.DomainState.{domain_line}
+use Rattle.cloak_model.specs.KernelAlone.{kernel_alone}
+use Rattle.cloak_model.specs.Parts.{KernelPart}
+use Rattle.cloak_model.specs.Report.{kernel_lines}
+use Rattle.alone_views.specs.declared.domain.DomainAlone.{DomainAlone}
+use Rattle.alone_views.specs.declared.kernel.KernelAlone.{KernelAlone}
+use Rattle.program_parts.specs.declared.status.Status.{Status}
+use Rattle.program_parts.specs.declared.status.Status.TheVariants as status
+use Rattle.program_parts.specs.Outside.{Outside, outside}
+use Rattle.read_back.specs.Answering.{kernel_unfit, kernel_text, program_unfit, program_text}
+use Rattle.read_back.specs.Reading.{status_of_ending, IsReadTo, ShowsRecord}
+use Rattle.read_back.specs.Screen.{ShowsText, GaveScreen}
+use Rattle.read_back.specs.Text.{lines_or_fault, view_text}
+use Rattle.read_back.specs.Viewing.{ViewsTo, SolosTo}
+use Rattle.read_back.specs.declared.ending.Ending.{Ending}
+use Rattle.read_back.specs.declared.screen.Screen.{Screen}
+
+-- The console that a screen shows.
+
+each_shown : (bytes : List ℕ) → shown_bytes (shown_each bytes) ≡ bytes
+each_shown [] = refl
+each_shown (b ∷ bytes) = ap (λ (l : List ℕ). b ∷ l) (each_shown bytes)
+
+shows_nothing : (failed : Bool) (a : Option (List ℕ)) (m : ℕ) → failed ≡ false → ShowsText failed a a m m []
+shows_nothing false a m fresh = (Grows-none a, refl)
+shows_nothing true a m fresh = absurd (let clash : true ≡ false = fresh in cc)
+
+-- what a screen that was whole was given since
+screen_shows : {O : Type 0} (taken : O → Option (List ℕ)) (faults : O → ℕ) (first now : Screen O) (bytes : List ℕ) →
+    first.failed ≡ false → Emits (GaveScreen taken faults) first now (shown_each bytes) →
+    ShowsText now.failed (taken first.out.now) (taken now.out.now) (faults first.out.now) (faults now.out.now) bytes
+screen_shows {O} taken faults first now bytes fresh emits =
+    let start : GaveScreen taken faults first first [] = record {
+      output = refl;
+      text = λ is. shows_nothing first.failed (taken first.out.now) (faults first.out.now) is;
+    } in
+    subst (λ (l : List ℕ). ShowsText now.failed (taken first.out.now) (taken now.out.now) (faults first.out.now)
+    (faults now.out.now) l) (each_shown bytes) ((emits.more first [] start).text fresh)
+
+-- Where it did not fail, and where it did.
+
+text_whole : (failed : Bool) {a b : Option (List ℕ)} {m n : ℕ} {text : List ℕ} → failed ≡ false →
+    ShowsText failed a b m n text → Grows a b text × (n ≡ m)
+text_whole false well shows = shows
+text_whole true well shows = absurd (let clash : true ≡ false = well in cc)
+
+text_front : (failed : Bool) {a b : Option (List ℕ)} {m n : ℕ} {text : List ℕ} → failed ≡ true →
+    ShowsText failed a b m n text → GrowsByFront a b text × Rose m n
+text_front true ill shows = shows
+text_front false ill shows = absurd (let clash : false ≡ true = ill in cc)
+
+-- the console is the front of all that is shown
+view_front : (a b : Option (List ℕ)) (k : KernelPart) (ended : Option Ending) → GrowsByFront a b k.console →
+    GrowsByFront a b (view_text k ended)
+view_front a b k None front = front
+view_front a b k (Some ended) front =
+    GrowsByFront-first a b k.console (codes "\n" ++ lines_or_fault (kernel_lines k) ended) front
+
+-- `view`: the screen failed
+pub view_broke : {S O : Type 0} {held : S → List ℕ → Option (List ℕ)} {reading writing : S → ℕ}
+    {taken : O → Option (List ℕ)} {faults : O → ℕ} {k : KernelImage} {machine : KernelAlone} {first now : Screen O}
+    {name : List ℕ} {s s' : S} {o o' : O} {ended : Option Ending} →
+    ViewsTo (GaveScreen taken faults) first now k machine (held s name) (reading s) (reading s') ended →
+    first.failed ≡ false → now.failed ≡ true → first.out.now ≡ o → o' ≡ now.out.now →
+    ShowsRecord (kernel_unfit k) (kernel_text k) name status.WriteFault (outside held reading writing taken faults s o)
+    (outside held reading writing taken faults s' o')
+view_broke {S} {O} {held} {reading} {writing} {taken} {faults} {k} {machine} {first} {now} {name} {s} {s'} {o} {o'}
+    {ended} views fresh broken same_first same_now =
+    let console = (kernel_alone k views.items).kernel.console in
+    let front = text_front now.failed broken (screen_shows taken faults first now console fresh views.shows) in
+    let shown : GrowsByFront (taken o) (taken o') console =
+    subst (λ (x : O). GrowsByFront (taken x) (taken o') console) same_first
+    (subst (λ (x : O). GrowsByFront (taken first.out.now) (taken x) console) (sym same_now) front.0) in
+    let rose : Rose (faults o) (faults o') =
+    subst (λ (x : O). Rose (faults x) (faults o')) same_first
+    (subst (λ (x : O). Rose (faults first.out.now) (faults x)) (sym same_now) front.1) in
+    inr (refl, record {
+      items = views.items;
+      ended = ended;
+      read = views.read;
+      shown = view_front (taken o) (taken o') (kernel_alone k views.items).kernel ended shown;
+      faults = rose;
+    })
+
+-- `view`: the console was shown, and then the end
+pub view_whole : {S O : Type 0} {held : S → List ℕ → Option (List ℕ)} {reading writing : S → ℕ}
+    {taken : O → Option (List ℕ)} {faults : O → ℕ} {k : KernelImage} {machine : KernelAlone} {first now : Screen O}
+    {name : List ℕ} {s s' : S} {o mid : O} {ended : Ending} {given : Status} {u : Unit} (o' : O) →
+    (views : ViewsTo (GaveScreen taken faults) first now k machine (held s name) (reading s) (reading s') (Some ended)) →
+    first.failed ≡ false → now.failed ≡ false → first.out.now ≡ o → mid ≡ now.out.now →
+    Puts (taken mid) (taken o') (faults mid) (faults o')
+    (codes "\n" ++ lines_or_fault (kernel_lines (kernel_alone k views.items).kernel) ended) (Ok u) →
+    given ≡ status_of_ending ended →
+    ShowsRecord (kernel_unfit k) (kernel_text k) name given (outside held reading writing taken faults s o)
+    (outside held reading writing taken faults s' o')
+view_whole {S} {O} {held} {reading} {writing} {taken} {faults} {k} {machine} {first} {now} {name} {s} {s'} {o} {mid}
+    {ended} {given} {u} o' views fresh well same_first same_now puts answer =
+    let console = (kernel_alone k views.items).kernel.console in
+    let end = codes "\n" ++ lines_or_fault (kernel_lines (kernel_alone k views.items).kernel) ended in
+    let whole = text_whole now.failed well (screen_shows taken faults first now console fresh views.shows) in
+    let shown : Grows (taken o) (taken mid) console =
+    subst (λ (x : O). Grows (taken x) (taken mid) console) same_first
+    (subst (λ (x : O). Grows (taken first.out.now) (taken x) console) (sym same_now) whole.0) in
+    let same : faults mid ≡ faults o = ap faults same_now ∙ (whole.1 ∙ ap faults same_first) in
+    inl (record {
+      items = views.items;
+      ended = ended;
+      status = answer;
+      read = views.read;
+      shown = Grows-append (taken o) (taken mid) (taken o') console end shown puts.0;
+      faults = puts.1 ∙ same;
+    })
+
+-- `view`: the console was shown, and then a front of the end
+pub view_cut : {S O : Type 0} {held : S → List ℕ → Option (List ℕ)} {reading writing : S → ℕ}
+    {taken : O → Option (List ℕ)} {faults : O → ℕ} {k : KernelImage} {machine : KernelAlone} {first now : Screen O}
+    {name : List ℕ} {s s' : S} {o mid : O} {ended : Ending} {e : Failed} (o' : O) →
+    (views : ViewsTo (GaveScreen taken faults) first now k machine (held s name) (reading s) (reading s') (Some ended)) →
+    first.failed ≡ false → now.failed ≡ false → first.out.now ≡ o → mid ≡ now.out.now →
+    Puts (taken mid) (taken o') (faults mid) (faults o')
+    (codes "\n" ++ lines_or_fault (kernel_lines (kernel_alone k views.items).kernel) ended) (Err e) →
+    ShowsRecord (kernel_unfit k) (kernel_text k) name status.WriteFault (outside held reading writing taken faults s o)
+    (outside held reading writing taken faults s' o')
+view_cut {S} {O} {held} {reading} {writing} {taken} {faults} {k} {machine} {first} {now} {name} {s} {s'} {o} {mid}
+    {ended} {e} o' views fresh well same_first same_now puts =
+    let console = (kernel_alone k views.items).kernel.console in
+    let end = codes "\n" ++ lines_or_fault (kernel_lines (kernel_alone k views.items).kernel) ended in
+    let whole = text_whole now.failed well (screen_shows taken faults first now console fresh views.shows) in
+    let shown : Grows (taken o) (taken mid) console =
+    subst (λ (x : O). Grows (taken x) (taken mid) console) same_first
+    (subst (λ (x : O). Grows (taken first.out.now) (taken x) console) (sym same_now) whole.0) in
+    let same : faults mid ≡ faults o = ap faults same_now ∙ (whole.1 ∙ ap faults same_first) in
+    inr (refl, record {
+      items = views.items;
+      ended = Some ended;
+      read = views.read;
+      shown = GrowsByFront-append (taken o) (taken mid) (taken o') console end shown puts.0;
+      faults = Rose-after (faults o) (faults mid) (faults o') same puts.1;
+    })
+
+-- `solo`
+
+pub solo_whole : {S O : Type 0} {held : S → List ℕ → Option (List ℕ)} {reading writing : S → ℕ}
+    {taken : O → Option (List ℕ)} {faults : O → ℕ} {d : ℕ} {k : KernelImage} {p : Program} {machine : DomainAlone}
+    {name : List ℕ} {s s' : S} {ended : Ending} {given : Status} {u : Unit} (o o' : O) →
+    (solos : SolosTo d k p machine (held s name) (reading s) (reading s') (Some ended)) →
+    Puts (taken o) (taken o') (faults o) (faults o')
+    (lines_or_fault (domain_line (domain_alone d k.schedule p solos.items).part.domain) ended) (Ok u) →
+    given ≡ status_of_ending ended →
+    ShowsRecord (program_unfit d k p) (program_text d k p) name given (outside held reading writing taken faults s o)
+    (outside held reading writing taken faults s' o')
+solo_whole {S} {O} {held} {reading} {writing} {taken} {faults} {d} {k} {p} {machine} {name} {s} {s'} {ended} {given} {u}
+    o o' solos puts answer =
+    inl (record {
+      items = solos.items;
+      ended = ended;
+      status = answer;
+      read = solos.read;
+      shown = puts.0;
+      faults = puts.1;
+    })
+
+pub solo_cut : {S O : Type 0} {held : S → List ℕ → Option (List ℕ)} {reading writing : S → ℕ}
+    {taken : O → Option (List ℕ)} {faults : O → ℕ} {d : ℕ} {k : KernelImage} {p : Program} {machine : DomainAlone}
+    {name : List ℕ} {s s' : S} {ended : Ending} {e : Failed} (o o' : O) →
+    (solos : SolosTo d k p machine (held s name) (reading s) (reading s') (Some ended)) →
+    Puts (taken o) (taken o') (faults o) (faults o')
+    (lines_or_fault (domain_line (domain_alone d k.schedule p solos.items).part.domain) ended) (Err e) →
+    ShowsRecord (program_unfit d k p) (program_text d k p) name status.WriteFault
+    (outside held reading writing taken faults s o) (outside held reading writing taken faults s' o')
+solo_cut {S} {O} {held} {reading} {writing} {taken} {faults} {d} {k} {p} {machine} {name} {s} {s'} {ended} {e} o o' solos
+    puts =
+    inr (refl, record {
+      items = solos.items;
+      ended = Some ended;
+      read = solos.read;
+      shown = puts.0;
+      faults = puts.1;
+    })
