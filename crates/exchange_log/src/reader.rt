@@ -1,5 +1,5 @@
 //! The reader of a record.
-ghost use Rattle.std.specs.Prelude.{◌≡◌, ◌<◌, ℕ, List, [], IfOk, IfSome, OnErr};
+ghost use Rattle.std.specs.Prelude.{◌≡◌, ◌<◌, ◌^◌, ℕ, List, [], IfOk, IfSome, OnErr};
 ghost use Rattle.outside_io.specs.Told.{SameFiles};
 ghost use Rattle.cloak_model.specs.declared.item.Item.{Item};
 ghost use Rattle.cloak_model.specs.Record.{IsItem};
@@ -30,6 +30,7 @@ impl<'a> Reader<'a> {
     pub fn open(name: &'a str) -> Reader<'a>
         ensures front { (bytes : List ℕ) → StandsBehind result.at result.stage bytes [] }
         ensures name { result.name.now ≡ name.now }
+        ensures start { place_of result ≡ 0 }
     {
         Reader {
             name,
@@ -45,6 +46,7 @@ impl<'a> Reader<'a> {
             ReadsNext (readable bytes) front self.new.at self.new.stage result) }
         ensures item { IfOk result (λ found. IfSome found IsItem) }
         ensures moves { IfOk result (λ found. IfSome found (λ i. place_of self.old < place_of self.new)) }
+        ensures within { place_of self.new < 2 ^ 64 }
         ensures same { self.new.name ≡ self.old.name }
         ensures unchanged { OnErr result (self.new ≡ self.old) }
         ensures files { SameFiles (S.held shelf.old) (S.held shelf.new) }

@@ -1,5 +1,5 @@
 -- A kernel that runs alone takes the items of a record, one after another.
-use Rattle.std.proofs.Common.{◌≡◌, ◌<◌, ◌≤◌, ◌+◌, ℕ, List, [], ◌∷◌, ◌++◌, length, map, Option, Some, None, IfSome, Result, Ok, Err, refl, sym, ap, subst, ◌∙◌, inl, inr, arith, length-append}
+use Rattle.std.proofs.Common.{◌≡◌, ◌<◌, ◌≤◌, ◌+◌, ◌^◌, ℕ, Bool, true, false, List, [], ◌∷◌, ◌++◌, length, map, Option, Some, None, IfSome, Result, Ok, Err, refl, sym, ap, subst, ◌∙◌, inl, inr, arith, length-append}
 use Rattle.std.proofs.Common.{append-nil, append_assoc}
 use Rattle.cloak_model.specs.declared.image.KernelImage.{KernelImage}
 use Rattle.cloak_model.specs.declared.item.Item.{Item}
@@ -14,7 +14,15 @@ use Rattle.alone_views.specs.KernelStanding.{StandsForKernel, TakesItem, answer_
 use Rattle.exchange_log.specs.Place.{IsBehind, place_of}
 use Rattle.exchange_log.specs.Reading.{readable}
 use Rattle.exchange_log.specs.declared.reader.Reader.{Reader}
+use Rattle.outside_io.proofs.ToldFacts.{Grows-none}
 use Rattle.read_back.specs.Answering.{kernel_unfit}
+use Rattle.read_back.specs.Reading.{IsReadTo}
+use Rattle.read_back.specs.Screen.{GaveScreen, ShowsText}
+use Rattle.read_back.specs.Viewing.{ViewsTo}
+use Rattle.read_back.specs.declared.ending.Ending.{Ending}
+use Rattle.read_back.specs.declared.ending.Ending.TheVariants as ending
+use Rattle.read_back.specs.declared.screen.Screen.{Screen}
+use Rattle.read_back.proofs.NextItem.{told_begins}
 
 -- no item that was read so far was unfit
 pub record KernelReads {E : Type 0} (gave : E → E → List Piece → Type 0) (e e' : E) (k : KernelImage)
@@ -127,3 +135,59 @@ kernel_goes_on {E} {gave} {e} {e'} {k} {machine} {told} {reader} given took ok =
   shows = took.shows;
   few = took.few;
 }
+
+-- where it does not, reading ends there
+answer_unfits : (u : Option ℕ) (f : Unfit) → Err f ≡ answer_for u → u ≡ Some f.step
+answer_unfits None f is = absurd (let clash : Err f ≡ Ok tt = is in cc)
+answer_unfits (Some step) f is = ap (λ (s : ℕ). Some s) (sym (ap (λ (r : Result Unit Unfit). step_told r) is))
+  where
+    step_told : Result Unit Unfit → ℕ
+    step_told (Ok u) = 0
+    step_told (Err f) = f.step
+
+pub kernel_unfits : {E : Type 0} {gave : E → E → List Piece → Type 0} {e e' : E} {k : KernelImage}
+    {machine : KernelAlone} {told : Option (List ℕ)} {reader : Reader} {m n : ℕ} (given : Result Unit Unfit) (f : Unfit) →
+    KernelTook gave e e' k machine told reader given → given ≡ Err f → place_of reader < 2 ^ 64 → n ≡ m →
+    ViewsTo gave e e' k machine told m n (Some (ending.Unfit f.step))
+kernel_unfits {E} {gave} {e} {e'} {k} {machine} {told} {reader} {m} {n} given f took is low same = record {
+  items = took.before ++ took.last ∷ [];
+  read = record {
+    fits = record {
+      before = took.before;
+      last = took.last;
+      order = refl;
+      fit = took.fits;
+      is_unfit = answer_unfits _ f (sym is ∙ took.answer);
+    };
+    file = told_begins told reader (took.before ++ took.last ∷ []) took.behind;
+    counts = same;
+  };
+  stands = took.stands;
+  shows = took.shows;
+  few = let few = took.few in omega (arith, few, low);
+}
+
+pub kernel_ends : {E : Type 0} {gave : E → E → List Piece → Type 0} {e e' : E} {k : KernelImage}
+    {machine : KernelAlone} {told : Option (List ℕ)} {reader : Reader} {m n : ℕ} {ended : Option Ending}
+    (reads : KernelReads gave e e' k machine told reader) → IsReadTo (kernel_unfit k) told m n reads.items ended →
+    place_of reader < 2 ^ 64 → ViewsTo gave e e' k machine told m n ended
+kernel_ends {E} {gave} {e} {e'} {k} {machine} {told} {reader} {m} {n} {ended} reads read low = record {
+  items = reads.items;
+  read = read;
+  stands = reads.stands;
+  shows = reads.shows;
+  few = let few = reads.few in omega (arith, few, low);
+}
+
+-- a screen shows on the same output
+pub same_screen : {O : Type 0} {taken : O → Option (List ℕ)} {faults : O → ℕ} {old new : Screen O} {pieces : List Piece} →
+    Emits (GaveScreen taken faults) old new pieces → new.out.ghost_name ≡ old.out.ghost_name
+same_screen {O} {taken} {faults} {old} {new} {pieces} emits = (emits.more old [] (record {
+  output = refl;
+  text = λ fresh. start old.failed fresh;
+})).output
+  where
+    start : (failed : Bool) → failed ≡ false →
+        ShowsText failed (taken old.out.now) (taken old.out.now) (faults old.out.now) (faults old.out.now) []
+    start false fresh = (Grows-none (taken old.out.now), refl)
+    start true fresh = absurd (let clash : true ≡ false = fresh in cc)

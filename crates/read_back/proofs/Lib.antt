@@ -1,6 +1,7 @@
 pub mod Answered
 pub mod KernelReads
 pub mod Lines
+pub mod NextItem
 pub mod ProgramReads
 pub mod ScreenFacts
 pub mod Shown

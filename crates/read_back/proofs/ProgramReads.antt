@@ -1,5 +1,5 @@
 -- A program that runs alone takes the items of a record, one after another.
-use Rattle.std.proofs.Common.{◌≡◌, ◌<◌, ◌≤◌, ◌+◌, ℕ, List, [], ◌∷◌, ◌++◌, length, Option, Some, None, IfSome, Result, Ok, Err, refl, sym, ap, subst, ◌∙◌, arith}
+use Rattle.std.proofs.Common.{◌≡◌, ◌<◌, ◌≤◌, ◌+◌, ◌^◌, ℕ, List, [], ◌∷◌, ◌++◌, length, Option, Some, None, IfSome, Result, Ok, Err, refl, sym, ap, subst, ◌∙◌, arith}
 use Rattle.cloak_model.specs.declared.image.KernelImage.{KernelImage}
 use Rattle.cloak_model.specs.declared.image.Program.{Program}
 use Rattle.cloak_model.specs.declared.item.Item.{Item}
@@ -14,6 +14,11 @@ use Rattle.exchange_log.specs.Place.{IsBehind, place_of}
 use Rattle.exchange_log.specs.Reading.{readable}
 use Rattle.exchange_log.specs.declared.reader.Reader.{Reader}
 use Rattle.read_back.specs.Answering.{program_unfit}
+use Rattle.read_back.specs.Reading.{IsReadTo}
+use Rattle.read_back.specs.Viewing.{SolosTo}
+use Rattle.read_back.specs.declared.ending.Ending.{Ending}
+use Rattle.read_back.specs.declared.ending.Ending.TheVariants as ending
+use Rattle.read_back.proofs.NextItem.{told_begins}
 
 -- the loads that a program completed alone
 abbrev pub loads_in : ℕ → KernelImage → Program → List Item → ℕ
@@ -101,4 +106,45 @@ program_goes_on {d} {k} {p} {machine} {told} {reader} given took ok = record {
   stands = took.stands;
   behind = took.behind;
   few = took.few;
+}
+
+-- where it does not, reading ends there
+answer_unfits : (u : Option ℕ) (f : Unfit) → Err f ≡ answer_by u → u ≡ Some f.step
+answer_unfits None f is = absurd (let clash : Err f ≡ Ok tt = is in cc)
+answer_unfits (Some step) f is = ap (λ (s : ℕ). Some s) (sym (ap (λ (r : Result Unit Unfit). step_told r) is))
+  where
+    step_told : Result Unit Unfit → ℕ
+    step_told (Ok u) = 0
+    step_told (Err f) = f.step
+
+pub program_unfits : {d : ℕ} {k : KernelImage} {p : Program} {machine : DomainAlone} {told : Option (List ℕ)}
+    {reader : Reader} {m n : ℕ} (given : Result Unit Unfit) (f : Unfit) →
+    ProgramTook d k p machine told reader given → given ≡ Err f → place_of reader < 2 ^ 64 → n ≡ m →
+    SolosTo d k p machine told m n (Some (ending.Unfit f.step))
+program_unfits {d} {k} {p} {machine} {told} {reader} {m} {n} given f took is low same = record {
+  items = took.before ++ took.last ∷ [];
+  read = record {
+    fits = record {
+      before = took.before;
+      last = took.last;
+      order = refl;
+      fit = took.fits;
+      is_unfit = answer_unfits _ f (sym is ∙ took.answer);
+    };
+    file = told_begins told reader (took.before ++ took.last ∷ []) took.behind;
+    counts = same;
+  };
+  stands = took.stands;
+  few = let few = took.few in omega (arith, few, low);
+}
+
+pub program_ends : {d : ℕ} {k : KernelImage} {p : Program} {machine : DomainAlone} {told : Option (List ℕ)}
+    {reader : Reader} {m n : ℕ} {ended : Ending} (reads : ProgramReads d k p machine told reader) →
+    IsReadTo (program_unfit d k p) told m n reads.items (Some ended) → place_of reader < 2 ^ 64 →
+    SolosTo d k p machine told m n (Some ended)
+program_ends {d} {k} {p} {machine} {told} {reader} {m} {n} {ended} reads read low = record {
+  items = reads.items;
+  read = read;
+  stands = reads.stands;
+  few = let few = reads.few in omega (arith, few, low);
 }

@@ -49,15 +49,15 @@ screen_shows {O} taken faults first now bytes fresh emits =
 
 -- Where it did not fail, and where it did.
 
-text_whole : (failed : Bool) {a b : Option (List ℕ)} {m n : ℕ} {text : List ℕ} → failed ≡ false →
+text_whole : (failed : Bool) (a b : Option (List ℕ)) (m n : ℕ) (text : List ℕ) → failed ≡ false →
     ShowsText failed a b m n text → Grows a b text × (n ≡ m)
-text_whole false well shows = shows
-text_whole true well shows = absurd (let clash : true ≡ false = well in cc)
+text_whole false a b m n text well shows = shows
+text_whole true a b m n text well shows = absurd (let clash : true ≡ false = well in cc)
 
-text_front : (failed : Bool) {a b : Option (List ℕ)} {m n : ℕ} {text : List ℕ} → failed ≡ true →
+text_front : (failed : Bool) (a b : Option (List ℕ)) (m n : ℕ) (text : List ℕ) → failed ≡ true →
     ShowsText failed a b m n text → GrowsByFront a b text × Rose m n
-text_front true ill shows = shows
-text_front false ill shows = absurd (let clash : false ≡ true = ill in cc)
+text_front true a b m n text ill shows = shows
+text_front false a b m n text ill shows = absurd (let clash : false ≡ true = ill in cc)
 
 -- the console is the front of all that is shown
 view_front : (a b : Option (List ℕ)) (k : KernelPart) (ended : Option Ending) → GrowsByFront a b k.console →
@@ -67,17 +67,17 @@ view_front a b k (Some ended) front =
     GrowsByFront-first a b k.console (codes "\n" ++ lines_or_fault (kernel_lines k) ended) front
 
 -- `view`: the screen failed
-pub view_broke : {S O : Type 0} {held : S → List ℕ → Option (List ℕ)} {reading writing : S → ℕ}
-    {taken : O → Option (List ℕ)} {faults : O → ℕ} {k : KernelImage} {machine : KernelAlone} {first now : Screen O}
+pub view_broke : {S O : Type 0} (held : S → List ℕ → Option (List ℕ)) (reading writing : S → ℕ)
+    (taken : O → Option (List ℕ)) (faults : O → ℕ) {k : KernelImage} {machine : KernelAlone} {first now : Screen O}
     {name : List ℕ} {s s' : S} {o o' : O} {ended : Option Ending} →
     ViewsTo (GaveScreen taken faults) first now k machine (held s name) (reading s) (reading s') ended →
     first.failed ≡ false → now.failed ≡ true → first.out.now ≡ o → o' ≡ now.out.now →
     ShowsRecord (kernel_unfit k) (kernel_text k) name status.WriteFault (outside held reading writing taken faults s o)
     (outside held reading writing taken faults s' o')
-view_broke {S} {O} {held} {reading} {writing} {taken} {faults} {k} {machine} {first} {now} {name} {s} {s'} {o} {o'}
+view_broke {S} {O} held reading writing taken faults {k} {machine} {first} {now} {name} {s} {s'} {o} {o'}
     {ended} views fresh broken same_first same_now =
     let console = (kernel_alone k views.items).kernel.console in
-    let front = text_front now.failed broken (screen_shows taken faults first now console fresh views.shows) in
+    let front = text_front now.failed _ _ _ _ console broken (screen_shows taken faults first now console fresh views.shows) in
     let shown : GrowsByFront (taken o) (taken o') console =
     subst (λ (x : O). GrowsByFront (taken x) (taken o') console) same_first
     (subst (λ (x : O). GrowsByFront (taken first.out.now) (taken x) console) (sym same_now) front.0) in
@@ -93,8 +93,8 @@ view_broke {S} {O} {held} {reading} {writing} {taken} {faults} {k} {machine} {fi
     })
 
 -- `view`: the console was shown, and then the end
-pub view_whole : {S O : Type 0} {held : S → List ℕ → Option (List ℕ)} {reading writing : S → ℕ}
-    {taken : O → Option (List ℕ)} {faults : O → ℕ} {k : KernelImage} {machine : KernelAlone} {first now : Screen O}
+pub view_whole : {S O : Type 0} (held : S → List ℕ → Option (List ℕ)) (reading writing : S → ℕ)
+    (taken : O → Option (List ℕ)) (faults : O → ℕ) {k : KernelImage} {machine : KernelAlone} {first now : Screen O}
     {name : List ℕ} {s s' : S} {o mid : O} {ended : Ending} {given : Status} {u : Unit} (o' : O) →
     (views : ViewsTo (GaveScreen taken faults) first now k machine (held s name) (reading s) (reading s') (Some ended)) →
     first.failed ≡ false → now.failed ≡ false → first.out.now ≡ o → mid ≡ now.out.now →
@@ -103,11 +103,11 @@ pub view_whole : {S O : Type 0} {held : S → List ℕ → Option (List ℕ)} {r
     given ≡ status_of_ending ended →
     ShowsRecord (kernel_unfit k) (kernel_text k) name given (outside held reading writing taken faults s o)
     (outside held reading writing taken faults s' o')
-view_whole {S} {O} {held} {reading} {writing} {taken} {faults} {k} {machine} {first} {now} {name} {s} {s'} {o} {mid}
+view_whole {S} {O} held reading writing taken faults {k} {machine} {first} {now} {name} {s} {s'} {o} {mid}
     {ended} {given} {u} o' views fresh well same_first same_now puts answer =
     let console = (kernel_alone k views.items).kernel.console in
     let end = codes "\n" ++ lines_or_fault (kernel_lines (kernel_alone k views.items).kernel) ended in
-    let whole = text_whole now.failed well (screen_shows taken faults first now console fresh views.shows) in
+    let whole = text_whole now.failed _ _ _ _ console well (screen_shows taken faults first now console fresh views.shows) in
     let shown : Grows (taken o) (taken mid) console =
     subst (λ (x : O). Grows (taken x) (taken mid) console) same_first
     (subst (λ (x : O). Grows (taken first.out.now) (taken x) console) (sym same_now) whole.0) in
@@ -122,8 +122,8 @@ view_whole {S} {O} {held} {reading} {writing} {taken} {faults} {k} {machine} {fi
     })
 
 -- `view`: the console was shown, and then a front of the end
-pub view_cut : {S O : Type 0} {held : S → List ℕ → Option (List ℕ)} {reading writing : S → ℕ}
-    {taken : O → Option (List ℕ)} {faults : O → ℕ} {k : KernelImage} {machine : KernelAlone} {first now : Screen O}
+pub view_cut : {S O : Type 0} (held : S → List ℕ → Option (List ℕ)) (reading writing : S → ℕ)
+    (taken : O → Option (List ℕ)) (faults : O → ℕ) {k : KernelImage} {machine : KernelAlone} {first now : Screen O}
     {name : List ℕ} {s s' : S} {o mid : O} {ended : Ending} {e : Failed} (o' : O) →
     (views : ViewsTo (GaveScreen taken faults) first now k machine (held s name) (reading s) (reading s') (Some ended)) →
     first.failed ≡ false → now.failed ≡ false → first.out.now ≡ o → mid ≡ now.out.now →
@@ -131,11 +131,11 @@ pub view_cut : {S O : Type 0} {held : S → List ℕ → Option (List ℕ)} {rea
     (codes "\n" ++ lines_or_fault (kernel_lines (kernel_alone k views.items).kernel) ended) (Err e) →
     ShowsRecord (kernel_unfit k) (kernel_text k) name status.WriteFault (outside held reading writing taken faults s o)
     (outside held reading writing taken faults s' o')
-view_cut {S} {O} {held} {reading} {writing} {taken} {faults} {k} {machine} {first} {now} {name} {s} {s'} {o} {mid}
+view_cut {S} {O} held reading writing taken faults {k} {machine} {first} {now} {name} {s} {s'} {o} {mid}
     {ended} {e} o' views fresh well same_first same_now puts =
     let console = (kernel_alone k views.items).kernel.console in
     let end = codes "\n" ++ lines_or_fault (kernel_lines (kernel_alone k views.items).kernel) ended in
-    let whole = text_whole now.failed well (screen_shows taken faults first now console fresh views.shows) in
+    let whole = text_whole now.failed _ _ _ _ console well (screen_shows taken faults first now console fresh views.shows) in
     let shown : Grows (taken o) (taken mid) console =
     subst (λ (x : O). Grows (taken x) (taken mid) console) same_first
     (subst (λ (x : O). Grows (taken first.out.now) (taken x) console) (sym same_now) whole.0) in
@@ -150,8 +150,8 @@ view_cut {S} {O} {held} {reading} {writing} {taken} {faults} {k} {machine} {firs
 
 -- `solo`
 
-pub solo_whole : {S O : Type 0} {held : S → List ℕ → Option (List ℕ)} {reading writing : S → ℕ}
-    {taken : O → Option (List ℕ)} {faults : O → ℕ} {d : ℕ} {k : KernelImage} {p : Program} {machine : DomainAlone}
+pub solo_whole : {S O : Type 0} (held : S → List ℕ → Option (List ℕ)) (reading writing : S → ℕ)
+    (taken : O → Option (List ℕ)) (faults : O → ℕ) {d : ℕ} {k : KernelImage} {p : Program} {machine : DomainAlone}
     {name : List ℕ} {s s' : S} {ended : Ending} {given : Status} {u : Unit} (o o' : O) →
     (solos : SolosTo d k p machine (held s name) (reading s) (reading s') (Some ended)) →
     Puts (taken o) (taken o') (faults o) (faults o')
@@ -159,7 +159,7 @@ pub solo_whole : {S O : Type 0} {held : S → List ℕ → Option (List ℕ)} {r
     given ≡ status_of_ending ended →
     ShowsRecord (program_unfit d k p) (program_text d k p) name given (outside held reading writing taken faults s o)
     (outside held reading writing taken faults s' o')
-solo_whole {S} {O} {held} {reading} {writing} {taken} {faults} {d} {k} {p} {machine} {name} {s} {s'} {ended} {given} {u}
+solo_whole {S} {O} held reading writing taken faults {d} {k} {p} {machine} {name} {s} {s'} {ended} {given} {u}
     o o' solos puts answer =
     inl (record {
       items = solos.items;
@@ -170,15 +170,15 @@ solo_whole {S} {O} {held} {reading} {writing} {taken} {faults} {d} {k} {p} {mach
       faults = puts.1;
     })
 
-pub solo_cut : {S O : Type 0} {held : S → List ℕ → Option (List ℕ)} {reading writing : S → ℕ}
-    {taken : O → Option (List ℕ)} {faults : O → ℕ} {d : ℕ} {k : KernelImage} {p : Program} {machine : DomainAlone}
+pub solo_cut : {S O : Type 0} (held : S → List ℕ → Option (List ℕ)) (reading writing : S → ℕ)
+    (taken : O → Option (List ℕ)) (faults : O → ℕ) {d : ℕ} {k : KernelImage} {p : Program} {machine : DomainAlone}
     {name : List ℕ} {s s' : S} {ended : Ending} {e : Failed} (o o' : O) →
     (solos : SolosTo d k p machine (held s name) (reading s) (reading s') (Some ended)) →
     Puts (taken o) (taken o') (faults o) (faults o')
     (lines_or_fault (domain_line (domain_alone d k.schedule p solos.items).part.domain) ended) (Err e) →
     ShowsRecord (program_unfit d k p) (program_text d k p) name status.WriteFault
     (outside held reading writing taken faults s o) (outside held reading writing taken faults s' o')
-solo_cut {S} {O} {held} {reading} {writing} {taken} {faults} {d} {k} {p} {machine} {name} {s} {s'} {ended} {e} o o' solos
+solo_cut {S} {O} held reading writing taken faults {d} {k} {p} {machine} {name} {s} {s'} {ended} {e} o o' solos
     puts =
     inr (refl, record {
       items = solos.items;

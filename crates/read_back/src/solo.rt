@@ -106,9 +106,12 @@ pub fn solo_command<S: Shelf, O: Sink>(
         Ok(bundle) => bundle,
         Err(refusal) => return refuse(out, &refusal),
     };
-    let Some(program) = bundle.programs.as_slice().get(solo.domain as usize) else {
+    let programs = bundle.programs.as_slice();
+    let number = solo.domain as usize;
+    if number >= programs.len() {
         return refuse(out, &Refusal::NoSuchDomain);
-    };
+    }
+    let program = &programs[number];
     match DomainAlone::open(alloc, &bundle.kernel, solo.domain, program) {
         Ok(program) => solo_record(program, solo.files.record_name, shelf, out),
         Err(_) => refuse(out, &Refusal::NoMemory),

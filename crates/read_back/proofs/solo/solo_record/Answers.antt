@@ -1,6 +1,7 @@
 use Rattle.std.proofs.Common.{◌≡◌, None, refl}
 use Rattle.cloak_model.specs.DomainAlone.{domain_alone}
 use Rattle.read_back.specs.declared.ending.Ending.TheVariants as ending
+use Rattle.read_back.specs.Answering.{program_unfit}
 use Rattle.read_back.proofs.Lines.{fits_whole}
 use Rattle.read_back.proofs.Shown.{solo_whole, solo_cut}
 use Rattle.read_back.proofs.solo.solo_record.Goals as goal
@@ -8,13 +9,15 @@ use Rattle.read_back.proofs.solo.solo_record.Goals as goal
 pub returns-in-Ok-clause-shows : goal.returns-in-Ok-clause-shows
 returns-in-Ok-clause-shows g c = λ d k p stands.
     let solos = c.read_program-ending.ensures.solos d k p stands in
-    solo_whole _ _ solos
+    solo_whole g.S.Shelf.held g.S.Shelf.reading_faults g.S.Shelf.writing_faults g.O.Sink.taken g.O.Sink.faults
+    _ _ solos
     (c.in-Ok.ensures d k.schedule (domain_alone d k.schedule p solos.items) solos.stands solos.few
-    (fits_whole _ solos.items c.read_program-ending.result solos.read.fits)) c.status.ensures
+    (fits_whole (program_unfit d k p) solos.items c.read_program-ending.result solos.read.fits)) c.status.ensures
 
 pub returns-in-Err-clause-shows : goal.returns-in-Err-clause-shows
 returns-in-Err-clause-shows g c = λ d k p stands.
     let solos = c.read_program-ending.ensures.solos d k p stands in
-    solo_cut _ _ solos
+    solo_cut g.S.Shelf.held g.S.Shelf.reading_faults g.S.Shelf.writing_faults g.O.Sink.taken g.O.Sink.faults
+    _ _ solos
     (c.in-Err.ensures d k.schedule (domain_alone d k.schedule p solos.items) solos.stands solos.few
-    (fits_whole _ solos.items c.read_program-ending.result solos.read.fits))
+    (fits_whole (program_unfit d k p) solos.items c.read_program-ending.result solos.read.fits))

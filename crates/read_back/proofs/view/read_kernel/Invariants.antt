@@ -1,4 +1,4 @@
-use Rattle.std.proofs.Common.{◌≡◌, ◌^◌, ◌-◌}
+use Rattle.std.proofs.Common.{◌≡◌, ◌<◌, ◌^◌, ◌-◌}
 use Rattle.outside_io.specs.Told.{SameFiles}
 use Rattle.cloak_model.specs.declared.image.KernelImage.{KernelImage}
 use Rattle.cloak_model.specs.KernelAlone.{opened_kernel}
@@ -20,6 +20,7 @@ invariant-loop-screen g l = record {
   reading : g.S.Shelf.reading_faults l.shelf ≡ g.S.Shelf.reading_faults l.fn.shelf;
   writing : g.S.Shelf.writing_faults l.shelf ≡ g.S.Shelf.writing_faults l.fn.shelf;
   settled : g.S.Shelf.is_settled l.shelf;
+  low : place_of l.reader < 2 ^ 64;
 }
 
 abbrev pub decreases-loop-screen : goal.decreases-loop-screen

@@ -1,0 +1,95 @@
+use Rattle.std.proofs.Common.{◌≡◌, ◌<◌, ◌∙◌, Ok, Err, Some, None, refl, ap, sym, arith}
+use Rattle.exchange_log.specs.Place.{place_of}
+use Rattle.exchange_log.specs.declared.fault.NextFault.TheVariants.{Read, Record}
+use Rattle.read_back.specs.declared.ending.Ending.TheVariants as ending
+use Rattle.read_back.proofs.ProgramReads.{program_opens, program_takes_next, program_goes_on, program_unfits, program_ends}
+use Rattle.read_back.proofs.NextItem.{next_item, next_none, next_fault, told_begins, counted, counted_fault, risen, moves_on}
+use Rattle.read_back.proofs.solo.read_program.Goals as goal
+
+pub loop-item-init : goal.loop-item-init
+loop-item-init g c = record {
+  solos = λ d k p stands. program_opens d k p _ _ _ stands c.open-reader.ensures.front;
+  named = c.open-reader.ensures.name;
+  files = λ name. refl;
+  reading = refl;
+  writing = refl;
+  settled = c.requires.settled;
+  low = let start = c.open-reader.ensures.start in omega (arith, start);
+}
+
+pub returns-in-Err-clause-solos : goal.returns-in-Err-clause-solos
+returns-in-Err-clause-solos g c = λ d k p stands.
+    let was = c.loop-item.invariant in
+    let is : c.next.result ≡ Ok (Some c.in-Ok-Some.item) =
+    c.in-Ok-Some.is ∙ ap (λ x. Ok x) c.in-Ok-Some.field-0-is in
+    let same = ap (λ n. g.S.Shelf.held c.loop-item.shelf n) was.named ∙ was.files c.args.name.now in
+    let moved = moves_on c.next.result c.in-Ok-Some.item _ is c.next.ensures.moves in
+    program_unfits c.take.result c.in-Err.unfit
+    (program_takes_next {was = c.loop-item.reader} {now = c.next.new.self} c.take.result c.in-Ok-Some.item (was.solos d k p stands) c.take.ensures.takes
+    (next_item _ _ c.loop-item.reader c.next.new.self c.next.result c.in-Ok-Some.item same is c.next.ensures.next) moved) c.in-Err.is
+    c.next.ensures.within
+    (counted _ _ _ c.next.result _ was.reading is (c.next.ensures.reading was.settled))
+
+pub loop-item-smaller : goal.loop-item-smaller
+loop-item-smaller g c =
+    let is : c.next.result ≡ Ok (Some c.in-Ok-Some.item) =
+    c.in-Ok-Some.is ∙ ap (λ x. Ok x) c.in-Ok-Some.field-0-is in
+    let moved : place_of c.loop-item.reader < place_of c.next.new.self =
+    moves_on c.next.result c.in-Ok-Some.item _ is c.next.ensures.moves in
+    let low = c.next.ensures.within in omega (arith, moved, low)
+
+pub loop-item-preserved : goal.loop-item-preserved
+loop-item-preserved g c =
+    let was = c.loop-item.invariant in
+    let is : c.next.result ≡ Ok (Some c.in-Ok-Some.item) =
+    c.in-Ok-Some.is ∙ ap (λ x. Ok x) c.in-Ok-Some.field-0-is in
+    let same = ap (λ n. g.S.Shelf.held c.loop-item.shelf n) was.named ∙ was.files c.args.name.now in
+    let moved = moves_on c.next.result c.in-Ok-Some.item _ is c.next.ensures.moves in
+    record {
+      solos = λ d k p stands.
+          program_goes_on c.take.result
+          (program_takes_next {was = c.loop-item.reader} {now = c.next.new.self} c.take.result c.in-Ok-Some.item (was.solos d k p stands) c.take.ensures.takes
+          (next_item _ _ c.loop-item.reader c.next.new.self c.next.result c.in-Ok-Some.item same is c.next.ensures.next) moved) c.in_default.is;
+      named = ap (λ n. n.now) c.next.ensures.same ∙ was.named;
+      files = λ name. c.next.ensures.files name ∙ was.files name;
+      reading = counted _ _ _ c.next.result _ was.reading is (c.next.ensures.reading was.settled);
+      writing = c.next.ensures.writing was.settled ∙ was.writing;
+      settled = c.next.ensures.settled was.settled;
+      low = c.next.ensures.within;
+    }
+
+pub returns-in-Ok-None-clause-solos : goal.returns-in-Ok-None-clause-solos
+returns-in-Ok-None-clause-solos g c = λ d k p stands.
+    let was = c.loop-item.invariant in
+    let reads = was.solos d k p stands in
+    let is : c.next.result ≡ Ok None = c.in-Ok-None.is ∙ ap (λ x. Ok x) c.in-Ok-None.field-0-is in
+    let same = ap (λ n. g.S.Shelf.held c.loop-item.shelf n) was.named ∙ was.files c.args.name.now in
+    program_ends reads (record {
+      fits = reads.fits;
+      file = next_none _ _ c.loop-item.reader c.next.new.self c.next.result same is c.next.ensures.next reads.items reads.behind;
+      counts = counted _ _ _ c.next.result _ was.reading is (c.next.ensures.reading was.settled);
+    }) was.low
+
+pub returns-in-Err-Read-clause-solos : goal.returns-in-Err-Read-clause-solos
+returns-in-Err-Read-clause-solos g c = λ d k p stands.
+    let was = c.loop-item.invariant in
+    let reads = was.solos d k p stands in
+    let is : c.next.result ≡ Err Read = c.in-Err-Read.is ∙ ap (λ x. Err x) c.in-Err-Read.field-0-is in
+    program_ends reads (record {
+      fits = reads.fits;
+      file = told_begins _ c.loop-item.reader reads.items reads.behind;
+      counts = risen _ _ _ c.next.result was.reading is (c.next.ensures.reading was.settled);
+    }) was.low
+
+pub returns-in-Err-Record-clause-solos : goal.returns-in-Err-Record-clause-solos
+returns-in-Err-Record-clause-solos g c = λ d k p stands.
+    let was = c.loop-item.invariant in
+    let reads = was.solos d k p stands in
+    let is : c.next.result ≡ Err (Record c.in-Err-Record.fault) =
+    c.in-Err-Record.is ∙ ap (λ x. Err x) c.in-Err-Record.field-0-is in
+    let same = ap (λ n. g.S.Shelf.held c.loop-item.shelf n) was.named ∙ was.files c.args.name.now in
+    rw c.in-Err-Record.fault-is (program_ends reads (record {
+      fits = reads.fits;
+      file = next_fault _ _ c.loop-item.reader c.next.new.self c.next.result c.in-Err-Record.fault same is c.next.ensures.next reads.items reads.behind;
+      counts = counted_fault _ _ _ c.next.result _ was.reading is (c.next.ensures.reading was.settled);
+    }) was.low)
