@@ -7,8 +7,8 @@ use Rattle.command_words.specs.declared.run_request.Randomness.TheVariants.{Numb
 use Rattle.command_words.specs.declared.run_request.RunRequest.{RunRequest}
 use Rattle.command_words.specs.declared.record_request.RecordRequest.{RecordRequest}
 use Rattle.command_words.specs.declared.record_request.SoloRequest.{SoloRequest}
-use Rattle.command_words.specs.declared.gen_request.GenRequest.{GenRequest}
-use Rattle.command_words.specs.declared.gen_request.DemoRequest.{DemoRequest}
+use Rattle.command_words.specs.declared.generated_request.GenRequest.{GenRequest}
+use Rattle.command_words.specs.declared.generated_request.DemoRequest.{DemoRequest}
 
 abbrev pub randomness_of : Randomness → spec.Randomness
 randomness_of (Numbered number) = spec.Numbered number

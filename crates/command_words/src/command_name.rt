@@ -1,3 +1,4 @@
+//! The names of the commands.
 /// The commands that are built.
 #[derive(Clone, Copy)]
 pub enum CommandName {

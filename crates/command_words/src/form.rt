@@ -18,7 +18,11 @@ fn bare_form<'a>(alloc: Global, name: &'a str) -> Command<'a>
 }
 
 /// A command with one position more.
-fn with_position<'a>(alloc: Global, command: Command<'a>, name: &'a str) -> Result<Command<'a>, NoMemory>
+fn with_position<'a>(
+    alloc: Global,
+    command: Command<'a>,
+    name: &'a str,
+) -> Result<Command<'a>, NoMemory>
     ensures { IfOk result (λ more. app_of more ≡ with_rule (app_of command.entry) (spec.position name.entry.now)) }
 {
     let position = Arg::new(alloc, name).required(true);
@@ -26,7 +30,11 @@ fn with_position<'a>(alloc: Global, command: Command<'a>, name: &'a str) -> Resu
 }
 
 /// A command with one option more.
-fn with_option<'a>(alloc: Global, command: Command<'a>, name: &'a str) -> Result<Command<'a>, NoMemory>
+fn with_option<'a>(
+    alloc: Global,
+    command: Command<'a>,
+    name: &'a str,
+) -> Result<Command<'a>, NoMemory>
     ensures { IfOk result (λ more. app_of more ≡ with_rule (app_of command.entry) (spec.valued_option name.entry.now)) }
 {
     let option = Arg::new(alloc, name).long(name);
@@ -34,7 +42,11 @@ fn with_option<'a>(alloc: Global, command: Command<'a>, name: &'a str) -> Result
 }
 
 /// A command with one option more, which is not to be left out.
-fn with_needed_option<'a>(alloc: Global, command: Command<'a>, name: &'a str) -> Result<Command<'a>, NoMemory>
+fn with_needed_option<'a>(
+    alloc: Global,
+    command: Command<'a>,
+    name: &'a str,
+) -> Result<Command<'a>, NoMemory>
     ensures { IfOk result (λ more. app_of more ≡ with_rule (app_of command.entry) (spec.needed_option name.entry.now)) }
 {
     let option = Arg::new(alloc, name).long(name).required(true);

@@ -8,7 +8,10 @@ use clap::{ArgMatches, Command};
 use cloak_base::NoMemory;
 
 /// What a command finds in the words, or nothing where it refuses them.
-pub fn found_in<'a>(command: Command<'a>, words: &'a [String]) -> Result<Option<ArgMatches<'a>>, NoMemory>
+pub fn found_in<'a>(
+    command: Command<'a>,
+    words: &'a [String],
+) -> Result<Option<ArgMatches<'a>>, NoMemory>
     requires simple { is_simple_and_free (app_of command) ≡ true }
     ensures { IfOk result (λ found. option_map (λ m. rows_of (found_of m)) found
         ≡ spec.found_in (app_of command.entry) (map string_bytes words.now)) }

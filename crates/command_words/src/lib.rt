@@ -7,15 +7,18 @@
 mod command_name;
 mod form;
 mod found;
-mod gen_request;
+mod generated_request;
 mod number;
 mod record_request;
 mod request;
 mod run_request;
 mod usage_fault;
 
-pub use gen_request::{DemoRequest, GenRequest};
+pub use generated_request::{DemoRequest, GenRequest};
 pub use record_request::{RecordRequest, SoloRequest};
 pub use request::{Request, read_words};
 pub use run_request::{Randomness, RunRequest};
 pub use usage_fault::UsageFault;
+
+#[cfg(test)]
+mod tests;

@@ -8,7 +8,7 @@ ghost use Rattle.command_words.specs.Request.{asked_of, randomness_of};
 use crate::command_name::CommandName;
 use crate::form::form_of;
 use crate::found::{found_in, given_text, needed_text};
-use crate::gen_request::{DemoRequest, GenRequest};
+use crate::generated_request::{DemoRequest, GenRequest};
 use crate::number::number_up_to;
 use crate::record_request::{RecordRequest, SoloRequest};
 use crate::run_request::{Randomness, RunRequest};
@@ -112,7 +112,10 @@ fn demo_of_numbers<'a>(number: &str, steps: &str) -> Request<'a>
     ensures { asked_of result ≡ spec.demo_of_numbers (spec.number_up_to spec.last_stream number.now)
         (spec.number_up_to most_steps steps.now) }
 {
-    match (number_up_to(number, u64::MAX), number_up_to(steps, MOST_STEPS)) {
+    match (
+        number_up_to(number, u64::MAX),
+        number_up_to(steps, MOST_STEPS),
+    ) {
         (Some(number), Some(steps)) => Request::Demo(DemoRequest {
             number,
             steps: steps as u32,
@@ -145,8 +148,14 @@ fn asked_with<'a>(command: CommandName, matches: &ArgMatches<'a>) -> Request<'a>
             };
             solo_of_number(needed_text(matches, "DOMAIN"), files)
         }
-        CommandName::Gen => gen_of_number(needed_text(matches, "NUMBER"), needed_text(matches, "BUNDLE")),
-        CommandName::Demo => demo_of_numbers(needed_text(matches, "NUMBER"), needed_text(matches, "steps")),
+        CommandName::Gen => gen_of_number(
+            needed_text(matches, "NUMBER"),
+            needed_text(matches, "BUNDLE"),
+        ),
+        CommandName::Demo => demo_of_numbers(
+            needed_text(matches, "NUMBER"),
+            needed_text(matches, "steps"),
+        ),
     }
 }
 
