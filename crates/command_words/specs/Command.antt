@@ -95,7 +95,7 @@ demo_of_numbers (Some number) (Some steps) = Demo number steps
 demo_of_numbers (Some number) None = Faulty WrongNumber
 demo_of_numbers None steps = Faulty WrongNumber
 
--- the text of a position or of an option that a command needs
+-- the text of a position or of an option that a command needs: the command refuses words in which it is missing
 abbrev pub needed_text : (name : List ℕ) → List Row → List ℕ
 needed_text name rows = unwrap_or (first_of name rows) []
 
