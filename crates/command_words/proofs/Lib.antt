@@ -1,2 +1,3 @@
+mod FormFacts
+mod FoundFacts
 mod NumberFacts
-pub mod OptionFacts

@@ -1,9 +1,14 @@
--- The words of a command line, and what they ask for. Options stand behind the positions here, each at most once,
--- in any order, as `--name value`.
-use Rattle.std.specs.Prelude.{ℕ, ◌+◌, ◌-◌, ◌*◌, ◌==◌, nat_lt, nat_le, Bool, ◌&&◌, ◌||◌, List, [], ◌∷◌, length, slice_index, fold, codes, Option, Some, None, is_some, option_map, option_and_then, if◌then◌else◌}
+-- The words of a command line, and what they ask for. The first word is the command's name, and the words are read
+-- by the simple command of `clap` that the command is.
+use Rattle.std.specs.Prelude.{ℕ, ◌+◌, ◌-◌, ◌*◌, nat_le, Bool, ◌&&◌, List, [], ◌∷◌, length, fold, codes}
+use Rattle.std.specs.Prelude.{Option, Some, None, option_map, unwrap_or, if◌then◌else◌}
+use Rattle.clap.specs.Words.{App, Kinds, Row, fault_of, first_of, matches_of}
 use Rattle.cloak_model.specs.Run.{most_steps}
 use Rattle.command_words.specs.declared.usage_fault.UsageFault.{UsageFault}
 use Rattle.command_words.specs.declared.usage_fault.UsageFault.TheVariants.{NoCommand, UnknownCommand, WrongWords, NoRandomness, WrongNumber}
+use Rattle.command_words.specs.declared.command_name.CommandName.{CommandName}
+use Rattle.command_words.specs.declared.command_name.CommandName.TheVariants as name
+use Rattle.command_words.specs.Forms.{form_of}
 use Rattle.std.specs.Str.{bytes_eq, all_ascii_digits}
 
 -- the line that says what is wrong with the words
@@ -34,14 +39,14 @@ pub data Asked : Type 0 where
   View : (bundle record_name : List ℕ) → Asked
   -- what a program of a bundle, by its number, makes of a record by itself
   Solo : (domain : ℕ) → (bundle record_name : List ℕ) → Asked
+  -- the generated bundle of a number, written to a file
+  Gen : (number : ℕ) → (bundle_name : List ℕ) → Asked
+  -- the joint run of the generated bundle of a number, without files
+  Demo : (number steps : ℕ) → Asked
 
 -- the word is this text
 abbrev pub is : List ℕ → List ℕ → Bool
 is text w = bytes_eq w text
-
--- a word that begins with a hyphen and has more is an option
-abbrev pub is_option : List ℕ → Bool
-is_option w = nat_lt 1 (length w) && (slice_index w 0 == 45)
 
 -- the value of decimal digits
 abbrev pub decimal_value : List ℕ → ℕ
@@ -57,67 +62,21 @@ number_up_to limit w =
 abbrev pub last_stream : ℕ
 last_stream = 18446744073709551615
 
--- the options of a run, with the texts of their values
-pub record Options : Type 0 where
-  pub steps : Option (List ℕ)
-  pub stream : Option (List ℕ)
-  pub number : Option (List ℕ)
-
-abbrev pub no_options : Options
-no_options = record { steps = None; stream = None; number = None }
-
--- an option more, which is none of those before
-unfoldable pub with_option : Options → (name value : List ℕ) → Option Options
-with_option o name value =
-    if is (codes "--steps") name then
-    (if is_some o.steps then None else Some (record o { steps = Some value }))
-    else if is (codes "--stream") name then
-    (if is_some o.stream then None else Some (record o { stream = Some value }))
-    else if is (codes "--number") name then
-    (if is_some o.number then None else Some (record o { number = Some value }))
-    else None
-
--- the options behind those so far, each with its value
-unfoldable pub options_from : Options → List (List ℕ) → Option Options
-options_from o [] = Some o
-options_from o (name ∷ []) = None
-options_from o (name ∷ value ∷ words) =
-    if is_option value then None else
-    option_and_then (λ more. options_from more words) (with_option o name value)
-
 -- a run whose values are read
 abbrev pub run_of_values : List ℕ → List ℕ → Option ℕ → Option Randomness → Asked
 run_of_values bundle record_name (Some steps) (Some randomness) = Run bundle record_name steps randomness
 run_of_values bundle record_name (Some steps) None = Faulty WrongNumber
 run_of_values bundle record_name None randomness = Faulty WrongNumber
 
--- The budget is not to be left out, and exactly one option is to name the randomness.
-unfoldable pub run_of_texts : (bundle record_name : List ℕ) → (steps stream number : Option (List ℕ)) → Asked
-run_of_texts bundle record_name None stream number = Faulty WrongWords
-run_of_texts bundle record_name (Some steps) None None = Faulty NoRandomness
-run_of_texts bundle record_name (Some steps) (Some name) None =
+-- Exactly one option is to name the randomness.
+unfoldable pub run_of_texts : (bundle record_name steps : List ℕ) → (stream number : Option (List ℕ)) → Asked
+run_of_texts bundle record_name steps None None = Faulty NoRandomness
+run_of_texts bundle record_name steps (Some name) None =
     run_of_values bundle record_name (number_up_to most_steps steps) (Some (FromFile name))
-run_of_texts bundle record_name (Some steps) None (Some text) =
+run_of_texts bundle record_name steps None (Some text) =
     run_of_values bundle record_name (number_up_to most_steps steps)
     (option_map Numbered (number_up_to last_stream text))
-run_of_texts bundle record_name (Some steps) (Some name) (Some text) = Faulty NoRandomness
-
-abbrev pub run_of_options : (bundle record_name : List ℕ) → Option Options → Asked
-run_of_options bundle record_name None = Faulty WrongWords
-run_of_options bundle record_name (Some o) = run_of_texts bundle record_name o.steps o.stream o.number
-
--- The words behind `run`: two positions, and then the options with their values.
-unfoldable pub run_words : List (List ℕ) → Asked
-run_words (bundle ∷ record_name ∷ words) =
-    if is_option bundle || is_option record_name then Faulty WrongWords else
-    run_of_options bundle record_name (options_from no_options words)
-run_words _ = Faulty WrongWords
-
--- The words behind `view`: two positions.
-unfoldable pub view_words : List (List ℕ) → Asked
-view_words (bundle ∷ record_name ∷ []) =
-    if is_option bundle || is_option record_name then Faulty WrongWords else View bundle record_name
-view_words _ = Faulty WrongWords
+run_of_texts bundle record_name steps (Some name) (Some text) = Faulty NoRandomness
 
 -- the last number of a program
 abbrev pub last_domain : ℕ
@@ -127,23 +86,61 @@ abbrev pub solo_of_number : Option ℕ → (bundle record_name : List ℕ) → A
 solo_of_number None bundle record_name = Faulty WrongNumber
 solo_of_number (Some domain) bundle record_name = Solo domain bundle record_name
 
--- The words behind `solo`: three positions, of which the first is the number of a program.
-unfoldable pub solo_words : List (List ℕ) → Asked
-solo_words (domain ∷ bundle ∷ record_name ∷ []) =
-    if is_option domain || (is_option bundle || is_option record_name) then Faulty WrongWords else
-    solo_of_number (number_up_to last_domain domain) bundle record_name
-solo_words _ = Faulty WrongWords
+abbrev pub gen_of_number : Option ℕ → (bundle_name : List ℕ) → Asked
+gen_of_number None bundle_name = Faulty WrongNumber
+gen_of_number (Some number) bundle_name = Gen number bundle_name
 
--- a command that is not built
-abbrev pub is_later_command : List ℕ → Bool
-is_later_command w = is (codes "stats") w || is (codes "gen") w || is (codes "demo") w
+abbrev pub demo_of_numbers : (number steps : Option ℕ) → Asked
+demo_of_numbers (Some number) (Some steps) = Demo number steps
+demo_of_numbers (Some number) None = Faulty WrongNumber
+demo_of_numbers None steps = Faulty WrongNumber
+
+-- the text of a position or of an option that a command needs: the command refuses words in which it is missing
+abbrev pub needed_text : (name : List ℕ) → List Row → List ℕ
+needed_text name rows = unwrap_or (first_of name rows) []
+
+-- What a command asks with the texts of its positions and options.
+unfoldable pub asked_with : CommandName → List Row → Asked
+asked_with name.Run rows =
+    run_of_texts (needed_text (codes "BUNDLE") rows) (needed_text (codes "RECORD") rows)
+    (needed_text (codes "steps") rows) (first_of (codes "stream") rows) (first_of (codes "number") rows)
+asked_with name.View rows = View (needed_text (codes "BUNDLE") rows) (needed_text (codes "RECORD") rows)
+asked_with name.Solo rows =
+    solo_of_number (number_up_to last_domain (needed_text (codes "DOMAIN") rows))
+    (needed_text (codes "BUNDLE") rows) (needed_text (codes "RECORD") rows)
+asked_with name.Gen rows =
+    gen_of_number (number_up_to last_stream (needed_text (codes "NUMBER") rows)) (needed_text (codes "BUNDLE") rows)
+asked_with name.Demo rows =
+    demo_of_numbers (number_up_to last_stream (needed_text (codes "NUMBER") rows))
+    (number_up_to most_steps (needed_text (codes "steps") rows))
+
+-- the command of this name
+abbrev pub command_named : List ℕ → Option CommandName
+command_named w =
+    if is (codes "run") w then Some name.Run else
+    if is (codes "view") w then Some name.View else
+    if is (codes "solo") w then Some name.Solo else
+    if is (codes "gen") w then Some name.Gen else
+    if is (codes "demo") w then Some name.Demo else None
+
+-- the texts that a command finds in the words, where it refuses nothing
+abbrev pub unless_refused : Kinds → List Row → Option (List Row)
+unless_refused [] rows = Some rows
+unless_refused (kind ∷ kinds) rows = None
+
+abbrev pub found_in : App → List (List ℕ) → Option (List Row)
+found_in form words = unless_refused (fault_of form words) (matches_of form words)
+
+abbrev pub asked_by : CommandName → Option (List Row) → Asked
+asked_by command None = Faulty WrongWords
+asked_by command (Some rows) = asked_with command rows
+
+abbrev pub asked_of_command : Option CommandName → List (List ℕ) → Asked
+asked_of_command None words = Faulty UnknownCommand
+asked_of_command (Some command) words = asked_by command (found_in (form_of command) words)
 
 -- What the words ask for: the test for what is not built comes before every other.
 unfoldable pub words_of : List (List ℕ) → Asked
 words_of [] = Faulty NoCommand
 words_of (command ∷ words) =
-    if is_later_command command then NotBuilt else
-    if is (codes "run") command then run_words words else
-    if is (codes "view") command then view_words words else
-    if is (codes "solo") command then solo_words words else
-    Faulty UnknownCommand
+    if is (codes "stats") command then NotBuilt else asked_of_command (command_named command) (command ∷ words)

@@ -1,21 +1,14 @@
 -- What a request stands for.
-use Rattle.std.specs.Prelude.{option_copied}
 use Rattle.command_words.specs.Command as spec
-use Rattle.command_words.specs.declared.request.Options.{Options}
 use Rattle.command_words.specs.declared.request.Request.{Request}
-use Rattle.command_words.specs.declared.request.Request.TheVariants.{NotBuilt, Faulty, Run, View, Solo}
+use Rattle.command_words.specs.declared.request.Request.TheVariants.{NotBuilt, Faulty, Run, View, Solo, Gen, Demo}
 use Rattle.command_words.specs.declared.run_request.Randomness.{Randomness}
 use Rattle.command_words.specs.declared.run_request.Randomness.TheVariants.{Numbered, FromFile}
 use Rattle.command_words.specs.declared.run_request.RunRequest.{RunRequest}
 use Rattle.command_words.specs.declared.record_request.RecordRequest.{RecordRequest}
 use Rattle.command_words.specs.declared.record_request.SoloRequest.{SoloRequest}
-
-abbrev pub texts_of : Options → spec.Options
-texts_of options = record {
-  steps = option_copied options.steps;
-  stream = option_copied options.stream;
-  number = option_copied options.number;
-}
+use Rattle.command_words.specs.declared.generated_request.GenRequest.{GenRequest}
+use Rattle.command_words.specs.declared.generated_request.DemoRequest.{DemoRequest}
 
 abbrev pub randomness_of : Randomness → spec.Randomness
 randomness_of (Numbered number) = spec.Numbered number
@@ -30,9 +23,17 @@ asked_of_view files = spec.View files.bundle.now files.record_name.now
 abbrev pub asked_of_solo : SoloRequest → spec.Asked
 asked_of_solo solo = spec.Solo solo.domain solo.files.bundle.now solo.files.record_name.now
 
+abbrev pub asked_of_gen : GenRequest → spec.Asked
+asked_of_gen generated = spec.Gen generated.number generated.bundle.now
+
+abbrev pub asked_of_demo : DemoRequest → spec.Asked
+asked_of_demo demo = spec.Demo demo.number demo.steps
+
 abbrev pub asked_of : Request → spec.Asked
 asked_of NotBuilt = spec.NotBuilt
 asked_of (Faulty fault) = spec.Faulty fault
 asked_of (Run run) = asked_of_run run
 asked_of (View files) = asked_of_view files
 asked_of (Solo solo) = asked_of_solo solo
+asked_of (Gen generated) = asked_of_gen generated
+asked_of (Demo demo) = asked_of_demo demo

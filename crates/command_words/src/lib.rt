@@ -1,16 +1,24 @@
 //! The words of a command line: what they ask for, or the first thing that is wrong with them.
 //!
 //! `specs/Command` is this project's own rule (`docs/MACHINE.md`, "Words"). The layer above may rely on this: `read_words`
-//! gives exactly what the words ask for, and takes no memory.
+//! gives exactly what the words ask for, or has no memory to read them.
 #![tactic(auto)]
 
+mod command_name;
+mod form;
+mod found;
+mod generated_request;
 mod number;
 mod record_request;
 mod request;
 mod run_request;
 mod usage_fault;
 
+pub use generated_request::{DemoRequest, GenRequest};
 pub use record_request::{RecordRequest, SoloRequest};
 pub use request::{Request, read_words};
 pub use run_request::{Randomness, RunRequest};
 pub use usage_fault::UsageFault;
+
+#[cfg(test)]
+mod tests;

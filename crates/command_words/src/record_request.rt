@@ -1,3 +1,4 @@
+//! What is asked of a record that was written.
 ghost use Rattle.std.specs.Prelude.{◌≤◌};
 ghost use Rattle.command_words.specs.Command.{last_domain};
 

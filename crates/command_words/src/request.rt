@@ -1,13 +1,21 @@
 //! What the words of a command line ask for.
-ghost use Rattle.std.specs.Prelude.{◌≡◌, ◌∷◌, map, string_bytes, option_map};
+ghost use Rattle.std.specs.Prelude.{◌≡◌, IfOk, map, string_bytes, option_copied, option_map};
 ghost use Rattle.cloak_model.specs.Run.{most_steps};
+ghost use Rattle.clap.specs.Words.{found_of, rows_of};
 ghost use Rattle.command_words.specs.Command as spec;
-ghost use Rattle.command_words.specs.Request.{asked_of, randomness_of, texts_of};
+ghost use Rattle.command_words.specs.Request.{asked_of, randomness_of};
 
+use crate::command_name::CommandName;
+use crate::form::form_of;
+use crate::found::{found_in, given_text, needed_text};
+use crate::generated_request::{DemoRequest, GenRequest};
 use crate::number::number_up_to;
 use crate::record_request::{RecordRequest, SoloRequest};
 use crate::run_request::{Randomness, RunRequest};
 use crate::usage_fault::UsageFault;
+use clap::ArgMatches;
+use cloak_base::NoMemory;
+use std::alloc::Global;
 
 /// The most steps of a run.
 pub const MOST_STEPS: u64 = 1_000_000_000;
@@ -23,81 +31,8 @@ pub enum Request<'a> {
     Run(RunRequest<'a>),
     View(RecordRequest<'a>),
     Solo(SoloRequest<'a>),
-}
-
-/// The word is an option: it begins with a hyphen and has more.
-fn is_option(word: &str) -> bool
-    ensures { result ≡ spec.is_option word.now }
-{
-    word.len() > 1 && word.as_bytes()[0] == b'-'
-}
-
-/// The command is not built yet.
-fn is_later_command(word: &str) -> bool
-    ensures { result ≡ spec.is_later_command word.now }
-{
-    word == "stats" || word == "gen" || word == "demo"
-}
-
-/// The options of a run, with the texts of their values.
-#[derive(Clone, Copy)]
-struct Options<'a> {
-    steps: Option<&'a str>,
-    stream: Option<&'a str>,
-    number: Option<&'a str>,
-}
-
-/// These options and one more, which is none of them.
-#[tactic(auto, unfolding(crate::specs::Command::with_option))]
-fn with_option<'a>(options: Options<'a>, name: &str, value: &'a str) -> Option<Options<'a>>
-    ensures { option_map texts_of result ≡ spec.with_option (texts_of options.entry) name.now value.now }
-{
-    if name == "--steps" {
-        if options.steps.is_some() {
-            return None;
-        }
-        return Some(Options {
-            steps: Some(value),
-            ..options
-        });
-    }
-    if name == "--stream" {
-        if options.stream.is_some() {
-            return None;
-        }
-        return Some(Options {
-            stream: Some(value),
-            ..options
-        });
-    }
-    if name == "--number" {
-        if options.number.is_some() {
-            return None;
-        }
-        return Some(Options {
-            number: Some(value),
-            ..options
-        });
-    }
-    None
-}
-
-/// These options and those that the words are.
-#[tactic(auto, unfolding(crate::specs::Command::options_from))]
-fn options_from<'a>(options: Options<'a>, words: &'a [String]) -> Option<Options<'a>>
-    ensures { option_map texts_of result
-        ≡ spec.options_from (texts_of options.entry) (map string_bytes words.now) }
-{
-    match words {
-        [] => Some(options),
-        [name, value, rest @ ..] => {
-            if is_option(value.as_str()) {
-                return None;
-            }
-            options_from(with_option(options, name.as_str(), value.as_str())?, rest)
-        }
-        _ => None,
-    }
+    Gen(GenRequest<'a>),
+    Demo(DemoRequest),
 }
 
 /// The run of these values, where they were numbers in their ranges.
@@ -121,18 +56,23 @@ fn run_of_values<'a>(
     }
 }
 
-/// The run with these options.
+/// The run with these texts.
 #[tactic(auto, unfolding(crate::specs::Command::run_of_texts))]
-fn run_of_options<'a>(bundle: &'a str, record_name: &'a str, options: Options<'a>) -> Request<'a>
-    ensures { asked_of result
-        ≡ spec.run_of_options bundle.now record_name.now (Some (texts_of options.entry)) }
+fn run_of_texts<'a>(
+    bundle: &'a str,
+    record_name: &'a str,
+    steps: &str,
+    stream: Option<&'a str>,
+    number: Option<&str>,
+) -> Request<'a>
+    ensures { asked_of result ≡ spec.run_of_texts bundle.now record_name.now steps.now
+        (option_copied stream.entry) (option_copied number.entry) }
 {
-    match (options.steps, options.stream, options.number) {
-        (None, _, _) => Request::Faulty(UsageFault::WrongWords),
-        (Some(steps), Some(name), None) => {
+    match (stream, number) {
+        (Some(name), None) => {
             run_of_values(bundle, record_name, steps, Some(Randomness::FromFile(name)))
         }
-        (Some(steps), None, Some(text)) => {
+        (None, Some(text)) => {
             let randomness = match number_up_to(text, u64::MAX) {
                 Some(number) => Some(Randomness::Numbered(number)),
                 None => None,
@@ -140,44 +80,6 @@ fn run_of_options<'a>(bundle: &'a str, record_name: &'a str, options: Options<'a
             run_of_values(bundle, record_name, steps, randomness)
         }
         _ => Request::Faulty(UsageFault::NoRandomness),
-    }
-}
-
-/// The words behind `run`.
-#[tactic(auto, unfolding(crate::specs::Command::run_words))]
-fn run_words<'a>(words: &'a [String]) -> Request<'a>
-    ensures { asked_of result ≡ spec.run_words (map string_bytes words.now) }
-{
-    let [bundle, record_name, rest @ ..] = words else {
-        return Request::Faulty(UsageFault::WrongWords);
-    };
-    if is_option(bundle.as_str()) || is_option(record_name.as_str()) {
-        return Request::Faulty(UsageFault::WrongWords);
-    }
-    let none = Options {
-        steps: None,
-        stream: None,
-        number: None,
-    };
-    match options_from(none, rest) {
-        Some(options) => run_of_options(bundle.as_str(), record_name.as_str(), options),
-        None => Request::Faulty(UsageFault::WrongWords),
-    }
-}
-
-/// The words behind `view`.
-#[tactic(auto, unfolding(crate::specs::Command::view_words))]
-fn view_words<'a>(words: &'a [String]) -> Request<'a>
-    ensures { asked_of result ≡ spec.view_words (map string_bytes words.now) }
-{
-    match words {
-        [bundle, record_name] if !is_option(bundle.as_str()) && !is_option(record_name.as_str()) => {
-            Request::View(RecordRequest {
-                bundle: bundle.as_str(),
-                record_name: record_name.as_str(),
-            })
-        }
-        _ => Request::Faulty(UsageFault::WrongWords),
     }
 }
 
@@ -195,51 +97,110 @@ fn solo_of_number<'a>(domain: &str, files: RecordRequest<'a>) -> Request<'a>
     }
 }
 
-/// The words behind `solo`.
-#[tactic(auto, unfolding(crate::specs::Command::solo_words))]
-fn solo_words<'a>(words: &'a [String]) -> Request<'a>
-    ensures { asked_of result ≡ spec.solo_words (map string_bytes words.now) }
+/// The generated bundle of this number, where it is one.
+fn gen_of_number<'a>(number: &str, bundle: &'a str) -> Request<'a>
+    ensures { asked_of result ≡ spec.gen_of_number (spec.number_up_to spec.last_stream number.now) bundle.now }
 {
-    let [domain, bundle, record_name] = words else {
-        return Request::Faulty(UsageFault::WrongWords);
-    };
-    if is_option(domain.as_str()) || is_option(bundle.as_str()) || is_option(record_name.as_str()) {
-        return Request::Faulty(UsageFault::WrongWords);
+    match number_up_to(number, u64::MAX) {
+        Some(number) => Request::Gen(GenRequest { number, bundle }),
+        None => Request::Faulty(UsageFault::WrongNumber),
     }
-    let files = RecordRequest {
-        bundle: bundle.as_str(),
-        record_name: record_name.as_str(),
-    };
-    solo_of_number(domain.as_str(), files)
 }
 
-/// Reads a command and the words behind it.
-#[tactic(auto, unfolding(crate::specs::Command::words_of))]
-fn read_command<'a>(command: &str, words: &'a [String]) -> Request<'a>
-    ensures { asked_of result ≡ spec.words_of (command.now ∷ map string_bytes words.now) }
+/// The run of a generated bundle with these numbers, where they are.
+fn demo_of_numbers<'a>(number: &str, steps: &str) -> Request<'a>
+    ensures { asked_of result ≡ spec.demo_of_numbers (spec.number_up_to spec.last_stream number.now)
+        (spec.number_up_to most_steps steps.now) }
 {
-    if is_later_command(command) {
-        return Request::NotBuilt;
+    match (
+        number_up_to(number, u64::MAX),
+        number_up_to(steps, MOST_STEPS),
+    ) {
+        (Some(number), Some(steps)) => Request::Demo(DemoRequest {
+            number,
+            steps: steps as u32,
+        }),
+        _ => Request::Faulty(UsageFault::WrongNumber),
     }
-    if command == "run" {
-        return run_words(words);
+}
+
+/// What a command asks with the texts that it found.
+#[tactic(auto, unfolding(crate::specs::Command::asked_with))]
+fn asked_with<'a>(command: CommandName, matches: &ArgMatches<'a>) -> Request<'a>
+    ensures { asked_of result ≡ spec.asked_with command (rows_of (found_of matches.now)) }
+{
+    match command {
+        CommandName::Run => run_of_texts(
+            needed_text(matches, "BUNDLE"),
+            needed_text(matches, "RECORD"),
+            needed_text(matches, "steps"),
+            given_text(matches, "stream"),
+            given_text(matches, "number"),
+        ),
+        CommandName::View => Request::View(RecordRequest {
+            bundle: needed_text(matches, "BUNDLE"),
+            record_name: needed_text(matches, "RECORD"),
+        }),
+        CommandName::Solo => {
+            let files = RecordRequest {
+                bundle: needed_text(matches, "BUNDLE"),
+                record_name: needed_text(matches, "RECORD"),
+            };
+            solo_of_number(needed_text(matches, "DOMAIN"), files)
+        }
+        CommandName::Gen => gen_of_number(
+            needed_text(matches, "NUMBER"),
+            needed_text(matches, "BUNDLE"),
+        ),
+        CommandName::Demo => demo_of_numbers(
+            needed_text(matches, "NUMBER"),
+            needed_text(matches, "steps"),
+        ),
     }
-    if command == "view" {
-        return view_words(words);
+}
+
+/// The command of this name.
+fn command_named(word: &str) -> Option<CommandName>
+    ensures { result ≡ spec.command_named word.now }
+{
+    match word {
+        "run" => Some(CommandName::Run),
+        "view" => Some(CommandName::View),
+        "solo" => Some(CommandName::Solo),
+        "gen" => Some(CommandName::Gen),
+        "demo" => Some(CommandName::Demo),
+        _ => None,
     }
-    if command == "solo" {
-        return solo_words(words);
+}
+
+/// Reads the words of a command, of which the first is its name.
+fn read_command<'a>(
+    alloc: Global,
+    command: CommandName,
+    words: &'a [String],
+) -> Result<Request<'a>, NoMemory>
+    ensures { IfOk result (λ request. asked_of request
+        ≡ spec.asked_of_command (Some command) (map string_bytes words.now)) }
+{
+    match found_in(form_of(alloc, command)?, words)? {
+        Some(matches) => Ok(asked_with(command, &matches)),
+        None => Ok(Request::Faulty(UsageFault::WrongWords)),
     }
-    Request::Faulty(UsageFault::UnknownCommand)
 }
 
 /// Reads the words.
 #[tactic(auto, unfolding(crate::specs::Command::words_of))]
-pub fn read_words<'a>(words: &'a [String]) -> Request<'a>
-    ensures { asked_of result ≡ spec.words_of (map string_bytes words.now) }
+pub fn read_words<'a>(alloc: Global, words: &'a [String]) -> Result<Request<'a>, NoMemory>
+    ensures { IfOk result (λ request. asked_of request ≡ spec.words_of (map string_bytes words.now)) }
 {
-    match words {
-        [] => Request::Faulty(UsageFault::NoCommand),
-        [command, rest @ ..] => read_command(command.as_str(), rest),
+    let [first, ..] = words else {
+        return Ok(Request::Faulty(UsageFault::NoCommand));
+    };
+    if first.as_str() == "stats" {
+        return Ok(Request::NotBuilt);
+    }
+    match command_named(first.as_str()) {
+        Some(command) => read_command(alloc, command, words),
+        None => Ok(Request::Faulty(UsageFault::UnknownCommand)),
     }
 }

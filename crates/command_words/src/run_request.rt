@@ -1,3 +1,4 @@
+//! What is asked of a run.
 ghost use Rattle.std.specs.Prelude.{◌≤◌};
 ghost use Rattle.cloak_model.specs.Run.{most_steps};
 

@@ -1,3 +1,4 @@
+//! What is wrong with words.
 /// What is wrong with the words of a command line. Where several hold, the first of this order is meant.
 #[derive(Clone, Copy, Debug, PartialEq, Eq)]
 pub enum UsageFault {
