@@ -1,10 +1,19 @@
--- What the program answers, by what the words ask for.
+-- What the program answers, by what the words ask for, and which files it may change.
+use Rattle.std.specs.Prelude.{◌≡◌, ℕ, List, Option}
+use Rattle.outside_io.specs.Told.{SameFiles, OtherFiles}
 use Rattle.command_words.specs.Command as spec
+use Rattle.image_commands.specs.Demonstrating.{DemoAnswers}
+use Rattle.image_commands.specs.Generating.{GenAnswers}
 use Rattle.program_parts.specs.declared.status.Status.{Status}
 use Rattle.program_parts.specs.NoRun.{OnlyRefuses}
 use Rattle.program_parts.specs.Outside.{Outside}
 use Rattle.read_back.specs.Answering.{ViewAnswers, SoloAnswers}
-use Rattle.run_command.specs.Answering.{RunAnswers}
+use Rattle.run_command.specs.Answering.{RunAnswers, KeepsFiles}
+
+-- the image of a number and its run, without files
+pub record Demonstrates {S O : Type 0} (number steps : ℕ) (before after : Outside S O) (answer : Status) : Type 0 where
+  pub answers : DemoAnswers number steps before.output after.output answer
+  pub untouched : after.files ≡ before.files
 
 abbrev pub Answers : {S O : Type 0} → spec.Asked → Outside S O → Outside S O → Status → Type 0
 Answers spec.NotBuilt before after answer = OnlyRefuses spec.NotBuilt before after answer
@@ -14,3 +23,17 @@ Answers (spec.Run bundle record_name steps randomness) before after answer =
 Answers (spec.View bundle record_name) before after answer = ViewAnswers (spec.View bundle record_name) before after answer
 Answers (spec.Solo domain bundle record_name) before after answer =
     SoloAnswers (spec.Solo domain bundle record_name) before after answer
+Answers (spec.Gen number bundle_name) before after answer = GenAnswers number bundle_name before after answer
+Answers (spec.Demo number steps) before after answer = Demonstrates number steps before after answer
+
+-- Every file keeps its bytes, save the record of a run that was begun, or might have been, and the bundle that `gen`
+-- writes.
+abbrev pub Keeps : spec.Asked → Status → (List ℕ → Option (List ℕ)) → (List ℕ → Option (List ℕ)) → Type 0
+Keeps spec.NotBuilt answer held held' = SameFiles held held'
+Keeps (spec.Faulty fault) answer held held' = SameFiles held held'
+Keeps (spec.Run bundle record_name steps randomness) answer held held' =
+    KeepsFiles (spec.Run bundle record_name steps randomness) answer held held'
+Keeps (spec.View bundle record_name) answer held held' = SameFiles held held'
+Keeps (spec.Solo domain bundle record_name) answer held held' = SameFiles held held'
+Keeps (spec.Gen number bundle_name) answer held held' = OtherFiles bundle_name held held'
+Keeps (spec.Demo number steps) answer held held' = SameFiles held held'

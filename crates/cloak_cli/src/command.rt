@@ -1,11 +1,11 @@
 //! The top call.
 ghost use Rattle.std.specs.Prelude.{◌<◌, ◌-◌, ◌^◌, map, string_bytes};
 ghost use Rattle.command_words.specs.Command as spec;
-ghost use Rattle.cloak_cli.specs.Answering.{Answers};
+ghost use Rattle.cloak_cli.specs.Answering.{Answers, Keeps};
 ghost use Rattle.program_parts.specs.Outside.{outside};
-ghost use Rattle.run_command.specs.Answering.{KeepsFiles};
 
 use command_words::{Request, read_words};
+use image_commands::{demo_command, gen_command};
 use outside_io::{Shelf, Sink};
 use program_parts::{Refusal, Status, refuse};
 use read_back::{solo_command, view_command};
@@ -26,14 +26,20 @@ pub fn cloak<S: Shelf, O: Sink>(
     ensures answers { Answers (spec.words_of (map string_bytes words.now.items))
         (outside S.held S.reading_faults S.writing_faults O.taken O.faults shelf.old out.old)
         (outside S.held S.reading_faults S.writing_faults O.taken O.faults shelf.new out.new) result }
-    ensures kept { KeepsFiles (spec.words_of (map string_bytes words.now.items)) result
+    ensures kept { Keeps (spec.words_of (map string_bytes words.now.items)) result
         (S.held shelf.old) (S.held shelf.new) }
 {
-    match read_words(words.as_slice()) {
+    let request = match read_words(alloc, words.as_slice()) {
+        Ok(request) => request,
+        Err(_) => return refuse(out, &Refusal::NoMemory),
+    };
+    match request {
         Request::NotBuilt => refuse(out, &Refusal::NotBuilt),
         Request::Faulty(fault) => refuse(out, &Refusal::Usage(fault)),
         Request::Run(run) => run_command(alloc, &run, shelf, out),
         Request::View(files) => view_command(alloc, &files, shelf, out),
         Request::Solo(solo) => solo_command(alloc, &solo, shelf, out),
+        Request::Gen(image) => gen_command(alloc, image.number, image.bundle, shelf, out),
+        Request::Demo(demo) => demo_command(alloc, demo.number, demo.steps, out),
     }
 }

@@ -18,13 +18,15 @@ use Rattle.program_parts.specs.Refusal.{status_of_refusal, refusal_line}
 
 -- What is asked for.
 
--- the file of the bundle that the words name
+-- the file that the words name of a bundle that is read
 abbrev pub bundle_named : spec.Asked → Option (List ℕ)
 bundle_named spec.NotBuilt = None
 bundle_named (spec.Faulty fault) = None
 bundle_named (spec.Run bundle record_name steps randomness) = Some bundle
 bundle_named (spec.View bundle record_name) = Some bundle
 bundle_named (spec.Solo domain bundle record_name) = Some bundle
+bundle_named (spec.Gen number bundle_name) = None
+bundle_named (spec.Demo number steps) = None
 
 abbrev pub AsksFile : spec.Asked → List ℕ → Type 0
 AsksFile asked bundle_name = bundle_named asked ≡ Some bundle_name
@@ -75,9 +77,7 @@ pub record IsReadFault {S : Type 0} (asked : spec.Asked) (before after : FilesOu
   pub reading : Raised before.reading after.reading
 
 -- A growth was refused before anything was written. (What refused it, no clause can name.)
-pub record IsNoMemory {S : Type 0} (asked : spec.Asked) (before after : FilesOutside S) : Type 0 where
-  pub bundle_name : List ℕ
-  pub asks : AsksFile asked bundle_name
+pub record IsNoMemory {S : Type 0} (before after : FilesOutside S) : Type 0 where
   pub reading : after.reading ≡ before.reading
 
 -- The opening of a run finds too few random bytes.
@@ -106,7 +106,7 @@ HasCause asked refusal.NotBuilt before after = IsNotBuilt asked before after
 HasCause asked (refusal.Usage fault) before after = IsUsage asked fault before after
 HasCause asked (refusal.BadBundle fault) before after = IsBadBundle asked fault before after
 HasCause asked refusal.ReadFault before after = IsReadFault asked before after
-HasCause asked refusal.NoMemory before after = IsNoMemory asked before after
+HasCause asked refusal.NoMemory before after = IsNoMemory before after
 HasCause asked refusal.NoKey before after = IsLack asked NoKey before after
 HasCause asked refusal.NoPageDraw before after = IsLack asked NoPageDraw before after
 HasCause asked refusal.NoSuchDomain before after = IsNoSuchDomain asked before after

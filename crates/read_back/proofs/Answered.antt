@@ -54,7 +54,7 @@ no_bundle {S} {asked} {name} refusal.ReadFault before after asks reads low held 
   writing = writing;
 }
 no_bundle {S} {asked} {name} refusal.NoMemory before after asks reads low held writing = record {
-  cause = record { bundle_name = name; asks = asks; reading = reads };
+  cause = record { reading = reads };
   held = held;
   writing = writing;
 }

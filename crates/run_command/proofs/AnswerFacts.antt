@@ -293,12 +293,14 @@ keeps_run : (asked : spec.Asked) (answer : Status) (held held' : List ℕ → Op
 keeps_run asked answer held held' record_name bundle_name steps from is keeps =
     subst (λ (a : spec.Asked). KeepsFiles a answer held held') (sym is) keeps
 
-same_files : (asked : spec.Asked) (answer : Status) (held held' : List ℕ → Option (List ℕ)) → SameFiles held held' →
+pub same_files : (asked : spec.Asked) (answer : Status) (held held' : List ℕ → Option (List ℕ)) → SameFiles held held' →
     KeepsFiles asked answer held held'
 same_files spec.NotBuilt answer held held' same = same
 same_files (spec.Faulty fault) answer held held' same = same
 same_files (spec.View bundle_name record_name) answer held held' same = same
 same_files (spec.Solo domain bundle_name record_name) answer held held' same = same
+same_files (spec.Gen number bundle_name) answer held held' same = same
+same_files (spec.Demo number steps) answer held held' same = same
 same_files (spec.Run bundle_name record_name steps from) status.Done held held' same = λ other apart. same other
 same_files (spec.Run bundle_name record_name steps from) status.Violation held held' same = λ other apart. same other
 same_files (spec.Run bundle_name record_name steps from) status.Usage held held' same = same

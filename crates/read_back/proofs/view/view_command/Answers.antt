@@ -22,7 +22,7 @@ pub returns-clause-answers : goal.returns-clause-answers
 returns-clause-answers g c =
     let e = c.in-Ok.ensures in
     view_refuses {r = refusal.NoMemory} tt (record {
-      cause = record { bundle_name = c.args.files.now.bundle.now; asks = refl; reading = e.bundle.0 };
+      cause = record { reading = e.bundle.0 };
       held = e.files;
       writing = e.writing;
     }) c.requires.output c.refuse-in-Err-open.ensures
