@@ -23,7 +23,8 @@ fn with_position<'a>(
     command: Command<'a>,
     name: &'a str,
 ) -> Result<Command<'a>, NoMemory>
-    ensures { IfOk result (λ more. app_of more ≡ with_rule (app_of command.entry) (spec.position name.entry.now)) }
+    ensures { IfOk result (λ more. app_of more
+        ≡ with_rule (app_of command.entry) (spec.position name.entry.now)) }
 {
     let position = Arg::new(alloc, name).required(true);
     Ok(command.arg(position)?)
@@ -35,7 +36,8 @@ fn with_option<'a>(
     command: Command<'a>,
     name: &'a str,
 ) -> Result<Command<'a>, NoMemory>
-    ensures { IfOk result (λ more. app_of more ≡ with_rule (app_of command.entry) (spec.valued_option name.entry.now)) }
+    ensures { IfOk result (λ more. app_of more
+        ≡ with_rule (app_of command.entry) (spec.valued_option name.entry.now)) }
 {
     let option = Arg::new(alloc, name).long(name);
     Ok(command.arg(option)?)
@@ -47,7 +49,8 @@ fn with_needed_option<'a>(
     command: Command<'a>,
     name: &'a str,
 ) -> Result<Command<'a>, NoMemory>
-    ensures { IfOk result (λ more. app_of more ≡ with_rule (app_of command.entry) (spec.needed_option name.entry.now)) }
+    ensures { IfOk result (λ more. app_of more
+        ≡ with_rule (app_of command.entry) (spec.needed_option name.entry.now)) }
 {
     let option = Arg::new(alloc, name).long(name).required(true);
     Ok(command.arg(option)?)
