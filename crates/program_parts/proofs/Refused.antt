@@ -1,10 +1,15 @@
 -- A command that does nothing but show the line of a reason.
-use Rattle.std.proofs.Common.{◌<◌, ◌-◌, ◌^◌, ℕ, inl, inr}
+use Rattle.std.proofs.Common.{◌≡◌, ◌<◌, ◌-◌, ◌^◌, ◌∙◌, ℕ, List, Err, inl, inr}
+use Rattle.outside_io.specs.Told.{SameFiles}
+use Rattle.outside_io.proofs.ToldFacts.{Rose-after}
 use Rattle.command_words.specs.Command as spec
 use Rattle.program_parts.specs.declared.refusal.Refusal.{Refusal}
+use Rattle.program_parts.specs.declared.refusal.Refusal.TheVariants as refusal
 use Rattle.program_parts.specs.declared.status.Status.{Status}
-use Rattle.program_parts.specs.NoRun.{NoRun, OnlyRefuses}
-use Rattle.program_parts.specs.Outside.{Outside}
+use Rattle.program_parts.specs.Bundles.{ReadsBundle}
+use Rattle.program_parts.specs.Files.{ReadsFile}
+use Rattle.program_parts.specs.NoRun.{AsksFile, NoRun, OnlyRefuses}
+use Rattle.program_parts.specs.Outside.{Outside, FilesOutside}
 use Rattle.program_parts.specs.Refusing.{Refuses}
 use Rattle.program_parts.proofs.FaultFacts.{raised}
 
@@ -20,3 +25,48 @@ only_refuses {S} {O} {asked} {r} {before} {after} {given} none low (inr front) =
       line = front.front_shown;
       faults = raised front.faults low;
     })
+
+-- the bundle was not read
+pub no_bundle : {S : Type 0} {asked : spec.Asked} {name : List ℕ} (r : Refusal) (before after : FilesOutside S) →
+    AsksFile asked name → ReadsBundle (before.held name) before.reading after.reading (Err r) →
+    before.reading < 2 ^ 64 - 1 → SameFiles before.held after.held → after.writing ≡ before.writing →
+    NoRun asked r before after
+no_bundle {S} {asked} {name} (refusal.BadBundle fault) before after asks reads low held writing = record {
+  cause = record { bundle_name = name; asks = asks; first_fault = reads.1; reading = reads.0 };
+  held = held;
+  writing = writing;
+}
+no_bundle {S} {asked} {name} refusal.ReadFault before after asks reads low held writing = record {
+  cause = record { bundle_name = name; asks = asks; reading = raised reads low };
+  held = held;
+  writing = writing;
+}
+no_bundle {S} {asked} {name} refusal.NoMemory before after asks reads low held writing = record {
+  cause = record { reading = reads };
+  held = held;
+  writing = writing;
+}
+no_bundle {S} {asked} {name} refusal.NotBuilt before after asks reads low held writing = absurd reads
+no_bundle {S} {asked} {name} (refusal.Usage fault) before after asks reads low held writing = absurd reads
+no_bundle {S} {asked} {name} refusal.NoKey before after asks reads low held writing = absurd reads
+no_bundle {S} {asked} {name} refusal.NoPageDraw before after asks reads low held writing = absurd reads
+no_bundle {S} {asked} {name} refusal.NoSuchDomain before after asks reads low held writing = absurd reads
+
+-- a file was not read, behind the bundle
+pub no_file : {S : Type 0} (A : Type 0) {asked : spec.Asked} {name : List ℕ} (r : Refusal) (before after : FilesOutside S) (reading : ℕ) →
+    AsksFile asked name → reading ≡ before.reading → ReadsFile {A = A} reading after.reading (Err r) →
+    before.reading < 2 ^ 64 - 1 → SameFiles before.held after.held → after.writing ≡ before.writing →
+    NoRun asked r before after
+no_file {S} A {asked} {name} refusal.ReadFault before after reading asks same reads low held writing = record {
+  cause = record { bundle_name = name; asks = asks; reading = raised (Rose-after _ _ _ same reads) low };
+  held = held;
+  writing = writing;
+}
+no_file {S} A {asked} {name} refusal.NoMemory before after reading asks same reads low held writing =
+    record { cause = record { reading = reads ∙ same }; held = held; writing = writing }
+no_file {S} A {asked} {name} (refusal.BadBundle fault) before after reading asks same reads low held writing = absurd reads
+no_file {S} A {asked} {name} refusal.NotBuilt before after reading asks same reads low held writing = absurd reads
+no_file {S} A {asked} {name} (refusal.Usage fault) before after reading asks same reads low held writing = absurd reads
+no_file {S} A {asked} {name} refusal.NoKey before after reading asks same reads low held writing = absurd reads
+no_file {S} A {asked} {name} refusal.NoPageDraw before after reading asks same reads low held writing = absurd reads
+no_file {S} A {asked} {name} refusal.NoSuchDomain before after reading asks same reads low held writing = absurd reads

@@ -39,31 +39,6 @@ unread refusal.NoKey told m n reads = absurd reads
 unread refusal.NoPageDraw told m n reads = absurd reads
 unread refusal.NoSuchDomain told m n reads = absurd reads
 
-pub no_bundle : {S : Type 0} {asked : spec.Asked} {name : List ℕ} (r : Refusal) (before after : FilesOutside S) →
-    AsksFile asked name → ReadsBundle (before.held name) before.reading after.reading (Err r) →
-    before.reading < 2 ^ 64 - 1 → SameFiles before.held after.held → after.writing ≡ before.writing →
-    NoRun asked r before after
-no_bundle {S} {asked} {name} (refusal.BadBundle fault) before after asks reads low held writing = record {
-  cause = record { bundle_name = name; asks = asks; first_fault = reads.1; reading = reads.0 };
-  held = held;
-  writing = writing;
-}
-no_bundle {S} {asked} {name} refusal.ReadFault before after asks reads low held writing = record {
-  cause = record { bundle_name = name; asks = asks; reading = raised reads low };
-  held = held;
-  writing = writing;
-}
-no_bundle {S} {asked} {name} refusal.NoMemory before after asks reads low held writing = record {
-  cause = record { reading = reads };
-  held = held;
-  writing = writing;
-}
-no_bundle {S} {asked} {name} refusal.NotBuilt before after asks reads low held writing = absurd reads
-no_bundle {S} {asked} {name} (refusal.Usage fault) before after asks reads low held writing = absurd reads
-no_bundle {S} {asked} {name} refusal.NoKey before after asks reads low held writing = absurd reads
-no_bundle {S} {asked} {name} refusal.NoPageDraw before after asks reads low held writing = absurd reads
-no_bundle {S} {asked} {name} refusal.NoSuchDomain before after asks reads low held writing = absurd reads
-
 view_refused : {S O : Type 0} (asked : spec.Asked) (r : Refusal) (before after : Outside S O) → IsUnread r →
     IsRefused asked (status_of_refusal r) before after → ViewAnswers asked before after (status_of_refusal r)
 view_refused asked (refusal.BadBundle fault) before after is refused = refused

@@ -59,8 +59,14 @@ pub fn prepare<S: Shelf>(
         (files S.held S.reading_faults S.writing_faults shelf.new) run.now.record_name.now run.now.steps result }
     ensures fresh { IfOk result (λ prepared. steps_made prepared.machine ≡ 0) }
 {
-    let bundle = read_bundle(alloc, shelf, run.bundle)?;
-    let stream = open_stream(alloc, shelf, &run.randomness)?;
+    let bundle = match read_bundle(alloc, shelf, run.bundle) {
+        Ok(bundle) => bundle,
+        Err(refusal) => return Err(refusal),
+    };
+    let stream = match open_stream(alloc, shelf, &run.randomness) {
+        Ok(stream) => stream,
+        Err(refusal) => return Err(refusal),
+    };
     match Machine::open(alloc, &bundle, stream) {
         Ok(machine) => Ok(Prepared {
             machine,
