@@ -1,14 +1,16 @@
 -- The lines of programs in their order.
 use Rattle.std.proofs.Common.{◌≡◌, ◌∙◌, ℕ, List, [], ◌∷◌, ◌++◌, length, All, refl, sym, ap, subst, append_assoc}
-use Rattle.std.proofs.Common.{arith, length-append}
-use Rattle.std.proofs.lemmas.List.{append-nil, get_or_append_left}
+use Rattle.std.proofs.Common.{◌+◌, ◌<◌, arith, length-append, get_or, map, take}
+use Rattle.std.proofs.lemmas.List.{get_or_append_left, take_more, map-append}
 use Rattle.std.proofs.Math.Seq.{get_or-append_seam}
-use Rattle.std.specs.List.{flat_map}
+use Rattle.std.specs.List.{concat}
 use Rattle.cloak_model.specs.DomainState as model
-use Rattle.cloak_model.specs.DomainState.{domain_line}
 use Rattle.hypercalls.specs.declared.domain.Domain.{Domain}
 use Rattle.hypercalls.specs.Standing.{StandsFor}
 use Rattle.joint_machine.specs.Standing.{AreDomains}
+use Rattle.kernel_report.proofs.Joined.{concat-last}
+use Rattle.cloak_machine.specs.declared.domains.DomainLine.{DomainLine}
+use Rattle.cloak_machine.specs.Lines.{line_text}
 
 -- programs, and the last of them
 pub record EndsIn (xs : List Domain) (x : Domain) (ds : List model.Domain) : Type 0 where
@@ -32,12 +34,15 @@ ends_in (y ∷ xs) x (d ∷ ds) are =
       stands = rest.stands;
     }
 
-pub lines_last : (front : List model.Domain) (last : model.Domain) →
-    flat_map domain_line (front ++ last ∷ []) ≡ flat_map domain_line front ++ domain_line last
-lines_last [] last = append-nil (domain_line last)
-lines_last (d ∷ front) last =
-    ap (λ (l : List ℕ). domain_line d ++ l) (lines_last front last)
-    ∙ sym (append_assoc (domain_line d) (flat_map domain_line front) (domain_line last))
+-- one line more
+pub lines-take_more : (lines : List DomainLine) (i : ℕ) (d : DomainLine) {text : List ℕ} →
+    text ≡ line_text (get_or lines i d) → i < length lines →
+    concat (map line_text (take i lines)) ++ text ≡ concat (map line_text (take (i + 1) lines))
+lines-take_more lines i d {text} is low =
+    ap (λ (l : List ℕ). concat (map line_text (take i lines)) ++ l) is
+    ∙ sym (ap (λ (l : List DomainLine). concat (map line_text l)) (take_more lines i d low)
+    ∙ ap concat (map-append line_text (take i lines) (get_or lines i d ∷ []))
+    ∙ concat-last (map line_text (take i lines)) (line_text (get_or lines i d)))
 
 -- what holds of all holds of the last, and of those before it
 

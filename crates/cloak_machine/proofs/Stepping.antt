@@ -1,6 +1,10 @@
 -- A step of the machine, its opening and its closing, out of what the joint machine says of them.
 use Rattle.std.proofs.Common.{◌≡◌, ◌<◌, ◌∙◌, ℕ, ◌+◌, ◌%◌, ◌^◌, Bool, List, [], ◌∷◌, ◌++◌, length}
 use Rattle.std.proofs.Common.{All, Ok, refl, sym, ap, subst, slice_index, arith, codes, decimal, if◌then◌else◌}
+use Rattle.std.proofs.Common.{Option, map, option_map, slice_get, unwrap_or}
+use Rattle.std.proofs.lemmas.List.Concat.{concat_is}
+use Rattle.std.proofs.lemmas.List.Folds.{flat_map-map}
+use Rattle.std.proofs.lemmas.Option.{slice_get-map}
 use Rattle.std.specs.List.{concat, flat_map}
 use Rattle.sha2.specs.Sha256.{sha256}
 use Rattle.cloak_base.specs.Random.{Random}
@@ -23,7 +27,7 @@ use Rattle.cloaked_side.proofs.Emitting.{emits_then, emits_items}
 use Rattle.kernel_report.specs.Console.{ConsoleShows}
 use Rattle.kernel_report.specs.KernelText.{kernel_text}
 use Rattle.kernel_report.proofs.KernelSaid.{IsSaid, kernel_text-is}
-use Rattle.cloak_machine.specs.Lines.{lines_text}
+use Rattle.cloak_machine.specs.Lines.{lines_of}
 use Rattle.cloak_machine.specs.Standing.{StandsForMoment, MakesTurn, EndsAs, HaveFewLoads}
 use Rattle.cloak_machine.specs.Turns.{IsAt}
 use Rattle.kernel_report.specs.declared.console.Console.{Console}
@@ -147,7 +151,7 @@ pub ends_as : {E : Type 0} {gave : E → E → List Piece → Type 0} {e f g h :
     end.stop ≡ (if missed then cause.NoRandom else stopped) → end.steps ≡ machine.steps →
     end.draws ≡ (closing m.joint).joint.memory.ledger.draws →
     IsSaid end.lines (kernel_part (closing m.joint).joint) →
-    lines_text end.domains ≡ flat_map domain_line (closing m.joint).joint.domains →
+    lines_of end.domains ≡ map domain_line (closing m.joint).joint.domains →
     EndsAs gave e h end stopped m (closing m.joint)
 ends_as {E} {gave} {e} {f} {g} {h} {joint} {machine} {end} {stopped} m missed stands close shows last miss stop steps
     draws said lines =
@@ -156,6 +160,9 @@ ends_as {E} {gave} {e} {f} {g} {h} {joint} {machine} {end} {stopped} m missed st
     subst (λ n. Emits gave e f (item_pieces (item.Close n ∷ []))) (sym stands.steps) close in
     let same : end.steps ≡ m.steps = steps ∙ sym stands.steps in
     let kernel : kernel_text end.lines ≡ kernel_lines (kernel_part o.joint) = kernel_text-is end.lines _ said in
+    let texts : concat (lines_of end.domains) ≡ flat_map domain_line o.joint.domains =
+    ap concat lines ∙ concat_is (map domain_line o.joint.domains)
+    ∙ flat_map-map (λ (l : List ℕ). l) domain_line o.joint.domains in
     record {
       emits = emits_items (item.Close m.steps ∷ []) (o.items ++ item.End ∷ []) first
           (emits_items o.items (item.End ∷ []) shows.emits last);
@@ -164,5 +171,8 @@ ends_as {E} {gave} {e} {f} {g} {h} {joint} {machine} {end} {stopped} m missed st
       stop = stop ∙ ap (λ (b : Bool). if b then cause.NoRandom else stopped) miss;
       report = λ i. stop_line end.stop ++
           (number_line (codes "steps ") (same i) ++ (number_line (codes "draws ") (draws i)
-          ++ (kernel i ++ lines i)));
+          ++ (kernel i ++ texts i)));
+      lines = λ d program there. ap (λ (l : List (List ℕ)). unwrap_or (slice_get l d) []) lines
+          ∙ ap (λ (l : Option (List ℕ)). unwrap_or l [])
+          (slice_get-map domain_line o.joint.domains d ∙ ap (option_map domain_line) there);
     }

@@ -1,10 +1,10 @@
 -- What a machine stands for: moments of the joint run.
-use Rattle.std.specs.Prelude.{ℕ, ◌≡◌, ◌≤◌, ◌+◌, List, [], ◌∷◌, ◌++◌, length, All, Option, Some, Result, Ok, Err}
+use Rattle.std.specs.Prelude.{ℕ, ◌≡◌, ◌≤◌, ◌+◌, List, [], ◌∷◌, ◌++◌, length, All, Option, Some, Result, Ok, Err, slice_get}
 use Rattle.cloak_base.specs.Random.{Random}
 use Rattle.cloak_base.specs.declared.causes.Stop.{Stop}
 use Rattle.cloak_model.specs.declared.image.Bundle.{Bundle}
 use Rattle.cloak_model.specs.declared.item.Item.TheVariants as item
-use Rattle.cloak_model.specs.DomainState.{Domain}
+use Rattle.cloak_model.specs.DomainState.{Domain, domain_line}
 use Rattle.cloak_model.specs.Exchange.{Piece, Emits, item_pieces}
 use Rattle.cloak_model.specs.Opening.{Opened, NoKey, NoPageDraw, opening}
 use Rattle.cloak_model.specs.Report.{report}
@@ -14,7 +14,7 @@ use Rattle.joint_machine.specs.Standing.{StandsForJoint}
 use Rattle.joint_machine.specs.declared.opened.OpenFault.{OpenFault}
 use Rattle.joint_machine.specs.declared.opened.OpenFault.TheVariants as fault
 use Rattle.kernel_report.specs.Console.{ConsoleShows}
-use Rattle.cloak_machine.specs.Ending.{end_report}
+use Rattle.cloak_machine.specs.Ending.{end_report, line_in}
 use Rattle.cloak_machine.specs.Turns.{IsAt}
 use Rattle.cloak_machine.specs.declared.end.End.{End}
 use Rattle.cloak_machine.specs.declared.machine.Machine.{Machine}
@@ -71,3 +71,5 @@ pub record EndsAs {E : Type 0} (gave : E → E → List Piece → Type 0) (e e' 
   pub draws : end.draws ≡ closed.joint.memory.ledger.draws
   pub stop : end.stop ≡ cause_of closed.joint (Some stopped)
   pub report : end_report end ≡ report end.stop m.steps closed.joint
+  pub lines : (d : ℕ) (program : Domain) → slice_get closed.joint.domains d ≡ Some program →
+      line_in end d ≡ domain_line program

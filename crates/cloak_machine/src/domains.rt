@@ -1,73 +1,105 @@
-ghost use Rattle.std.specs.Prelude.{◌≡◌, ◌+◌, ◌<◌, ◌≤◌, ◌^◌, [], ◌++◌, List, length, All};
-ghost use Rattle.std.specs.List.{flat_map};
+//! The lines of programs in the report.
+ghost use Rattle.std.specs.Prelude.{◌≡◌, ◌+◌, ◌<◌, ◌≤◌, ◌^◌, [], ◌∷◌, ◌++◌, List, map, length, All};
 ghost use Rattle.cloak_model.specs.DomainState as model;
 ghost use Rattle.cloak_model.specs.DomainState.{domain_line};
 ghost use Rattle.hypercalls.specs.Standing.{StandsFor};
-ghost use Rattle.hypercalls.specs.Writing.{Appends};
 ghost use Rattle.joint_machine.specs.Standing.{AreDomains};
 
 use hypercalls::Domain;
 
-/// The lines of up to four programs, one behind another.
-#[derive(Drop)]
-pub struct DomainLines {
-    pub(crate) text: [u8; 1024],
+/// The line of a program.
+#[derive(Clone, Copy)]
+pub struct DomainLine {
+    pub(crate) bytes: [u8; 256],
     /// The bytes behind it are not used.
     pub(crate) end: usize,
-    ghost fits: { end ≤ 1024 },
+    ghost fits: { end ≤ 256 },
 }
 
-/// Writes a text at a place, and answers the place behind it.
-fn append(into: &mut [u8; 1024], at: usize, text: &[u8]) -> usize
-    requires { at + length text.now ≤ 1024 }
-    ensures { Appends into.old into.new at result text.now }
-{
-    let end = at + text.len();
-    into[at..end].copy_from_slice(text);
-    end
+/// The lines of up to four programs, in the order of their numbers.
+#[derive(Drop)]
+pub struct DomainLines {
+    pub(crate) lines: [DomainLine; 4],
+    /// The lines behind it are not used.
+    pub(crate) count: usize,
+    ghost few: { count ≤ 4 },
 }
 
-impl DomainLines {
-    ghost use Rattle.cloak_machine.specs.Lines.{lines_text};
+impl DomainLine {
+    ghost use Rattle.cloak_machine.specs.Lines.{line_text};
 
-    fn new() -> DomainLines
-        ensures none { lines_text result ≡ [] }
-        ensures end { result.end ≡ 0 }
-    {
-        DomainLines {
-            text: [0; 1024],
+    fn empty() -> DomainLine {
+        DomainLine {
+            bytes: [0; 256],
             end: 0,
         }
     }
 
-    /// All lines so far.
-    pub fn text(&self) -> &[u8]
-        ensures { result.now ≡ lines_text self.now }
+    /// Ends a program, and gives its line.
+    fn of(domain: Domain) -> DomainLine
+        ensures { (d : model.Domain) → StandsFor domain d → length d.loads < 2 ^ 64 → line_text result ≡ domain_line d }
     {
-        &self.text[..self.end]
+        let mut bytes = [0; 256];
+        let end = domain.line(&mut bytes);
+        DomainLine { bytes, end }
     }
 
-    /// Ends a program, and adds its line.
-    fn add(&mut self, domain: Domain)
-        requires { self.old.end + 256 ≤ 1024 }
-        ensures end { self.new.end ≤ self.old.end + 256 }
-        ensures line { (d : model.Domain) → StandsFor domain d → length d.loads < 2 ^ 64 →
-            lines_text self.new ≡ lines_text self.old ++ domain_line d }
+    pub fn text(&self) -> &[u8]
+        ensures { result.now ≡ line_text self.now }
     {
-        let mut line = [0; 256];
-        let count = domain.line(&mut line);
-        self.end = append(&mut self.text, self.end, &line[..count]);
+        &self.bytes[..self.end]
+    }
+}
+
+impl DomainLines {
+    ghost use Rattle.cloak_machine.specs.Lines.{line_text, lines_of, line_of_program};
+
+    fn new() -> DomainLines
+        ensures none { lines_of result ≡ [] }
+        ensures count { result.count ≡ 0 }
+    {
+        DomainLines {
+            lines: [DomainLine::empty(); 4],
+            count: 0,
+        }
+    }
+
+    /// All lines.
+    pub fn all(&self) -> &[DomainLine]
+        ensures { map line_text result.now ≡ lines_of self.now }
+    {
+        &self.lines[..self.count]
+    }
+
+    /// The line of a program, and nothing where there is no such program.
+    pub fn line(&self, d: u32) -> &[u8]
+        ensures { result.now ≡ line_of_program self.now d }
+    {
+        match self.all().get(d as usize) {
+            None => &[],
+            Some(line) => line.text(),
+        }
+    }
+
+    /// Adds a line.
+    fn add(&mut self, line: DomainLine)
+        requires { self.old.count < 4 }
+        ensures count { self.new.count ≡ self.old.count + 1 }
+        ensures lines { lines_of self.new ≡ lines_of self.old ++ line_text line ∷ [] }
+    {
+        self.lines[self.count] = line;
+        self.count += 1;
     }
 
     /// Ends the programs. Their lines stand in the order of their numbers.
     pub fn of(domains: Vec<Domain>) -> DomainLines
         requires { length domains.items ≤ 4 }
         ensures { (ds : List model.Domain) → AreDomains domains.items ds → All (λ d. length d.loads < 2 ^ 64) ds →
-            lines_text result ≡ flat_map domain_line ds }
+            lines_of result ≡ map domain_line ds }
     {
         let mut lines = DomainLines::new();
         for domain in domains {
-            lines.add(domain);
+            lines.add(DomainLine::of(domain));
         }
         lines
     }

@@ -1,4 +1,5 @@
-ghost use Rattle.std.specs.Prelude.{◌≡◌, ◌<◌, List, ℕ, None};
+//! The end of a run, and the report.
+ghost use Rattle.std.specs.Prelude.{◌≡◌, List, ℕ, None, map};
 ghost use Rattle.std.specs.List.{concat};
 ghost use Rattle.sha2.specs.Sha256.{sha256};
 ghost use Rattle.outside_io.specs.Told.{Puts};
@@ -6,10 +7,11 @@ ghost use Rattle.cloak_model.specs.Cloaking.{CloakedMemory};
 ghost use Rattle.cloak_model.specs.Report as spec;
 ghost use Rattle.cloak_pager.specs.State.{held_in};
 ghost use Rattle.cloaked_side.specs.Holding.{Holds};
+ghost use Rattle.cloak_machine.specs.Lines.{line_text};
 ghost use Rattle.kernel_report.specs.Console.{ConsoleShows};
 ghost use Rattle.kernel_report.specs.Putting.{PutsMore, putting};
 
-use crate::domains::DomainLines;
+use crate::domains::{DomainLine, DomainLines};
 use crate::frames::digest_of;
 use cloak_base::{Failed, Stop, Violation};
 use cloaked_side::Memory;
@@ -33,7 +35,12 @@ pub struct End {
 
 /// What the report says of this console, this memory, in which each frame is as the kernel sees it, this disk and these
 /// harts.
-pub fn kernel_lines_of(console: Console, memory: &mut Memory, disk: &[u8], harts: Vec<Hart>) -> KernelLines
+pub fn kernel_lines_of(
+    console: Console,
+    memory: &mut Memory,
+    disk: &[u8],
+    harts: Vec<Hart>,
+) -> KernelLines
     requires { (k : ℕ) → held_in memory.old.pager k ≡ None }
     ensures count { result.console_length ≡ console.count }
     ensures console { (bytes : List ℕ) → ConsoleShows console bytes → result.console ≡ sha256 bytes }
@@ -117,8 +124,27 @@ fn put_number<O: Sink>(out: &mut O, so_far: SoFar, name: &[u8], n: u64) -> SoFar
     text(out, so_far, b"\n")
 }
 
+/// Lines of programs, as they are.
+fn put_lines<O: Sink>(out: &mut O, so_far: SoFar, lines: &[DomainLine]) -> SoFar
+    ensures { PutsMore (putting O.taken O.faults out.old so_far) (putting O.taken O.faults out.new result)
+        (concat (map line_text lines.now)) }
+{
+    let mut so_far = so_far;
+    for line in lines {
+        so_far = text(out, so_far, line.text());
+    }
+    so_far
+}
+
 impl End {
-    ghost use Rattle.cloak_machine.specs.Ending.{end_report};
+    ghost use Rattle.cloak_machine.specs.Ending.{end_report, line_in};
+
+    /// The line of a program in the report, and nothing where there is no such program.
+    pub fn domain_line(&self, d: u32) -> &[u8]
+        ensures { result.now ≡ line_in self.now d }
+    {
+        self.domains.line(d)
+    }
 
     /// Writes the report. One that failed has written a front of it.
     pub fn report<O: Sink>(&self, out: &mut O) -> Result<(), Failed>
@@ -129,6 +155,6 @@ impl End {
         let so_far = put_number(out, so_far, b"steps ", self.steps as u64);
         let so_far = put_number(out, so_far, b"draws ", self.draws);
         let so_far = put_kernel(out, so_far, &self.lines);
-        text(out, so_far, self.domains.text())
+        put_lines(out, so_far, self.domains.all())
     }
 }

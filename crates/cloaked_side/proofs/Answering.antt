@@ -45,14 +45,13 @@ missed_of gave first now (Flat ram) sees = absurd sees
 missed_of gave first now (Alone handed) sees = absurd sees
 missed_of gave first now (Cloaked c) sees = sees.holds.missed
 
-pub answered_told : {E : Type 0} (gave : E → E → List Piece → Type 0) (first old new : Side E) (a : Answer) (i : Item)
-    (w : World) → Sees gave first old w → i ≡ answer_item old.view.domain a →
-    Sees gave first new (written i w) → FollowsFrom (Sees gave first) new a (replies a w)
+pub answered_told : {E : Type 0} (gave : E → E → List Piece → Type 0) (first old new : Side E) (a : Answer) (w : World) →
+    Sees gave first old w → Sees gave first new (written (answer_item old.view.domain a) w) →
+    FollowsFrom (Sees gave first) new a (replies a w)
 unfolding replies
-answered_told gave first old new a i w sees is stands = record {
+answered_told gave first old new a w sees stands = record {
   answer = refl;
-  stands = subst (λ (x : Item). Sees gave first new (written x w))
-      (is ∙ ap (λ d. answer_item d a) (domain_of gave first old w sees)) stands;
+  stands = subst (λ (d : ℕ). Sees gave first new (written (answer_item d a) w)) (domain_of gave first old w sees) stands;
 }
 
 pub drawn_told : {E : Type 0} (gave : E → E → List Piece → Type 0) (first now new : Side E) (a : Answer)

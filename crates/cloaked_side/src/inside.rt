@@ -3,6 +3,7 @@ ghost use Rattle.std.specs.Prelude.{◌≡◌, ◌<◌, ◌%◌, ◌^◌, ◌*�
 ghost use Rattle.cloak_model.specs.AskPages as inside;
 ghost use Rattle.cloak_model.specs.Effect.{IsWidth};
 
+use crate::kept_items::{set_ok, set_put, set_word};
 use crate::memory::{self, Offer};
 use crate::side::Side;
 use cloak_base::{Frame, Kind, Mode, PageId, Violation};
@@ -30,18 +31,6 @@ fn is_store(kind: Kind) -> bool
     }
 }
 
-/// The item of an answer to a domain.
-fn item_of(domain: u8, a: Answer) -> Item
-    ensures { result ≡ inside.answer_item domain a }
-{
-    match a {
-        Answer::Ok => Item::Ok { domain },
-        Answer::Absent(cause) => Item::Absent { domain, cause },
-        Answer::Word(value) => Item::Word { domain, value },
-        Answer::Stopped => Item::Stopped { domain },
-    }
-}
-
 impl<'m, 'e, E: Emit> Side<'m, 'e, E> {
     ghost use Rattle.std.specs.Prelude.{IsTrue, IfOk};
     ghost use Rattle.cloak_model.specs.declared.item.Item.TheVariants as item;
@@ -62,6 +51,44 @@ impl<'m, 'e, E: Emit> Side<'m, 'e, E> {
         ensures view { self.new.view ≡ self.old.view }
     {
         self.emitter.item(i);
+    }
+
+    /// Writes that a question was granted.
+    fn write_ok(&mut self)
+        ensures sees { Becomes E.gave self.old self.new (written (item.Ok self.old.view.domain)) }
+        ensures keeps { Keeps (StaysWithin E.gave) self.old self.new }
+        ensures same { self.new.memory ≡ self.old.memory }
+        ensures view { self.new.view ≡ self.old.view }
+    {
+        set_ok(&mut self.items.ok, self.view.domain);
+        self.emitter.item(&self.items.ok);
+    }
+
+    /// Writes a value that was asked for.
+    fn write_word(&mut self, value: u32)
+        ensures sees { Becomes E.gave self.old self.new (written (item.Word self.old.view.domain value)) }
+        ensures keeps { Keeps (StaysWithin E.gave) self.old self.new }
+        ensures same { self.new.memory ≡ self.old.memory }
+        ensures view { self.new.view ≡ self.old.view }
+    {
+        set_word(&mut self.items.word, self.view.domain, value);
+        self.emitter.item(&self.items.word);
+    }
+
+    /// Writes an answer.
+    fn write_answer(&mut self, a: Answer)
+        ensures sees { Becomes E.gave self.old self.new (written (inside.answer_item self.old.view.domain a)) }
+        ensures keeps { Keeps (StaysWithin E.gave) self.old self.new }
+        ensures same { self.new.memory ≡ self.old.memory }
+        ensures view { self.new.view ≡ self.old.view }
+    {
+        let domain = self.view.domain;
+        match a {
+            Answer::Ok => self.write_ok(),
+            Answer::Absent(cause) => self.write_item(&Item::Absent { domain, cause }),
+            Answer::Word(value) => self.write_word(value),
+            Answer::Stopped => self.write_item(&Item::Stopped { domain }),
+        }
     }
 
     /// The address in RAM where an access of the domain leads, or its fault.
@@ -86,8 +113,7 @@ impl<'m, 'e, E: Emit> Side<'m, 'e, E> {
         ensures view { self.new.view ≡ self.old.view }
         ensures value { result ≡ a }
     {
-        let item = item_of(self.view.domain, a);
-        self.write_item(&item);
+        self.write_answer(a);
         a
     }
 
@@ -143,11 +169,8 @@ impl<'m, 'e, E: Emit> Side<'m, 'e, E> {
         ensures view { self.new.view ≡ self.old.view }
     {
         let value = low_bytes(width, v);
-        self.write_item(&Item::Put {
-            address: pa,
-            width: width as u8,
-            value,
-        });
+        set_put(&mut self.items.put, pa, width as u8, value);
+        self.emitter.item(&self.items.put);
     }
 
     /// Stores a value at a settled address, and writes that, unless a draw was missing.

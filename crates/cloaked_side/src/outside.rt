@@ -8,6 +8,7 @@ ghost use Rattle.cloak_model.specs.Exchange.{EmitsSome};
 ghost use Rattle.cloaked_side.specs.Holding.{Holds, HoldsNoMore, SameSize};
 ghost use Rattle.cloaked_side.specs.Telling.{Tells};
 
+use crate::kept_items::KeptItems;
 use crate::memory::Memory;
 use crate::side::Side;
 use cloak_model::{Emit, View};
@@ -30,7 +31,13 @@ pub fn view_of(h: &Hart, domain: u8) -> View
 
 /// Makes the plain step of a hart outside. Each frame that it reaches is settled at the access, which comes to the same
 /// as settling all that it touches ahead of the step.
-pub fn outside_step<E: Emit>(h: &mut Hart, d: &mut Disk, memory: &mut Memory, e: &mut E) -> Kernel
+pub fn outside_step<E: Emit>(
+    h: &mut Hart,
+    d: &mut Disk,
+    memory: &mut Memory,
+    items: &mut KeptItems,
+    e: &mut E,
+) -> Kernel
     ensures size { SameSize memory.old memory.new }
     ensures no_more { HoldsNoMore memory.old.pager memory.new.pager }
     ensures emits_some { EmitsSome E.gave e.old e.new }
@@ -42,6 +49,7 @@ pub fn outside_step<E: Emit>(h: &mut Hart, d: &mut Disk, memory: &mut Memory, e:
     let mut side = Side {
         memory,
         emitter: e,
+        items,
         violation: None,
         view,
     };

@@ -1,5 +1,6 @@
 ghost use Rattle.std.specs.Prelude.{◌≡◌, ◌<◌, ◌≤◌, length};
 
+use crate::kept_items::KeptItems;
 use crate::memory::{Memory, frame_of, place_of};
 use cloak_base::{Frame, Kind, Mode, Violation};
 use cloak_model::{Emit, View, access_fault, set_value_in, value_in, word_in};
@@ -11,6 +12,8 @@ use sv32_walk::{Words, walk};
 pub struct Side<'m, 'e, E: Emit> {
     pub memory: &'m mut Memory,
     pub emitter: &'e mut E,
+    /// What an answer is written as.
+    pub items: &'m mut KeptItems,
     /// What the kernel presented in place of what is recorded.
     pub violation: Option<Violation>,
     /// For the questions of a cloaked program.

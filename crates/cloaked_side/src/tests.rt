@@ -117,9 +117,11 @@ fn answers_each_question(rt: HostRuntime) -> Result<(), Fail> {
         ciphers: 0,
         others: 0,
     };
+    let mut items = KeptItems::new();
     let mut side = Side {
         memory: &mut memory,
         emitter: &mut e,
+        items: &mut items,
         violation: None,
         view: View {
             satp: 0,

@@ -17,7 +17,7 @@ use crate::joint::Joint;
 use crate::stepping::step_domain;
 use cloak_base::Violation;
 use cloak_model::{Emit, Item};
-use cloaked_side::{Memory, view_of};
+use cloaked_side::{KeptItems, Memory, view_of};
 use host_calls::{Hart, tick};
 use hypercalls::Domain;
 use thread_context::Roots;
@@ -47,6 +47,7 @@ fn step_context<E: Emit>(
     domain: &mut Domain,
     roots: &mut Roots,
     memory: &mut Memory,
+    items: &mut KeptItems,
     e: &mut E,
 ) -> Option<Violation>
     requires few { d < 4 }
@@ -72,7 +73,7 @@ fn step_context<E: Emit>(
         return None;
     }
     let view = view_of(h, d);
-    let stepped = step_domain(domain, slot, view, memory, e);
+    let stepped = step_domain(domain, slot, view, memory, items, e);
     go_on(h, d as u32, roots, &stepped, e)
 }
 
@@ -110,6 +111,7 @@ impl Joint {
             domain,
             &mut self.roots,
             &mut self.memory,
+            &mut self.items,
             e,
         ))
     }

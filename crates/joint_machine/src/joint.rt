@@ -2,7 +2,7 @@ ghost use Rattle.std.specs.Prelude.{◌≡◌, ◌≤◌, length};
 ghost use Rattle.cloaked_side.specs.Holding.{domains_in};
 ghost use Rattle.joint_machine.specs.Programs.{AreNumbered, AreFreeUnused};
 
-use cloaked_side::Memory;
+use cloaked_side::{KeptItems, Memory};
 use host_calls::{Disk, Hart};
 use hypercalls::Domain;
 use thread_context::Roots;
@@ -17,6 +17,8 @@ pub struct Joint {
     /// The page table that each space was first resumed with.
     pub(crate) roots: Roots,
     pub(crate) disk: Disk,
+    /// What the answers to programs are written as.
+    pub(crate) items: KeptItems,
     ghost few_harts: { length harts.items ≤ 4 },
     ghost few: { length domains.items ≤ 4 },
     ghost served: { length domains.items ≡ domains_in memory },

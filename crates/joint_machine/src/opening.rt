@@ -17,7 +17,7 @@ use crate::placing::place_programs;
 use crate::starting::{start_domains, start_harts};
 use cloak_base::Frame;
 use cloak_model::{Bundle, Emit, Program};
-use cloaked_side::Memory;
+use cloaked_side::{KeptItems, Memory};
 use host_calls::Disk;
 use outside_io::Stream;
 use std::alloc::Global;
@@ -91,6 +91,7 @@ impl Joint {
             domains,
             roots: Roots::open(),
             disk,
+            items: KeptItems::new(),
         })
     }
 

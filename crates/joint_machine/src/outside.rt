@@ -25,7 +25,13 @@ impl Joint {
             StepsPlainly E.gave e.old e.new self.new result j number
             (settled_step (hart_in j number) j.disk (cloak_outside j.memory (hart_in j number))) }
     {
-        outside_step(&mut self.harts[number], &mut self.disk, &mut self.memory, e)
+        outside_step(
+            &mut self.harts[number],
+            &mut self.disk,
+            &mut self.memory,
+            &mut self.items,
+            e,
+        )
     }
 
     /// Makes the step of a hart outside: its plain step, which may resume a context.

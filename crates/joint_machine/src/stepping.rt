@@ -12,7 +12,7 @@ ghost use Rattle.joint_machine.specs.Turning.{HoldsNoFree, HoldsNoOthers, StepsD
 
 use cloak_base::Violation;
 use cloak_model::{Emit, View, Went};
-use cloaked_side::{Memory, Side};
+use cloaked_side::{KeptItems, Memory, Side};
 use hypercalls::Domain;
 
 /// How the step of a program ended.
@@ -29,6 +29,7 @@ pub fn step_domain<E: Emit>(
     slot: u32,
     view: View,
     memory: &mut Memory,
+    items: &mut KeptItems,
     e: &mut E,
 ) -> Stepped
     requires runs { IsSome (context_at (control_of domain.old).contexts slot) }
@@ -47,6 +48,7 @@ pub fn step_domain<E: Emit>(
     let mut side = Side {
         memory,
         emitter: e,
+        items,
         violation: None,
         view,
     };

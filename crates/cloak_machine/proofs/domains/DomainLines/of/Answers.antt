@@ -1,11 +1,11 @@
-use Rattle.std.proofs.Common.{◌≡◌, ◌∷◌, [], ◌++◌, ◌<◌, ◌^◌, ℕ, List, length, sym, ap, subst, ◌∙◌, append_assoc}
+use Rattle.std.proofs.Common.{◌≡◌, ◌∷◌, [], ◌++◌, ◌<◌, ◌^◌, ℕ, List, map, length, sym, ap, subst, ◌∙◌, append_assoc}
 use Rattle.std.proofs.Common.{arith, All}
-use Rattle.std.specs.List.{flat_map}
 use Rattle.std.specs.Vec.Iter.{into_iter_items}
-use Rattle.std.proofs.lemmas.List.{length_push}
+use Rattle.std.proofs.lemmas.List.{length_push, map-append}
 use Rattle.cloak_model.specs.DomainState as model
 use Rattle.cloak_model.specs.DomainState.{domain_line}
-use Rattle.cloak_machine.proofs.DomainOrder.{ends_in, lines_last, of_last, of_front}
+use Rattle.cloak_machine.specs.Lines.{lines_of}
+use Rattle.cloak_machine.proofs.DomainOrder.{ends_in, of_last, of_front}
 use Rattle.cloak_machine.proofs.domains.DomainLines.of.Goals as goal
 
 -- the count of its loads is told
@@ -23,15 +23,18 @@ loop-domain-preserved c =
           let gone = c.in-Some.ensures.steps.1 in
           let short = ap length steps in
           omega arith);
-      room = (let more = length_push at.yielded x in
-          let was = at.invariant.room in
-          let added = c.add.ensures.end in
+      count = (let more = length_push at.yielded x in
+          let was = at.invariant.count in
+          let added = c.add.ensures.count in
           omega (arith, more, was, added));
       text = λ ds are few.
           let e = ends_in at.yielded x ds are in
           let all : All IsShort (e.front ++ e.last ∷ []) = subst (λ (l : List model.Domain). All IsShort l) e.is few in
-          c.add.ensures.line e.last e.stands (of_last IsShort e.front e.last all)
-          ∙ ap (λ (l : List ℕ). l ++ domain_line e.last)
+          c.add.ensures.lines
+          ∙ ap (λ (l : List ℕ). lines_of at.lines ++ l ∷ [])
+          (c.of.ensures e.last e.stands (of_last IsShort e.front e.last all))
+          ∙ ap (λ (l : List (List ℕ)). l ++ domain_line e.last ∷ [])
           (at.invariant.text e.front e.are (of_front IsShort e.front e.last all))
-          ∙ sym (lines_last e.front e.last) ∙ ap (λ (l : List model.Domain). flat_map domain_line l) (sym e.is);
+          ∙ sym (map-append domain_line e.front (e.last ∷ []))
+          ∙ ap (λ (l : List model.Domain). map domain_line l) (sym e.is);
     }
