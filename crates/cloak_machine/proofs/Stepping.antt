@@ -172,6 +172,8 @@ ends_as {E} {gave} {e} {f} {g} {h} {joint} {machine} {end} {stopped} m missed st
       report = λ i. stop_line end.stop ++
           (number_line (codes "steps ") (same i) ++ (number_line (codes "draws ") (draws i)
           ++ (kernel i ++ texts i)));
+      short = λ i. stop_line end.stop ++
+          (number_line (codes "steps ") (same i) ++ (number_line (codes "draws ") (draws i) ++ texts i));
       lines = λ d program there. ap (λ (l : List (List ℕ)). unwrap_or (slice_get l d) []) lines
           ∙ ap (λ (l : Option (List ℕ)). unwrap_or l [])
           (slice_get-map domain_line o.joint.domains d ∙ ap (option_map domain_line) there);

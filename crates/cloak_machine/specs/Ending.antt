@@ -1,6 +1,9 @@
 -- What the end of a run reports.
 use Rattle.std.specs.Prelude.{ℕ, List, ◌++◌, codes}
-use Rattle.std.specs.List.{concat}
+use Rattle.std.specs.List.{concat, flat_map}
+use Rattle.cloak_base.specs.declared.causes.Stop.{Stop}
+use Rattle.cloak_model.specs.DomainState.{domain_line}
+use Rattle.cloak_model.specs.Parts.{Joint}
 use Rattle.cloak_model.specs.Report.{stop_line, number_line}
 use Rattle.kernel_report.specs.KernelText.{kernel_text}
 use Rattle.cloak_machine.specs.Lines.{lines_of, line_of_program}
@@ -15,3 +18,17 @@ end_report e =
 -- the line of a program in it, and nothing where there is no such program
 abbrev pub line_in : End → ℕ → List ℕ
 line_in e d = line_of_program e.domains d
+
+-- The short report: the report without the kernel's lines.
+
+-- that of a run that this stopped behind so many steps, and whose joint state is then closed
+abbrev pub short_report : Stop → ℕ → Joint → List ℕ
+short_report s steps j =
+    stop_line s ++ (number_line (codes "steps ") steps ++ (number_line (codes "draws ") j.memory.ledger.draws
+    ++ flat_map domain_line j.domains))
+
+-- the one that an end writes
+abbrev pub end_short_report : End → List ℕ
+end_short_report e =
+    stop_line e.stop ++ (number_line (codes "steps ") e.steps ++ (number_line (codes "draws ") e.draws
+    ++ concat (lines_of e.domains)))

@@ -14,7 +14,7 @@ use Rattle.joint_machine.specs.Standing.{StandsForJoint}
 use Rattle.joint_machine.specs.declared.opened.OpenFault.{OpenFault}
 use Rattle.joint_machine.specs.declared.opened.OpenFault.TheVariants as fault
 use Rattle.kernel_report.specs.Console.{ConsoleShows}
-use Rattle.cloak_machine.specs.Ending.{end_report, line_in}
+use Rattle.cloak_machine.specs.Ending.{end_report, end_short_report, line_in, short_report}
 use Rattle.cloak_machine.specs.Turns.{IsAt}
 use Rattle.cloak_machine.specs.declared.end.End.{End}
 use Rattle.cloak_machine.specs.declared.machine.Machine.{Machine}
@@ -71,5 +71,6 @@ pub record EndsAs {E : Type 0} (gave : E → E → List Piece → Type 0) (e e' 
   pub draws : end.draws ≡ closed.joint.memory.ledger.draws
   pub stop : end.stop ≡ cause_of closed.joint (Some stopped)
   pub report : end_report end ≡ report end.stop m.steps closed.joint
+  pub short : end_short_report end ≡ short_report end.stop m.steps closed.joint
   pub lines : (d : ℕ) (program : Domain) → slice_get closed.joint.domains d ≡ Some program →
       line_in end d ≡ domain_line program

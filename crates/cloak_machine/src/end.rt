@@ -137,7 +137,7 @@ fn put_lines<O: Sink>(out: &mut O, so_far: SoFar, lines: &[DomainLine]) -> SoFar
 }
 
 impl End {
-    ghost use Rattle.cloak_machine.specs.Ending.{end_report, line_in};
+    ghost use Rattle.cloak_machine.specs.Ending.{end_report, end_short_report, line_in};
 
     /// The line of a program in the report, and nothing where there is no such program.
     pub fn domain_line(&self, d: u32) -> &[u8]
@@ -155,6 +155,17 @@ impl End {
         let so_far = put_number(out, so_far, b"steps ", self.steps as u64);
         let so_far = put_number(out, so_far, b"draws ", self.draws);
         let so_far = put_kernel(out, so_far, &self.lines);
+        put_lines(out, so_far, self.domains.all())
+    }
+
+    /// Writes the report without the kernel's lines. One that failed has written a front of it.
+    pub fn short_report<O: Sink>(&self, out: &mut O) -> Result<(), Failed>
+        ensures { Puts (O.taken out.old) (O.taken out.new) (O.faults out.old) (O.faults out.new)
+            (end_short_report self.now) result }
+    {
+        let so_far = put_stop_line(out, Ok(()), &self.stop);
+        let so_far = put_number(out, so_far, b"steps ", self.steps as u64);
+        let so_far = put_number(out, so_far, b"draws ", self.draws);
         put_lines(out, so_far, self.domains.all())
     }
 }

@@ -1,0 +1,4 @@
+pub mod Clashes
+pub mod Draws
+pub mod Runs
+pub mod StepFacts

@@ -1,0 +1,5 @@
+pub mod Steps
+pub mod Showing
+pub mod Generating
+pub mod Demonstrating
+pub mod Unheard

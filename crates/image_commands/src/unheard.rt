@@ -1,0 +1,19 @@
+//! An emitter that nobody hears: what it is given goes nowhere.
+
+use cloak_model::{Emit, Item};
+
+/// Takes items and console bytes, and writes nothing.
+#[derive(Drop)]
+pub struct Unheard {}
+
+impl Emit for Unheard {
+    ghost use Rattle.image_commands.specs.Unheard.{gave_nothing};
+
+    ghost gave = { gave_nothing };
+
+    fn item(&mut self, _: &Item) {}
+
+    fn cipher(&mut self, _: u32, _: &[u8; 4096]) {}
+
+    fn console(&mut self, _: u8) {}
+}
