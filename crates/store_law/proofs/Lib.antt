@@ -1,0 +1,4 @@
+pub mod Draws
+pub mod Settlings
+pub mod Worlds
+pub mod Questions
