@@ -5,3 +5,4 @@ pub mod Questions
 pub mod Instructions
 pub mod Copies
 pub mod Steps
+pub mod Turns
