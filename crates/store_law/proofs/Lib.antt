@@ -6,3 +6,6 @@ pub mod Instructions
 pub mod Copies
 pub mod Steps
 pub mod Turns
+pub mod Runs
+pub mod Opened
+pub mod Ciphers
