@@ -1,5 +1,5 @@
 -- The law of Ciphers.
-use Rattle.std.proofs.Common.{◌≡◌, ◌∙◌, ℕ, ◌+◌, List, ◌∷◌, ◌++◌, length, take, slice_get, Some, Result, Ok, Err, refl, sym, ap, subst, arith, take_all}
+use Rattle.std.proofs.Common.{◌≡◌, ◌∙◌, ℕ, zero, suc, ◌+◌, List, [], length, take, slice_get, Option, Some, None, Result, Ok, Err, refl, sym, ap, subst, arith, take_all}
 use Rattle.std.specs.Result.{result_map_both}
 use Rattle.cloak_base.specs.Random.{Random}
 use Rattle.cloak_base.specs.declared.names.PageId.{PageId}
@@ -10,7 +10,7 @@ use Rattle.cloak_model.specs.Joint.{Turn}
 use Rattle.cloak_model.specs.Opening.{Lack, Opened, opening}
 use Rattle.cloak_model.specs.Parts.{Joint}
 use Rattle.cloak_model.specs.Run.{Run, turns_from, joint_after, first_moment, run_of, closing}
-use Rattle.store_law.specs.Ciphers.{ShowsPage, ShowPages, pages_of_programs, ciphers_of_steps, draws_before, joint_behind, placing_draw, OpeningShowsPages, StepsShowPages, ClosingShowsPages}
+use Rattle.store_law.specs.Ciphers.{ShowsPage, ShowPages, pages_of_programs, ciphers_of_steps, draws_before, joint_behind, placing_draw, ciphers_in, ItemPlace, InOpening, InStep, InClosing, items_of_turn, item_at, plain_at, draw_number, CiphersShowPages}
 use Rattle.store_law.proofs.Draws.{HasDrawn, AreShown, each_shown}
 use Rattle.store_law.proofs.Opened.{opening_shows}
 use Rattle.store_law.proofs.Runs.{TurnsUse, turns_use, behind_steps, steps_count, drawn_behind, step_shown, closing_shown}
@@ -22,10 +22,13 @@ pub of_opened : (b : Bundle) (budget : ℕ) (P : Run → Type 0) (opens : Result
 of_opened b budget P (Err lack) r is of = absurd cc
 of_opened b budget P (Ok o) r is of = (let same : run_of b budget o ≡ r = cc in subst P same (of o refl))
 
+pub nothing_there : (at : ℕ) (i : Item) → slice_get [] at ≡ Some i → ⊥
+nothing_there zero i is = cc
+nothing_there (suc at) i is = cc
+
 opened_shows : (b : Bundle) (stream : Random) (budget : ℕ) (o : Opened) → opening b stream ≡ Ok o →
     let r = run_of b budget o in
-    (front : List Item) (f : ℕ) (bytes : List ℕ) (rest : List Item) →
-    r.opened.items ≡ front ++ item.Cipher f bytes ∷ rest →
+    (at f : ℕ) (bytes : List ℕ) → slice_get r.opened.items at ≡ Some (item.Cipher f bytes) →
     ShowsPage stream r.opened.joint.memory.plain (placing_draw 1 b.programs f) bytes
 unfolding run_of
 opened_shows b stream budget o opens = (opening_shows b stream o opens).shown
@@ -68,24 +71,28 @@ closing_shows b stream budget o opens =
     (1 + (pages_of_programs b.programs + ciphers_of_steps (take n turns)))
     (closing (joint_after o.joint ts)).items) all shown)
 
-pub opening_shows_pages : OpeningShowsPages
-opening_shows_pages b stream budget r is =
-    of_opened b budget
-    (λ (r : Run). (front : List Item) (f : ℕ) (bytes : List ℕ) (rest : List Item) →
-    r.opened.items ≡ front ++ item.Cipher f bytes ∷ rest →
-    ShowsPage stream r.opened.joint.memory.plain (placing_draw 1 b.programs f) bytes)
-    (opening b stream) r is (opened_shows b stream budget)
+-- every Cipher
+ciphers_show : (b : Bundle) (stream : Random) (budget : ℕ) (o : Opened) → opening b stream ≡ Ok o →
+    let r = run_of b budget o in
+    (place : ItemPlace) (frame : ℕ) (bytes : List ℕ) → item_at r place ≡ Some (item.Cipher frame bytes) →
+    ShowsPage stream (plain_at r place) (draw_number b r place frame) bytes
+ciphers_show b stream budget o opens (InOpening at) frame bytes is =
+    opened_shows b stream budget o opens at frame bytes is
+ciphers_show b stream budget o opens (InStep n at) frame bytes is =
+    by (slice_get (run_of b budget o).turns n) refl is
+  where
+    by : (found : Option Turn) → slice_get (run_of b budget o).turns n ≡ found →
+        slice_get (items_of_turn found) at ≡ Some (item.Cipher frame bytes) →
+        ShowsPage stream (joint_behind (run_of b budget o) n).memory.plain
+        (draws_before b (run_of b budget o) n + ciphers_in (take at (items_of_turn found))) bytes
+    by None found there = absurd (nothing_there at (item.Cipher frame bytes) there)
+    by (Some t) found there = steps_show b stream budget o opens n t found at frame bytes there
+ciphers_show b stream budget o opens (InClosing at) frame bytes is =
+    closing_shows b stream budget o opens at frame bytes is
 
-pub steps_show_pages : StepsShowPages
-steps_show_pages b stream budget r is =
+pub ciphers_show_pages : CiphersShowPages
+ciphers_show_pages b stream budget r is =
     of_opened b budget
-    (λ (r : Run). (n : ℕ) (t : Turn) → slice_get r.turns n ≡ Some t →
-    ShowPages stream (joint_behind r n).memory.plain (draws_before b r n) t.items)
-    (opening b stream) r is (steps_show b stream budget)
-
-pub closing_shows_pages : ClosingShowsPages
-closing_shows_pages b stream budget r is =
-    of_opened b budget
-    (λ (r : Run). let n = length r.turns in
-    ShowPages stream (joint_behind r n).memory.plain (draws_before b r n) r.closed.items)
-    (opening b stream) r is (closing_shows b stream budget)
+    (λ (r : Run). (place : ItemPlace) (frame : ℕ) (bytes : List ℕ) → item_at r place ≡ Some (item.Cipher frame bytes) →
+    ShowsPage stream (plain_at r place) (draw_number b r place frame) bytes)
+    (opening b stream) r is (ciphers_show b stream budget)

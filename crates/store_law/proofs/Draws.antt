@@ -1,5 +1,5 @@
 -- How the draws of a stream are used up, and Ciphers that each have one of their own.
-use Rattle.std.proofs.Common.{◌≡◌, ◌∙◌, ℕ, zero, suc, ◌+◌, List, [], ◌∷◌, ◌++◌, Option, Some, None, refl, sym, ap, subst, arith}
+use Rattle.std.proofs.Common.{◌≡◌, ◌∙◌, ℕ, zero, suc, ◌+◌, List, [], ◌∷◌, ◌++◌, take, slice_get, Option, Some, None, refl, sym, ap, subst, arith}
 use Rattle.std.specs.Prelude.{option_and_then}
 use Rattle.cloak_base.specs.Random.{Random, next_draw}
 use Rattle.cloak_base.specs.declared.names.PageId.{PageId}
@@ -93,32 +93,23 @@ shown-append stream plain n [] b first second = second
 shown-append stream plain n (i ∷ a) b first second =
     (first.0, shown-append stream plain (behind_one i n) a b first.1 second)
 
-tail_of : List Item → List Item
-tail_of [] = []
-tail_of (i ∷ items) = items
-
 shown_at : (stream : Random) (plain : PageId → List ℕ) (n : ℕ) (items : List Item) →
-    AreShown stream plain n items →
-    (front : List Item) (f : ℕ) (bytes : List ℕ) (rest : List Item) → items ≡ front ++ item.Cipher f bytes ∷ rest →
-    ShowsPage stream plain (behind front n) bytes
-unfolding tail_of
-shown_at stream plain n [] all [] f bytes rest is = absurd cc
-shown_at stream plain n [] all (j ∷ front) f bytes rest is = absurd cc
-shown_at stream plain n (i ∷ items) all [] f bytes rest is =
+    AreShown stream plain n items → (at f : ℕ) (bytes : List ℕ) → slice_get items at ≡ Some (item.Cipher f bytes) →
+    ShowsPage stream plain (behind (take at items) n) bytes
+shown_at stream plain n [] all zero f bytes is = absurd cc
+shown_at stream plain n [] all (suc at) f bytes is = absurd cc
+shown_at stream plain n (i ∷ items) all zero f bytes is =
     let same : i ≡ item.Cipher f bytes = cc in
     subst (IsShown stream plain n) same all.0
-shown_at stream plain n (i ∷ items) all (j ∷ front) f bytes rest is =
-    let same : i ≡ j = cc in
-    let more : items ≡ front ++ item.Cipher f bytes ∷ rest = ap tail_of is in
-    subst (λ (k : Item). ShowsPage stream plain (behind front (behind_one k n)) bytes) same
-    (shown_at stream plain (behind_one i n) items all.1 front f bytes rest more)
+shown_at stream plain n (i ∷ items) all (suc at) f bytes is =
+    shown_at stream plain (behind_one i n) items all.1 at f bytes is
 
 -- so each of them shows a page under the draw that it counts to
 pub each_shown : (stream : Random) (plain : PageId → List ℕ) (n : ℕ) (items : List Item) →
     AreShown stream plain n items → ShowPages stream plain n items
-each_shown stream plain n items all front f bytes rest is =
-    subst (λ (k : ℕ). ShowsPage stream plain k bytes) (behind_counts front n)
-    (shown_at stream plain n items all front f bytes rest is)
+each_shown stream plain n items all at f bytes is =
+    subst (λ (k : ℕ). ShowsPage stream plain k bytes) (behind_counts (take at items) n)
+    (shown_at stream plain n items all at f bytes is)
 
 -- From one memory to a later one.
 

@@ -1,5 +1,5 @@
 -- The opening of a run: pages are placed under draws one after another, and each frame shows what was placed last.
-use Rattle.std.proofs.Common.{◌≡◌, ◌≢◌, ◌∙◌, ◌⊎◌, inl, inr, ℕ, zero, suc, ◌+◌, ◌-◌, ◌≤◌, ◌<◌, nat_le, nat_lt, nat_eq, Bool, true, false, cond, ◌&&◌, List, [], ◌∷◌, ◌++◌, length, map, filter, slice_set, slice_index_or, Option, Some, None, Ok, refl, sym, ap, subst, arith}
+use Rattle.std.proofs.Common.{◌≡◌, ◌≢◌, ◌∙◌, ◌⊎◌, inl, inr, ℕ, zero, suc, ◌+◌, ◌-◌, ◌≤◌, ◌<◌, nat_le, nat_lt, nat_eq, Bool, true, false, cond, ◌&&◌, List, [], ◌∷◌, ◌++◌, length, map, filter, slice_set, slice_index_or, slice_get, Option, Some, None, Ok, refl, sym, ap, subst, arith}
 use Rattle.std.specs.Prelude.{option_and_then, option_map}
 use Rattle.std.specs.List.{AllByRecursion}
 use Rattle.std.proofs.lemmas.Bool.{lt-leb, le-ltb, ne_eqb, eq-eqb, cases_lt, cases_eq, le-leb, lt-ltb, and_from}
@@ -352,25 +352,83 @@ all_open programs ram (f ∷ fs) low =
     one_opens programs ram f (filter (is_placed programs) fs) (is_placed programs f) refl low.0
     (all_open programs ram fs low.1)
 
-tail_of : List Item → List Item
-tail_of [] = []
-tail_of (i ∷ items) = items
-
 -- each of some items is such a one
-pub item_of : (P : Item → Type 0) (items : List Item) → AllByRecursion P items → (front : List Item) (i : Item)
-    (rest : List Item) → items ≡ front ++ i ∷ rest → P i
-unfolding tail_of
-item_of P [] all [] i rest is = absurd cc
-item_of P [] all (j ∷ front) i rest is = absurd cc
-item_of P (x ∷ items) all [] i rest is = (let same : x ≡ i = cc in subst P same all.0)
-item_of P (x ∷ items) all (j ∷ front) i rest is = item_of P items all.1 front i rest (ap tail_of is)
+pub item_of : (P : Item → Type 0) (items : List Item) → AllByRecursion P items → (at : ℕ) (i : Item) →
+    slice_get items at ≡ Some i → P i
+item_of P [] all zero i is = absurd cc
+item_of P [] all (suc at) i is = absurd cc
+item_of P (x ∷ items) all zero i is = (let same : x ≡ i = cc in subst P same all.0)
+item_of P (x ∷ items) all (suc at) i is = item_of P items all.1 at i is
+
+-- Frames are shown by rising number, and so each once.
+
+abbrev RisesTo : ℕ → List ℕ → ℕ → Type 0
+RisesTo low [] high = low ≤ high
+RisesTo low (f ∷ fs) high = (low ≤ f) × RisesTo (suc f) fs high
+
+one_more : (low : ℕ) (fs : List ℕ) (high : ℕ) → RisesTo low fs high → RisesTo low (fs ++ high ∷ []) (suc high)
+one_more low [] high rises = (rises, omega arith)
+one_more low (f ∷ fs) high rises = (rises.0, one_more (suc f) fs high rises.1)
+
+numbers_rise : (n : ℕ) → RisesTo 0 (numbers_below n) n
+numbers_rise zero = omega arith
+numbers_rise (suc n) = one_more 0 (numbers_below n) n (numbers_rise n)
+
+from_lower : (low low' : ℕ) (fs : List ℕ) (high : ℕ) → low ≤ low' → RisesTo low' fs high → RisesTo low fs high
+from_lower low low' [] high le rises = omega (arith, le, rises)
+from_lower low low' (f ∷ fs) high le rises = (let at = rises.0 in omega (arith, le, at), rises.1)
+
+filter_one : (low f : ℕ) (fs : List ℕ) (high : ℕ) (test : Bool) → low ≤ f → RisesTo (suc f) fs high →
+    RisesTo low (cond test (f ∷ fs) fs) high
+filter_one low f fs high true le rises = (le, rises)
+filter_one low f fs high false le rises = from_lower low (suc f) fs high (omega (arith, le)) rises
+
+filter_rises : (test : ℕ → Bool) (fs : List ℕ) (low high : ℕ) → RisesTo low fs high →
+    RisesTo low (filter test fs) high
+filter_rises test [] low high rises = rises
+filter_rises test (f ∷ fs) low high rises =
+    filter_one low f (filter test fs) high (test f) rises.0 (filter_rises test fs (suc f) high rises.1)
+
+at_least : (fs : List ℕ) (low high at f : ℕ) → RisesTo low fs high → slice_get fs at ≡ Some f → low ≤ f
+at_least [] low high zero f rises is = absurd cc
+at_least [] low high (suc at) f rises is = absurd cc
+at_least (g ∷ fs) low high zero f rises is = (let same : g ≡ f = cc in subst (λ (x : ℕ). low ≤ x) same rises.0)
+at_least (g ∷ fs) low high (suc at) f rises is =
+    let above = at_least fs (suc g) high at f rises.1 is in
+    let first = rises.0 in omega (arith, above, first)
+
+once_in : (fs : List ℕ) (low high : ℕ) → RisesTo low fs high → (at at' f : ℕ) → slice_get fs at ≡ Some f →
+    slice_get fs at' ≡ Some f → at ≡ at'
+once_in [] low high rises zero at' f is is' = absurd cc
+once_in [] low high rises (suc at) at' f is is' = absurd cc
+once_in (g ∷ fs) low high rises zero zero f is is' = refl
+once_in (g ∷ fs) low high rises zero (suc at') f is is' =
+    let same : g ≡ f = same_some g f is in
+    let above = at_least fs (suc g) high at' f rises.1 is' in absurd (omega (arith, same, above))
+once_in (g ∷ fs) low high rises (suc at) zero f is is' =
+    let same : g ≡ f = same_some g f is' in
+    let above = at_least fs (suc g) high at f rises.1 is in absurd (omega (arith, same, above))
+once_in (g ∷ fs) low high rises (suc at) (suc at') f is is' =
+    ap (λ (x : ℕ). suc x) (once_in fs (suc g) high rises.1 at at' f is is')
+
+frame_at : (ram : List (List ℕ)) (fs : List ℕ) (at f : ℕ) (bytes : List ℕ) →
+    slice_get (map (λ f. item.Cipher f (frame_in ram f)) fs) at ≡ Some (item.Cipher f bytes) →
+    slice_get fs at ≡ Some f
+frame_at ram [] zero f bytes is = absurd cc
+frame_at ram [] (suc at) f bytes is = absurd cc
+frame_at ram (g ∷ fs) zero f bytes is =
+    let same : g ≡ f = cc in ap (λ (x : ℕ). Some x) same
+frame_at ram (g ∷ fs) (suc at) f bytes is = frame_at ram fs at f bytes is
 
 -- The opening shows each page as it begins, and the draws behind it are known.
 pub record OpeningShows (b : Bundle) (stream : Random) (o : Opened) : Type 0 where
   pub drawn : HasDrawn stream (1 + pages_of_programs b.programs) o.joint.memory.ledger
-  pub shown : (front : List Item) (f : ℕ) (bytes : List ℕ) (rest : List Item) →
-      o.items ≡ front ++ item.Cipher f bytes ∷ rest →
+  pub shown : (at f : ℕ) (bytes : List ℕ) → slice_get o.items at ≡ Some (item.Cipher f bytes) →
       ShowsPage stream o.joint.memory.plain (placing_draw 1 b.programs f) bytes
+  pub placed : (at f : ℕ) (bytes : List ℕ) → slice_get o.items at ≡ Some (item.Cipher f bytes) →
+      is_placed b.programs f ≡ true
+  pub once : (at at' f : ℕ) (bytes bytes' : List ℕ) → slice_get o.items at ≡ Some (item.Cipher f bytes) →
+      slice_get o.items at' ≡ Some (item.Cipher f bytes') → at ≡ at'
 
 started_drawn : (b : Bundle) (stream : Random) (draw : List ℕ × Random) → next_draw stream ≡ Some draw →
     HasDrawn stream 1 (started_memory b.kernel draw.0 draw.1).ledger
@@ -390,14 +448,26 @@ memory_shows b stream draw m is placed =
     let count = shows.count in
     record {
       drawn = shows.drawn;
-      shown = λ front f bytes rest split.
+      shown = λ at f bytes there.
           let one : IsOpening b.programs m.ram (item.Cipher f bytes) =
           item_of (IsOpening b.programs m.ram) (opening_items b.programs m.ram)
           (all_open b.programs m.ram (numbers_below (length m.ram)) (numbers_low (length m.ram) (length m.ram) (omega arith)))
-          front (item.Cipher f bytes) rest split in
+          at (item.Cipher f bytes) there in
           let low = one.1.1 in
           subst (λ (x : List ℕ). ShowsPage stream m.plain (placing_draw 1 b.programs f) x) (sym one.0)
           (shows.own f one.1.0 (omega (arith, count, low)));
+      placed = λ at f bytes there.
+          let one : IsOpening b.programs m.ram (item.Cipher f bytes) =
+          item_of (IsOpening b.programs m.ram) (opening_items b.programs m.ram)
+          (all_open b.programs m.ram (numbers_below (length m.ram)) (numbers_low (length m.ram) (length m.ram) (omega arith)))
+          at (item.Cipher f bytes) there in
+          one.1.0;
+      once = λ at at' f bytes bytes' there there'.
+          let fs : List ℕ = filter (is_placed b.programs) (numbers_below (length m.ram)) in
+          once_in fs 0 (length m.ram)
+          (filter_rises (is_placed b.programs) (numbers_below (length m.ram)) 0 (length m.ram)
+          (numbers_rise (length m.ram))) at at' f
+          (frame_at m.ram fs at f bytes there) (frame_at m.ram fs at' f bytes' there');
     }
 
 opened_if : (b : Bundle) (stream : Random) (draw : List ℕ × Random) (o : Opened) (m : Option CloakedMemory) →

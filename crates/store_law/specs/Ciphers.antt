@@ -1,6 +1,6 @@
 -- What the kernel is shown of pages: each Cipher of a run shows the newest bytes of a page under a draw of its own, or
 -- zeros where the random stream has ended.
-use Rattle.std.specs.Prelude.{ℕ, zero, suc, ◌≡◌, ◌≢◌, ◌≤◌, ◌<◌, ◌+◌, ◌-◌, List, [], ◌∷◌, ◌++◌, length, take, slice_get, Option, Some, None, option_map, option_and_then, Ok, if◌then◌else◌}
+use Rattle.std.specs.Prelude.{ℕ, zero, suc, ◌≡◌, ◌<◌, ◌+◌, ◌-◌, List, [], ◌∷◌, length, take, slice_get, Option, Some, None, option_map, option_and_then, Ok, if◌then◌else◌}
 use Rattle.cloak_base.specs.Random.{Random, next_draw}
 use Rattle.cloak_base.specs.Pages.{zero_page}
 use Rattle.cloak_base.specs.declared.names.PageId.{PageId}
@@ -50,8 +50,8 @@ ciphers_in (i ∷ items) = cipher_count i + ciphers_in items
 -- one under the next.
 abbrev pub ShowPages : Random → (PageId → List ℕ) → ℕ → List Item → Type 0
 ShowPages stream plain n items =
-    (front : List Item) (frame : ℕ) (bytes : List ℕ) (rest : List Item) → items ≡ front ++ Cipher frame bytes ∷ rest →
-    ShowsPage stream plain (n + ciphers_in front) bytes
+    (at frame : ℕ) (bytes : List ℕ) → slice_get items at ≡ Some (Cipher frame bytes) →
+    ShowsPage stream plain (n + ciphers_in (take at items)) bytes
 
 -- A run.
 
@@ -81,25 +81,53 @@ placing_draw n [] f = n
 placing_draw n (p ∷ programs) f =
     if is_placed programs f then placing_draw (n + p.start.pages) programs f else n + (f - p.place)
 
+-- Where an item stands: behind so many of the opening, of the step behind so many steps, or of the closing.
+pub data ItemPlace : Type 0 where
+  InOpening : ℕ → ItemPlace
+  InStep : ℕ → ℕ → ItemPlace
+  InClosing : ℕ → ItemPlace
+
+-- what a step wrote, where there is one
+abbrev pub items_of_turn : Option Turn → List Item
+items_of_turn None = []
+items_of_turn (Some t) = t.items
+
+-- the item at a place of a run
+abbrev pub item_at : Run → ItemPlace → Option Item
+item_at r (InOpening at) = slice_get r.opened.items at
+item_at r (InStep n at) = slice_get (items_of_turn (slice_get r.turns n)) at
+item_at r (InClosing at) = slice_get r.closed.items at
+
+-- the newest bytes of each page as the opening, a step or the closing found them
+abbrev pub plain_at : Run → ItemPlace → PageId → List ℕ
+plain_at r (InOpening at) = r.opened.joint.memory.plain
+plain_at r (InStep n at) = (joint_behind r n).memory.plain
+plain_at r (InClosing at) = (joint_behind r (length r.turns)).memory.plain
+
+-- The draw of a Cipher of this frame: that of the placing, and later the next one that was not made.
+abbrev pub draw_number : Bundle → Run → ItemPlace → ℕ → ℕ
+draw_number b r (InOpening at) frame = placing_draw 1 b.programs frame
+draw_number b r (InStep n at) frame =
+    draws_before b r n + ciphers_in (take at (items_of_turn (slice_get r.turns n)))
+draw_number b r (InClosing at) frame = draws_before b r (length r.turns) + ciphers_in (take at r.closed.items)
+
 -- The laws.
 
--- Each Cipher of the opening shows a page as it begins, under the draw with which it was placed.
-abbrev pub OpeningShowsPages : Type 0
-OpeningShowsPages =
+-- Each Cipher of a run shows a page, with the newest bytes that it had then, under its draw.
+abbrev pub CiphersShowPages : Type 0
+CiphersShowPages =
     (b : Bundle) (stream : Random) (budget : ℕ) (r : Run) → joint_run b stream budget ≡ Ok r →
-    (front : List Item) (frame : ℕ) (bytes : List ℕ) (rest : List Item) →
-    r.opened.items ≡ front ++ Cipher frame bytes ∷ rest →
-    ShowsPage stream r.opened.joint.memory.plain (placing_draw 1 b.programs frame) bytes
+    (place : ItemPlace) (frame : ℕ) (bytes : List ℕ) → item_at r place ≡ Some (Cipher frame bytes) →
+    ShowsPage stream (plain_at r place) (draw_number b r place frame) bytes
 
--- Each Cipher of a step shows a page as the step found it, under the next draw.
-abbrev pub StepsShowPages : Type 0
-StepsShowPages =
-    (b : Bundle) (stream : Random) (budget : ℕ) (r : Run) → joint_run b stream budget ≡ Ok r →
-    (n : ℕ) (t : Turn) → slice_get r.turns n ≡ Some t →
-    ShowPages stream (joint_behind r n).memory.plain (draws_before b r n) t.items
+-- Two Ciphers of a run under one draw are one Cipher, and none is under draw 0.
+pub record HaveOwnDraws (b : Bundle) (r : Run) : Type 0 where
+  pub not_key : (place : ItemPlace) (frame : ℕ) (bytes : List ℕ) → item_at r place ≡ Some (Cipher frame bytes) →
+      0 < draw_number b r place frame
+  pub apart : (place place' : ItemPlace) (frame frame' : ℕ) (bytes bytes' : List ℕ) →
+      item_at r place ≡ Some (Cipher frame bytes) → item_at r place' ≡ Some (Cipher frame' bytes') →
+      draw_number b r place frame ≡ draw_number b r place' frame' → place ≡ place'
 
--- So does each Cipher of the closing.
-abbrev pub ClosingShowsPages : Type 0
-ClosingShowsPages =
-    (b : Bundle) (stream : Random) (budget : ℕ) (r : Run) → joint_run b stream budget ≡ Ok r →
-    let n = length r.turns in ShowPages stream (joint_behind r n).memory.plain (draws_before b r n) r.closed.items
+abbrev pub CiphersHaveOwnDraws : Type 0
+CiphersHaveOwnDraws =
+    (b : Bundle) (stream : Random) (budget : ℕ) (r : Run) → joint_run b stream budget ≡ Ok r → HaveOwnDraws b r

@@ -3,12 +3,11 @@
 //! where the random stream has ended.
 #![tactic(auto)]
 
-ghost use Rattle.store_law.specs.Ciphers.{ClosingShowsPages, OpeningShowsPages, StepsShowPages};
+ghost use Rattle.store_law.specs.Ciphers.{CiphersHaveOwnDraws, CiphersShowPages};
 
 /// Each Cipher of a run shows the newest bytes of a page under a draw of its own. It does nothing: its contract is the
 /// law.
 pub fn law_of_ciphers()
-    ensures opening { OpeningShowsPages }
-    ensures steps { StepsShowPages }
-    ensures closing { ClosingShowsPages }
+    ensures pages { CiphersShowPages }
+    ensures draws { CiphersHaveOwnDraws }
 {}
