@@ -78,7 +78,7 @@ record FrameShows (stream : Random) (d k : ℕ) (p : Program) (m : CloakedMemory
   pub page : m.plain (first_page d i) ≡ program_page p.bytes i
 
 -- a frame is none of the first n of a program
-abbrev IsApart : Program → ℕ → ℕ → Type 0
+abbrev pub IsApart : Program → ℕ → ℕ → Type 0
 IsApart p n f = (f < p.place) ⊎ (p.place + n ≤ f)
 
 record PagesShow (stream : Random) (d k : ℕ) (p : Program) (n : ℕ) (m m' : CloakedMemory) : Type 0 where
@@ -208,7 +208,7 @@ record ProgramsShow (stream : Random) (d k : ℕ) (programs : List Program) (m m
       ShowsPage stream m'.plain (placing_draw k programs f) (frame_in m'.ram f)
 
 -- a frame of a program, or apart from it
-inside_or_apart : (p : Program) (f : ℕ) → ((p.place ≤ f) × (f < p.place + p.start.pages)) ⊎ IsApart p p.start.pages f
+pub inside_or_apart : (p : Program) (f : ℕ) → ((p.place ≤ f) × (f < p.place + p.start.pages)) ⊎ IsApart p p.start.pages f
 inside_or_apart p f = elim (cases_lt f p.place) [
   | inl low ↦ inr (inl low)
   | inr at ↦ elim (cases_lt f (p.place + p.start.pages)) [
@@ -231,7 +231,7 @@ not_inside p f (inr high) =
     and_false true = refl
     and_false false = refl
 
-apart_later : (p : Program) (programs : List Program) (f : ℕ) → IsApart p p.start.pages f →
+pub apart_later : (p : Program) (programs : List Program) (f : ℕ) → IsApart p p.start.pages f →
     is_placed (p ∷ programs) f ≡ is_placed programs f
 apart_later p programs f away = ap (λ (b : Bool). cond b true (is_placed programs f)) (not_inside p f away)
 
