@@ -1,19 +1,17 @@
 -- The law of Ciphers.
-use Rattle.std.proofs.Common.{◌≡◌, ◌∙◌, ℕ, zero, suc, ◌+◌, List, [], length, take, slice_get, Option, Some, None, Result, Ok, Err, refl, sym, ap, subst, arith, take_all}
+use Rattle.std.proofs.Common.{◌≡◌, ℕ, zero, suc, ◌+◌, List, [], length, take, slice_get, Option, Some, None, Result, Ok, Err, refl, subst, arith, take_all}
 use Rattle.std.specs.Result.{result_map_both}
 use Rattle.cloak_base.specs.Random.{Random}
-use Rattle.cloak_base.specs.declared.names.PageId.{PageId}
 use Rattle.cloak_model.specs.declared.image.Bundle.{Bundle}
 use Rattle.cloak_model.specs.declared.item.Item.{Item}
 use Rattle.cloak_model.specs.declared.item.Item.TheVariants as item
 use Rattle.cloak_model.specs.Joint.{Turn}
 use Rattle.cloak_model.specs.Opening.{Lack, Opened, opening}
-use Rattle.cloak_model.specs.Parts.{Joint}
 use Rattle.cloak_model.specs.Run.{Run, turns_from, joint_after, first_moment, run_of, closing}
 use Rattle.store_law.specs.Ciphers.{ShowsPage, ShowPages, pages_of_programs, ciphers_of_steps, draws_before, joint_behind, placing_draw, ciphers_in, ItemPlace, InOpening, InStep, InClosing, items_of_turn, item_at, plain_at, draw_number, CiphersShowPages}
 use Rattle.store_law.proofs.Draws.{HasDrawn, AreShown, each_shown}
 use Rattle.store_law.proofs.Opened.{opening_shows}
-use Rattle.store_law.proofs.Runs.{TurnsUse, turns_use, behind_steps, steps_count, drawn_behind, step_shown, closing_shown}
+use Rattle.store_law.proofs.Runs.{turns_use, behind_steps, steps_count, drawn_behind, step_shown, closing_shown}
 
 -- a joint run is one that was opened
 pub of_opened : (b : Bundle) (budget : ℕ) (P : Run → Type 0) (opens : Result Opened Lack) (r : Run) →

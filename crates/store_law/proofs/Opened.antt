@@ -16,7 +16,7 @@ use Rattle.cloak_model.specs.Cloaking.{CloakedMemory}
 use Rattle.cloak_model.specs.Ledger.{vector_of}
 use Rattle.cloak_model.specs.Opening.{numbers_below, started_ledger, started_memory, program_page, place_pages, place_programs, started_joint, is_placed, opening_items, Opened, opened_with, opened_by, opening}
 use Rattle.cloak_model.specs.PageMoves.{place, place_with}
-use Rattle.store_law.specs.Ciphers.{draw_at, numbered_draw, shown_under, ShowsPage, pages_of_programs, placing_draw}
+use Rattle.store_law.specs.Ciphers.{draw_at, shown_under, ShowsPage, pages_of_programs, placing_draw}
 use Rattle.store_law.proofs.Draws.{HasDrawn, draw_made}
 
 -- the bytes of a frame

@@ -10,7 +10,7 @@ use Rattle.cloak_model.specs.Joint.{Turn}
 use Rattle.cloak_model.specs.Opening.{Opened, opening, is_placed}
 use Rattle.cloak_model.specs.Run.{Run, run_of}
 use Rattle.store_law.specs.Ciphers.{cipher_count, ciphers_in, pages_of_programs, ciphers_of_steps, draws_before, placing_draw, ItemPlace, InOpening, InStep, InClosing, items_of_turn, item_at, draw_number, HaveOwnDraws, CiphersHaveOwnDraws}
-use Rattle.store_law.proofs.Opened.{IsApart, inside_or_apart, apart_later, OpeningShows, opening_shows}
+use Rattle.store_law.proofs.Opened.{inside_or_apart, apart_later, OpeningShows, opening_shows}
 use Rattle.store_law.proofs.Ciphers.{of_opened, nothing_there}
 
 -- The opening: pages of programs are placed under draws of their own.
@@ -28,8 +28,14 @@ placing_by k p programs f true is placed =
     inl (is, ap (λ (b : Bool). cond b (placing_draw (k + p.start.pages) programs f) (k + (f - p.place))) is)
 placing_by k p programs f false is placed = elim (inside_or_apart p f) [
   | inl there ↦
-      inr (there.0, (there.1, ap
-      (λ (b : Bool). cond b (placing_draw (k + p.start.pages) programs f) (k + (f - p.place))) is))
+      inr (
+        there.0,
+        (
+          there.1,
+          ap
+              (λ (b : Bool). cond b (placing_draw (k + p.start.pages) programs f) (k + (f - p.place))) is,
+        ),
+      )
   | inr apart ↦ absurd (false≢true (sym is ∙ (sym (apart_later p programs f apart) ∙ placed)))
 ]
 
@@ -187,11 +193,13 @@ own_draws b r stream shows = record { not_key = later; apart = apart }
     within : (at f : ℕ) (bytes : List ℕ) → slice_get r.opened.items at ≡ Some (item.Cipher f bytes) →
         (1 ≤ placing_draw 1 b.programs f) × (placing_draw 1 b.programs f < 1 + pages_of_programs b.programs)
     within at f bytes is = placing_within 1 b.programs f (shows.placed at f bytes is)
+
     later : (place : ItemPlace) (f : ℕ) (bytes : List ℕ) → item_at r place ≡ Some (item.Cipher f bytes) →
         0 < draw_number b r place f
     later (InOpening at) f bytes is = (let low = (within at f bytes is).0 in omega (arith, low))
     later (InStep n at) f bytes is = omega arith
     later (InClosing at) f bytes is = omega arith
+
     apart : (place place' : ItemPlace) (f f' : ℕ) (bytes bytes' : List ℕ) →
         item_at r place ≡ Some (item.Cipher f bytes) → item_at r place' ≡ Some (item.Cipher f' bytes') →
         draw_number b r place f ≡ draw_number b r place' f' → place ≡ place'

@@ -1,8 +1,7 @@
 -- The steps of a run one after another, and its closing.
-use Rattle.std.proofs.Common.{◌≡◌, ◌∙◌, ℕ, zero, suc, ◌+◌, List, [], ◌∷◌, ◌++◌, length, take, slice_get, Option, Some, None, refl, sym, ap, subst, arith}
+use Rattle.std.proofs.Common.{◌≡◌, ℕ, zero, suc, ◌+◌, List, [], ◌∷◌, length, take, slice_get, Option, Some, None, refl, subst, arith}
 use Rattle.cloak_base.specs.Random.{Random}
 use Rattle.cloak_base.specs.declared.causes.Stop.{Stop}
-use Rattle.cloak_model.specs.declared.item.Item.{Item}
 use Rattle.cloak_model.specs.Cloaking.{settle}
 use Rattle.cloak_model.specs.Hart.{Hart}
 use Rattle.cloak_model.specs.Joint.{Moment, Turn, joint_step, after_turn, stop_of, cloak_outside, hart_in}
@@ -10,7 +9,7 @@ use Rattle.cloak_model.specs.Cloaking.{CloakedMemory}
 use Rattle.cloak_model.specs.Parts.{Joint}
 use Rattle.cloak_model.specs.Run.{unless_stopped, turns_from, joint_after, settled_below, closing}
 use Rattle.cloak_model.specs.World.{Cloak, cipher_items}
-use Rattle.store_law.specs.Ciphers.{ciphers_in, ciphers_of_steps}
+use Rattle.store_law.specs.Ciphers.{ciphers_of_steps}
 use Rattle.store_law.proofs.Draws.{HasDrawn, behind, behind_counts, AreShown, Draws, draws_none, draws_then}
 use Rattle.store_law.proofs.Settlings.{settle_draws}
 use Rattle.store_law.proofs.Turns.{TurnUses, step_uses}

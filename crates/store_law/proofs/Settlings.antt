@@ -1,9 +1,9 @@
 -- Settling a frame, and offering a page, show pages under draws one after another.
-use Rattle.std.proofs.Common.{◌≡◌, ◌∙◌, ℕ, zero, suc, Bool, true, false, cond, List, [], ◌∷◌, ◌++◌, length, Option, Some, None, slice_index_or, refl, sym, ap, subst}
+use Rattle.std.proofs.Common.{◌≡◌, ◌∙◌, ℕ, zero, suc, Bool, true, false, cond, List, [], ◌++◌, length, Option, Some, None, slice_index_or, refl, sym, ap, subst}
 use Rattle.std.specs.List.{find}
 use Rattle.std.specs.Prelude.{option_map}
 use Rattle.std.specs.Str.{bytes_eq}
-use Rattle.std.proofs.lemmas.List.{append-nil, map-append}
+use Rattle.std.proofs.lemmas.List.{map-append}
 use Rattle.cloak_base.specs.Random.{Random}
 use Rattle.cloak_base.specs.declared.names.PageId.{PageId}
 use Rattle.cloak_model.specs.declared.item.Item.{Item}
@@ -51,23 +51,29 @@ unfolding settle_owed
 owed_draws f q None m is = record {
   plain = refl;
   drawn = λ stream n has. draw_missed stream n m.ledger _ has is refl refl;
-  shown = λ stream n has. (record {
-    key = m.ledger.key;
-    is_key = has.key;
-    page = q;
-    same = ap (λ (d : Option (List ℕ)). shown_under m.ledger.key d (m.plain q)) (draw_is None stream n m q has is);
-  }, tt);
+  shown = λ stream n has. (
+    record {
+      key = m.ledger.key;
+      is_key = has.key;
+      page = q;
+      same = ap (λ (d : Option (List ℕ)). shown_under m.ledger.key d (m.plain q)) (draw_is None stream n m q has is);
+    },
+    tt,
+  );
 }
 owed_draws f q (Some draw) m is = record {
   plain = refl;
   drawn = λ stream n has. draw_made stream n m.ledger _ draw has is refl refl;
-  shown = λ stream n has. (record {
-    key = m.ledger.key;
-    is_key = has.key;
-    page = q;
-    same = ap (λ (d : Option (List ℕ)). shown_under m.ledger.key d (m.plain q))
-        (draw_is (Some draw) stream n m q has is);
-  }, tt);
+  shown = λ stream n has. (
+    record {
+      key = m.ledger.key;
+      is_key = has.key;
+      page = q;
+      same = ap (λ (d : Option (List ℕ)). shown_under m.ledger.key d (m.plain q))
+          (draw_is (Some draw) stream n m q has is);
+    },
+    tt,
+  );
 }
 
 if_draws : (f : ℕ) (o : Option PageId) (m : CloakedMemory) → SettlingDraws m (settle_if f o m)

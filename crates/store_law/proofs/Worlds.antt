@@ -5,7 +5,6 @@ use Rattle.cloak_base.specs.Random.{Random}
 use Rattle.cloak_base.specs.declared.names.PageId.{PageId}
 use Rattle.cloak_model.specs.declared.item.Item.{Item}
 use Rattle.cloak_model.specs.Asking.{Told}
-use Rattle.cloak_model.specs.Cloaking.{CloakedMemory}
 use Rattle.cloak_model.specs.World.{World, Cloak, Flat, Cloaked, Alone, Handed}
 use Rattle.store_law.proofs.Draws.{HasDrawn, draws_stay, behind, behind-append, behind_one, IsShown, AreShown, shown-append, Draws}
 
