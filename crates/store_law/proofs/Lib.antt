@@ -10,3 +10,4 @@ pub mod Runs
 pub mod Opened
 pub mod Ciphers
 pub mod OwnDraws
+pub mod OwnPages

@@ -136,7 +136,7 @@ more_behind (x ∷ turns) zero (suc m) t is less =
 more_behind (x ∷ turns) (suc n) (suc m) t is less =
     let rest = more_behind turns n m t is (omega (arith, less)) in omega (arith, rest)
 
-is_step : (turns : List Turn) (n : ℕ) (t : Turn) → slice_get turns n ≡ Some t → n < length turns
+pub is_step : (turns : List Turn) (n : ℕ) (t : Turn) → slice_get turns n ≡ Some t → n < length turns
 is_step [] zero t is = absurd cc
 is_step [] (suc n) t is = absurd cc
 is_step (x ∷ turns) zero t is = omega arith

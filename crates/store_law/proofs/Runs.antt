@@ -66,7 +66,7 @@ step_shown stream k (suc n) j (x ∷ turns) t all has is =
 
 -- The closing.
 
-below_draws : (n : ℕ) (m : CloakedMemory) (h : Hart) → let c = settled_below n (cloak_outside m h) in
+pub below_draws : (n : ℕ) (m : CloakedMemory) (h : Hart) → let c = settled_below n (cloak_outside m h) in
     Draws m c.items c.memory
 unfolding settled_below
 below_draws zero m h = draws_none m m refl refl refl

@@ -4,10 +4,17 @@
 #![tactic(auto)]
 
 ghost use Rattle.store_law.specs.Ciphers.{CiphersHaveOwnDraws, CiphersShowPages};
+ghost use Rattle.store_law.specs.OwnPages.{ClosingKeepsPages, StepsKeepPages};
 
 /// Each Cipher of a run shows the newest bytes of a page under a draw of its own. It does nothing: its contract is the
 /// law.
 pub fn law_of_ciphers()
     ensures pages { CiphersShowPages }
     ensures draws { CiphersHaveOwnDraws }
+{}
+
+/// The newest bytes of a program's pages are changed by its own steps alone. It does nothing: its contract is the law.
+pub fn law_of_own_pages()
+    ensures steps { StepsKeepPages }
+    ensures closing { ClosingKeepsPages }
 {}
