@@ -1,5 +1,5 @@
 -- A step of the kernel, or of another program, leaves the pages of a program as they are.
-use Rattle.std.proofs.Common.{◌≡◌, ◌≢◌, ◌∙◌, ℕ, zero, suc, ◌+◌, ◌≤◌, ◌%◌, Bool, true, false, List, [], ◌∷◌, length, take, slice_get, slice_index, Option, Some, None, Result, Ok, Err, refl, sym, ap, subst, arith, take_all}
+use Rattle.std.proofs.Common.{◌≡◌, ◌≢◌, ◌∙◌, ℕ, zero, suc, ◌+◌, ◌%◌, Bool, true, false, List, length, take, slice_get, slice_index, Option, Some, None, Result, Ok, Err, refl, sym, ap, subst, arith, take_all}
 use Rattle.std.specs.Prelude.{option_map}
 use Rattle.cloak_base.specs.Random.{Random}
 use Rattle.cloak_base.specs.declared.causes.Stop.{Stop}
@@ -14,19 +14,17 @@ use Rattle.cloak_model.specs.declared.outcome.Kernel.TheVariants.{Stay, Put, Hal
 use Rattle.cloak_model.specs.Ahead.{settled_step, made_after}
 use Rattle.cloak_model.specs.Asking.{Told}
 use Rattle.cloak_model.specs.Cloaking.{CloakedMemory}
-use Rattle.cloak_model.specs.Contexts.{Admitted, context_at, domain_of, slot_of}
+use Rattle.cloak_model.specs.Contexts.{Admitted, domain_of, slot_of}
 use Rattle.cloak_model.specs.DomainState.{Control, Domain}
 use Rattle.cloak_model.specs.DomainStep.{DomainStepped, domain_step}
 use Rattle.cloak_model.specs.Hart.{Hart}
-use Rattle.cloak_model.specs.Hypercalls.{Stepped}
-use Rattle.cloak_model.specs.Joint.{Moment, Turn, next_hart, hart_in, cloak_of, memory_of, outside_ended, after_outside, outside_step, domain_ended, after_domain_step, pages_for, interrupt_ended, after_interrupt, by_interrupt, inside_step, turn_of, joint_step, after_turn, stop_of}
+use Rattle.cloak_model.specs.Joint.{Moment, Turn, next_hart, hart_in, cloak_of, memory_of, outside_ended, after_outside, outside_step, domain_ended, after_domain_step, interrupt_ended, after_interrupt, by_interrupt, inside_step, turn_of, joint_step, after_turn, stop_of}
 use Rattle.cloak_model.specs.KernelStep.{ticked}
 use Rattle.cloak_model.specs.Opening.{Opened, opening}
 use Rattle.cloak_model.specs.Parts.{Joint, domain_pages}
-use Rattle.cloak_model.specs.Resuming.{AfterResume, by_root, by_context, by_domain, resume}
+use Rattle.cloak_model.specs.Resuming.{by_root, by_context, by_domain, resume}
 use Rattle.cloak_model.specs.Run.{Run, unless_stopped, turns_from, joint_after, first_moment, run_of, closing}
-use Rattle.cloak_model.specs.World.{World, Cloak, Flat, Cloaked, Alone, plain_of}
-use Rattle.domain_isolation.proofs.Scripts.{Script}
+use Rattle.cloak_model.specs.World.{World, Flat, Cloaked, Alone, plain_of}
 use Rattle.domain_isolation.proofs.Played.{played_serving, played_others}
 use Rattle.domain_isolation.proofs.StepScripts.{step_scripted}
 use Rattle.domain_isolation.proofs.Answers.{IsServing}

@@ -1,10 +1,10 @@
 -- The newest bytes of a program's pages are changed by its own steps alone.
-use Rattle.std.specs.Prelude.{ℕ, ◌≡◌, ◌≢◌, ◌%◌, List, length, slice_get, slice_index, Option, Some, option_map, Ok}
+use Rattle.std.specs.Prelude.{ℕ, ◌≡◌, ◌≢◌, ◌%◌, length, slice_get, slice_index, Option, Some, option_map, Ok}
 use Rattle.cloak_base.specs.Random.{Random}
 use Rattle.cloak_model.specs.declared.image.Bundle.{Bundle}
 use Rattle.cloak_model.specs.Contexts.{domain_of}
 use Rattle.cloak_model.specs.Joint.{Turn, hart_in}
-use Rattle.cloak_model.specs.Parts.{Joint, domain_pages}
+use Rattle.cloak_model.specs.Parts.{domain_pages}
 use Rattle.cloak_model.specs.Run.{Run, joint_run}
 use Rattle.store_law.specs.Ciphers.{joint_behind}
 
