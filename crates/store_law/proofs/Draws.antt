@@ -43,20 +43,20 @@ draws_stay stream n l l' has key rest = record {
 -- Items one after another.
 
 -- the number of the next draw behind an item
-abbrev pub behind_one : Item → ℕ → ℕ
-behind_one (item.Cipher f bytes) n = suc n
-behind_one _ n = n
+abbrev pub draw_behind_one : Item → ℕ → ℕ
+draw_behind_one (item.Cipher f bytes) n = suc n
+draw_behind_one _ n = n
 
 -- and behind some
-abbrev pub behind : List Item → ℕ → ℕ
-behind [] n = n
-behind (i ∷ items) n = behind items (behind_one i n)
+abbrev pub draw_behind : List Item → ℕ → ℕ
+draw_behind [] n = n
+draw_behind (i ∷ items) n = draw_behind items (draw_behind_one i n)
 
-pub behind-append : (a b : List Item) (n : ℕ) → behind (a ++ b) n ≡ behind b (behind a n)
-behind-append [] b n = refl
-behind-append (i ∷ a) b n = behind-append a b (behind_one i n)
+pub draw_behind-append : (a b : List Item) (n : ℕ) → draw_behind (a ++ b) n ≡ draw_behind b (draw_behind a n)
+draw_behind-append [] b n = refl
+draw_behind-append (i ∷ a) b n = draw_behind-append a b (draw_behind_one i n)
 
-one_counts : (i : Item) (n : ℕ) → behind_one i n ≡ n + cipher_count i
+one_counts : (i : Item) (n : ℕ) → draw_behind_one i n ≡ n + cipher_count i
 one_counts (item.Cipher f bytes) n = omega arith
 one_counts (item.Put pa width value) n = omega arith
 one_counts (item.Leave x) n = omega arith
@@ -70,10 +70,10 @@ one_counts (item.Timer domain) n = omega arith
 one_counts (item.Resume domain ctx answer) n = omega arith
 one_counts (item.Stopped domain) n = omega arith
 
-pub behind_counts : (items : List Item) (n : ℕ) → behind items n ≡ n + ciphers_in items
-behind_counts [] n = omega arith
-behind_counts (i ∷ items) n =
-    let rest = behind_counts items (behind_one i n) in
+pub draw_behind_counts : (items : List Item) (n : ℕ) → draw_behind items n ≡ n + ciphers_in items
+draw_behind_counts [] n = omega arith
+draw_behind_counts (i ∷ items) n =
+    let rest = draw_behind_counts items (draw_behind_one i n) in
     let one = one_counts i n in
     omega (arith, rest, one)
 
@@ -85,30 +85,30 @@ IsShown stream plain n _ = Unit {0}
 -- each of them does, under draws one after another
 abbrev pub AreShown : Random → (PageId → List ℕ) → ℕ → List Item → Type 0
 AreShown stream plain n [] = Unit {0}
-AreShown stream plain n (i ∷ items) = IsShown stream plain n i × AreShown stream plain (behind_one i n) items
+AreShown stream plain n (i ∷ items) = IsShown stream plain n i × AreShown stream plain (draw_behind_one i n) items
 
 pub shown-append : (stream : Random) (plain : PageId → List ℕ) (n : ℕ) (a b : List Item) →
-    AreShown stream plain n a → AreShown stream plain (behind a n) b → AreShown stream plain n (a ++ b)
+    AreShown stream plain n a → AreShown stream plain (draw_behind a n) b → AreShown stream plain n (a ++ b)
 shown-append stream plain n [] b first second = second
 shown-append stream plain n (i ∷ a) b first second =
-    (first.0, shown-append stream plain (behind_one i n) a b first.1 second)
+    (first.0, shown-append stream plain (draw_behind_one i n) a b first.1 second)
 
 shown_at : (stream : Random) (plain : PageId → List ℕ) (n : ℕ) (items : List Item) →
     AreShown stream plain n items → (at f : ℕ) (bytes : List ℕ) → slice_get items at ≡ Some (item.Cipher f bytes) →
-    ShowsPage stream plain (behind (take at items) n) bytes
+    ShowsPage stream plain (draw_behind (take at items) n) bytes
 shown_at stream plain n [] all zero f bytes is = absurd cc
 shown_at stream plain n [] all (suc at) f bytes is = absurd cc
 shown_at stream plain n (i ∷ items) all zero f bytes is =
     let same : i ≡ item.Cipher f bytes = cc in
     subst (IsShown stream plain n) same all.0
 shown_at stream plain n (i ∷ items) all (suc at) f bytes is =
-    shown_at stream plain (behind_one i n) items all.1 at f bytes is
+    shown_at stream plain (draw_behind_one i n) items all.1 at f bytes is
 
 -- so each of them shows a page under the draw that it counts to
 pub each_shown : (stream : Random) (plain : PageId → List ℕ) (n : ℕ) (items : List Item) →
     AreShown stream plain n items → ShowPages stream plain n items
 each_shown stream plain n items all at f bytes is =
-    subst (λ (k : ℕ). ShowsPage stream plain k bytes) (behind_counts (take at items) n)
+    subst (λ (k : ℕ). ShowsPage stream plain k bytes) (draw_behind_counts (take at items) n)
     (shown_at stream plain n items all at f bytes is)
 
 -- From one memory to a later one.
@@ -117,7 +117,7 @@ each_shown stream plain n items all at f bytes is =
 pub record Draws (m : CloakedMemory) (items : List Item) (m' : CloakedMemory) : Type 0 where
   pub plain : m'.plain ≡ m.plain
   pub drawn : (stream : Random) (n : ℕ) → HasDrawn stream n m.ledger →
-      HasDrawn stream (behind items n) m'.ledger
+      HasDrawn stream (draw_behind items n) m'.ledger
   pub shown : (stream : Random) (n : ℕ) → HasDrawn stream n m.ledger → AreShown stream m.plain n items
 
 -- nothing is shown
@@ -134,10 +134,10 @@ pub draws_then : (a b c : CloakedMemory) (first second : List Item) → Draws a 
 draws_then a b c first second p q = record {
   plain = q.plain ∙ p.plain;
   drawn = λ stream n has.
-      subst (λ (k : ℕ). HasDrawn stream k c.ledger) (sym (behind-append first second n))
-      (q.drawn stream (behind first n) (p.drawn stream n has));
+      subst (λ (k : ℕ). HasDrawn stream k c.ledger) (sym (draw_behind-append first second n))
+      (q.drawn stream (draw_behind first n) (p.drawn stream n has));
   shown = λ stream n has.
       shown-append stream a.plain n first second (p.shown stream n has)
-      (subst (λ (plain : PageId → List ℕ). AreShown stream plain (behind first n) second) p.plain
-      (q.shown stream (behind first n) (p.drawn stream n has)));
+      (subst (λ (plain : PageId → List ℕ). AreShown stream plain (draw_behind first n) second) p.plain
+      (q.shown stream (draw_behind first n) (p.drawn stream n has)));
 }

@@ -15,21 +15,21 @@ use Rattle.cloak_model.specs.Effect.{effect}
 use Rattle.cloak_model.specs.InsideStep.{AfterInstruction, loaded_inside, load_reached, load_got, load_inside, store_reached, store_put, store_inside, system_inside, done_inside, decoded_inside, executed_inside, fetched_inside, fetch, instruction_inside}
 use Rattle.cloak_model.specs.Resources.{Resources}
 use Rattle.cloak_model.specs.World.{World}
-use Rattle.store_law.proofs.Worlds.{Shows, Ends, Shows-trans, Shows-refl, Shows-ends, Ends-behind, Changes-ends}
+use Rattle.store_law.proofs.Worlds.{OnlyShows, ShowsFirst, OnlyShows-trans, OnlyShows-refl, OnlyShows-ends, ShowsFirst-behind, OnlyChanges-ends}
 use Rattle.store_law.proofs.Questions.{shows_reach, shows_read, shows_get, shows_put, changes_write}
 
 -- An instruction shows pages as they were; one that calls the monitor has changed none.
 pub record Instructs (w : World) (t : Told AfterInstruction) : Type 0 where
-  pub ends : Ends w t.world
-  pub calls : t.answer.ending ≡ ran.Ecall → Shows w t.world
+  pub ends : ShowsFirst w t.world
+  pub calls : t.answer.ending ≡ ran.Ecall → OnlyShows w t.world
 
 Instructs-refl : {m : AfterInstruction} (w : World) → Instructs w (record { answer = m; world = w })
-Instructs-refl w = record { ends = Shows-ends w w (Shows-refl w); calls = λ is. Shows-refl w }
+Instructs-refl w = record { ends = OnlyShows-ends w w (OnlyShows-refl w); calls = λ is. OnlyShows-refl w }
 
-Instructs-behind : (u v : World) (t : Told AfterInstruction) → Shows u v → Instructs v t → Instructs u t
+Instructs-behind : (u v : World) (t : Told AfterInstruction) → OnlyShows u v → Instructs v t → Instructs u t
 Instructs-behind u v t p q = record {
-  ends = Ends-behind u v t.world p q.ends;
-  calls = λ is. Shows-trans u v t.world p (q.calls is);
+  ends = ShowsFirst-behind u v t.world p q.ends;
+  calls = λ is. OnlyShows-trans u v t.world p (q.calls is);
 }
 
 instructs_loaded : (c : Context) (rd va width : ℕ) (signed : Bool) (value : ℕ) (w : World) →
@@ -66,7 +66,7 @@ instructs_store_reached : (c : Context) (q : PageId) (va width value : ℕ) (a :
     Instructs w (store_reached c q va width value a w)
 unfolding store_reached
 instructs_store_reached c q va width value told.Ok w = record {
-  ends = Changes-ends w _ (changes_write _ _ _ _ w);
+  ends = OnlyChanges-ends w _ (changes_write _ _ _ _ w);
   calls = λ is. absurd cc;
 }
 instructs_store_reached c q va width value (told.Absent cause) w = Instructs-refl w
@@ -132,7 +132,8 @@ instructs_fetch : (domain : ℕ) (r : Resources) (c : Context) (place : Option P
     Instructs w (fetch domain r c place w)
 unfolding fetch
 instructs_fetch domain r c None w = Instructs-refl w
-instructs_fetch domain r c (Some q) w = Instructs-behind _ _ _ (shows_reach _ _ _ w) (instructs_fetched domain r c _ _ _)
+instructs_fetch domain r c (Some q) w =
+    Instructs-behind _ _ _ (shows_reach _ _ _ w) (instructs_fetched domain r c _ _ _)
 
 pub instructs_instruction : (domain : ℕ) (r : Resources) (c : Context) (w : World) →
     Instructs w (instruction_inside domain r c w)

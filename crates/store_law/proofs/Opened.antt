@@ -99,7 +99,8 @@ page_same plain q p bytes same = ap (λ (b : Bool). cond b bytes (plain p)) same
 
 other_domain : (p q : PageId) → p.domain ≢ q.domain → same_page p q ≡ false
 unfolding same_page
-other_domain p q other = ap (λ (b : Bool). b && (nat_eq p.resource q.resource && nat_eq p.page q.page)) (ne_eqb p.domain q.domain other)
+other_domain p q other =
+    ap (λ (b : Bool). b && (nat_eq p.resource q.resource && nat_eq p.page q.page)) (ne_eqb p.domain q.domain other)
 
 other_number : (d i n : ℕ) → i ≢ n → same_page (first_page d i) (first_page d n) ≡ false
 unfolding same_page
@@ -208,7 +209,8 @@ record ProgramsShow (stream : Random) (d k : ℕ) (programs : List Program) (m m
       ShowsPage stream m'.plain (placing_draw k programs f) (frame_in m'.ram f)
 
 -- a frame of a program, or apart from it
-pub inside_or_apart : (p : Program) (f : ℕ) → ((p.place ≤ f) × (f < p.place + p.start.pages)) ⊎ IsApart p p.start.pages f
+pub inside_or_apart : (p : Program) (f : ℕ) →
+    ((p.place ≤ f) × (f < p.place + p.start.pages)) ⊎ IsApart p p.start.pages f
 inside_or_apart p f = elim (cases_lt f p.place) [
   | inl low ↦ inr (inl low)
   | inr at ↦ elim (cases_lt f (p.place + p.start.pages)) [
@@ -451,7 +453,8 @@ memory_shows b stream draw m is placed =
       shown = λ at f bytes there.
           let one : IsOpening b.programs m.ram (item.Cipher f bytes) =
           item_of (IsOpening b.programs m.ram) (opening_items b.programs m.ram)
-          (all_open b.programs m.ram (numbers_below (length m.ram)) (numbers_low (length m.ram) (length m.ram) (omega arith)))
+          (all_open b.programs m.ram (numbers_below (length m.ram))
+          (numbers_low (length m.ram) (length m.ram) (omega arith)))
           at (item.Cipher f bytes) there in
           let low = one.1.1 in
           subst (λ (x : List ℕ). ShowsPage stream m.plain (placing_draw 1 b.programs f) x) (sym one.0)
@@ -459,7 +462,8 @@ memory_shows b stream draw m is placed =
       placed = λ at f bytes there.
           let one : IsOpening b.programs m.ram (item.Cipher f bytes) =
           item_of (IsOpening b.programs m.ram) (opening_items b.programs m.ram)
-          (all_open b.programs m.ram (numbers_below (length m.ram)) (numbers_low (length m.ram) (length m.ram) (omega arith)))
+          (all_open b.programs m.ram (numbers_below (length m.ram))
+          (numbers_low (length m.ram) (length m.ram) (omega arith)))
           at (item.Cipher f bytes) there in
           one.1.0;
       once = λ at at' f bytes bytes' there there'.

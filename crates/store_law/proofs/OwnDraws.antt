@@ -204,7 +204,8 @@ own_draws b r stream shows = record { not_key = later; apart = apart }
         item_at r place ≡ Some (item.Cipher f bytes) → item_at r place' ≡ Some (item.Cipher f' bytes') →
         draw_number b r place f ≡ draw_number b r place' f' → place ≡ place'
     apart (InOpening at) (InOpening at') f f' bytes bytes' is is' same =
-        let frames : f ≡ f' = placing_apart 1 b.programs f f' (shows.placed at f bytes is) (shows.placed at' f' bytes' is') same in
+        let frames : f ≡ f' =
+        placing_apart 1 b.programs f f' (shows.placed at f bytes is) (shows.placed at' f' bytes' is') same in
         let is'' = subst (λ (x : ℕ). slice_get r.opened.items at' ≡ Some (item.Cipher x bytes')) (sym frames) is' in
         ap (λ (x : ℕ). InOpening x) (shows.once at at' f bytes bytes' is is'')
     apart (InOpening at) (InStep n' at') f f' bytes bytes' is is' same =

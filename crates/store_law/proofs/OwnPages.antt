@@ -156,7 +156,8 @@ turn_keeps d j number h (Some ctx) programs other =
 
 -- the moment behind so many steps
 abbrev moment_behind : Moment → ℕ → List Turn → Moment
-moment_behind m n turns = record { schedule = m.schedule; steps = m.steps + n; joint = joint_after m.joint (take n turns) }
+moment_behind m n turns =
+    record { schedule = m.schedule; steps = m.steps + n; joint = joint_after m.joint (take n turns) }
 
 behind_stop : (o : Option Stop) (later : Moment → List Turn) (n steps : ℕ) (m : Moment) (t : Turn) →
     slice_get (unless_stopped o later m) n ≡ Some t →

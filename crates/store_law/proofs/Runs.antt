@@ -10,7 +10,7 @@ use Rattle.cloak_model.specs.Parts.{Joint}
 use Rattle.cloak_model.specs.Run.{unless_stopped, turns_from, joint_after, settled_below, closing}
 use Rattle.cloak_model.specs.World.{Cloak, cipher_items}
 use Rattle.store_law.specs.Ciphers.{ciphers_of_steps}
-use Rattle.store_law.proofs.Draws.{HasDrawn, behind, behind_counts, AreShown, Draws, draws_none, draws_then}
+use Rattle.store_law.proofs.Draws.{HasDrawn, draw_behind, draw_behind_counts, AreShown, Draws, draws_none, draws_then}
 use Rattle.store_law.proofs.Settlings.{settle_draws}
 use Rattle.store_law.proofs.Turns.{TurnUses, step_uses}
 
@@ -34,13 +34,13 @@ turns_use (suc n) m =
 -- the number of the next draw behind steps
 abbrev pub behind_steps : List Turn → ℕ → ℕ
 behind_steps [] n = n
-behind_steps (t ∷ turns) n = behind_steps turns (behind t.items n)
+behind_steps (t ∷ turns) n = behind_steps turns (draw_behind t.items n)
 
 pub steps_count : (turns : List Turn) (n : ℕ) → behind_steps turns n ≡ n + ciphers_of_steps turns
 steps_count [] n = omega arith
 steps_count (t ∷ turns) n =
-    let rest = steps_count turns (behind t.items n) in
-    let one = behind_counts t.items n in
+    let rest = steps_count turns (draw_behind t.items n) in
+    let one = draw_behind_counts t.items n in
     omega (arith, rest, one)
 
 pub drawn_behind : (stream : Random) (k n : ℕ) (j : Joint) (turns : List Turn) → TurnsUse j turns →
@@ -50,7 +50,7 @@ unfolding joint_after
 drawn_behind stream k zero j turns all has = has
 drawn_behind stream k (suc n) j [] all has = has
 drawn_behind stream k (suc n) j (t ∷ turns) all has =
-    drawn_behind stream (behind t.items k) n t.joint turns all.1 (all.0.drawn stream k has)
+    drawn_behind stream (draw_behind t.items k) n t.joint turns all.1 (all.0.drawn stream k has)
 
 pub step_shown : (stream : Random) (k n : ℕ) (j : Joint) (turns : List Turn) (t : Turn) → TurnsUse j turns →
     HasDrawn stream k j.memory.ledger → slice_get turns n ≡ Some t →
@@ -62,7 +62,7 @@ step_shown stream k zero j (x ∷ turns) t all has is =
     let same : x ≡ t = cc in
     subst (λ (y : Turn). AreShown stream j.memory.plain k y.items) same (all.0.shown stream k has)
 step_shown stream k (suc n) j (x ∷ turns) t all has is =
-    step_shown stream (behind x.items k) n x.joint turns t all.1 (all.0.drawn stream k has) is
+    step_shown stream (draw_behind x.items k) n x.joint turns t all.1 (all.0.drawn stream k has) is
 
 -- The closing.
 

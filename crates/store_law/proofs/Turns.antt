@@ -23,14 +23,14 @@ use Rattle.cloak_model.specs.KernelStep.{ticked}
 use Rattle.cloak_model.specs.Parts.{Joint}
 use Rattle.cloak_model.specs.Resuming.{AfterResume, by_root, by_context, by_domain, resume}
 use Rattle.cloak_model.specs.World.{World, Cloak, Cloaked, items_of}
-use Rattle.store_law.proofs.Draws.{HasDrawn, draws_stay, behind, behind-append, AreShown, shown-append, Draws}
+use Rattle.store_law.proofs.Draws.{HasDrawn, draws_stay, draw_behind, draw_behind-append, AreShown, shown-append, Draws}
 use Rattle.store_law.proofs.Settlings.{touched_draws}
-use Rattle.store_law.proofs.Worlds.{Ended}
+use Rattle.store_law.proofs.Worlds.{ShowsFirstFrom}
 use Rattle.store_law.proofs.Steps.{ends_domain_step}
 
 -- From one memory to a later one these items were written, and their Ciphers show pages as they were at first.
 pub record Uses (m : CloakedMemory) (items : List Item) (m' : CloakedMemory) : Type 0 where
-  pub drawn : (stream : Random) (n : ℕ) → HasDrawn stream n m.ledger → HasDrawn stream (behind items n) m'.ledger
+  pub drawn : (stream : Random) (n : ℕ) → HasDrawn stream n m.ledger → HasDrawn stream (draw_behind items n) m'.ledger
   pub shown : (stream : Random) (n : ℕ) → HasDrawn stream n m.ledger → AreShown stream m.plain n items
 
 abbrev pub TurnUses : Joint → Turn → Type 0
@@ -38,7 +38,7 @@ TurnUses j t = Uses j.memory t.items t.joint.memory
 
 -- Items without a Cipher.
 record IsSilent (items : List Item) : Type 0 where
-  pub counts : (n : ℕ) → behind items n ≡ n
+  pub counts : (n : ℕ) → draw_behind items n ≡ n
   pub shows : (stream : Random) (plain : PageId → List ℕ) (n : ℕ) → AreShown stream plain n items
 
 -- key and stream are as they were
@@ -49,7 +49,8 @@ record SameDraws (m m' : CloakedMemory) : Type 0 where
 uses_draws : (m : CloakedMemory) (items : List Item) (m' m'' : CloakedMemory) → Draws m items m' → SameDraws m' m'' →
     Uses m items m''
 uses_draws m items m' m'' d same = record {
-  drawn = λ stream n has. draws_stay stream (behind items n) m'.ledger m''.ledger (d.drawn stream n has) same.key same.stream;
+  drawn = λ stream n has.
+      draws_stay stream (draw_behind items n) m'.ledger m''.ledger (d.drawn stream n has) same.key same.stream;
   shown = d.shown;
 }
 
@@ -58,10 +59,10 @@ uses_more : (m m' m'' : CloakedMemory) (items more : List Item) → Uses m items
 uses_more m m' m'' items more u silent same = record {
   drawn = λ stream n has.
       subst (λ (k : ℕ). HasDrawn stream k m''.ledger)
-      (sym (behind-append items more n ∙ silent.counts (behind items n)))
-      (draws_stay stream (behind items n) m'.ledger m''.ledger (u.drawn stream n has) same.key same.stream);
+      (sym (draw_behind-append items more n ∙ silent.counts (draw_behind items n)))
+      (draws_stay stream (draw_behind items n) m'.ledger m''.ledger (u.drawn stream n has) same.key same.stream);
   shown = λ stream n has.
-      shown-append stream m.plain n items more (u.shown stream n has) (silent.shows stream m.plain (behind items n));
+      shown-append stream m.plain n items more (u.shown stream n has) (silent.shows stream m.plain (draw_behind items n));
 }
 
 uses_none : (m : CloakedMemory) → Uses m [] m
@@ -137,7 +138,7 @@ domain_ends m j number h d w (went.Leave s) u =
 domain_ends m j number h d w (went.SpaceGone space s) u =
     uses_more m j.memory _ (items_of w) _ u (silent_leave s) (record { key = refl; stream = refl })
 
-ended_uses : (was : CloakedMemory) (c : Cloak) (v : World) → c.items ≡ [] → Ended c v →
+ended_uses : (was : CloakedMemory) (c : Cloak) (v : World) → c.items ≡ [] → ShowsFirstFrom c v →
     Uses c.memory (items_of v) (memory_of v was)
 ended_uses was c v none e =
     let written : e.to.items ≡ e.items = e.written ∙ ap (λ (l : List Item). l ++ e.items) none in
@@ -146,7 +147,7 @@ ended_uses was c v none e =
     (record { drawn = e.drawn; shown = e.shown }))
 
 told_uses : (j : Joint) (number : ℕ) (h : Hart) (d : ℕ) (c : Cloak) (told : Told DomainStepped) →
-    c.memory ≡ j.memory → c.items ≡ [] → Ended c told.world → TurnUses j (after_domain_step j number h d told)
+    c.memory ≡ j.memory → c.items ≡ [] → ShowsFirstFrom c told.world → TurnUses j (after_domain_step j number h d told)
 unfolding after_domain_step
 told_uses j number h d c told memory none e =
     domain_ends j.memory _ number h d told.world told.answer.went
@@ -157,7 +158,8 @@ silent_timer : (d : ℕ) → IsSilent (item.Timer d ∷ [])
 silent_timer d = record { counts = λ n. refl; shows = λ stream plain n. (tt, tt) }
 
 timer_uses : (m : CloakedMemory) (d : ℕ) → Uses m (item.Timer d ∷ []) m
-timer_uses m d = uses_more m m m [] (item.Timer d ∷ []) (uses_none m) (silent_timer d) (record { key = refl; stream = refl })
+timer_uses m d =
+    uses_more m m m [] (item.Timer d ∷ []) (uses_none m) (silent_timer d) (record { key = refl; stream = refl })
 
 interrupt_ends : (m : CloakedMemory) (j : Joint) (number : ℕ) (h : Hart) (items : List Item) (how : Went) →
     Uses m items j.memory → let t = interrupt_ended j number h items how in Uses m t.items t.joint.memory

@@ -46,8 +46,8 @@ abbrev pub ciphers_in : List Item → ℕ
 ciphers_in [] = 0
 ciphers_in (i ∷ items) = cipher_count i + ciphers_in items
 
--- Each Cipher of these items shows a page of these newest bytes: the first under the draw of this number, and each later
--- one under the next.
+-- Each Cipher of these items shows a page of these newest bytes: the first under the draw of this number, and each
+-- later one under the next.
 abbrev pub ShowPages : Random → (PageId → List ℕ) → ℕ → List Item → Type 0
 ShowPages stream plain n items =
     (at frame : ℕ) (bytes : List ℕ) → slice_get items at ≡ Some (Cipher frame bytes) →
@@ -74,8 +74,8 @@ draws_before b r n = 1 + (pages_of_programs b.programs + ciphers_of_steps (take 
 abbrev pub joint_behind : Run → ℕ → Joint
 joint_behind r n = joint_after r.opened.joint (take n r.turns)
 
--- the number of the draw under which the page in a frame was placed: the pages of programs are placed one after another,
--- the first of these under this draw, and what is placed later stays
+-- the number of the draw under which the page in a frame was placed: the pages of these programs are placed one after
+-- another, the first under this draw, and what is placed later in one frame stays
 abbrev pub placing_draw : ℕ → List Program → ℕ → ℕ
 placing_draw n [] f = n
 placing_draw n (p ∷ programs) f =
