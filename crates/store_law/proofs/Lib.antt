@@ -1,0 +1,13 @@
+pub mod Draws
+pub mod Settlings
+pub mod Worlds
+pub mod Questions
+pub mod Instructions
+pub mod Copies
+pub mod Steps
+pub mod Turns
+pub mod Runs
+pub mod Opened
+pub mod Ciphers
+pub mod OwnDraws
+pub mod OwnPages

@@ -1,0 +1,118 @@
+-- What a program's step shows: pages as it found them.
+use Rattle.std.proofs.Common.{◌≡◌, ℕ, Bool, true, false, List, [], ◌∷◌, Option, Some, None, Result, Ok, Err, refl}
+use Rattle.cloak_model.specs.declared.answer.Answer.{Answer}
+use Rattle.cloak_model.specs.declared.answer.Answer.TheVariants as told
+use Rattle.cloak_model.specs.declared.context.Phase.{Phase}
+use Rattle.cloak_model.specs.declared.context.Phase.TheVariants.{Plain, CopyIn, Waiting, CopyOut}
+use Rattle.cloak_model.specs.declared.inside.Ran.{Ran}
+use Rattle.cloak_model.specs.declared.inside.Ran.TheVariants as ran
+use Rattle.cloak_model.specs.declared.resource.MapFault.{MapFault}
+use Rattle.cloak_model.specs.Asking.{Told}
+use Rattle.cloak_model.specs.Contexts.{Context}
+use Rattle.cloak_model.specs.InsideStep.{AfterInstruction}
+use Rattle.cloak_model.specs.DomainState.{Control, Domain}
+use Rattle.cloak_model.specs.DomainStep.{instruction_ended, phase_step, step_if, domain_step}
+use Rattle.cloak_model.specs.Fork.{ask_copies, ask_forgets, fork_cleared, fork_if, fork, end_cleared, end_if, end_context}
+use Rattle.cloak_model.specs.Hypercalls.{Hypercall, New, Map, Unmap, File, Thread, ForkSpace, Exit, Call, Unknown, hypercall, fork_call, exit_call}
+use Rattle.cloak_model.specs.Resources.{Resources}
+use Rattle.cloak_model.specs.World.{World}
+use Rattle.store_law.proofs.Worlds.{OnlyChanges, ShowsFirst, ShowsFirst-refl, ShowsFirst-behind, OnlyChanges-refl, OnlyChanges-trans, OnlyChanges-ends}
+use Rattle.store_law.proofs.Questions.{shows_clear, changes_copy, changes_forget}
+use Rattle.store_law.proofs.Copies.{ends_copy_in_step, ends_copy_out_step}
+use Rattle.store_law.proofs.Instructions.{Instructs, instructs_instruction}
+
+-- Forks and ends.
+
+changes_copies : (domain : ℕ) (copies : List (ℕ × ℕ)) (w : World) → OnlyChanges w (ask_copies domain copies w).world
+unfolding ask_copies
+changes_copies domain [] w = OnlyChanges-refl w
+changes_copies domain (copy ∷ rest) w =
+    OnlyChanges-trans _ _ _ (changes_copy domain copy.0 copy.1 w) (changes_copies domain rest _)
+
+changes_forgets : (domain : ℕ) (numbers : List ℕ) (w : World) → OnlyChanges w (ask_forgets domain numbers w).world
+unfolding ask_forgets
+changes_forgets domain [] w = OnlyChanges-refl w
+changes_forgets domain (n ∷ rest) w =
+    OnlyChanges-trans _ _ _ (changes_forget domain n w) (changes_forgets domain rest _)
+
+ends_fork_cleared : (domain : ℕ) (c : Context) (slot new : ℕ) (r : Resources) (contexts : List (Option Context))
+    (a : Answer) (w : World) → ShowsFirst w (fork_cleared domain c slot new r contexts a w).world
+unfolding fork_cleared
+ends_fork_cleared domain c slot new r contexts told.Ok w = OnlyChanges-ends w _ (changes_copies domain _ w)
+ends_fork_cleared domain c slot new r contexts (told.Absent cause) w = ShowsFirst-refl w
+ends_fork_cleared domain c slot new r contexts (told.Word value) w = ShowsFirst-refl w
+ends_fork_cleared domain c slot new r contexts told.Stopped w = ShowsFirst-refl w
+
+ends_end_cleared : (domain slot space : ℕ) (r : Resources) (contexts : List (Option Context)) (a : Answer)
+    (w : World) → ShowsFirst w (end_cleared domain slot space r contexts a w).world
+unfolding end_cleared
+ends_end_cleared domain slot space r contexts told.Ok w = OnlyChanges-ends w _ (changes_forgets domain _ w)
+ends_end_cleared domain slot space r contexts (told.Absent cause) w = ShowsFirst-refl w
+ends_end_cleared domain slot space r contexts (told.Word value) w = ShowsFirst-refl w
+ends_end_cleared domain slot space r contexts told.Stopped w = ShowsFirst-refl w
+
+ends_fork_if : (fits : Result (Unit {0}) MapFault) (domain : ℕ) (c : Context) (r : Resources)
+    (contexts : List (Option Context)) (w : World) → ShowsFirst w (fork_if fits domain c r contexts w).world
+unfolding fork_if
+ends_fork_if (Err fault) domain c r contexts w = ShowsFirst-refl w
+ends_fork_if (Ok fits) domain c r contexts w =
+    ShowsFirst-behind _ _ _ (shows_clear domain _ w) (ends_fork_cleared domain c _ _ r contexts _ _)
+
+ends_fork : (domain : ℕ) (c : Context) (r : Resources) (contexts : List (Option Context)) (w : World) →
+    ShowsFirst w (fork domain c r contexts w).world
+unfolding fork
+ends_fork domain c r contexts w = ends_fork_if _ domain c r contexts w
+
+ends_end_if : (others : Bool) (domain slot space : ℕ) (r : Resources) (contexts : List (Option Context))
+    (w : World) → ShowsFirst w (end_if others domain slot space r contexts w).world
+unfolding end_if
+ends_end_if true domain slot space r contexts w = ShowsFirst-refl w
+ends_end_if false domain slot space r contexts w =
+    ShowsFirst-behind _ _ _ (shows_clear domain _ w) (ends_end_cleared domain slot space r contexts _ _)
+
+ends_end_context : (domain slot space : ℕ) (r : Resources) (contexts : List (Option Context)) (w : World) →
+    ShowsFirst w (end_context domain slot space r contexts w).world
+unfolding end_context
+ends_end_context domain slot space r contexts w = ends_end_if _ domain slot space r contexts w
+
+-- Hypercalls, and the whole step.
+
+ends_hypercall : (h : Hypercall) (slot : ℕ) (c : Context) (d : Control) (w : World) →
+    ShowsFirst w (hypercall h slot c d w).world
+unfolding hypercall fork_call exit_call
+ends_hypercall New slot c d w = ShowsFirst-refl w
+ends_hypercall Map slot c d w = ShowsFirst-refl w
+ends_hypercall Unmap slot c d w = ShowsFirst-refl w
+ends_hypercall File slot c d w = ShowsFirst-refl w
+ends_hypercall Thread slot c d w = ShowsFirst-refl w
+ends_hypercall ForkSpace slot c d w = ends_fork _ c _ _ w
+ends_hypercall Exit slot c d w = ends_end_context _ slot _ _ _ w
+ends_hypercall Call slot c d w = ShowsFirst-refl w
+ends_hypercall Unknown slot c d w = ShowsFirst-refl w
+
+instruction_ends : (slot : ℕ) (d : Domain) (u : World) (t : Told AfterInstruction) (e : Ran) → t.answer.ending ≡ e →
+    Instructs u t → ShowsFirst u (instruction_ended slot d t.answer.context e t.world).world
+unfolding instruction_ended
+instruction_ends slot d u t ran.Stay is i = i.ends
+instruction_ends slot d u t (ran.Loaded address value) is i = i.ends
+instruction_ends slot d u t (ran.Trap cause address) is i = i.ends
+instruction_ends slot d u t ran.Ecall is i = ShowsFirst-behind u t.world _ (i.calls is) (ends_hypercall _ slot _ _ t.world)
+instruction_ends slot d u t ran.Stopped is i = i.ends
+
+ends_phase_step : (phase : Phase) (slot : ℕ) (c : Context) (d : Domain) (w : World) →
+    ShowsFirst w (phase_step phase slot c d w).world
+unfolding phase_step
+ends_phase_step Plain slot c d w =
+    instruction_ends slot d w _ _ refl (instructs_instruction _ _ c w)
+ends_phase_step (CopyIn done) slot c d w = ends_copy_in_step _ _ c done w
+ends_phase_step Waiting slot c d w = ShowsFirst-refl w
+ends_phase_step (CopyOut done total) slot c d w = ends_copy_out_step _ _ c done total w
+
+ends_step_if : (c : Option Context) (slot : ℕ) (d : Domain) (w : World) → ShowsFirst w (step_if c slot d w).world
+unfolding step_if
+ends_step_if None slot d w = ShowsFirst-refl w
+ends_step_if (Some c) slot d w = ends_phase_step c.phase slot c d w
+
+pub ends_domain_step : (slot : ℕ) (d : Domain) (w : World) → ShowsFirst w (domain_step slot d w).world
+unfolding domain_step
+ends_domain_step slot d w = ends_step_if _ slot d w

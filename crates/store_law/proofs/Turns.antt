@@ -1,0 +1,203 @@
+-- A step of the joint run shows pages as it found them, under draws one after another.
+use Rattle.std.proofs.Common.{◌≡◌, ◌∙◌, ℕ, Bool, true, false, List, [], ◌∷◌, ◌++◌, Option, Some, None, Result, Ok, Err, refl, sym, ap, subst}
+use Rattle.cloak_base.specs.Random.{Random}
+use Rattle.cloak_base.specs.declared.causes.Shown.{Shown}
+use Rattle.cloak_base.specs.declared.names.PageId.{PageId}
+use Rattle.cloak_model.specs.declared.context.ResumeFault.{ResumeFault}
+use Rattle.cloak_model.specs.declared.inside.Went.{Went}
+use Rattle.cloak_model.specs.declared.inside.Went.TheVariants as went
+use Rattle.cloak_model.specs.declared.item.Item.{Item}
+use Rattle.cloak_model.specs.declared.item.Item.TheVariants as item
+use Rattle.cloak_model.specs.declared.outcome.Kernel.{Kernel}
+use Rattle.cloak_model.specs.declared.outcome.Kernel.TheVariants.{Stay, Put, Halt, Resume}
+use Rattle.cloak_model.specs.Ahead.{settled_step, made_after}
+use Rattle.cloak_model.specs.Asking.{Told}
+use Rattle.cloak_model.specs.Cloaking.{CloakedMemory}
+use Rattle.cloak_model.specs.Contexts.{Admitted, context_at, domain_of, slot_of}
+use Rattle.cloak_model.specs.DomainState.{Control, Domain}
+use Rattle.cloak_model.specs.DomainStep.{DomainStepped}
+use Rattle.cloak_model.specs.Hart.{Hart}
+use Rattle.cloak_model.specs.Hypercalls.{Stepped}
+use Rattle.cloak_model.specs.Joint.{Moment, Turn, cloak_of, memory_of, outside_ended, after_outside, outside_step, domain_ended, after_domain_step, pages_for, interrupt_ended, after_interrupt, by_interrupt, inside_step, turn_of, joint_step}
+use Rattle.cloak_model.specs.KernelStep.{ticked}
+use Rattle.cloak_model.specs.Parts.{Joint}
+use Rattle.cloak_model.specs.Resuming.{AfterResume, by_root, by_context, by_domain, resume}
+use Rattle.cloak_model.specs.World.{World, Cloak, Cloaked, items_of}
+use Rattle.store_law.proofs.Draws.{HasDrawn, draws_stay, draw_behind, draw_behind-append, AreShown, shown-append, Draws}
+use Rattle.store_law.proofs.Settlings.{touched_draws}
+use Rattle.store_law.proofs.Worlds.{ShowsFirstFrom}
+use Rattle.store_law.proofs.Steps.{ends_domain_step}
+
+-- From one memory to a later one these items were written, and their Ciphers show pages as they were at first.
+pub record Uses (m : CloakedMemory) (items : List Item) (m' : CloakedMemory) : Type 0 where
+  pub drawn : (stream : Random) (n : ℕ) → HasDrawn stream n m.ledger → HasDrawn stream (draw_behind items n) m'.ledger
+  pub shown : (stream : Random) (n : ℕ) → HasDrawn stream n m.ledger → AreShown stream m.plain n items
+
+abbrev pub TurnUses : Joint → Turn → Type 0
+TurnUses j t = Uses j.memory t.items t.joint.memory
+
+-- Items without a Cipher.
+record IsSilent (items : List Item) : Type 0 where
+  pub counts : (n : ℕ) → draw_behind items n ≡ n
+  pub shows : (stream : Random) (plain : PageId → List ℕ) (n : ℕ) → AreShown stream plain n items
+
+-- key and stream are as they were
+record SameDraws (m m' : CloakedMemory) : Type 0 where
+  pub key : m'.ledger.key ≡ m.ledger.key
+  pub stream : m'.ledger.stream ≡ m.ledger.stream
+
+uses_draws : (m : CloakedMemory) (items : List Item) (m' m'' : CloakedMemory) → Draws m items m' → SameDraws m' m'' →
+    Uses m items m''
+uses_draws m items m' m'' d same = record {
+  drawn = λ stream n has.
+      draws_stay stream (draw_behind items n) m'.ledger m''.ledger (d.drawn stream n has) same.key same.stream;
+  shown = d.shown;
+}
+
+uses_more : (m m' m'' : CloakedMemory) (items more : List Item) → Uses m items m' → IsSilent more → SameDraws m' m'' →
+    Uses m (items ++ more) m''
+uses_more m m' m'' items more u silent same = record {
+  drawn = λ stream n has.
+      subst (λ (k : ℕ). HasDrawn stream k m''.ledger)
+      (sym (draw_behind-append items more n ∙ silent.counts (draw_behind items n)))
+      (draws_stay stream (draw_behind items n) m'.ledger m''.ledger (u.drawn stream n has) same.key same.stream);
+  shown = λ stream n has.
+      shown-append stream m.plain n items more (u.shown stream n has) (silent.shows stream m.plain (draw_behind items n));
+}
+
+uses_none : (m : CloakedMemory) → Uses m [] m
+uses_none m = record { drawn = λ stream n has. has; shown = λ stream n has. tt }
+
+-- A hart outside.
+
+-- Resuming writes no Cipher, and makes no draw.
+record ResumesSilently (j : Joint) (r : AfterResume) : Type 0 where
+  pub items : IsSilent r.items
+  pub same : SameDraws j.memory r.joint.memory
+
+violated_silently : (j : Joint) (r : AfterResume) → r.items ≡ [] → r.joint ≡ j → ResumesSilently j r
+violated_silently j r none stays = record {
+  items = subst IsSilent (sym none) (record { counts = λ n. refl; shows = λ stream plain n. tt });
+  same = subst (λ (x : Joint). SameDraws j.memory x.memory) (sym stays) (record { key = refl; stream = refl });
+}
+
+root_silently : (j : Joint) (satp ctx reply : ℕ) (d : Domain) (control : Control) (a : Admitted)
+    (answer : Result (Unit {0}) ResumeFault) → ResumesSilently j (by_root j satp ctx reply d control a answer)
+unfolding by_root
+root_silently j satp ctx reply d control a (Err fault) = violated_silently j _ refl refl
+root_silently j satp ctx reply d control a (Ok done) = record {
+  items = record { counts = λ n. refl; shows = λ stream plain n. (tt, tt) };
+  same = record { key = refl; stream = refl };
+}
+
+context_silently : (j : Joint) (satp ctx reply : ℕ) (d : Domain) (control : Control)
+    (answer : Result (Unit {0}) ResumeFault) → ResumesSilently j (by_context j satp ctx reply d control answer)
+unfolding by_context
+context_silently j satp ctx reply d control (Err fault) = violated_silently j _ refl refl
+context_silently j satp ctx reply d control (Ok done) = root_silently j satp ctx reply d control _ _
+
+domain_silently : (j : Joint) (hart satp ctx reply : ℕ) (found : Option Domain) →
+    ResumesSilently j (by_domain j hart satp ctx reply found)
+unfolding by_domain
+domain_silently j hart satp ctx reply None = violated_silently j _ refl refl
+domain_silently j hart satp ctx reply (Some d) = context_silently j satp ctx reply d _ _
+
+resumes_silently : (j : Joint) (hart satp ctx reply : ℕ) → ResumesSilently j (resume j hart satp ctx reply)
+unfolding resume
+resumes_silently j hart satp ctx reply = domain_silently j hart satp ctx reply _
+
+outside_ends : (m : CloakedMemory) (j : Joint) (number : ℕ) (items : List Item) (k : Kernel) → Uses m items j.memory →
+    let t = outside_ended j number items k in Uses m t.items t.joint.memory
+unfolding outside_ended
+outside_ends m j number items Stay u = u
+outside_ends m j number items (Put b) u = u
+outside_ends m j number items (Halt value) u = u
+outside_ends m j number items (Resume ctx answer) u =
+    let r = resumes_silently j number _ ctx answer in
+    uses_more m j.memory _ items _ u r.items r.same
+
+outside_uses : (j : Joint) (number : ℕ) (h : Hart) → TurnUses j (outside_step j number h)
+unfolding outside_step after_outside settled_step made_after
+outside_uses j number h =
+    outside_ends j.memory _ number _ _
+    (uses_draws j.memory _ _ _ (touched_draws h j.disk j.memory) (record { key = refl; stream = refl }))
+
+-- A hart inside.
+
+silent_leave : (s : Shown) → IsSilent (item.Leave s ∷ [])
+silent_leave s = record { counts = λ n. refl; shows = λ stream plain n. (tt, tt) }
+
+domain_ends : (m : CloakedMemory) (j : Joint) (number : ℕ) (h : Hart) (d : ℕ) (w : World) (how : Went) →
+    Uses m (items_of w) j.memory → let t = domain_ended j number h d w how in Uses m t.items t.joint.memory
+unfolding domain_ended
+domain_ends m j number h d w went.Stay u = u
+domain_ends m j number h d w went.Stopped u = u
+domain_ends m j number h d w (went.Remapped space) u = u
+domain_ends m j number h d w (went.Leave s) u =
+    uses_more m j.memory _ (items_of w) _ u (silent_leave s) (record { key = refl; stream = refl })
+domain_ends m j number h d w (went.SpaceGone space s) u =
+    uses_more m j.memory _ (items_of w) _ u (silent_leave s) (record { key = refl; stream = refl })
+
+ended_uses : (was : CloakedMemory) (c : Cloak) (v : World) → c.items ≡ [] → ShowsFirstFrom c v →
+    Uses c.memory (items_of v) (memory_of v was)
+ended_uses was c v none e =
+    let written : e.to.items ≡ e.items = e.written ∙ ap (λ (l : List Item). l ++ e.items) none in
+    subst (λ (x : World). Uses c.memory (items_of x) (memory_of x was)) (sym e.is)
+    (subst (λ (l : List Item). Uses c.memory l e.to.memory) (sym written)
+    (record { drawn = e.drawn; shown = e.shown }))
+
+told_uses : (j : Joint) (number : ℕ) (h : Hart) (d : ℕ) (c : Cloak) (told : Told DomainStepped) →
+    c.memory ≡ j.memory → c.items ≡ [] → ShowsFirstFrom c told.world → TurnUses j (after_domain_step j number h d told)
+unfolding after_domain_step
+told_uses j number h d c told memory none e =
+    domain_ends j.memory _ number h d told.world told.answer.went
+    (subst (λ (m : CloakedMemory). Uses m (items_of told.world) (memory_of told.world j.memory)) memory
+    (ended_uses j.memory c told.world none e))
+
+silent_timer : (d : ℕ) → IsSilent (item.Timer d ∷ [])
+silent_timer d = record { counts = λ n. refl; shows = λ stream plain n. (tt, tt) }
+
+timer_uses : (m : CloakedMemory) (d : ℕ) → Uses m (item.Timer d ∷ []) m
+timer_uses m d =
+    uses_more m m m [] (item.Timer d ∷ []) (uses_none m) (silent_timer d) (record { key = refl; stream = refl })
+
+interrupt_ends : (m : CloakedMemory) (j : Joint) (number : ℕ) (h : Hart) (items : List Item) (how : Went) →
+    Uses m items j.memory → let t = interrupt_ended j number h items how in Uses m t.items t.joint.memory
+unfolding interrupt_ended
+interrupt_ends m j number h items went.Stay u = u
+interrupt_ends m j number h items went.Stopped u = u
+interrupt_ends m j number h items (went.Remapped space) u = u
+interrupt_ends m j number h items (went.Leave s) u =
+    uses_more m j.memory _ items _ u (silent_leave s) (record { key = refl; stream = refl })
+interrupt_ends m j number h items (went.SpaceGone space s) u = u
+
+after_interrupt_uses : (j : Joint) (number : ℕ) (h : Hart) (d : ℕ) (was : Domain) (step : Stepped) →
+    TurnUses j (after_interrupt j number h d was step)
+unfolding after_interrupt
+after_interrupt_uses j number h d was step =
+    interrupt_ends j.memory _ number h (item.Timer d ∷ []) step.went (timer_uses j.memory d)
+
+domain_uses : (due : Bool) (j : Joint) (number : ℕ) (h : Hart) (d slot : ℕ) (was : Domain) →
+    TurnUses j (by_interrupt due j number h d slot was)
+unfolding by_interrupt
+domain_uses true j number h d slot was = after_interrupt_uses j number h d was _
+domain_uses false j number h d slot was =
+    let c : Cloak = cloak_of j.memory h d (pages_for was (context_at was.control.contexts slot)) in
+    told_uses j number h d c _ refl refl ((ends_domain_step slot was (Cloaked c)).by c refl)
+
+inside_uses : (j : Joint) (number : ℕ) (h : Hart) (d slot : ℕ) (found : Option Domain) →
+    TurnUses j (inside_step j number h d slot found)
+unfolding inside_step
+inside_uses j number h d slot None = uses_none j.memory
+inside_uses j number h d slot (Some was) = domain_uses _ j number h d slot was
+
+-- Every step.
+
+turn_uses : (j : Joint) (number : ℕ) (h : Hart) (inside : Option ℕ) → TurnUses j (turn_of j number h inside)
+unfolding turn_of
+turn_uses j number h None = outside_uses j number h
+turn_uses j number h (Some ctx) = inside_uses j number (ticked h) (domain_of ctx) (slot_of ctx) _
+
+pub step_uses : (m : Moment) → TurnUses m.joint (joint_step m)
+unfolding joint_step
+step_uses m = turn_uses m.joint _ _ _

@@ -1,0 +1,184 @@
+-- What a part of a step shows: pages as they are, under draws one after another, and then pages may change.
+use Rattle.std.proofs.Common.{◌≡◌, ◌∙◌, ℕ, Bool, true, false, cond, List, [], ◌∷◌, ◌++◌, refl, sym, ap, subst, append_assoc}
+use Rattle.std.proofs.lemmas.List.{append-nil}
+use Rattle.cloak_base.specs.Random.{Random}
+use Rattle.cloak_base.specs.declared.names.PageId.{PageId}
+use Rattle.cloak_model.specs.declared.item.Item.{Item}
+use Rattle.cloak_model.specs.Asking.{Told}
+use Rattle.cloak_model.specs.World.{World, Cloak, Flat, Cloaked, Alone, Handed}
+use Rattle.store_law.proofs.Draws.{HasDrawn, draws_stay, draw_behind, draw_behind-append, draw_behind_one, IsShown, AreShown, shown-append, Draws}
+
+-- What was written since shows pages as they were at first.
+pub record ShowsFirstFrom (c : Cloak) (v : World) : Type 0 where
+  pub to : Cloak
+  pub is : v ≡ Cloaked to
+  pub items : List Item
+  pub written : to.items ≡ c.items ++ items
+  pub drawn : (stream : Random) (n : ℕ) → HasDrawn stream n c.memory.ledger →
+      HasDrawn stream (draw_behind items n) to.memory.ledger
+  pub shown : (stream : Random) (n : ℕ) → HasDrawn stream n c.memory.ledger → AreShown stream c.memory.plain n items
+
+pub record ShowsFirst (w v : World) : Type 0 where
+  pub by : (c : Cloak) → w ≡ Cloaked c → ShowsFirstFrom c v
+
+-- And no page has changed.
+pub record OnlyShowsFrom (c : Cloak) (v : World) : Type 0 where
+  pub ended : ShowsFirstFrom c v
+  pub plain : ended.to.memory.plain ≡ c.memory.plain
+
+pub record OnlyShows (w v : World) : Type 0 where
+  pub by : (c : Cloak) → w ≡ Cloaked c → OnlyShowsFrom c v
+
+-- Nothing was shown, and no draw was made.
+pub record OnlyChangesFrom (c : Cloak) (v : World) : Type 0 where
+  pub to : Cloak
+  pub is : v ≡ Cloaked to
+  pub items : to.items ≡ c.items
+  pub key : to.memory.ledger.key ≡ c.memory.ledger.key
+  pub stream : to.memory.ledger.stream ≡ c.memory.ledger.stream
+
+pub record OnlyChanges (w v : World) : Type 0 where
+  pub by : (c : Cloak) → w ≡ Cloaked c → OnlyChangesFrom c v
+
+-- of another world nothing has to be said
+flat_not : (ram : List (List ℕ)) (c : Cloak) → Flat ram ≡ Cloaked c → ⊥
+flat_not ram c is = cc
+
+alone_not : (h : Handed) (c : Cloak) → Alone h ≡ Cloaked c → ⊥
+alone_not h c is = cc
+
+pub no_flat : (ram : List (List ℕ)) (v : World) → OnlyShows (Flat ram) v
+no_flat ram v = record { by = λ c is. absurd (flat_not ram c is) }
+
+pub no_alone : (h : Handed) (v : World) → OnlyShows (Alone h) v
+no_alone h v = record { by = λ c is. absurd (alone_not h c is) }
+
+pub unchanged_flat : (ram : List (List ℕ)) (v : World) → OnlyChanges (Flat ram) v
+unchanged_flat ram v = record { by = λ c is. absurd (flat_not ram c is) }
+
+pub unchanged_alone : (h : Handed) (v : World) → OnlyChanges (Alone h) v
+unchanged_alone h v = record { by = λ c is. absurd (alone_not h c is) }
+
+-- of the joint machine's
+pub shows_from : (c : Cloak) (v : World) → OnlyShowsFrom c v → OnlyShows (Cloaked c) v
+shows_from c v s = record { by = λ c' is. let same : c ≡ c' = cc in subst (λ (x : Cloak). OnlyShowsFrom x v) same s }
+
+pub changes_from : (c : Cloak) (v : World) → OnlyChangesFrom c v → OnlyChanges (Cloaked c) v
+changes_from c v s = record { by = λ c' is. let same : c ≡ c' = cc in subst (λ (x : Cloak). OnlyChangesFrom x v) same s }
+
+-- one after another
+
+ended_then : (a b : Cloak) (v w : World) → (p : ShowsFirstFrom a v) → p.to.memory.plain ≡ a.memory.plain → ShowsFirstFrom p.to w →
+    ShowsFirstFrom a w
+ended_then a b v w p plain q = record {
+  to = q.to;
+  is = q.is;
+  items = p.items ++ q.items;
+  written = q.written ∙ (ap (λ (l : List Item). l ++ q.items) p.written ∙ append_assoc a.items p.items q.items);
+  drawn = λ stream n has.
+      subst (λ (k : ℕ). HasDrawn stream k q.to.memory.ledger) (sym (draw_behind-append p.items q.items n))
+      (q.drawn stream (draw_behind p.items n) (p.drawn stream n has));
+  shown = λ stream n has.
+      shown-append stream a.memory.plain n p.items q.items (p.shown stream n has)
+      (subst (λ (plain : PageId → List ℕ). AreShown stream plain (draw_behind p.items n) q.items) plain
+      (q.shown stream (draw_behind p.items n) (p.drawn stream n has)));
+}
+
+pub ShowsFirst-behind : (u v w : World) → OnlyShows u v → ShowsFirst v w → ShowsFirst u w
+ShowsFirst-behind u v w p q = record {
+  by = λ c is. let first = p.by c is in ended_then c c v w first.ended first.plain (q.by first.ended.to first.ended.is);
+}
+
+pub OnlyShows-trans : (u v w : World) → OnlyShows u v → OnlyShows v w → OnlyShows u w
+unfolding ended_then
+OnlyShows-trans u v w p q = record {
+  by = λ c is.
+      let first = p.by c is in
+      let second = q.by first.ended.to first.ended.is in
+      record {
+        ended = ended_then c c v w first.ended first.plain second.ended;
+        plain = second.plain ∙ first.plain;
+      };
+}
+
+pub OnlyShows-ends : (u v : World) → OnlyShows u v → ShowsFirst u v
+OnlyShows-ends u v p = record { by = λ c is. (p.by c is).ended }
+
+pub OnlyChanges-trans : (u v w : World) → OnlyChanges u v → OnlyChanges v w → OnlyChanges u w
+OnlyChanges-trans u v w p q = record {
+  by = λ c is.
+      let first = p.by c is in
+      let second = q.by first.to first.is in
+      record {
+        to = second.to;
+        is = second.is;
+        items = second.items ∙ first.items;
+        key = second.key ∙ first.key;
+        stream = second.stream ∙ first.stream;
+      };
+}
+
+pub OnlyChanges-refl : (w : World) → OnlyChanges w w
+OnlyChanges-refl w = record { by = λ c is. record { to = c; is = is; items = refl; key = refl; stream = refl } }
+
+pub OnlyChanges-ends : (u v : World) → OnlyChanges u v → ShowsFirst u v
+OnlyChanges-ends u v p = record {
+  by = λ c is.
+      let s = p.by c is in
+      record {
+        to = s.to;
+        is = s.is;
+        items = [];
+        written = s.items ∙ sym (append-nil c.items);
+        drawn = λ stream n has. draws_stay stream n c.memory.ledger s.to.memory.ledger has s.key s.stream;
+        shown = λ stream n has. tt;
+      };
+}
+
+pub OnlyShows-refl : (w : World) → OnlyShows w w
+OnlyShows-refl w = record {
+  by = λ c is. record {
+    ended = record {
+      to = c;
+      is = is;
+      items = [];
+      written = sym (append-nil c.items);
+      drawn = λ stream n has. has;
+      shown = λ stream n has. tt;
+    };
+    plain = refl;
+  };
+}
+
+pub ShowsFirst-refl : (w : World) → ShowsFirst w w
+ShowsFirst-refl w = OnlyShows-ends w w (OnlyShows-refl w)
+
+pub OnlyShows-either : {A : Type 0} (b : Bool) (m n : Told A) (w : World) → OnlyShows w m.world → OnlyShows w n.world →
+    OnlyShows w (cond b m n).world
+OnlyShows-either true m n w p q = p
+OnlyShows-either false m n w p q = q
+
+-- what draws of a memory make of the joint machine's world
+pub shows_by : (c c' : Cloak) (items : List Item) → c'.items ≡ c.items ++ items → Draws c.memory items c'.memory →
+    OnlyShows (Cloaked c) (Cloaked c')
+shows_by c c' items written draws = shows_from c (Cloaked c') (record {
+  ended = record {
+    to = c';
+    is = refl;
+    items = items;
+    written = written;
+    drawn = draws.drawn;
+    shown = draws.shown;
+  };
+  plain = draws.plain;
+})
+
+-- an item that is no Cipher is written
+pub shows_item : (c : Cloak) (i : Item) → ((n : ℕ) → draw_behind_one i n ≡ n) →
+    ((stream : Random) (plain : PageId → List ℕ) (n : ℕ) → IsShown stream plain n i) →
+    OnlyShows (Cloaked c) (Cloaked (record c { items = c.items ++ i ∷ [] }))
+shows_item c i counts nothing = shows_by c _ (i ∷ []) refl (record {
+  plain = refl;
+  drawn = λ stream n has. subst (λ (k : ℕ). HasDrawn stream k c.memory.ledger) (sym (counts n)) has;
+  shown = λ stream n has. (nothing stream c.memory.plain n, tt);
+})

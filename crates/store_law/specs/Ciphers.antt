@@ -1,0 +1,133 @@
+-- What the kernel is shown of pages: each Cipher of a run shows the newest bytes of a page under a draw of its own, or
+-- zeros where the random stream has ended.
+use Rattle.std.specs.Prelude.{ℕ, zero, suc, ◌≡◌, ◌<◌, ◌+◌, ◌-◌, List, [], ◌∷◌, length, take, slice_get, Option, Some, None, option_map, option_and_then, Ok, if◌then◌else◌}
+use Rattle.cloak_base.specs.Random.{Random, next_draw}
+use Rattle.cloak_base.specs.Pages.{zero_page}
+use Rattle.cloak_base.specs.declared.names.PageId.{PageId}
+use Rattle.cloak_model.specs.declared.image.Bundle.{Bundle}
+use Rattle.cloak_model.specs.declared.image.Program.{Program}
+use Rattle.cloak_model.specs.declared.item.Item.{Item}
+use Rattle.cloak_model.specs.declared.item.Item.TheVariants.{Cipher}
+use Rattle.cloak_model.specs.Chain.{cbc}
+use Rattle.cloak_model.specs.Joint.{Turn}
+use Rattle.cloak_model.specs.Opening.{is_placed}
+use Rattle.cloak_model.specs.Parts.{Joint}
+use Rattle.cloak_model.specs.Run.{Run, joint_run, joint_after}
+
+-- The draws of a stream are numbered from 0.
+
+-- a draw with the stream behind it: none where fewer than 16 bytes are left there
+abbrev pub numbered_draw : ℕ → Random → Option (List ℕ × Random)
+numbered_draw zero stream = next_draw stream
+numbered_draw (suc n) stream = option_and_then (λ (d : List ℕ × Random). next_draw d.1) (numbered_draw n stream)
+
+abbrev pub draw_at : ℕ → Random → Option (List ℕ)
+draw_at n stream = option_map (λ (d : List ℕ × Random). d.0) (numbered_draw n stream)
+
+-- What a frame shows of a page with these bytes: under a draw its ciphertext, and where there is no such draw zeros.
+abbrev pub shown_under : List ℕ → Option (List ℕ) → List ℕ → List ℕ
+shown_under key None bytes = zero_page
+shown_under key (Some draw) bytes = cbc key draw bytes
+
+-- These bytes show a page of these newest bytes under the draw of this number. The key of a run is draw 0.
+pub record ShowsPage (stream : Random) (plain : PageId → List ℕ) (n : ℕ) (shown : List ℕ) : Type 0 where
+  pub key : List ℕ
+  pub is_key : draw_at 0 stream ≡ Some key
+  pub page : PageId
+  pub same : shown ≡ shown_under key (draw_at n stream) (plain page)
+
+-- Items are counted by their Ciphers.
+
+abbrev pub cipher_count : Item → ℕ
+cipher_count (Cipher frame bytes) = 1
+cipher_count _ = 0
+
+abbrev pub ciphers_in : List Item → ℕ
+ciphers_in [] = 0
+ciphers_in (i ∷ items) = cipher_count i + ciphers_in items
+
+-- Each Cipher of these items shows a page of these newest bytes: the first under the draw of this number, and each
+-- later one under the next.
+abbrev pub ShowPages : Random → (PageId → List ℕ) → ℕ → List Item → Type 0
+ShowPages stream plain n items =
+    (at frame : ℕ) (bytes : List ℕ) → slice_get items at ≡ Some (Cipher frame bytes) →
+    ShowsPage stream plain (n + ciphers_in (take at items)) bytes
+
+-- A run.
+
+-- how many pages programs begin with
+abbrev pub pages_of_programs : List Program → ℕ
+pages_of_programs [] = 0
+pages_of_programs (p ∷ programs) = p.start.pages + pages_of_programs programs
+
+-- how many Ciphers steps wrote
+abbrev pub ciphers_of_steps : List Turn → ℕ
+ciphers_of_steps [] = 0
+ciphers_of_steps (t ∷ turns) = ciphers_in t.items + ciphers_of_steps turns
+
+-- the number of the next draw behind the opening and the first n steps: one was the key, one was for each page that was
+-- placed, and one for each Cipher of a step
+abbrev pub draws_before : Bundle → Run → ℕ → ℕ
+draws_before b r n = 1 + (pages_of_programs b.programs + ciphers_of_steps (take n r.turns))
+
+-- the joint machine behind the opening and the first n steps
+abbrev pub joint_behind : Run → ℕ → Joint
+joint_behind r n = joint_after r.opened.joint (take n r.turns)
+
+-- the number of the draw under which the page in a frame was placed: the pages of these programs are placed one after
+-- another, the first under this draw, and what is placed later in one frame stays
+abbrev pub placing_draw : ℕ → List Program → ℕ → ℕ
+placing_draw n [] f = n
+placing_draw n (p ∷ programs) f =
+    if is_placed programs f then placing_draw (n + p.start.pages) programs f else n + (f - p.place)
+
+-- Where an item stands: behind so many of the opening, of the step behind so many steps, or of the closing.
+pub data ItemPlace : Type 0 where
+  InOpening : ℕ → ItemPlace
+  InStep : ℕ → ℕ → ItemPlace
+  InClosing : ℕ → ItemPlace
+
+-- what a step wrote, where there is one
+abbrev pub items_of_turn : Option Turn → List Item
+items_of_turn None = []
+items_of_turn (Some t) = t.items
+
+-- the item at a place of a run
+abbrev pub item_at : Run → ItemPlace → Option Item
+item_at r (InOpening at) = slice_get r.opened.items at
+item_at r (InStep n at) = slice_get (items_of_turn (slice_get r.turns n)) at
+item_at r (InClosing at) = slice_get r.closed.items at
+
+-- the newest bytes of each page as the opening, a step or the closing found them
+abbrev pub plain_at : Run → ItemPlace → PageId → List ℕ
+plain_at r (InOpening at) = r.opened.joint.memory.plain
+plain_at r (InStep n at) = (joint_behind r n).memory.plain
+plain_at r (InClosing at) = (joint_behind r (length r.turns)).memory.plain
+
+-- The draw of a Cipher of this frame: that of the placing, and later the next one that was not made.
+abbrev pub draw_number : Bundle → Run → ItemPlace → ℕ → ℕ
+draw_number b r (InOpening at) frame = placing_draw 1 b.programs frame
+draw_number b r (InStep n at) frame =
+    draws_before b r n + ciphers_in (take at (items_of_turn (slice_get r.turns n)))
+draw_number b r (InClosing at) frame = draws_before b r (length r.turns) + ciphers_in (take at r.closed.items)
+
+-- The laws.
+
+-- Each Cipher of a run shows a page, with the newest bytes that it had then, under its draw.
+abbrev pub CiphersShowPages : Type 0
+CiphersShowPages =
+    (b : Bundle) (stream : Random) (budget : ℕ) (r : Run) → joint_run b stream budget ≡ Ok r →
+    (place : ItemPlace) (frame : ℕ) (bytes : List ℕ) → item_at r place ≡ Some (Cipher frame bytes) →
+    ShowsPage stream (plain_at r place) (draw_number b r place frame) bytes
+
+-- Two Ciphers of a run under one draw are one Cipher, and none is under draw 0.
+pub record HaveOwnDraws (b : Bundle) (r : Run) : Type 0 where
+  pub not_key : (place : ItemPlace) (frame : ℕ) (bytes : List ℕ) → item_at r place ≡ Some (Cipher frame bytes) →
+      0 < draw_number b r place frame
+  pub apart : (place place' : ItemPlace) (frame frame' : ℕ) (bytes bytes' : List ℕ) →
+      item_at r place ≡ Some (Cipher frame bytes) → item_at r place' ≡ Some (Cipher frame' bytes') →
+      draw_number b r place frame ≡ draw_number b r place' frame' → place ≡ place'
+
+abbrev pub CiphersHaveOwnDraws : Type 0
+CiphersHaveOwnDraws =
+    (b : Bundle) (stream : Random) (budget : ℕ) (r : Run) → joint_run b stream budget ≡ Ok r → HaveOwnDraws b r
