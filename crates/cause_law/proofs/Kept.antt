@@ -59,7 +59,7 @@ clean_settled f m kept g none =
 
 -- The frame that is owed a page is settled.
 
-owes_page : (q : PageId) (o : Option PageId) → owes q o ≡ true → o ≡ Some q
+pub owes_page : (q : PageId) (o : Option PageId) → owes q o ≡ true → o ≡ Some q
 owes_page q None is = absurd (false≢true is)
 owes_page q (Some p) is = elim (same_page_tells p q) [
   | inl told ↦ ap (λ (x : PageId). Some x) told.1

@@ -5,4 +5,6 @@ pub mod Asked
 pub mod Resumed
 pub mod Steps
 pub mod Opened
+pub mod Refused
+pub mod Stopped
 pub mod Runs

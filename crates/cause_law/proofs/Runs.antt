@@ -20,11 +20,12 @@ use Rattle.cloak_model.specs.Run.{Run, joint_run, unless_stopped, turns_from, jo
 use Rattle.kernel_isolation.proofs.Isolated.{of_opened}
 use Rattle.kernel_isolation.proofs.Opened.{is_opened}
 use Rattle.kernel_isolation.proofs.Turns.{IsSteady, turn_is_alone}
-use Rattle.cause_law.specs.Causes.{moment_at, Presents, LastStepPresents, ViolationHasCause, PresentsContext, PresentsMapping, IsStoppedBy, ContextIsRefused, MappingIsRefused, presented_root, can_run, context_of}
+use Rattle.cause_law.specs.Causes.{moment_at, Presents, LastStepPresents, ViolationHasCause, PresentsContext, PresentsMapping, IsStoppedBy, ContextIsRefused, MappingIsRefused, presented_root, can_run, context_of, HasStopped, StopsTheRun, StoppedIsLast}
 use Rattle.cause_law.proofs.Kept.{IsKept}
 use Rattle.cause_law.proofs.Opened.{opened_kept}
 use Rattle.cause_law.proofs.Resumed.{space_id, refusal}
 use Rattle.cause_law.proofs.Steps.{turn_presents, resumed_so}
+use Rattle.cause_law.proofs.Stopped.{StepStops, told_stops}
 
 -- the moment behind n of these steps
 abbrev moment_from : Moment → ℕ → List Turn → Moment
@@ -279,3 +280,45 @@ mapping_is_refused b stream budget r is n low ctx root presents =
     ∙ (refused_mapping m.joint (presented_root m) ctx presents.first presents.context presents.rests
     presents.recorded (λ same. presents.other (same ∙ sym presents.presented))
     ∙ ap (λ (x : ℕ). Some (violation.Mapping ctx x)) (sym presents.presented))))
+
+-- A step in which a question was stopped is the last one.
+
+stops_so : (missed : Bool) (o : Option Violation) (halt : Option ℕ) → (missed ≡ true) ⊎ (is_some o ≡ true) →
+    is_some (cond missed (Some stop.NoRandom) (stop_without_miss o halt)) ≡ true
+stops_so true o halt is = refl
+stops_so false (Some v) halt is = refl
+stops_so false None halt (inl missed) = absurd (false≢true missed)
+stops_so false None halt (inr some) = absurd (false≢true some)
+
+-- what a run stopped with, by its last step and its closing
+ended_with : (r : Run) (t : Turn) (missed closing : Bool) (o : Option Violation) → t.violation ≡ o →
+    (missed ≡ true) ⊎ (is_some o ≡ true) →
+    r.stop ≡ cond closing stop.NoRandom
+    (unwrap_or (cond missed (Some stop.NoRandom) (stop_without_miss o t.halt)) stop.Budget) →
+    (r.stop ≡ stop.NoRandom) ⊎ HasStopped r t
+ended_with r t missed true o met stops is = inl is
+ended_with r t true false o met stops is = inl is
+ended_with r t false false (Some v) met stops is = inr (record { violates = v; met = met; stop = is })
+ended_with r t false false None met (inl missed) is = absurd (false≢true missed)
+ended_with r t false false None met (inr some) is = absurd (false≢true some)
+
+step_is_last : (b : Bundle) (r : Run) (so : RunSo b r) (n : ℕ) → n < length r.turns →
+    let t = joint_step (moment_at b r n) in StepStops t → StopsTheRun r n t
+step_is_last b r so n low stops =
+    let at = so.reaches n low in
+    let t : Turn = joint_step (moment_at b r n) in
+    let missed : Bool = t.joint.memory.ledger.missed in
+    let stopped = stops_so missed t.violation t.halt stops.stops in
+    elim at.goes [
+      | inl end ↦ record {
+        last = end.0;
+        stop = ended_with r t missed r.closed.joint.memory.ledger.missed t.violation refl stops.stops
+            (so.stop ∙ ap (cause_of r.closed.joint) end.1);
+      }
+      | inr more ↦ absurd (false≢true (sym (ap (λ (o : Option Stop). is_some o) more.1) ∙ stopped))
+    ]
+
+pub stopped_is_last : StoppedIsLast
+stopped_is_last b stream budget r is n low d before after told =
+    let so = run_so b stream budget r is in
+    step_is_last b r so n low (told_stops (moment_at b r n) d before after (so.reaches n low).steady told)

@@ -1,21 +1,30 @@
 -- Why a run is stopped by a violation: what the kernel's side presented in its last step.
-use Rattle.std.specs.Prelude.{ℕ, ◌≡◌, ◌≢◌, ◌<◌, ◌⊎◌, suc, Bool, true, false, List, [], ◌∷◌, length, take, Option, Some, None, Ok, slice_get, slice_index_or, option_and_then, is_none}
+use Rattle.std.specs.Prelude.{ℕ, ◌≡◌, ◌≢◌, ◌<◌, ◌⊎◌, suc, Bool, true, false, List, [], ◌∷◌, ◌++◌, length, take, Option, Some, None, Ok, slice_get, slice_index_or, option_and_then, is_none}
 use Rattle.cloak_base.specs.Random.{Random}
 use Rattle.cloak_base.specs.declared.causes.Stop.TheVariants as stop
 use Rattle.cloak_base.specs.declared.causes.Violation.{Violation}
 use Rattle.cloak_base.specs.declared.causes.Violation.TheVariants as violation
+use Rattle.cloak_base.specs.declared.names.Kind.{Kind}
 use Rattle.cloak_base.specs.declared.names.PageId.{PageId}
 use Rattle.cloak_model.specs.declared.image.Bundle.{Bundle}
+use Rattle.cloak_model.specs.declared.answer.Answer.{Answer}
+use Rattle.cloak_model.specs.declared.answer.Answer.TheVariants as answer
+use Rattle.cloak_model.specs.declared.item.Item.{Item}
+use Rattle.cloak_model.specs.declared.item.Item.TheVariants as item
 use Rattle.cloak_model.specs.declared.outcome.Kernel.{Kernel}
 use Rattle.cloak_model.specs.declared.outcome.Kernel.TheVariants as kernel
 use Rattle.cloak_model.specs.Ahead.{settled_step}
+use Rattle.cloak_model.specs.Asking.{Told}
+use Rattle.cloak_model.specs.AskPages.{ask_inside_address, ask_reach}
 use Rattle.cloak_model.specs.Cloaking.{CloakedMemory, owed_in}
 use Rattle.cloak_model.specs.Contexts.{Context, context_at, domain_of, slot_of}
 use Rattle.cloak_model.specs.Csr.{satp_of}
 use Rattle.cloak_model.specs.Hart.{Hart}
 use Rattle.cloak_model.specs.Joint.{Moment, Turn, next_hart, hart_in, cloak_outside, joint_step}
 use Rattle.cloak_model.specs.Parts.{Joint}
+use Rattle.cloak_model.specs.Memory.{frame_of}
 use Rattle.cloak_model.specs.Run.{Run, joint_run, joint_after}
+use Rattle.cloak_model.specs.World.{Cloak, Cloaked, violation_of}
 
 -- The machine as a run goes on.
 
@@ -123,3 +132,38 @@ MappingIsRefused =
     (b : Bundle) (stream : Random) (budget : ℕ) (r : Run) → joint_run b stream budget ≡ Ok r → (n : ℕ) →
     n < length r.turns → (ctx root : ℕ) → PresentsMapping (moment_at b r n) ctx root →
     IsStoppedBy r n (violation.Mapping ctx root)
+
+-- Pages are asked for in the middle of a step, at most twice, and in no other way than by this question.
+
+-- A question was stopped, with the violation that names this page and this frame.
+pub record IsRefused (q : PageId) (f : ℕ) (told : Told Answer) : Type 0 where
+  pub answer : told.answer ≡ answer.Stopped
+  pub violation : violation_of told.world ≡ Some (violation.Page q (record { 0 = f }))
+
+-- A program asks for its page q at an address, in whatever memory. The kernel's page table leads there to a frame that
+-- differs from what was last shown of q, and no draw is missing: the question is stopped so.
+abbrev pub PageIsRefused : Type 0
+PageIsRefused =
+    (q : PageId) (va : ℕ) (kind : Kind) (c c' : Cloak) (pa : ℕ) →
+    ask_inside_address va kind (Cloaked c) ≡ record { answer = Ok pa; world = Cloaked c' } →
+    c'.memory.ledger.missed ≡ false → Differs q (frame_of pa) c'.memory →
+    IsRefused q (frame_of pa) (ask_reach q va kind (Cloaked c))
+
+-- The run stopped with the violation of this step.
+pub record HasStopped (r : Run) (t : Turn) : Type 0 where
+  pub violates : Violation
+  pub met : t.violation ≡ Some violates
+  pub stop : r.stop ≡ stop.Violation violates
+
+-- A step in which a question of a program was stopped is the last of the run, which stops with the violation that it met
+-- unless a draw is missing.
+pub record StopsTheRun (r : Run) (n : ℕ) (t : Turn) : Type 0 where
+  pub last : length r.turns ≡ suc n
+  pub stop : (r.stop ≡ stop.NoRandom) ⊎ HasStopped r t
+
+abbrev pub StoppedIsLast : Type 0
+StoppedIsLast =
+    (b : Bundle) (stream : Random) (budget : ℕ) (r : Run) → joint_run b stream budget ≡ Ok r → (n : ℕ) →
+    n < length r.turns → (d : ℕ) (before after : List Item) →
+    (joint_step (moment_at b r n)).items ≡ before ++ item.Stopped d ∷ after →
+    StopsTheRun r n (joint_step (moment_at b r n))

@@ -5,7 +5,7 @@
 //! frame has anything left to show: all of RAM, of which the report gives the digest, is what the kernel may see.
 #![tactic(auto)]
 
-ghost use Rattle.cause_law.specs.Causes.{ContextIsRefused, MappingIsRefused, ViolationHasCause};
+ghost use Rattle.cause_law.specs.Causes.{ContextIsRefused, MappingIsRefused, PageIsRefused, StoppedIsLast, ViolationHasCause};
 ghost use Rattle.cause_law.specs.Closing.{ClosingOwesNothing, ClosingShowsOwed, ClosingSparesOthers};
 
 /// What the closing of a run shows, and that it leaves nothing to show. It does nothing: its contract is the law.
@@ -15,9 +15,15 @@ pub fn law_of_closing()
     ensures others { ClosingSparesOthers }
 {}
 
-/// Why a run is stopped by a violation. It does nothing: its contract is the law.
+/// A run is stopped by a violation only where that was presented. It does nothing: its contract is the law.
 pub fn law_of_violations()
-    ensures cause { ViolationHasCause }
+    ensures { ViolationHasCause }
+{}
+
+/// What is presented in place of what is recorded stops the run. It does nothing: its contract is the law.
+pub fn law_of_refusals()
     ensures context { ContextIsRefused }
     ensures mapping { MappingIsRefused }
+    ensures page { PageIsRefused }
+    ensures stopped { StoppedIsLast }
 {}
