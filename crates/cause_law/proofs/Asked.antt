@@ -8,43 +8,53 @@ use Rattle.cloak_base.specs.declared.names.Kind.{Kind}
 use Rattle.cloak_base.specs.declared.names.Kind.TheVariants.{Load, Store}
 use Rattle.cloak_base.specs.declared.names.PageId.{PageId}
 use Rattle.cloak_model.specs.declared.access.Access.{Access}
+use Rattle.cloak_model.specs.declared.access.Walked.{Walked}
 use Rattle.cloak_model.specs.declared.answer.Answer.{Answer}
 use Rattle.cloak_model.specs.declared.answer.Answer.TheVariants as told
+use Rattle.cloak_model.specs.declared.view.View.{View}
 use Rattle.cloak_model.specs.Ask.{ask_word, ask_second, ask_after, ask_first, ask_walk, ask_inside, ask_translate, ask_value}
 use Rattle.cloak_model.specs.AskPages.{replies, if_drawn, ask_inside_address, offered_by, ask_offer, reached, reach_by_table, got, get_by_table, put_at, stored_inside, put_by_table, settled_if_marked, clear_from, ask_reach, ask_read, ask_write, ask_get, ask_put, ask_clear, ask_copy, ask_forget}
 use Rattle.cloak_model.specs.Asking.{Told, Asking}
 use Rattle.cloak_model.specs.Cloaking.{CloakedMemory, AfterOffer, Offer, Ready, Mismatch, Missed, offer}
 use Rattle.cloak_model.specs.Memory.{frame_of}
 use Rattle.cloak_model.specs.PageMoves.{copy_pages, drop_pages}
-use Rattle.cloak_model.specs.Walk.{Walk, FirstWord, Ends, GoesOn, first_entry}
-use Rattle.cloak_model.specs.World.{World, Cloak, Flat, Cloaked, Alone, Handed, settled, cipher_items}
+use Rattle.cloak_model.specs.Walk.{Walk, FirstWord, Ends, GoesOn, first_entry, walk}
+use Rattle.cloak_model.specs.World.{World, Cloak, Flat, Cloaked, Alone, Handed, settled, cipher_items, view_of}
 use Rattle.domain_isolation.proofs.Scripts.{Question, Reach, Get, Put, Clear, Change, Write, Copy, Forget, Script, Gives, Asks, Reads, Changes, asked, changed, played, Ending, IsStop, EndsSo}
+use Rattle.domain_isolation.proofs.Answers.{question_answered, change_leaves}
+use Rattle.domain_isolation.proofs.Steady.{is_cloaked}
 use Rattle.cause_law.specs.Causes.{Differs}
 use Rattle.cause_law.proofs.Kept.{IsKept, kept_settled, Offers, offer_offers}
+use Rattle.cause_law.proofs.Leading.{OfMemory, access_of, LeadsStill, address_leads}
 
 -- Nothing wrong was met.
 pub record IsCalm (c : Cloak) : Type 0 where
   pub kept : IsKept c.memory
   pub none : c.violation ≡ None
 
--- A page of domain d was met in a frame that differs.
-pub record HasMet (d : ℕ) (c : Cloak) : Type 0 where
+-- A page of domain d was met in a frame that differs, to which an access in this view leads.
+pub record HasMet (x : View) (d : ℕ) (c : Cloak) : Type 0 where
   pub kept : IsKept c.memory
   pub page : PageId
   pub frame : ℕ
   pub violation : c.violation ≡ Some (violation.Page page (record { 0 = frame }))
   pub own : page.domain ≡ d
   pub differs : Differs page frame c.memory
+  pub va : ℕ
+  pub kind : Kind
+  pub walked : Walked
+  pub leads : walk c.memory.ram x.satp (access_of x kind va) ≡ Ok walked
+  pub there : frame_of walked.pa ≡ frame
 
 abbrev pub Calm : World → Type 0
 Calm (Flat ram) = ⊥
 Calm (Cloaked c) = IsCalm c
 Calm (Alone h) = ⊥
 
-abbrev pub Met : ℕ → World → Type 0
-Met d (Flat ram) = ⊥
-Met d (Cloaked c) = HasMet d c
-Met d (Alone h) = ⊥
+abbrev pub Met : View → ℕ → World → Type 0
+Met x d (Flat ram) = ⊥
+Met x d (Cloaked c) = HasMet x d c
+Met x d (Alone h) = ⊥
 
 record Calms (w v : World) : Type 0 where
   pub by : Calm w → Calm v
@@ -171,56 +181,68 @@ calms_clear domain marked f (suc n) w =
 -- A page is reached.
 
 -- a question leaves all calm, or it is stopped at a page of domain d
-abbrev pub CalmOrMet : ℕ → Told Answer → Type 0
-CalmOrMet d t = Calm t.world ⊎ ((t.answer ≡ told.Stopped) × Met d t.world)
+abbrev pub CalmOrMet : View → ℕ → Told Answer → Type 0
+CalmOrMet x d t = Calm t.world ⊎ ((t.answer ≡ told.Stopped) × Met x d t.world)
 
-offered_meets : (d : ℕ) (q : PageId) (g : ℕ) (o : AfterOffer) (c : Cloak) (a : Offer) → q.domain ≡ d → Offers q g o →
-    o.answer ≡ a → IsCalm c →
-    CalmOrMet d (offered_by q g a (Cloaked (record c { memory = o.memory; items = c.items ++ cipher_items o.ciphers })))
+offered_meets : (x : View) (d : ℕ) (q : PageId) (va pa : ℕ) (kind : Kind) (o : AfterOffer) (c : Cloak) (a : Offer) →
+    q.domain ≡ d → Offers q (frame_of pa) c.memory o → LeadsStill x kind va pa c.memory → o.answer ≡ a → IsCalm c →
+    CalmOrMet x d (offered_by q (frame_of pa) a
+    (Cloaked (record c { memory = o.memory; items = c.items ++ cipher_items o.ciphers })))
 unfolding offered_by replies
-offered_meets d q g o c Ready own offers is calm = inl (record { kept = offers.kept; none = calm.none })
-offered_meets d q g o c Missed own offers is calm = inl (record { kept = offers.kept; none = calm.none })
-offered_meets d q g o c Mismatch own offers is calm = inr (refl, record {
+offered_meets x d q va pa kind o c Ready own offers leads is calm =
+    inl (record { kept = offers.kept; none = calm.none })
+offered_meets x d q va pa kind o c Missed own offers leads is calm =
+    inl (record { kept = offers.kept; none = calm.none })
+offered_meets x d q va pa kind o c Mismatch own offers leads is calm = inr (refl, record {
   kept = offers.kept;
   page = q;
-  frame = g;
+  frame = frame_of pa;
   violation = refl;
   own = own;
   differs = offers.differs is;
+  va = va;
+  kind = kind;
+  walked = leads.walked;
+  leads = leads.leads o.memory (offers.more is);
+  there = ap frame_of leads.at;
 })
 
-offer_meets : (d : ℕ) (q : PageId) (g : ℕ) (write : Bool) (w : World) → q.domain ≡ d → Calm w →
-    CalmOrMet d (ask_offer q g write w)
+offer_meets : (x : View) (d : ℕ) (q : PageId) (va pa : ℕ) (kind : Kind) (write : Bool) (w : World) → q.domain ≡ d →
+    OfMemory (LeadsStill x kind va pa) w → Calm w → CalmOrMet x d (ask_offer q (frame_of pa) write w)
 unfolding ask_offer
-offer_meets d q g write (Flat ram) own calm = absurd calm
-offer_meets d q g write (Cloaked c) own calm =
-    offered_meets d q g (offer q g write c.memory) c _ own (offer_offers q g write c.memory calm.kept) refl calm
-offer_meets d q g write (Alone h) own calm = absurd calm
+offer_meets x d q va pa kind write (Flat ram) own leads calm = absurd calm
+offer_meets x d q va pa kind write (Cloaked c) own leads calm =
+    offered_meets x d q va pa kind (offer q (frame_of pa) write c.memory) c _ own
+    (offer_offers q (frame_of pa) write c.memory calm.kept) leads refl calm
+offer_meets x d q va pa kind write (Alone h) own leads calm = absurd calm
 
-reached_meets : (d : ℕ) (q : PageId) (kind : Kind) (to : Result ℕ ℕ) (w : World) → q.domain ≡ d → Calm w →
-    CalmOrMet d (reached q kind to w)
+reached_meets : (x : View) (d : ℕ) (q : PageId) (va : ℕ) (kind : Kind) (to : Result ℕ ℕ) (w : World) →
+    q.domain ≡ d → ((pa : ℕ) → to ≡ Ok pa → OfMemory (LeadsStill x kind va pa) w) → Calm w →
+    CalmOrMet x d (reached q kind to w)
 unfolding reached
-reached_meets d q kind (Err cause) w own calm = inl ((calms_replies _ w).by calm)
-reached_meets d q kind (Ok pa) w own calm = offer_meets d q _ _ w own calm
+reached_meets x d q va kind (Err cause) w own leads calm = inl ((calms_replies _ w).by calm)
+reached_meets x d q va kind (Ok pa) w own leads calm = offer_meets x d q va pa kind _ w own (leads pa refl) calm
 
-drawn_meets : (d : ℕ) (b : Bool) (t u : Told Answer) → CalmOrMet d t → CalmOrMet d u → CalmOrMet d (cond b t u)
-drawn_meets d true t u one two = one
-drawn_meets d false t u one two = two
+drawn_meets : (x : View) (d : ℕ) (b : Bool) (t u : Told Answer) → CalmOrMet x d t → CalmOrMet x d u →
+    CalmOrMet x d (cond b t u)
+drawn_meets x d true t u one two = one
+drawn_meets x d false t u one two = two
 
-reach_meets : (d : ℕ) (q : PageId) (va : ℕ) (kind : Kind) (w : World) → q.domain ≡ d → Calm w →
-    CalmOrMet d (reach_by_table q va kind w)
+reach_meets : (d : ℕ) (q : PageId) (va : ℕ) (kind : Kind) (c : Cloak) → q.domain ≡ d → IsCalm c →
+    CalmOrMet c.view d (reach_by_table q va kind (Cloaked c))
 unfolding reach_by_table if_drawn
-reach_meets d q va kind w own calm =
-    let to = ask_inside_address va kind w in
-    let there = (calms_inside_address va kind w).by calm in
-    drawn_meets d _ _ _ (inl ((calms_replies _ to.world).by there)) (reached_meets d q kind to.answer to.world own there)
+reach_meets d q va kind c own calm =
+    let to = ask_inside_address va kind (Cloaked c) in
+    let there = (calms_inside_address va kind (Cloaked c)).by calm in
+    drawn_meets c.view d _ _ _ (inl ((calms_replies _ to.world).by there))
+    (reached_meets c.view d q va kind to.answer to.world own (λ pa is. address_leads va kind c pa calm.kept is) there)
 
 -- The questions, and what a program changes.
 
-asked_meets : {d : ℕ} (question : Question d) (w : World) → Calm w → CalmOrMet d (asked question w)
+asked_meets : {d : ℕ} (question : Question d) (w : World) → Calm w → CalmOrMet (view_of w) d (asked question w)
 unfolding ask_reach ask_get ask_put ask_clear
 asked_meets question (Flat ram) calm = absurd calm
-asked_meets {d} (Reach q own va kind) (Cloaked c) calm = reach_meets d q va kind (Cloaked c) own calm
+asked_meets {d} (Reach q own va kind) (Cloaked c) calm = reach_meets d q va kind c own calm
 asked_meets (Get va width) (Cloaked c) calm = inl ((calms_get va width (Cloaked c)).by calm)
 asked_meets (Put va width value) (Cloaked c) calm = inl ((calms_put va width value (Cloaked c)).by calm)
 asked_meets {d} (Clear marked) (Cloaked c) calm = inl ((calms_clear d marked 0 _ (Cloaked c)).by calm)
@@ -239,31 +261,39 @@ changed_calm change (Alone h) calm = absurd calm
 
 -- A step.
 
+is_cloaked_calm : (w : World) → Calm w → is_cloaked w ≡ true
+is_cloaked_calm (Flat ram) calm = absurd calm
+is_cloaked_calm (Cloaked c) calm = refl
+is_cloaked_calm (Alone h) calm = absurd calm
+
 -- it leaves all calm, or was stopped at a page of domain d
-abbrev pub EndsCalmOrMet : {A : Type 0} → Ending A → ℕ → Told A → Type 0
-EndsCalmOrMet e d t = Calm t.world ⊎ (e.stopped t.answer × Met d t.world)
+abbrev pub EndsCalmOrMet : {A : Type 0} → Ending A → View → ℕ → Told A → Type 0
+EndsCalmOrMet e x d t = Calm t.world ⊎ (e.stopped t.answer × Met x d t.world)
 
-stop_meets : {d : ℕ} {A : Type 0} (e : Ending A) (s : Script d A) (w : World) → IsStop e s → Met d w →
-    EndsCalmOrMet e d (played s w)
+stop_meets : {d : ℕ} {A : Type 0} (e : Ending A) (x : View) (s : Script d A) (w : World) → IsStop e s → Met x d w →
+    EndsCalmOrMet e x d (played s w)
 unfolding IsStop
-stop_meets e (Gives a) w is met = inr (is, met)
-stop_meets e (Asks question more) w is met = absurd is
-stop_meets e (Reads q own at width more) w is met = absurd is
-stop_meets e (Changes change more) w is met = absurd is
+stop_meets e x (Gives a) w is met = inr (is, met)
+stop_meets e x (Asks question more) w is met = absurd is
+stop_meets e x (Reads q own at width more) w is met = absurd is
+stop_meets e x (Changes change more) w is met = absurd is
 
-pub played_meets : {d : ℕ} {A : Type 0} (e : Ending A) (s : Script d A) (w : World) → EndsSo e s → Calm w →
-    EndsCalmOrMet e d (played s w)
+pub played_meets : {d : ℕ} {A : Type 0} (e : Ending A) (x : View) (s : Script d A) (w : World) → EndsSo e s →
+    view_of w ≡ x → Calm w → EndsCalmOrMet e x d (played s w)
 unfolding EndsSo ask_read
-played_meets e (Gives a) w ends calm = inl calm
-played_meets {d} e (Asks question more) w ends calm =
+played_meets e x (Gives a) w ends view calm = inl calm
+played_meets {d} e x (Asks question more) w ends view calm =
     let t = asked question w in
+    let view' = (question_answered question w (is_cloaked_calm w calm)).replied.view in
     elim (asked_meets question w calm) [
-      | inl there ↦ played_meets e (more t.answer) t.world (ends.0 t.answer) there
+      | inl there ↦ played_meets e x (more t.answer) t.world (ends.0 t.answer) (view' ∙ view) there
       | inr stopped ↦
-          stop_meets e (more t.answer) t.world
-          (subst (λ (a : Answer). IsStop e (more a)) (sym stopped.0) ends.1) stopped.1
+          stop_meets e x (more t.answer) t.world
+          (subst (λ (a : Answer). IsStop e (more a)) (sym stopped.0) ends.1)
+          (subst (λ (y : View). Met y d t.world) view stopped.1)
     ]
-played_meets e (Reads q own at width more) w ends calm =
-    played_meets e (more (ask_read q at width w).answer) w (ends (ask_read q at width w).answer) calm
-played_meets e (Changes change more) w ends calm =
-    played_meets e more (changed change w).world ends (changed_calm change w calm)
+played_meets e x (Reads q own at width more) w ends view calm =
+    played_meets e x (more (ask_read q at width w).answer) w (ends (ask_read q at width w).answer) view calm
+played_meets e x (Changes change more) w ends view calm =
+    played_meets e x more (changed change w).world ends
+    ((change_leaves change w (is_cloaked_calm w calm)).view ∙ view) (changed_calm change w calm)

@@ -1,6 +1,6 @@
 -- What every step keeps: each frame has its place among what is owed, and no page is owed by two frames. And what an
 -- offer leaves: where it is refused, the frame differs from what was last shown of the page.
-use Rattle.std.proofs.Common.{◌≡◌, ◌≢◌, ◌∙◌, ◌<◌, ◌≤◌, ◌⊎◌, ℕ, Bool, true, false, cond, List, [], ◌∷◌, ◌++◌, length, Option, Some, None, nat_lt, refl, sym, ap, subst, arith, inl, inr}
+use Rattle.std.proofs.Common.{◌≡◌, ◌≢◌, ◌∙◌, ◌<◌, ◌≤◌, ◌⊎◌, ℕ, Bool, true, false, cond, List, [], ◌∷◌, ◌++◌, length, Option, Some, None, nat_lt, is_some, refl, sym, ap, subst, arith, inl, inr}
 use Rattle.std.specs.Prelude.{slice_index_or, slice_set}
 use Rattle.std.specs.List.{position_or_len}
 use Rattle.std.specs.Str.{bytes_eq}
@@ -57,6 +57,36 @@ clean_settled f m kept g none =
       | inr other ↦ s.owed g other ∙ none
     ]
 
+-- A memory after others of its frames were settled: those that owed nothing are as they were.
+pub record Extends (m after : CloakedMemory) : Type 0 where
+  pub count : length after.ram ≡ length m.ram
+  pub clean : (f : ℕ) → owed_in m f ≡ None → owed_in after f ≡ None
+  pub ram : (f : ℕ) → owed_in m f ≡ None → slice_index_or after.ram f [] ≡ slice_index_or m.ram f []
+
+pub Extends-refl : (m : CloakedMemory) → Extends m m
+Extends-refl m = record { count = refl; clean = λ f none. none; ram = λ f none. refl }
+
+pub Extends-trans : (m n o : CloakedMemory) → Extends m n → Extends n o → Extends m o
+Extends-trans m n o first second = record {
+  count = second.count ∙ first.count;
+  clean = λ f none. second.clean f (first.clean f none);
+  ram = λ f none. second.ram f (first.clean f none) ∙ first.ram f none;
+}
+
+pub extends_settled : (f : ℕ) (m : CloakedMemory) → IsKept m → Extends m (settle f m).memory
+extends_settled f m kept =
+    let s = settles f m kept.places in
+    record {
+      count = s.count;
+      clean = clean_settled f m kept;
+      ram = λ g none. elim (decided g f) [
+        | inl same ↦ subst (λ (x : ℕ). owed_in m x ≡ None →
+            slice_index_or (settle f m).memory.ram x [] ≡ slice_index_or m.ram x []) (sym same)
+            (λ here. s.spared (ap (λ (o : Option PageId). is_some o) here)) none
+        | inr other ↦ s.ram g other
+      ];
+    }
+
 -- The frame that is owed a page is settled.
 
 pub owes_page : (q : PageId) (o : Option PageId) → owes q o ≡ true → o ≡ Some q
@@ -69,7 +99,7 @@ owes_page q (Some p) is = elim (same_page_tells p q) [
 record Housed (q : PageId) (m : CloakedMemory) (s : AfterSettling) : Type 0 where
   pub kept : IsKept s.memory
   pub home : IsHome q s.memory
-  pub clean : (g : ℕ) → owed_in m g ≡ None → owed_in s.memory g ≡ None
+  pub more : Extends m s.memory
 
 housed_by : (q : PageId) (m : CloakedMemory) (b : Bool) → IsKept m →
     let at = position_or_len (owes q) m.ledger.owed in nat_lt at (length m.ledger.owed) ≡ b →
@@ -85,7 +115,7 @@ housed_by q m true kept is =
           let same : g ≡ at = kept.once g at q (still_owed at m _ s g q here) owed in
           not_none q (owed_in (settle at m).memory at) s.clean
           (subst (λ (x : ℕ). owed_in (settle at m).memory x ≡ Some q) same here);
-      clean = clean_settled at m kept;
+      more = extends_settled at m kept;
     }
 housed_by q m false kept is =
     let at = position_or_len (owes q) m.ledger.owed in
@@ -97,7 +127,7 @@ housed_by q m false kept is =
           let before : g < at = omega (arith, none, low) in
           let fails = fails_before_first (owes q) m.ledger.owed g None before in
           absurd (false≢true (sym fails ∙ (ap (owes q) here ∙ same_page-self q)));
-      clean = λ g none. none;
+      more = Extends-refl m;
     }
 
 housed : (q : PageId) (m : CloakedMemory) → IsKept m → Housed q m (settle_frame_if (owing_frame m q) m)
@@ -138,13 +168,18 @@ kept_owed q g m kept home = record {
 
 -- Offers.
 
-pub record Offers (q : PageId) (g : ℕ) (o : AfterOffer) : Type 0 where
+pub record Offers (q : PageId) (g : ℕ) (m : CloakedMemory) (o : AfterOffer) : Type 0 where
   pub kept : IsKept o.memory
   pub differs : o.answer ≡ Mismatch → Differs q g o.memory
+  pub more : o.answer ≡ Mismatch → Extends m o.memory
 
-ready : (q : PageId) (g : ℕ) (m : CloakedMemory) (ciphers : List (ℕ × List ℕ)) → IsKept m →
-    Offers q g (record { memory = m; ciphers = ciphers; answer = Ready })
-ready q g m ciphers kept = record { kept = kept; differs = λ is. let clash : Ready ≡ Mismatch = is in absurd cc }
+ready : (q : PageId) (g : ℕ) (from m : CloakedMemory) (ciphers : List (ℕ × List ℕ)) → IsKept m →
+    Offers q g from (record { memory = m; ciphers = ciphers; answer = Ready })
+ready q g from m ciphers kept = record {
+  kept = kept;
+  differs = λ is. let clash : Ready ≡ Mismatch = is in absurd cc;
+  more = λ is. let clash : Ready ≡ Mismatch = is in absurd cc;
+}
 
 taken_kept : (q : PageId) (g : ℕ) (write : Bool) (m : CloakedMemory) → IsKept m → IsHome q m → IsKept (taken q g write m)
 taken_kept q g true m kept home = kept_owed q g m kept home
@@ -154,10 +189,10 @@ compared_by : (q : PageId) (g : ℕ) (write : Bool) (c : List ℕ) (m : CloakedM
     IsHome q m → owed_in m g ≡ None → m.ledger.recorded q ≡ Some c →
     bytes_eq (slice_index_or m.ram g []) c ≡ same →
     let m' = with_comparison (slice_index_or m.ram g []) c m in
-    Offers q g (cond same (record { memory = taken q g write m'; ciphers = []; answer = Ready })
+    Offers q g m (cond same (record { memory = taken q g write m'; ciphers = []; answer = Ready })
     (record { memory = m'; ciphers = []; answer = Mismatch }))
 compared_by q g write c m true kept home clean recorded is =
-    ready q g _ [] (taken_kept q g write _ (record { places = kept.places; once = kept.once }) home)
+    ready q g m _ [] (taken_kept q g write _ (record { places = kept.places; once = kept.once }) home)
 compared_by q g write c m false kept home clean recorded is = record {
   kept = record { places = kept.places; once = kept.once };
   differs = λ refused. record {
@@ -168,35 +203,43 @@ compared_by q g write c m false kept home clean recorded is = record {
     visible = clean;
     newest = home;
   };
+  more = λ refused. record { count = refl; clean = λ f none. none; ram = λ f none. refl };
 }
 
 compared_offers : (q : PageId) (g : ℕ) (write : Bool) (o : Option (List ℕ)) (m : CloakedMemory) → IsKept m →
-    IsHome q m → owed_in m g ≡ None → m.ledger.recorded q ≡ o → Offers q g (compared q g write o m)
+    IsHome q m → owed_in m g ≡ None → m.ledger.recorded q ≡ o → Offers q g m (compared q g write o m)
 unfolding compared
-compared_offers q g write None m kept home clean recorded = ready q g _ [] (kept_owed q g m kept home)
+compared_offers q g write None m kept home clean recorded = ready q g m _ [] (kept_owed q g m kept home)
 compared_offers q g write (Some c) m kept home clean recorded =
     compared_by q g write c m (bytes_eq (slice_index_or m.ram g []) c) kept home clean recorded refl
 
-unless_by : (q : PageId) (g : ℕ) (s : AfterSettling) (o : AfterOffer) (missed : Bool) → IsKept s.memory →
-    Offers q g o →
-    Offers q g (cond missed (record { memory = s.memory; ciphers = s.ciphers; answer = Missed })
+unless_by : (q : PageId) (g : ℕ) (m : CloakedMemory) (s : AfterSettling) (o : AfterOffer) (missed : Bool) →
+    Extends m s.memory → IsKept s.memory → Offers q g s.memory o →
+    Offers q g m (cond missed (record { memory = s.memory; ciphers = s.ciphers; answer = Missed })
     (record { memory = o.memory; ciphers = s.ciphers ++ o.ciphers; answer = o.answer }))
-unless_by q g s o true kept offers =
-    record { kept = kept; differs = λ is. let clash : Missed ≡ Mismatch = is in absurd cc }
-unless_by q g s o false kept offers = record { kept = offers.kept; differs = offers.differs }
+unless_by q g m s o true more kept offers = record {
+  kept = kept;
+  differs = λ is. let clash : Missed ≡ Mismatch = is in absurd cc;
+  more = λ is. let clash : Missed ≡ Mismatch = is in absurd cc;
+}
+unless_by q g m s o false more kept offers = record {
+  kept = offers.kept;
+  differs = offers.differs;
+  more = λ is. Extends-trans m s.memory o.memory more (offers.more is);
+}
 
-unless_offers : (q : PageId) (g : ℕ) (s : AfterSettling) (next : CloakedMemory → AfterOffer) → IsKept s.memory →
-    Offers q g (next s.memory) → Offers q g (unless_missed s next)
+unless_offers : (q : PageId) (g : ℕ) (m : CloakedMemory) (s : AfterSettling) (next : CloakedMemory → AfterOffer) →
+    Extends m s.memory → IsKept s.memory → Offers q g s.memory (next s.memory) → Offers q g m (unless_missed s next)
 unfolding unless_missed
-unless_offers q g s next kept offers = unless_by q g s (next s.memory) s.missed kept offers
+unless_offers q g m s next more kept offers = unless_by q g m s (next s.memory) s.missed more kept offers
 
-offer_by : (q : PageId) (g : ℕ) (m : CloakedMemory) (o : AfterOffer) (owed : Bool) → IsKept m → Offers q g o →
-    Offers q g (cond owed (record { memory = m; ciphers = []; answer = Ready }) o)
-offer_by q g m o true kept offers = ready q g m [] kept
+offer_by : (q : PageId) (g : ℕ) (m : CloakedMemory) (o : AfterOffer) (owed : Bool) → IsKept m → Offers q g m o →
+    Offers q g m (cond owed (record { memory = m; ciphers = []; answer = Ready }) o)
+offer_by q g m o true kept offers = ready q g m m [] kept
 offer_by q g m o false kept offers = offers
 
 pub offer_offers : (q : PageId) (g : ℕ) (write : Bool) (m : CloakedMemory) → IsKept m →
-    Offers q g (offer q g write m)
+    Offers q g m (offer q g write m)
 unfolding offer
 offer_offers q g write m kept =
     let one = kept_settled g m kept in
@@ -205,6 +248,6 @@ offer_offers q g write m kept =
     let h = housed q m' one in
     let m'' : CloakedMemory = (settle_frame_if (owing_frame m' q) m').memory in
     offer_by q g m _ (owes q (owed_in m g)) kept
-    (unless_offers q g (settle g m) _ one
-    (unless_offers q g (settle_frame_if (owing_frame m' q) m') _ h.kept
-    (compared_offers q g write (m''.ledger.recorded q) m'' h.kept h.home (h.clean g clean) refl)))
+    (unless_offers q g m (settle g m) _ (extends_settled g m kept) one
+    (unless_offers q g m' (settle_frame_if (owing_frame m' q) m') _ h.more h.kept
+    (compared_offers q g write (m''.ledger.recorded q) m'' h.kept h.home (h.more.clean g clean) refl)))

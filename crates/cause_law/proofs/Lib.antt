@@ -1,6 +1,7 @@
 pub mod Settled
 pub mod Closed
 pub mod Kept
+pub mod Leading
 pub mod Asked
 pub mod Resumed
 pub mod Steps

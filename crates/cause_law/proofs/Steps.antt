@@ -1,24 +1,27 @@
 -- A step of the joint machine: the violation with which it ends is of something that was presented in it, and so is
 -- refused what is presented.
-use Rattle.std.proofs.Common.{◌≡◌, ◌≢◌, ◌∙◌, ◌⊎◌, ℕ, zero, suc, Bool, true, false, cond, List, [], ◌∷◌, ◌++◌, length, Option, Some, None, is_some, eq-eqb, eqb-true, refl, sym, ap, subst, inl, inr}
+use Rattle.std.proofs.Common.{◌≡◌, ◌≢◌, ◌∙◌, ◌⊎◌, ℕ, zero, suc, Bool, true, false, cond, List, [], ◌∷◌, ◌++◌, length, Option, Some, None, Ok, is_some, eq-eqb, eqb-true, refl, sym, ap, subst, inl, inr}
 use Rattle.std.specs.Prelude.{slice_get, slice_index_or, slice_set, is_none, ◌==◌}
 use Rattle.std.specs.List.{find}
 use Rattle.std.proofs.lemmas.Bool.{false≢true}
 use Rattle.cloak_base.specs.declared.causes.Shown.{Shown}
 use Rattle.cloak_base.specs.declared.causes.Violation.{Violation}
 use Rattle.cloak_base.specs.declared.causes.Violation.TheVariants as violation
+use Rattle.cloak_base.specs.declared.names.Kind.{Kind}
 use Rattle.cloak_base.specs.declared.names.PageId.{PageId}
+use Rattle.cloak_model.specs.declared.access.Walked.{Walked}
 use Rattle.cloak_model.specs.declared.inside.Went.{Went}
 use Rattle.cloak_model.specs.declared.inside.Went.TheVariants as went
 use Rattle.cloak_model.specs.declared.item.Item.{Item}
 use Rattle.cloak_model.specs.declared.item.Item.TheVariants as item
 use Rattle.cloak_model.specs.declared.outcome.Kernel.{Kernel}
 use Rattle.cloak_model.specs.declared.outcome.Kernel.TheVariants as kernel
+use Rattle.cloak_model.specs.declared.view.View.{View}
 use Rattle.cloak_model.specs.Ahead.{is_owed, settle_found, settle_while, settle_touched, settled_step, made_after}
 use Rattle.cloak_model.specs.Asking.{Told}
 use Rattle.cloak_model.specs.Cloaking.{CloakedMemory, AfterSettling, settle}
 use Rattle.cloak_model.specs.Contexts.{Context, context_at, domain_of, slot_of, is_root}
-use Rattle.cloak_model.specs.Csr.{satp_of, interrupt_due}
+use Rattle.cloak_model.specs.Csr.{satp_of, sum_of, mxr_of, interrupt_due}
 use Rattle.cloak_model.specs.DomainState.{Control, Domain}
 use Rattle.cloak_model.specs.DomainStep.{DomainStepped, domain_step, interrupt}
 use Rattle.cloak_model.specs.Hart.{Hart, started}
@@ -26,6 +29,7 @@ use Rattle.cloak_model.specs.HostCalls.{After}
 use Rattle.cloak_model.specs.Hypercalls.{Stepped}
 use Rattle.cloak_model.specs.Joint.{Moment, Turn, next_hart, hart_in, with_hart, cloak_of, cloak_outside, memory_of, after_kernel_step, outside_ended, after_outside, outside_step, left, domain_ended, with_domain, after_domain_step, pages_for, interrupt_ended, after_interrupt, by_interrupt, inside_step, turn_of, joint_step}
 use Rattle.cloak_model.specs.KernelStep.{kernel_step, ticked}
+use Rattle.cloak_model.specs.Memory.{frame_of}
 use Rattle.cloak_model.specs.Parts.{Joint}
 use Rattle.cloak_model.specs.Resuming.{AfterResume, resume}
 use Rattle.cloak_model.specs.Touched.{touched}
@@ -36,7 +40,7 @@ use Rattle.kernel_isolation.proofs.Numbers.{number_at}
 use Rattle.kernel_isolation.proofs.Turns.{IsSteady}
 use Rattle.domain_isolation.proofs.Scripts.{played}
 use Rattle.domain_isolation.proofs.StepScripts.{of_domain, step_scripted}
-use Rattle.cause_law.specs.Causes.{Differs, stepping_hart, PresentsPage, kernel_ending, AsksToResume, context_of, can_run, PresentsContext, presented_root, PresentsMapping, Presents}
+use Rattle.cause_law.specs.Causes.{Differs, stepping_hart, table_leads, PresentsPage, kernel_ending, AsksToResume, context_of, can_run, PresentsContext, presented_root, PresentsMapping, Presents}
 use Rattle.cause_law.proofs.Kept.{IsKept, kept_settled}
 use Rattle.cause_law.proofs.Asked.{IsCalm, HasMet, Calm, Met, EndsCalmOrMet, played_meets}
 use Rattle.cause_law.proofs.Resumed.{space_id, refusal, resume_refuses, Leaves, resume_leaves}
@@ -48,34 +52,43 @@ same_violation : (v w : Violation) → Some v ≡ Some w → v ≡ w
 same_violation v w is = cc
 
 -- A program's step met a page that differs.
-record PageMet (d : ℕ) (t : Turn) (v : Violation) : Type 0 where
+record PageMet (h : Hart) (d : ℕ) (t : Turn) (v : Violation) : Type 0 where
   pub page : PageId
   pub frame : ℕ
   pub is : v ≡ violation.Page page (record { 0 = frame })
   pub own : page.domain ≡ d
   pub differs : Differs page frame t.joint.memory
+  pub va : ℕ
+  pub kind : Kind
+  pub walked : Walked
+  pub leads : table_leads h t.joint.memory.ram kind va ≡ Ok walked
+  pub there : frame_of walked.pa ≡ frame
 
-record Meets (d : ℕ) (t : Turn) : Type 0 where
+-- how a program on this hart sees memory
+abbrev view_on : Hart → ℕ → View
+view_on h d = record { satp = satp_of h.csrs; sum = sum_of h.csrs; mxr = mxr_of h.csrs; domain = d }
+
+record Meets (h : Hart) (d : ℕ) (t : Turn) : Type 0 where
   pub kept : IsKept t.joint.memory
-  pub met : (v : Violation) → t.violation ≡ Some v → PageMet d t v
+  pub met : (v : Violation) → t.violation ≡ Some v → PageMet h d t v
 
-quiet_meets : (d : ℕ) (t : Turn) → IsKept t.joint.memory → t.violation ≡ None → Meets d t
-quiet_meets d t kept none = record { kept = kept; met = λ v is. no_violation v (sym none ∙ is) }
+quiet_meets : (h : Hart) (d : ℕ) (t : Turn) → IsKept t.joint.memory → t.violation ≡ None → Meets h d t
+quiet_meets h d t kept none = record { kept = kept; met = λ v is. no_violation v (sym none ∙ is) }
 
 -- A hart inside.
 
 ended_calm : (j : Joint) (number : ℕ) (h : Hart) (d e : ℕ) (c : Cloak) (g : Went) → IsKept j.memory → IsCalm c →
-    Meets d (domain_ended j number h e (Cloaked c) g)
+    Meets h d (domain_ended j number h e (Cloaked c) g)
 unfolding domain_ended
-ended_calm j number h d e c went.Stay kept calm = quiet_meets d _ kept refl
-ended_calm j number h d e c went.Stopped kept calm = quiet_meets d _ kept calm.none
-ended_calm j number h d e c (went.Remapped space) kept calm = quiet_meets d _ kept refl
-ended_calm j number h d e c (went.Leave s) kept calm = quiet_meets d _ kept refl
+ended_calm j number h d e c went.Stay kept calm = quiet_meets h d _ kept refl
+ended_calm j number h d e c went.Stopped kept calm = quiet_meets h d _ kept calm.none
+ended_calm j number h d e c (went.Remapped space) kept calm = quiet_meets h d _ kept refl
+ended_calm j number h d e c (went.Leave s) kept calm = quiet_meets h d _ kept refl
 ended_calm j number h d e c (went.SpaceGone space s) kept calm =
-    quiet_meets d _ (record { places = kept.places; once = kept.once }) refl
+    quiet_meets h d _ (record { places = kept.places; once = kept.once }) refl
 
 ended_met : (j : Joint) (number : ℕ) (h : Hart) (d e : ℕ) (c : Cloak) (g : Went) → j.memory ≡ c.memory →
-    g ≡ went.Stopped → HasMet d c → Meets d (domain_ended j number h e (Cloaked c) g)
+    g ≡ went.Stopped → HasMet (view_on h e) d c → Meets h d (domain_ended j number h e (Cloaked c) g)
 unfolding domain_ended
 ended_met j number h d e c went.Stopped same is met = record {
   kept = subst IsKept (sym same) met.kept;
@@ -85,6 +98,11 @@ ended_met j number h d e c went.Stopped same is met = record {
     is = same_violation v _ (sym violates ∙ met.violation);
     own = met.own;
     differs = subst (Differs met.page met.frame) (sym same) met.differs;
+    va = met.va;
+    kind = met.kind;
+    walked = met.walked;
+    leads = subst (λ (x : CloakedMemory). table_leads h x.ram met.kind met.va ≡ Ok met.walked) (sym same) met.leads;
+    there = met.there;
   };
 }
 ended_met j number h d e c went.Stay same is met = absurd cc
@@ -93,8 +111,8 @@ ended_met j number h d e c (went.Leave s) same is met = absurd cc
 ended_met j number h d e c (went.SpaceGone space s) same is met = absurd cc
 
 told_meets : (j : Joint) (number : ℕ) (h : Hart) (d e : ℕ) (v : World) (g : Went) (new : Domain) →
-    Calm v ⊎ ((g ≡ went.Stopped) × Met d v) →
-    Meets d (domain_ended (record (with_domain e new j) { memory = memory_of v j.memory }) number h e v g)
+    Calm v ⊎ ((g ≡ went.Stopped) × Met (view_on h e) d v) →
+    Meets h d (domain_ended (record (with_domain e new j) { memory = memory_of v j.memory }) number h e v g)
 told_meets j number h d e (Flat ram) g new (inl calm) = absurd calm
 told_meets j number h d e (Flat ram) g new (inr met) = absurd met.1
 told_meets j number h d e (Cloaked c) g new (inl calm) = ended_calm _ number h d e c g calm.kept calm
@@ -102,42 +120,43 @@ told_meets j number h d e (Cloaked c) g new (inr met) = ended_met _ number h d e
 told_meets j number h d e (Alone x) g new (inl calm) = absurd calm
 told_meets j number h d e (Alone x) g new (inr met) = absurd met.1
 
-played_turn : (j : Joint) (number : ℕ) (h : Hart) (e slot : ℕ) (was : Domain) (c : Cloak) → IsCalm c →
-    Meets was.control.number (after_domain_step j number h e (domain_step slot was (Cloaked c)))
+played_turn : (j : Joint) (number : ℕ) (h : Hart) (e slot : ℕ) (was : Domain) (c : Cloak) → c.view ≡ view_on h e →
+    IsCalm c →
+    Meets h was.control.number (after_domain_step j number h e (domain_step slot was (Cloaked c)))
 unfolding after_domain_step
-played_turn j number h e slot was c calm =
+played_turn j number h e slot was c view calm =
     let s = step_scripted slot was in
-    let ends : EndsCalmOrMet (of_domain slot was) was.control.number (domain_step slot was (Cloaked c)) =
-    subst (EndsCalmOrMet (of_domain slot was) was.control.number) (sym (s.plays (Cloaked c)))
-    (played_meets (of_domain slot was) s.script (Cloaked c) s.ends calm) in
+    let ends : EndsCalmOrMet (of_domain slot was) (view_on h e) was.control.number (domain_step slot was (Cloaked c)) =
+    subst (EndsCalmOrMet (of_domain slot was) (view_on h e) was.control.number) (sym (s.plays (Cloaked c)))
+    (played_meets (of_domain slot was) (view_on h e) s.script (Cloaked c) s.ends view calm) in
     told_meets j number h was.control.number e _ _ _ ends
 
 interrupt_meets : (j : Joint) (number : ℕ) (h : Hart) (d : ℕ) (items : List Item) (g : Went) → IsKept j.memory →
-    Meets d (interrupt_ended j number h items g)
+    Meets h d (interrupt_ended j number h items g)
 unfolding interrupt_ended
-interrupt_meets j number h d items went.Stay kept = quiet_meets d _ kept refl
-interrupt_meets j number h d items went.Stopped kept = quiet_meets d _ kept refl
-interrupt_meets j number h d items (went.Remapped space) kept = quiet_meets d _ kept refl
-interrupt_meets j number h d items (went.Leave s) kept = quiet_meets d _ kept refl
-interrupt_meets j number h d items (went.SpaceGone space s) kept = quiet_meets d _ kept refl
+interrupt_meets j number h d items went.Stay kept = quiet_meets h d _ kept refl
+interrupt_meets j number h d items went.Stopped kept = quiet_meets h d _ kept refl
+interrupt_meets j number h d items (went.Remapped space) kept = quiet_meets h d _ kept refl
+interrupt_meets j number h d items (went.Leave s) kept = quiet_meets h d _ kept refl
+interrupt_meets j number h d items (went.SpaceGone space s) kept = quiet_meets h d _ kept refl
 
 domain_meets : (due : Bool) (j : Joint) (number : ℕ) (h : Hart) (ctx : ℕ) (was : Domain) → IsKept j.memory →
     was.control.number ≡ domain_of ctx →
-    Meets (domain_of ctx) (by_interrupt due j number h (domain_of ctx) (slot_of ctx) was)
+    Meets h (domain_of ctx) (by_interrupt due j number h (domain_of ctx) (slot_of ctx) was)
 unfolding by_interrupt after_interrupt
 domain_meets true j number h ctx was kept same =
     interrupt_meets _ number h (domain_of ctx) _ (interrupt (slot_of ctx) was.control).went kept
 domain_meets false j number h ctx was kept same =
     let e = domain_of ctx in
     let c : Cloak = cloak_of j.memory h e (pages_for was (context_at was.control.contexts (slot_of ctx))) in
-    subst (λ (n : ℕ). Meets n (after_domain_step j number h e (domain_step (slot_of ctx) was (Cloaked c)))) same
-    (played_turn j number h e (slot_of ctx) was c (record { kept = kept; none = refl }))
+    subst (λ (n : ℕ). Meets h n (after_domain_step j number h e (domain_step (slot_of ctx) was (Cloaked c)))) same
+    (played_turn j number h e (slot_of ctx) was c refl (record { kept = kept; none = refl }))
 
 inside_meets : (j : Joint) (number : ℕ) (h : Hart) (ctx : ℕ) (found : Option Domain) → IsSteady j → IsKept j.memory →
     slice_get j.domains (domain_of ctx) ≡ found →
-    Meets (domain_of ctx) (inside_step j number h (domain_of ctx) (slot_of ctx) found)
+    Meets h (domain_of ctx) (inside_step j number h (domain_of ctx) (slot_of ctx) found)
 unfolding inside_step
-inside_meets j number h ctx None steady kept is = quiet_meets (domain_of ctx) _ kept refl
+inside_meets j number h ctx None steady kept is = quiet_meets h (domain_of ctx) _ kept refl
 inside_meets j number h ctx (Some was) steady kept is =
     domain_meets _ j number h ctx was kept (number_at (domain_of ctx) j.domains was steady.programs is)
 
@@ -199,10 +218,10 @@ pub record TurnPresents (m : Moment) : Type 0 where
   pub presents : (v : Violation) → (joint_step m).violation ≡ Some v → Presents m v
 
 inside_turn : (m : Moment) (ctx : ℕ) → (stepping_hart m).inside ≡ Some ctx → IsSteady m.joint →
-    IsKept m.joint.memory → Meets (domain_of ctx) (joint_step m)
+    IsKept m.joint.memory → Meets (ticked (stepping_hart m)) (domain_of ctx) (joint_step m)
 unfolding joint_step turn_of
 inside_turn m ctx inside steady kept =
-    subst (λ (t : Turn). Meets (domain_of ctx) t)
+    subst (λ (t : Turn). Meets (ticked (stepping_hart m)) (domain_of ctx) t)
     (sym (ap (turn_of m.joint (next_hart m) (stepping_hart m)) inside))
     (inside_meets m.joint (next_hart m) (ticked (stepping_hart m)) ctx _ steady kept refl)
 
@@ -215,7 +234,17 @@ inside_presents m ctx inside steady kept =
       presents = λ v violates.
           let met = meets.met v violates in
           subst (Presents m) (sym met.is)
-          (record { ctx = ctx; runs = inside; own = met.own; differs = met.differs });
+          (record {
+            ctx = ctx;
+            runs = inside;
+            own = met.own;
+            va = met.va;
+            kind = met.kind;
+            walked = met.walked;
+            leads = met.leads;
+            there = met.there;
+            differs = met.differs;
+          });
     }
 
 -- resuming, as the step's ending

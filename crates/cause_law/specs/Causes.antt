@@ -5,8 +5,10 @@ use Rattle.cloak_base.specs.declared.causes.Stop.TheVariants as stop
 use Rattle.cloak_base.specs.declared.causes.Violation.{Violation}
 use Rattle.cloak_base.specs.declared.causes.Violation.TheVariants as violation
 use Rattle.cloak_base.specs.declared.names.Kind.{Kind}
+use Rattle.cloak_base.specs.declared.names.Mode.TheVariants.{U}
 use Rattle.cloak_base.specs.declared.names.PageId.{PageId}
 use Rattle.cloak_model.specs.declared.image.Bundle.{Bundle}
+use Rattle.cloak_model.specs.declared.access.Walked.{Walked}
 use Rattle.cloak_model.specs.declared.answer.Answer.{Answer}
 use Rattle.cloak_model.specs.declared.answer.Answer.TheVariants as answer
 use Rattle.cloak_model.specs.declared.item.Item.{Item}
@@ -18,12 +20,14 @@ use Rattle.cloak_model.specs.Asking.{Told}
 use Rattle.cloak_model.specs.AskPages.{ask_inside_address, ask_reach}
 use Rattle.cloak_model.specs.Cloaking.{CloakedMemory, owed_in}
 use Rattle.cloak_model.specs.Contexts.{Context, context_at, domain_of, slot_of}
-use Rattle.cloak_model.specs.Csr.{satp_of}
+use Rattle.cloak_model.specs.Csr.{satp_of, sum_of, mxr_of}
 use Rattle.cloak_model.specs.Hart.{Hart}
 use Rattle.cloak_model.specs.Joint.{Moment, Turn, next_hart, hart_in, cloak_outside, joint_step}
 use Rattle.cloak_model.specs.Parts.{Joint}
+use Rattle.cloak_model.specs.KernelStep.{ticked}
 use Rattle.cloak_model.specs.Memory.{frame_of}
 use Rattle.cloak_model.specs.Run.{Run, joint_run, joint_after}
+use Rattle.cloak_model.specs.Walk.{Walk, walk}
 use Rattle.cloak_model.specs.World.{Cloak, Cloaked, violation_of}
 
 -- The machine as a run goes on.
@@ -51,11 +55,22 @@ pub record Differs (q : PageId) (f : ℕ) (m : CloakedMemory) : Type 0 where
   pub visible : owed_in m f ≡ None
   pub newest : (g : ℕ) → owed_in m g ≢ Some q
 
--- In a step of a context, whose program page q is, the frame differs from what was last shown of q.
+-- where the page table of a hart leads an access of a program, in RAM as the kernel sees it
+abbrev pub table_leads : Hart → List (List ℕ) → Kind → ℕ → Walk
+table_leads h ram kind va =
+    walk ram (satp_of h.csrs) (record { mode = U; sum = sum_of h.csrs; mxr = mxr_of h.csrs; va = va; kind = kind })
+
+-- In a step of a context, whose program page q is, the kernel's page table leads an access to a frame that differs from
+-- what was last shown of q.
 pub record PresentsPage (m : Moment) (q : PageId) (f : ℕ) : Type 0 where
   pub ctx : ℕ
   pub runs : (stepping_hart m).inside ≡ Some ctx
   pub own : q.domain ≡ domain_of ctx
+  pub va : ℕ
+  pub kind : Kind
+  pub walked : Walked
+  pub leads : table_leads (ticked (stepping_hart m)) (joint_step m).joint.memory.ram kind va ≡ Ok walked
+  pub there : frame_of walked.pa ≡ f
   pub differs : Differs q f (joint_step m).joint.memory
 
 -- A context that cannot run, and a page table that is not the recorded one.
