@@ -1,8 +1,7 @@
 -- A program's questions over the joint machine: each leaves a memory that is kept and has met nothing wrong, or it is
 -- stopped, where a frame differs from what was last shown of a page of the program.
-use Rattle.std.proofs.Common.{◌≡◌, ◌∙◌, ◌⊎◌, ℕ, zero, suc, ◌+◌, Bool, true, false, cond, List, [], ◌∷◌, ◌++◌, length, Option, Some, None, Result, Ok, Err, refl, sym, ap, subst, inl, inr}
+use Rattle.std.proofs.Common.{◌≡◌, ◌∙◌, ◌⊎◌, ℕ, zero, suc, ◌+◌, Bool, true, false, cond, List, ◌++◌, Some, None, Result, Ok, Err, refl, sym, ap, subst, inl, inr}
 use Rattle.std.proofs.lemmas.List.{length-set}
-use Rattle.cloak_base.specs.declared.causes.Violation.{Violation}
 use Rattle.cloak_base.specs.declared.causes.Violation.TheVariants as violation
 use Rattle.cloak_base.specs.declared.names.Kind.{Kind}
 use Rattle.cloak_base.specs.declared.names.Kind.TheVariants.{Load, Store}
@@ -15,7 +14,7 @@ use Rattle.cloak_model.specs.declared.view.View.{View}
 use Rattle.cloak_model.specs.Ask.{ask_word, ask_second, ask_after, ask_first, ask_walk, ask_inside, ask_translate, ask_value}
 use Rattle.cloak_model.specs.AskPages.{replies, if_drawn, ask_inside_address, offered_by, ask_offer, reached, reach_by_table, got, get_by_table, put_at, stored_inside, put_by_table, settled_if_marked, clear_from, ask_reach, ask_read, ask_write, ask_get, ask_put, ask_clear, ask_copy, ask_forget}
 use Rattle.cloak_model.specs.Asking.{Told, Asking}
-use Rattle.cloak_model.specs.Cloaking.{CloakedMemory, AfterOffer, Offer, Ready, Mismatch, Missed, offer}
+use Rattle.cloak_model.specs.Cloaking.{AfterOffer, Offer, Ready, Mismatch, Missed, offer}
 use Rattle.cloak_model.specs.Memory.{frame_of}
 use Rattle.cloak_model.specs.PageMoves.{copy_pages, drop_pages}
 use Rattle.cloak_model.specs.Walk.{Walk, FirstWord, Ends, GoesOn, first_entry, walk}
@@ -193,19 +192,22 @@ offered_meets x d q va pa kind o c Ready own offers leads is calm =
     inl (record { kept = offers.kept; none = calm.none })
 offered_meets x d q va pa kind o c Missed own offers leads is calm =
     inl (record { kept = offers.kept; none = calm.none })
-offered_meets x d q va pa kind o c Mismatch own offers leads is calm = inr (refl, record {
-  kept = offers.kept;
-  page = q;
-  frame = frame_of pa;
-  violation = refl;
-  own = own;
-  differs = offers.differs is;
-  va = va;
-  kind = kind;
-  walked = leads.walked;
-  leads = leads.leads o.memory (offers.more is);
-  there = ap frame_of leads.at;
-})
+offered_meets x d q va pa kind o c Mismatch own offers leads is calm = inr (
+  refl,
+  record {
+    kept = offers.kept;
+    page = q;
+    frame = frame_of pa;
+    violation = refl;
+    own = own;
+    differs = offers.differs is;
+    va = va;
+    kind = kind;
+    walked = leads.walked;
+    leads = leads.leads o.memory (offers.more is);
+    there = ap frame_of leads.at;
+  },
+)
 
 offer_meets : (x : View) (d : ℕ) (q : PageId) (va pa : ℕ) (kind : Kind) (write : Bool) (w : World) → q.domain ≡ d →
     OfMemory (LeadsStill x kind va pa) w → Calm w → CalmOrMet x d (ask_offer q (frame_of pa) write w)

@@ -1,5 +1,5 @@
 -- The closing: frame after frame is settled, by rising number.
-use Rattle.std.proofs.Common.{◌≡◌, ◌≢◌, ◌∙◌, ◌<◌, ◌≤◌, ℕ, zero, suc, Bool, true, false, cond, List, [], ◌∷◌, ◌++◌, length, map, filter, take, Option, None, Some, is_some, Ok, refl, sym, ap, ap₂, subst, arith, inl, inr, take_all}
+use Rattle.std.proofs.Common.{◌≡◌, ◌∙◌, ◌<◌, ◌≤◌, ℕ, zero, suc, Bool, true, false, cond, List, [], ◌∷◌, ◌++◌, length, map, filter, take, Option, None, is_some, Ok, refl, sym, ap, ap₂, subst, arith, inl, inr, take_all}
 use Rattle.std.specs.Prelude.{slice_index_or}
 use Rattle.std.proofs.lemmas.Bool.{cases_lt}
 use Rattle.std.proofs.lemmas.List.{get_or_past, append-nil, map-append}
@@ -17,9 +17,9 @@ use Rattle.cloak_model.specs.Parts.{Joint}
 use Rattle.cloak_model.specs.Run.{Run, joint_after, closing, settled_below, turns_from, first_moment, run_of}
 use Rattle.cloak_model.specs.World.{Cloak, cipher_items}
 use Rattle.kernel_isolation.proofs.Settlings.{HasPlaces}
-use Rattle.kernel_isolation.proofs.Isolated.{IsRead, until_read, of_opened}
+use Rattle.kernel_isolation.proofs.Isolated.{until_read, of_opened}
 use Rattle.cause_law.specs.Closing.{memory_at_end, closed_memory, owed_frames, ClosingOwesNothing, ClosingShowsOwed, ClosingSparesOthers}
-use Rattle.cause_law.proofs.Settled.{shown_if, Settles, settles}
+use Rattle.cause_law.proofs.Settled.{shown_if, settles}
 
 -- the item that shows a frame of this RAM
 abbrev shows : List (List ℕ) → ℕ → Item

@@ -1,6 +1,6 @@
 -- What every step keeps: each frame has its place among what is owed, and no page is owed by two frames. And what an
 -- offer leaves: where it is refused, the frame differs from what was last shown of the page.
-use Rattle.std.proofs.Common.{◌≡◌, ◌≢◌, ◌∙◌, ◌<◌, ◌≤◌, ◌⊎◌, ℕ, Bool, true, false, cond, List, [], ◌∷◌, ◌++◌, length, Option, Some, None, nat_lt, is_some, refl, sym, ap, subst, arith, inl, inr}
+use Rattle.std.proofs.Common.{◌≡◌, ◌≢◌, ◌∙◌, ◌<◌, ◌≤◌, ◌⊎◌, ℕ, Bool, true, false, cond, List, [], ◌++◌, length, Option, Some, None, nat_lt, is_some, refl, sym, ap, subst, arith, inl, inr}
 use Rattle.std.specs.Prelude.{slice_index_or, slice_set}
 use Rattle.std.specs.List.{position_or_len}
 use Rattle.std.specs.Str.{bytes_eq}
@@ -8,10 +8,9 @@ use Rattle.std.proofs.lemmas.Bool.{false≢true, cases_lt, ltb-true, ltb-false}
 use Rattle.std.proofs.lemmas.List.{get_or-set_same, get_or-set_other, get_or_past, length-set}
 use Rattle.std.proofs.lemmas.List.Sums.{fails_before_first, passes_at_first}
 use Rattle.std.proofs.lemmas.Slice.Eq.{bytes_eq-Decides}
-use Rattle.cloak_base.specs.Pages.{same_page}
 use Rattle.cloak_base.proofs.Pages.{same_page_tells, same_page-self}
 use Rattle.cloak_base.specs.declared.names.PageId.{PageId}
-use Rattle.cloak_model.specs.Cloaking.{CloakedMemory, AfterSettling, AfterOffer, Offer, Ready, Mismatch, Missed, owed_in, owes, owing_frame, settle, settle_frame_if, with_owed, with_comparison, taken, compared, unless_missed, offer}
+use Rattle.cloak_model.specs.Cloaking.{CloakedMemory, AfterSettling, AfterOffer, Ready, Mismatch, Missed, owed_in, owes, owing_frame, settle, settle_frame_if, with_owed, with_comparison, taken, compared, unless_missed, offer}
 use Rattle.domain_isolation.proofs.InOrder.{decided, same_some}
 use Rattle.kernel_isolation.proofs.Settlings.{HasPlaces}
 use Rattle.cause_law.specs.Causes.{Differs}
@@ -142,8 +141,10 @@ now_owed q g m f p is = elim (decided f g) [
       let here : owed_in (with_owed g (Some q) m) g ≡ Some p =
       subst (λ (x : ℕ). owed_in (with_owed g (Some q) m) x ≡ Some p) same is in
       elim (cases_lt g (length m.ledger.owed)) [
-        | inl low ↦ inl (same,
-            same_some p q (sym here ∙ get_or-set_same m.ledger.owed g (Some q) None low))
+        | inl low ↦ inl (
+          same,
+          same_some p q (sym here ∙ get_or-set_same m.ledger.owed g (Some q) None low),
+        )
         | inr past ↦ not_none p (owed_in (with_owed g (Some q) m) g)
             (get_or_past (slice_set m.ledger.owed g (Some q)) g None
             (subst (λ (x : ℕ). x ≤ g) (sym (length-set m.ledger.owed g (Some q))) past)) here

@@ -1,6 +1,5 @@
 -- Where the kernel's page table leads a program's access: it leads there still, when other frames are settled.
-use Rattle.std.proofs.Common.{◌≡◌, ◌≢◌, ◌∙◌, ℕ, Bool, true, false, cond, List, [], length, Option, Some, None, Result, Ok, Err, refl, sym, ap, subst, inl, inr}
-use Rattle.std.specs.Prelude.{slice_index_or}
+use Rattle.std.proofs.Common.{◌≡◌, ◌∙◌, ℕ, Bool, true, false, cond, List, Option, Some, None, Ok, Err, refl, sym, ap}
 use Rattle.std.proofs.lemmas.Bool.{false≢true}
 use Rattle.cloak_base.specs.declared.names.Kind.{Kind}
 use Rattle.cloak_base.specs.declared.names.Mode.TheVariants.{U}
@@ -12,8 +11,8 @@ use Rattle.cloak_model.specs.AskPages.{ask_inside_address}
 use Rattle.cloak_model.specs.Asking.{Told}
 use Rattle.cloak_model.specs.Cloaking.{CloakedMemory, owed_in, settle}
 use Rattle.cloak_model.specs.Memory.{frame_of, place_of, is_in_frames, is_in_ram, value_in, value_at}
-use Rattle.cloak_model.specs.Walk.{Walk, FirstWord, Ends, GoesOn, has_paging, without_paging, first_entry, first_word, second_word, access_fault, word_in_ram, walk_after, walk}
-use Rattle.cloak_model.specs.World.{World, Cloak, Flat, Cloaked, Alone, settled, settled_in}
+use Rattle.cloak_model.specs.Walk.{Walk, FirstWord, Ends, GoesOn, has_paging, without_paging, first_entry, first_word, second_word, word_in_ram, walk_after, walk}
+use Rattle.cloak_model.specs.World.{World, Cloak, Flat, Cloaked, Alone, settled}
 use Rattle.cause_law.proofs.Kept.{IsKept, Extends, Extends-refl, Extends-trans, extends_settled, kept_settled}
 use Rattle.cause_law.proofs.Settled.{settles}
 
@@ -99,11 +98,11 @@ second_walks : (satp : ℕ) (a : Access) (at0 : ℕ) (word : Option ℕ) (c : Cl
 second_walks satp a at0 word c second (Flat ram) has sees is shows = absurd shows
 second_walks satp a at0 word c second (Cloaked d) has sees is shows =
     λ m' more.
-        let at1 = first_entry satp a.va in
-        paged satp a m'.ram word has
-        (sees_still c.memory m' at1 word sees (Extends-trans c.memory d.memory m' shows.more more))
-        ∙ (ap (walk_after m'.ram a at1) is
-        ∙ ap (second_word a at1 at0) (sees_still d.memory m' at0 second shows.sees more))
+    let at1 = first_entry satp a.va in
+    paged satp a m'.ram word has
+    (sees_still c.memory m' at1 word sees (Extends-trans c.memory d.memory m' shows.more more))
+    ∙ (ap (walk_after m'.ram a at1) is
+    ∙ ap (second_word a at1 at0) (sees_still d.memory m' at0 second shows.sees more))
 second_walks satp a at0 word c second (Alone h) has sees is shows = absurd shows
 
 after_walks : (satp : ℕ) (a : Access) (word : Option ℕ) (first : FirstWord) (c : Cloak) → IsKept c.memory →
@@ -113,8 +112,8 @@ after_walks : (satp : ℕ) (a : Access) (word : Option ℕ) (first : FirstWord) 
 unfolding ask_after ask_second
 after_walks satp a word (Ends w) c kept has sees is =
     λ m' more.
-        let at1 = first_entry satp a.va in
-        paged satp a m'.ram word has (sees_still c.memory m' at1 word sees more) ∙ ap (walk_after m'.ram a at1) is
+    let at1 = first_entry satp a.va in
+    paged satp a m'.ram word has (sees_still c.memory m' at1 word sees more) ∙ ap (walk_after m'.ram a at1) is
 after_walks satp a word (GoesOn at0) c kept has sees is =
     let t = ask_word at0 (Cloaked c) in
     second_walks satp a at0 word c t.answer t.world has sees is (shows_word at0 c kept)

@@ -1,5 +1,5 @@
 -- As a run begins, no frame is owed a page.
-use Rattle.std.proofs.Common.{◌≡◌, ◌∙◌, ◌<◌, ◌≤◌, ℕ, zero, suc, ◌+◌, List, [], ◌∷◌, length, Option, Some, None, Result, Ok, Err, refl, sym, ap, subst, arith, inl, inr}
+use Rattle.std.proofs.Common.{◌≡◌, ◌∙◌, ◌≤◌, ℕ, zero, suc, ◌+◌, List, [], ◌∷◌, Option, Some, None, Ok, refl, sym, ap, subst, inl, inr}
 use Rattle.std.specs.Prelude.{slice_index_or, option_and_then, replicate}
 use Rattle.std.proofs.lemmas.Bool.{cases_lt}
 use Rattle.std.proofs.lemmas.List.{get_or_past, get_or-replicate, length-replicate}
@@ -10,7 +10,7 @@ use Rattle.cloak_model.specs.declared.image.KernelImage.{KernelImage}
 use Rattle.cloak_model.specs.declared.image.Program.{Program}
 use Rattle.cloak_model.specs.Cloaking.{CloakedMemory, owed_in}
 use Rattle.cloak_model.specs.Ledger.{vector_of}
-use Rattle.cloak_model.specs.Opening.{Lack, Opened, started_ledger, started_memory, started_joint, opening_items, program_page, place_pages, place_programs, opened_with, opened_by, opening}
+use Rattle.cloak_model.specs.Opening.{Opened, started_ledger, started_memory, started_joint, opening_items, place_pages, place_programs, opened_with, opened_by, opening}
 use Rattle.cloak_model.specs.PageMoves.{place_with, place}
 use Rattle.kernel_isolation.proofs.Opened.{is_opened}
 use Rattle.cause_law.proofs.Kept.{IsKept}

@@ -1,21 +1,19 @@
 -- A page that is presented in a frame that differs is refused, at whatever question of a step.
-use Rattle.std.proofs.Common.{◌≡◌, ◌≢◌, ◌∙◌, ◌<◌, ℕ, Bool, true, false, cond, List, [], ◌∷◌, ◌++◌, length, Option, Some, None, Result, Ok, Err, nat_lt, refl, sym, ap, subst, arith, inl, inr}
+use Rattle.std.proofs.Common.{◌≡◌, ◌∙◌, ℕ, Bool, true, false, cond, List, [], ◌++◌, length, Option, Some, None, Result, Ok, nat_lt, refl, sym, ap, subst}
 use Rattle.std.specs.Prelude.{slice_index_or}
 use Rattle.std.specs.List.{position_or_len}
 use Rattle.std.specs.Str.{bytes_eq}
 use Rattle.std.proofs.lemmas.Bool.{false≢true, ltb-true, false_from_ne_true}
 use Rattle.std.proofs.lemmas.List.Sums.{passes_at_first}
 use Rattle.std.proofs.lemmas.Slice.Eq.{bytes_eq-Decides}
-use Rattle.cloak_base.specs.declared.causes.Violation.TheVariants as violation
 use Rattle.cloak_base.specs.declared.names.Kind.{Kind}
 use Rattle.cloak_base.specs.declared.names.PageId.{PageId}
 use Rattle.cloak_model.specs.declared.answer.Answer.{Answer}
-use Rattle.cloak_model.specs.declared.answer.Answer.TheVariants as told
-use Rattle.cloak_model.specs.AskPages.{replies, if_drawn, ask_inside_address, is_store, offered_by, ask_offer, reached, reach_by_table, ask_reach}
+use Rattle.cloak_model.specs.AskPages.{replies, if_drawn, is_store, offered_by, ask_offer, reached, reach_by_table, ask_reach}
 use Rattle.cloak_model.specs.Asking.{Told}
 use Rattle.cloak_model.specs.Cloaking.{CloakedMemory, AfterSettling, AfterOffer, Ready, Mismatch, owed_in, owes, owing_frame, settle, settle_if, settle_frame_if, with_comparison, taken, compared, unless_missed, offer}
 use Rattle.cloak_model.specs.Memory.{frame_of}
-use Rattle.cloak_model.specs.World.{World, Cloak, Flat, Cloaked, Alone, violation_of, cipher_items}
+use Rattle.cloak_model.specs.World.{Cloak, Cloaked, cipher_items}
 use Rattle.cause_law.specs.Causes.{Differs, IsRefused, PageIsRefused}
 use Rattle.cause_law.proofs.Kept.{IsHome, owes_page}
 

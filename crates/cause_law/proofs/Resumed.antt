@@ -1,21 +1,15 @@
 -- Resuming: it is refused where there is no such context, or it runs, or its space has another page table, and so.
-use Rattle.std.proofs.Common.{◌≡◌, ◌∙◌, ◌<◌, ℕ, Bool, true, false, cond, List, [], ◌∷◌, length, Option, Some, None, Result, Ok, Err, is_some, refl, sym, ap, subst, inl, inr}
-use Rattle.std.specs.Prelude.{slice_get, slice_set, slice_index_or, option_and_then, is_none, ◌&&◌, nat_le}
-use Rattle.std.proofs.lemmas.Bool.{cases_lt}
-use Rattle.std.proofs.lemmas.List.{get_or-set_same, get_or_past, length-set}
+use Rattle.std.proofs.Common.{◌≡◌, ◌∙◌, ℕ, Bool, true, false, cond, Option, Some, None, Result, Ok, Err, is_some, refl, ap}
+use Rattle.std.specs.Prelude.{slice_get, option_and_then}
 use Rattle.cloak_base.specs.declared.causes.Violation.{Violation}
 use Rattle.cloak_base.specs.declared.causes.Violation.TheVariants as violation
 use Rattle.cloak_base.specs.declared.names.HartId.{HartId}
 use Rattle.cloak_base.specs.declared.names.SpaceId.{SpaceId}
-use Rattle.cloak_model.specs.declared.context.Phase.{Phase}
-use Rattle.cloak_model.specs.declared.context.Phase.TheVariants.{Plain, CopyIn, Waiting, CopyOut}
 use Rattle.cloak_model.specs.declared.context.ResumeFault.{ResumeFault}
-use Rattle.cloak_model.specs.declared.context.ResumeFault.TheVariants.{NoContext, Busy, WrongRoot}
-use Rattle.cloak_model.specs.Calls.{finish_call}
-use Rattle.cloak_model.specs.Contexts.{Context, Resumed, Admitted, context_at, with_context, domain_of, slot_of, resume_if, resume_at, admit, is_root, with_space}
+use Rattle.cloak_model.specs.declared.context.ResumeFault.TheVariants.{Busy, WrongRoot}
+use Rattle.cloak_model.specs.Contexts.{Context, Resumed, Admitted, context_at, with_context, domain_of, slot_of, resume_if, resume_at, admit, is_root}
 use Rattle.cloak_model.specs.DomainState.{Control, Domain}
-use Rattle.cloak_model.specs.DomainStep.{answer_in, answer_taken, resume_told, resume_slot}
-use Rattle.cloak_model.specs.Hypercalls.{with_slot}
+use Rattle.cloak_model.specs.DomainStep.{resume_told, resume_slot}
 use Rattle.cloak_model.specs.Parts.{Joint}
 use Rattle.cloak_model.specs.Resuming.{AfterResume, space_of, by_root, by_context, by_domain, resume}
 use Rattle.cause_law.specs.Causes.{context_of}

@@ -1,26 +1,23 @@
 -- The steps of a run, and why it stopped.
-use Rattle.std.proofs.Common.{◌≡◌, ◌≢◌, ◌∙◌, ◌<◌, ◌≤◌, ◌⊎◌, ◌+◌, ◌-◌, ℕ, zero, suc, Bool, true, false, cond, List, [], ◌∷◌, length, take, replicate, Option, Some, None, Result, Ok, Err, is_some, unwrap_or, eq-eqb, eqb-true, refl, sym, ap, subst, arith, inl, inr}
-use Rattle.std.specs.Prelude.{slice_index_or, option_and_then, is_none}
+use Rattle.std.proofs.Common.{◌≡◌, ◌≢◌, ◌∙◌, ◌<◌, ◌≤◌, ◌⊎◌, ◌+◌, ◌-◌, ℕ, zero, suc, Bool, true, false, cond, List, [], ◌∷◌, length, take, Option, Some, None, Ok, is_some, unwrap_or, refl, sym, ap, subst, arith, inl, inr}
+use Rattle.std.specs.Prelude.{is_none}
 use Rattle.std.proofs.lemmas.Bool.{false≢true, ne_eqb}
-use Rattle.std.proofs.lemmas.List.{get_or_past, get_or-replicate}
 use Rattle.cloak_base.specs.declared.causes.Stop.{Stop}
 use Rattle.cloak_base.specs.declared.causes.Stop.TheVariants as stop
 use Rattle.cloak_base.specs.declared.causes.Violation.{Violation}
 use Rattle.cloak_base.specs.declared.causes.Violation.TheVariants as violation
 use Rattle.cloak_base.specs.declared.names.HartId.{HartId}
-use Rattle.cloak_base.specs.declared.names.PageId.{PageId}
 use Rattle.cloak_base.specs.Random.{Random}
 use Rattle.cloak_model.specs.declared.image.Bundle.{Bundle}
-use Rattle.cloak_model.specs.Cloaking.{CloakedMemory, owed_in}
 use Rattle.cloak_model.specs.Contexts.{Context, is_root}
 use Rattle.cloak_model.specs.Joint.{Moment, Turn, joint_step, after_turn, stop_of, stop_without_miss}
 use Rattle.cloak_model.specs.Opening.{Opened, opening}
 use Rattle.cloak_model.specs.Parts.{Joint}
-use Rattle.cloak_model.specs.Run.{Run, joint_run, unless_stopped, turns_from, joint_after, last_stop, closing, cause_of, first_moment, run_of}
+use Rattle.cloak_model.specs.Run.{Run, joint_run, unless_stopped, turns_from, joint_after, last_stop, cause_of, first_moment, run_of}
 use Rattle.kernel_isolation.proofs.Isolated.{of_opened}
 use Rattle.kernel_isolation.proofs.Opened.{is_opened}
 use Rattle.kernel_isolation.proofs.Turns.{IsSteady, turn_is_alone}
-use Rattle.cause_law.specs.Causes.{moment_at, Presents, LastStepPresents, ViolationHasCause, PresentsContext, PresentsMapping, IsStoppedBy, ContextIsRefused, MappingIsRefused, presented_root, can_run, context_of, HasStopped, StopsTheRun, StoppedIsLast}
+use Rattle.cause_law.specs.Causes.{moment_at, LastStepPresents, ViolationHasCause, IsStoppedBy, ContextIsRefused, MappingIsRefused, presented_root, can_run, context_of, HasStopped, StopsTheRun, StoppedIsLast}
 use Rattle.cause_law.proofs.Kept.{IsKept}
 use Rattle.cause_law.proofs.Opened.{opened_kept}
 use Rattle.cause_law.proofs.Resumed.{space_id, refusal}
@@ -137,9 +134,9 @@ opened_so b stream budget o opens =
             steps = n;
             joint = joint_after o.joint (take n turns);
           } = same_moment n b.kernel.schedule 0 o.joint turns (omega (arith, low))
-              ∙ ap (λ (k : ℕ). let x : Moment =
-              record { schedule = b.kernel.schedule; steps = k; joint = joint_after o.joint (take n turns) } in x)
-              (omega arith) in
+          ∙ ap (λ (k : ℕ). let x : Moment =
+          record { schedule = b.kernel.schedule; steps = k; joint = joint_after o.joint (take n turns) } in x)
+          (omega arith) in
           record {
             steady = subst (λ (x : Moment). IsSteady x.joint) at r.steady;
             kept = subst (λ (x : Moment). IsKept x.joint.memory) at r.kept;

@@ -1,10 +1,9 @@
 -- A step of the joint machine: the violation with which it ends is of something that was presented in it, and so is
 -- refused what is presented.
-use Rattle.std.proofs.Common.{◌≡◌, ◌≢◌, ◌∙◌, ◌⊎◌, ℕ, zero, suc, Bool, true, false, cond, List, [], ◌∷◌, ◌++◌, length, Option, Some, None, Ok, is_some, eq-eqb, eqb-true, refl, sym, ap, subst, inl, inr}
-use Rattle.std.specs.Prelude.{slice_get, slice_index_or, slice_set, is_none, ◌==◌}
+use Rattle.std.proofs.Common.{◌≡◌, ◌∙◌, ◌⊎◌, ℕ, zero, suc, Bool, true, false, cond, List, length, Option, Some, None, Ok, is_some, eq-eqb, refl, sym, ap, subst, inl, inr}
+use Rattle.std.specs.Prelude.{slice_get, slice_index_or, is_none}
 use Rattle.std.specs.List.{find}
 use Rattle.std.proofs.lemmas.Bool.{false≢true}
-use Rattle.cloak_base.specs.declared.causes.Shown.{Shown}
 use Rattle.cloak_base.specs.declared.causes.Violation.{Violation}
 use Rattle.cloak_base.specs.declared.causes.Violation.TheVariants as violation
 use Rattle.cloak_base.specs.declared.names.Kind.{Kind}
@@ -13,7 +12,6 @@ use Rattle.cloak_model.specs.declared.access.Walked.{Walked}
 use Rattle.cloak_model.specs.declared.inside.Went.{Went}
 use Rattle.cloak_model.specs.declared.inside.Went.TheVariants as went
 use Rattle.cloak_model.specs.declared.item.Item.{Item}
-use Rattle.cloak_model.specs.declared.item.Item.TheVariants as item
 use Rattle.cloak_model.specs.declared.outcome.Kernel.{Kernel}
 use Rattle.cloak_model.specs.declared.outcome.Kernel.TheVariants as kernel
 use Rattle.cloak_model.specs.declared.view.View.{View}
@@ -21,29 +19,27 @@ use Rattle.cloak_model.specs.Ahead.{is_owed, settle_found, settle_while, settle_
 use Rattle.cloak_model.specs.Asking.{Told}
 use Rattle.cloak_model.specs.Cloaking.{CloakedMemory, AfterSettling, settle}
 use Rattle.cloak_model.specs.Contexts.{Context, context_at, domain_of, slot_of, is_root}
-use Rattle.cloak_model.specs.Csr.{satp_of, sum_of, mxr_of, interrupt_due}
-use Rattle.cloak_model.specs.DomainState.{Control, Domain}
-use Rattle.cloak_model.specs.DomainStep.{DomainStepped, domain_step, interrupt}
+use Rattle.cloak_model.specs.Csr.{satp_of, sum_of, mxr_of}
+use Rattle.cloak_model.specs.DomainState.{Domain}
+use Rattle.cloak_model.specs.DomainStep.{domain_step, interrupt}
 use Rattle.cloak_model.specs.Hart.{Hart, started}
 use Rattle.cloak_model.specs.HostCalls.{After}
-use Rattle.cloak_model.specs.Hypercalls.{Stepped}
-use Rattle.cloak_model.specs.Joint.{Moment, Turn, next_hart, hart_in, with_hart, cloak_of, cloak_outside, memory_of, after_kernel_step, outside_ended, after_outside, outside_step, left, domain_ended, with_domain, after_domain_step, pages_for, interrupt_ended, after_interrupt, by_interrupt, inside_step, turn_of, joint_step}
-use Rattle.cloak_model.specs.KernelStep.{kernel_step, ticked}
+use Rattle.cloak_model.specs.Joint.{Moment, Turn, next_hart, hart_in, cloak_of, cloak_outside, memory_of, after_kernel_step, outside_ended, after_outside, outside_step, domain_ended, with_domain, after_domain_step, pages_for, interrupt_ended, after_interrupt, by_interrupt, inside_step, turn_of, joint_step}
+use Rattle.cloak_model.specs.KernelStep.{ticked}
 use Rattle.cloak_model.specs.Memory.{frame_of}
 use Rattle.cloak_model.specs.Parts.{Joint}
-use Rattle.cloak_model.specs.Resuming.{AfterResume, resume}
+use Rattle.cloak_model.specs.Resuming.{resume}
 use Rattle.cloak_model.specs.Touched.{touched}
-use Rattle.cloak_model.specs.World.{World, Cloak, Flat, Cloaked, Alone, ram_of, items_of, violation_of}
+use Rattle.cloak_model.specs.World.{World, Cloak, Flat, Cloaked, Alone, items_of}
 use Rattle.settling_ahead.proofs.Laws.{keeps_rest}
 use Rattle.settling_ahead.proofs.Touching.{writes_touched_alone}
 use Rattle.kernel_isolation.proofs.Numbers.{number_at}
 use Rattle.kernel_isolation.proofs.Turns.{IsSteady}
-use Rattle.domain_isolation.proofs.Scripts.{played}
 use Rattle.domain_isolation.proofs.StepScripts.{of_domain, step_scripted}
-use Rattle.cause_law.specs.Causes.{Differs, stepping_hart, table_leads, PresentsPage, kernel_ending, AsksToResume, context_of, can_run, PresentsContext, presented_root, PresentsMapping, Presents}
+use Rattle.cause_law.specs.Causes.{Differs, stepping_hart, table_leads, kernel_ending, AsksToResume, context_of, can_run, presented_root, Presents}
 use Rattle.cause_law.proofs.Kept.{IsKept, kept_settled}
 use Rattle.cause_law.proofs.Asked.{IsCalm, HasMet, Calm, Met, EndsCalmOrMet, played_meets}
-use Rattle.cause_law.proofs.Resumed.{space_id, refusal, resume_refuses, Leaves, resume_leaves}
+use Rattle.cause_law.proofs.Resumed.{space_id, refusal, resume_refuses, resume_leaves}
 
 no_violation : {P : Type 0} (v : Violation) → None ≡ Some v → P
 no_violation v is = absurd cc

@@ -1,11 +1,10 @@
 -- A step in which a question of a program was stopped stops the run.
 use Rattle.std.proofs.Common.{◌≡◌, ◌∙◌, ◌⊎◌, ℕ, Bool, true, false, cond, List, [], ◌∷◌, ◌++◌, Option, Some, None, Result, Ok, Err, is_some, eq-eqb, refl, sym, ap, subst, inl, inr, append-nil}
-use Rattle.std.specs.Prelude.{slice_get, slice_index_or, ◌||◌}
+use Rattle.std.specs.Prelude.{slice_get, ◌||◌}
 use Rattle.std.specs.List.{list_any}
 use Rattle.std.proofs.lemmas.Bool.{false≢true, or_right}
 use Rattle.std.proofs.lemmas.List.Elements.{filter-append}
 use Rattle.cloak_base.specs.declared.causes.Shown.{Shown}
-use Rattle.cloak_base.specs.declared.causes.Violation.{Violation}
 use Rattle.cloak_model.specs.declared.answer.Answer.{Answer}
 use Rattle.cloak_model.specs.declared.answer.Answer.TheVariants as told
 use Rattle.cloak_model.specs.declared.context.ResumeFault.{ResumeFault}
@@ -19,27 +18,27 @@ use Rattle.cloak_model.specs.Ahead.{settle_touched, settled_step, made_after}
 use Rattle.cloak_model.specs.Asking.{Told}
 use Rattle.cloak_model.specs.AskPages.{answer_item}
 use Rattle.cloak_model.specs.Cloaking.{CloakedMemory}
-use Rattle.cloak_model.specs.Contexts.{Admitted, context_at, domain_of, slot_of}
+use Rattle.cloak_model.specs.Contexts.{Admitted, domain_of, slot_of}
 use Rattle.cloak_model.specs.Csr.{satp_of}
 use Rattle.cloak_model.specs.DomainAlone.{is_stopped}
 use Rattle.cloak_model.specs.DomainState.{Control, Domain}
 use Rattle.cloak_model.specs.DomainStep.{DomainStepped, domain_step, interrupt}
 use Rattle.cloak_model.specs.Halves.{is_inward, inward_half}
 use Rattle.cloak_model.specs.Hart.{Hart}
-use Rattle.cloak_model.specs.Joint.{Moment, Turn, next_hart, hart_in, cloak_of, memory_of, outside_ended, domain_ended, with_domain, after_domain_step, pages_for, interrupt_ended, after_interrupt, by_interrupt, inside_step, turn_of, joint_step}
+use Rattle.cloak_model.specs.Joint.{Moment, Turn, next_hart, hart_in, memory_of, outside_ended, domain_ended, with_domain, after_domain_step, interrupt_ended, after_interrupt, by_interrupt, inside_step, turn_of, joint_step}
 use Rattle.cloak_model.specs.KernelStep.{ticked}
 use Rattle.cloak_model.specs.Parts.{Joint}
-use Rattle.cloak_model.specs.Resuming.{AfterResume, by_root, by_context, by_domain, resume}
-use Rattle.cloak_model.specs.World.{World, Cloak, Flat, Cloaked, Alone, items_of, violation_of, is_missed, cipher_items}
+use Rattle.cloak_model.specs.Resuming.{by_root, by_context, by_domain, resume}
+use Rattle.cloak_model.specs.World.{World, Flat, Cloaked, Alone, items_of, violation_of, is_missed, cipher_items}
 use Rattle.kernel_isolation.proofs.Numbers.{number_at}
 use Rattle.kernel_isolation.proofs.Turns.{IsSteady}
 use Rattle.domain_isolation.proofs.Answers.{IsServing}
-use Rattle.domain_isolation.proofs.Played.{answers_of, answer_items, played_serving, played_items, played_stopped, Halts}
+use Rattle.domain_isolation.proofs.Played.{answers_of, answer_items, played_items, played_stopped}
 use Rattle.domain_isolation.proofs.Scripts.{played}
 use Rattle.domain_isolation.proofs.Steady.{is_halted}
 use Rattle.domain_isolation.proofs.StepScripts.{of_domain, step_scripted}
 use Rattle.cause_law.specs.Causes.{stepping_hart, kernel_ending}
-use Rattle.cause_law.proofs.Steps.{told_outside, joint_outside, outside_turn}
+use Rattle.cause_law.proofs.Steps.{joint_outside, outside_turn}
 
 abbrev is_stop : Item → Bool
 is_stop (item.Stopped d) = true
