@@ -1,0 +1,11 @@
+pub mod Settled
+pub mod Closed
+pub mod Kept
+pub mod Leading
+pub mod Asked
+pub mod Resumed
+pub mod Steps
+pub mod Opened
+pub mod Refused
+pub mod Stopped
+pub mod Runs

@@ -1,0 +1,86 @@
+-- As a run begins, no frame is owed a page.
+use Rattle.std.proofs.Common.{◌≡◌, ◌∙◌, ◌≤◌, ℕ, zero, suc, ◌+◌, List, [], ◌∷◌, Option, Some, None, Ok, refl, sym, ap, subst, inl, inr}
+use Rattle.std.specs.Prelude.{slice_index_or, option_and_then, replicate}
+use Rattle.std.proofs.lemmas.Bool.{cases_lt}
+use Rattle.std.proofs.lemmas.List.{get_or_past, get_or-replicate, length-replicate}
+use Rattle.cloak_base.specs.declared.names.PageId.{PageId}
+use Rattle.cloak_base.specs.Random.{Random, next_draw}
+use Rattle.cloak_model.specs.declared.image.Bundle.{Bundle}
+use Rattle.cloak_model.specs.declared.image.KernelImage.{KernelImage}
+use Rattle.cloak_model.specs.declared.image.Program.{Program}
+use Rattle.cloak_model.specs.Cloaking.{CloakedMemory, owed_in}
+use Rattle.cloak_model.specs.Ledger.{vector_of}
+use Rattle.cloak_model.specs.Opening.{Opened, started_ledger, started_memory, started_joint, opening_items, place_pages, place_programs, opened_with, opened_by, opening}
+use Rattle.cloak_model.specs.PageMoves.{place_with, place}
+use Rattle.kernel_isolation.proofs.Opened.{is_opened}
+use Rattle.cause_law.proofs.Kept.{IsKept}
+
+-- a memory, where there is one, has this owed
+abbrev HasOwed : List (Option PageId) → Option CloakedMemory → Type 0
+HasOwed owed None = Unit {0}
+HasOwed owed (Some m) = m.ledger.owed ≡ owed
+
+place_with_owed : (q : PageId) (f : ℕ) (bytes : List ℕ) (draw : Option (List ℕ × Random)) (m : CloakedMemory) →
+    HasOwed m.ledger.owed (place_with q f bytes draw m)
+unfolding place_with
+place_with_owed q f bytes None m = tt
+place_with_owed q f bytes (Some draw) m = refl
+
+place_owed : (q : PageId) (f : ℕ) (bytes : List ℕ) (m : CloakedMemory) → HasOwed m.ledger.owed (place q f bytes m)
+unfolding place
+place_owed q f bytes m = place_with_owed q f bytes (vector_of m.ledger q) m
+
+then_owed : (owed : List (Option PageId)) (next : CloakedMemory → Option CloakedMemory) (o : Option CloakedMemory) →
+    HasOwed owed o → ((m : CloakedMemory) → HasOwed m.ledger.owed (next m)) → HasOwed owed (option_and_then next o)
+then_owed owed next None has more = tt
+then_owed owed next (Some m) has more = subst (λ (l : List (Option PageId)). HasOwed l (next m)) has (more m)
+
+pages_owed : (d : ℕ) (p : Program) (n : ℕ) (m : CloakedMemory) → HasOwed m.ledger.owed (place_pages d p n m)
+pages_owed d p zero m = refl
+pages_owed d p (suc n) m =
+    then_owed m.ledger.owed _ (place_pages d p n m) (pages_owed d p n m) (λ x. place_owed _ _ _ x)
+
+programs_owed : (d : ℕ) (programs : List Program) (m : CloakedMemory) →
+    HasOwed m.ledger.owed (place_programs d programs m)
+programs_owed d [] m = refl
+programs_owed d (p ∷ programs) m =
+    then_owed m.ledger.owed _ (place_pages d p p.start.pages m) (pages_owed d p p.start.pages m)
+    (λ x. programs_owed (d + 1) programs x)
+
+none_owed : (frames f : ℕ) (none : Option PageId) → slice_index_or (replicate frames none) f none ≡ none
+none_owed frames f none = elim (cases_lt f frames) [
+  | inl low ↦ get_or-replicate frames f none none low
+  | inr past ↦ get_or_past (replicate frames none) f none
+      (subst (λ (n : ℕ). n ≤ f) (sym (length-replicate frames none)) past)
+]
+
+started_owes : (k : KernelImage) (key : List ℕ) (stream : Random) (f : ℕ) →
+    slice_index_or (started_memory k key stream).ledger.owed f None ≡ None
+unfolding started_memory started_ledger
+started_owes k key stream f = none_owed k.frames f None
+
+-- no frame of a machine is owed a page
+abbrev OwesNothing : Opened → Type 0
+OwesNothing o = (f : ℕ) → owed_in o.joint.memory f ≡ None
+
+with_owes : (b : Bundle) (key : List ℕ) (stream : Random) (placed : Option CloakedMemory) (o : Opened) →
+    HasOwed (started_memory b.kernel key stream).ledger.owed placed → opened_with b placed ≡ Ok o → OwesNothing o
+unfolding opened_with started_joint
+with_owes b key stream None o has is = absurd cc
+with_owes b key stream (Some m) o has is =
+    let same : record { joint = started_joint b m; items = opening_items b.programs m.ram } ≡ o = cc in
+    subst OwesNothing same (λ f. ap (λ (l : List (Option PageId)). slice_index_or l f None) has
+    ∙ started_owes b.kernel key stream f)
+
+by_owes : (b : Bundle) (draw : Option (List ℕ × Random)) (o : Opened) → opened_by b draw ≡ Ok o → OwesNothing o
+unfolding opened_by
+by_owes b None o is = absurd cc
+by_owes b (Some draw) o is =
+    with_owes b draw.0 draw.1 _ o (programs_owed 0 b.programs (started_memory b.kernel draw.0 draw.1)) is
+
+pub opened_kept : (b : Bundle) (stream : Random) (o : Opened) → opening b stream ≡ Ok o → IsKept o.joint.memory
+opened_kept b stream o opens = record {
+  places = (is_opened b stream o opens).steady.places;
+  once = λ f g q one two.
+      let clash : None ≡ Some q = sym (by_owes b (next_draw stream) o opens f) ∙ one in absurd cc;
+}

@@ -1,0 +1,353 @@
+-- A step of the joint machine: the violation with which it ends is of something that was presented in it, and so is
+-- refused what is presented.
+use Rattle.std.proofs.Common.{◌≡◌, ◌∙◌, ◌⊎◌, ℕ, zero, suc, Bool, true, false, cond, List, length, Option, Some, None, Ok, is_some, eq-eqb, refl, sym, ap, subst, inl, inr}
+use Rattle.std.specs.Prelude.{slice_get, slice_index_or, is_none}
+use Rattle.std.specs.List.{find}
+use Rattle.std.proofs.lemmas.Bool.{false≢true}
+use Rattle.cloak_base.specs.declared.causes.Violation.{Violation}
+use Rattle.cloak_base.specs.declared.causes.Violation.TheVariants as violation
+use Rattle.cloak_base.specs.declared.names.Kind.{Kind}
+use Rattle.cloak_base.specs.declared.names.PageId.{PageId}
+use Rattle.cloak_model.specs.declared.access.Walked.{Walked}
+use Rattle.cloak_model.specs.declared.inside.Went.{Went}
+use Rattle.cloak_model.specs.declared.inside.Went.TheVariants as went
+use Rattle.cloak_model.specs.declared.item.Item.{Item}
+use Rattle.cloak_model.specs.declared.outcome.Kernel.{Kernel}
+use Rattle.cloak_model.specs.declared.outcome.Kernel.TheVariants as kernel
+use Rattle.cloak_model.specs.declared.view.View.{View}
+use Rattle.cloak_model.specs.Ahead.{is_owed, settle_found, settle_while, settle_touched, settled_step, made_after}
+use Rattle.cloak_model.specs.Asking.{Told}
+use Rattle.cloak_model.specs.Cloaking.{CloakedMemory, AfterSettling, settle}
+use Rattle.cloak_model.specs.Contexts.{Context, context_at, domain_of, slot_of, is_root}
+use Rattle.cloak_model.specs.Csr.{satp_of, sum_of, mxr_of}
+use Rattle.cloak_model.specs.DomainState.{Domain}
+use Rattle.cloak_model.specs.DomainStep.{domain_step, interrupt}
+use Rattle.cloak_model.specs.Hart.{Hart, started}
+use Rattle.cloak_model.specs.HostCalls.{After}
+use Rattle.cloak_model.specs.Joint.{Moment, Turn, next_hart, hart_in, cloak_of, cloak_outside, memory_of, after_kernel_step, outside_ended, after_outside, outside_step, domain_ended, with_domain, after_domain_step, pages_for, interrupt_ended, after_interrupt, by_interrupt, inside_step, turn_of, joint_step}
+use Rattle.cloak_model.specs.KernelStep.{ticked}
+use Rattle.cloak_model.specs.Memory.{frame_of}
+use Rattle.cloak_model.specs.Parts.{Joint}
+use Rattle.cloak_model.specs.Resuming.{resume}
+use Rattle.cloak_model.specs.Touched.{touched}
+use Rattle.cloak_model.specs.World.{World, Cloak, Flat, Cloaked, Alone, items_of}
+use Rattle.settling_ahead.proofs.Laws.{keeps_rest}
+use Rattle.settling_ahead.proofs.Touching.{writes_touched_alone}
+use Rattle.kernel_isolation.proofs.Numbers.{number_at}
+use Rattle.kernel_isolation.proofs.Turns.{IsSteady}
+use Rattle.domain_isolation.proofs.StepScripts.{of_domain, step_scripted}
+use Rattle.cause_law.specs.Causes.{Differs, stepping_hart, table_leads, kernel_ending, AsksToResume, context_of, can_run, presented_root, Presents}
+use Rattle.cause_law.proofs.Kept.{IsKept, kept_settled}
+use Rattle.cause_law.proofs.Asked.{IsCalm, HasMet, Calm, Met, EndsCalmOrMet, played_meets}
+use Rattle.cause_law.proofs.Resumed.{space_id, refusal, resume_refuses, resume_leaves}
+
+no_violation : {P : Type 0} (v : Violation) → None ≡ Some v → P
+no_violation v is = absurd cc
+
+same_violation : (v w : Violation) → Some v ≡ Some w → v ≡ w
+same_violation v w is = cc
+
+-- A program's step met a page that differs.
+record PageMet (h : Hart) (d : ℕ) (t : Turn) (v : Violation) : Type 0 where
+  pub page : PageId
+  pub frame : ℕ
+  pub is : v ≡ violation.Page page (record { 0 = frame })
+  pub own : page.domain ≡ d
+  pub differs : Differs page frame t.joint.memory
+  pub va : ℕ
+  pub kind : Kind
+  pub walked : Walked
+  pub leads : table_leads h t.joint.memory.ram kind va ≡ Ok walked
+  pub there : frame_of walked.pa ≡ frame
+
+-- how a program on this hart sees memory
+abbrev view_on : Hart → ℕ → View
+view_on h d = record { satp = satp_of h.csrs; sum = sum_of h.csrs; mxr = mxr_of h.csrs; domain = d }
+
+record Meets (h : Hart) (d : ℕ) (t : Turn) : Type 0 where
+  pub kept : IsKept t.joint.memory
+  pub met : (v : Violation) → t.violation ≡ Some v → PageMet h d t v
+
+quiet_meets : (h : Hart) (d : ℕ) (t : Turn) → IsKept t.joint.memory → t.violation ≡ None → Meets h d t
+quiet_meets h d t kept none = record { kept = kept; met = λ v is. no_violation v (sym none ∙ is) }
+
+-- A hart inside.
+
+ended_calm : (j : Joint) (number : ℕ) (h : Hart) (d e : ℕ) (c : Cloak) (g : Went) → IsKept j.memory → IsCalm c →
+    Meets h d (domain_ended j number h e (Cloaked c) g)
+unfolding domain_ended
+ended_calm j number h d e c went.Stay kept calm = quiet_meets h d _ kept refl
+ended_calm j number h d e c went.Stopped kept calm = quiet_meets h d _ kept calm.none
+ended_calm j number h d e c (went.Remapped space) kept calm = quiet_meets h d _ kept refl
+ended_calm j number h d e c (went.Leave s) kept calm = quiet_meets h d _ kept refl
+ended_calm j number h d e c (went.SpaceGone space s) kept calm =
+    quiet_meets h d _ (record { places = kept.places; once = kept.once }) refl
+
+ended_met : (j : Joint) (number : ℕ) (h : Hart) (d e : ℕ) (c : Cloak) (g : Went) → j.memory ≡ c.memory →
+    g ≡ went.Stopped → HasMet (view_on h e) d c → Meets h d (domain_ended j number h e (Cloaked c) g)
+unfolding domain_ended
+ended_met j number h d e c went.Stopped same is met = record {
+  kept = subst IsKept (sym same) met.kept;
+  met = λ v violates. record {
+    page = met.page;
+    frame = met.frame;
+    is = same_violation v _ (sym violates ∙ met.violation);
+    own = met.own;
+    differs = subst (Differs met.page met.frame) (sym same) met.differs;
+    va = met.va;
+    kind = met.kind;
+    walked = met.walked;
+    leads = subst (λ (x : CloakedMemory). table_leads h x.ram met.kind met.va ≡ Ok met.walked) (sym same) met.leads;
+    there = met.there;
+  };
+}
+ended_met j number h d e c went.Stay same is met = absurd cc
+ended_met j number h d e c (went.Remapped space) same is met = absurd cc
+ended_met j number h d e c (went.Leave s) same is met = absurd cc
+ended_met j number h d e c (went.SpaceGone space s) same is met = absurd cc
+
+told_meets : (j : Joint) (number : ℕ) (h : Hart) (d e : ℕ) (v : World) (g : Went) (new : Domain) →
+    Calm v ⊎ ((g ≡ went.Stopped) × Met (view_on h e) d v) →
+    Meets h d (domain_ended (record (with_domain e new j) { memory = memory_of v j.memory }) number h e v g)
+told_meets j number h d e (Flat ram) g new (inl calm) = absurd calm
+told_meets j number h d e (Flat ram) g new (inr met) = absurd met.1
+told_meets j number h d e (Cloaked c) g new (inl calm) = ended_calm _ number h d e c g calm.kept calm
+told_meets j number h d e (Cloaked c) g new (inr met) = ended_met _ number h d e c g refl met.0 met.1
+told_meets j number h d e (Alone x) g new (inl calm) = absurd calm
+told_meets j number h d e (Alone x) g new (inr met) = absurd met.1
+
+played_turn : (j : Joint) (number : ℕ) (h : Hart) (e slot : ℕ) (was : Domain) (c : Cloak) → c.view ≡ view_on h e →
+    IsCalm c →
+    Meets h was.control.number (after_domain_step j number h e (domain_step slot was (Cloaked c)))
+unfolding after_domain_step
+played_turn j number h e slot was c view calm =
+    let s = step_scripted slot was in
+    let ends : EndsCalmOrMet (of_domain slot was) (view_on h e) was.control.number (domain_step slot was (Cloaked c)) =
+    subst (EndsCalmOrMet (of_domain slot was) (view_on h e) was.control.number) (sym (s.plays (Cloaked c)))
+    (played_meets (of_domain slot was) (view_on h e) s.script (Cloaked c) s.ends view calm) in
+    told_meets j number h was.control.number e _ _ _ ends
+
+interrupt_meets : (j : Joint) (number : ℕ) (h : Hart) (d : ℕ) (items : List Item) (g : Went) → IsKept j.memory →
+    Meets h d (interrupt_ended j number h items g)
+unfolding interrupt_ended
+interrupt_meets j number h d items went.Stay kept = quiet_meets h d _ kept refl
+interrupt_meets j number h d items went.Stopped kept = quiet_meets h d _ kept refl
+interrupt_meets j number h d items (went.Remapped space) kept = quiet_meets h d _ kept refl
+interrupt_meets j number h d items (went.Leave s) kept = quiet_meets h d _ kept refl
+interrupt_meets j number h d items (went.SpaceGone space s) kept = quiet_meets h d _ kept refl
+
+domain_meets : (due : Bool) (j : Joint) (number : ℕ) (h : Hart) (ctx : ℕ) (was : Domain) → IsKept j.memory →
+    was.control.number ≡ domain_of ctx →
+    Meets h (domain_of ctx) (by_interrupt due j number h (domain_of ctx) (slot_of ctx) was)
+unfolding by_interrupt after_interrupt
+domain_meets true j number h ctx was kept same =
+    interrupt_meets _ number h (domain_of ctx) _ (interrupt (slot_of ctx) was.control).went kept
+domain_meets false j number h ctx was kept same =
+    let e = domain_of ctx in
+    let c : Cloak = cloak_of j.memory h e (pages_for was (context_at was.control.contexts (slot_of ctx))) in
+    subst (λ (n : ℕ). Meets h n (after_domain_step j number h e (domain_step (slot_of ctx) was (Cloaked c)))) same
+    (played_turn j number h e (slot_of ctx) was c refl (record { kept = kept; none = refl }))
+
+inside_meets : (j : Joint) (number : ℕ) (h : Hart) (ctx : ℕ) (found : Option Domain) → IsSteady j → IsKept j.memory →
+    slice_get j.domains (domain_of ctx) ≡ found →
+    Meets h (domain_of ctx) (inside_step j number h (domain_of ctx) (slot_of ctx) found)
+unfolding inside_step
+inside_meets j number h ctx None steady kept is = quiet_meets h (domain_of ctx) _ kept refl
+inside_meets j number h ctx (Some was) steady kept is =
+    domain_meets _ j number h ctx was kept (number_at (domain_of ctx) j.domains was steady.programs is)
+
+-- A hart outside.
+
+found_kept : (o : Option ℕ) (next : CloakedMemory → AfterSettling) (m : CloakedMemory) → IsKept m →
+    ((n : CloakedMemory) → IsKept n → IsKept (next n).memory) → IsKept (settle_found o next m).memory
+found_kept None next m kept more = kept
+found_kept (Some f) next m kept more = more (settle f m).memory (kept_settled f m kept)
+
+while_kept : (frames : List (List ℕ) → List ℕ) (n : ℕ) (m : CloakedMemory) → IsKept m →
+    IsKept (settle_while frames n m).memory
+unfolding settle_while
+while_kept frames zero m kept = kept
+while_kept frames (suc n) m kept =
+    found_kept (find (is_owed m) (frames m.ram)) (settle_while frames n) m kept (λ x there. while_kept frames n x there)
+
+touched_kept : (h : Hart) (disk : List ℕ) (m : CloakedMemory) → IsKept m → IsKept (settle_touched h disk m).memory
+unfolding settle_touched
+touched_kept h disk m kept = while_kept (λ ram. touched h ram disk) (length m.ledger.owed) m kept
+
+-- the machine behind the plain step of a hart outside
+abbrev pub told_outside : Moment → Told After
+told_outside m = settled_step (stepping_hart m) m.joint.disk (cloak_outside m.joint.memory (stepping_hart m))
+
+abbrev pub joint_outside : Moment → Joint
+joint_outside m = after_kernel_step m.joint (next_hart m) (told_outside m)
+
+record Outside (m : Moment) : Type 0 where
+  pub kept : IsKept (joint_outside m).memory
+  pub root : (joint_outside m).memory.ledger.root ≡ m.joint.memory.ledger.root
+
+outside_leaves : (m : Moment) → IsKept m.joint.memory → Outside m
+unfolding settled_step made_after
+outside_leaves m kept =
+    let h = stepping_hart m in
+    let s = settle_touched h m.joint.disk m.joint.memory in
+    let there = touched_kept h m.joint.disk m.joint.memory kept in
+    record {
+      kept = record {
+        places = there.places ∙ sym (writes_touched_alone h m.joint.disk s.memory.ram).count;
+        once = there.once;
+      };
+      root = (keeps_rest h m.joint.disk m.joint.memory).root;
+    }
+
+-- the step, by its ending
+pub outside_turn : (m : Moment) (e : Kernel) → (stepping_hart m).inside ≡ None → kernel_ending m ≡ e →
+    joint_step m ≡ outside_ended (joint_outside m) (next_hart m) (items_of (told_outside m).world) e
+unfolding joint_step turn_of outside_step after_outside
+outside_turn m e outside is =
+    ap (turn_of m.joint (next_hart m) (stepping_hart m)) outside
+    ∙ ap (outside_ended (joint_outside m) (next_hart m) (items_of (told_outside m).world)) is
+
+-- Every step.
+
+pub record TurnPresents (m : Moment) : Type 0 where
+  pub kept : IsKept (joint_step m).joint.memory
+  pub presents : (v : Violation) → (joint_step m).violation ≡ Some v → Presents m v
+
+inside_turn : (m : Moment) (ctx : ℕ) → (stepping_hart m).inside ≡ Some ctx → IsSteady m.joint →
+    IsKept m.joint.memory → Meets (ticked (stepping_hart m)) (domain_of ctx) (joint_step m)
+unfolding joint_step turn_of
+inside_turn m ctx inside steady kept =
+    subst (λ (t : Turn). Meets (ticked (stepping_hart m)) (domain_of ctx) t)
+    (sym (ap (turn_of m.joint (next_hart m) (stepping_hart m)) inside))
+    (inside_meets m.joint (next_hart m) (ticked (stepping_hart m)) ctx _ steady kept refl)
+
+inside_presents : (m : Moment) (ctx : ℕ) → (stepping_hart m).inside ≡ Some ctx → IsSteady m.joint →
+    IsKept m.joint.memory → TurnPresents m
+inside_presents m ctx inside steady kept =
+    let meets = inside_turn m ctx inside steady kept in
+    record {
+      kept = meets.kept;
+      presents = λ v violates.
+          let met = meets.met v violates in
+          subst (Presents m) (sym met.is)
+          (record {
+            ctx = ctx;
+            runs = inside;
+            own = met.own;
+            va = met.va;
+            kind = met.kind;
+            walked = met.walked;
+            leads = met.leads;
+            there = met.there;
+            differs = met.differs;
+          });
+    }
+
+-- resuming, as the step's ending
+pub record ResumedSo (m : Moment) (ctx : ℕ) : Type 0 where
+  pub kept : IsKept (joint_step m).joint.memory
+  pub violates : (joint_step m).violation ≡ refusal m.joint (presented_root m) ctx (context_of m.joint ctx)
+
+refusal_root : (j j' : Joint) (satp ctx : ℕ) (o : Option Context) → j'.memory.ledger.root ≡ j.memory.ledger.root →
+    refusal j' satp ctx o ≡ refusal j satp ctx o
+refusal_root j j' satp ctx None same = refl
+refusal_root j j' satp ctx (Some c) same =
+    ap (λ (root : _ → Option ℕ). cond (is_some c.on) (Some (violation.Context ctx))
+    (cond (is_root satp (root (space_id ctx c))) None (Some (violation.Mapping ctx satp)))) same
+
+pub resumed_so : (m : Moment) (ctx reply : ℕ) → (stepping_hart m).inside ≡ None →
+    kernel_ending m ≡ kernel.Resume ctx reply → IsKept m.joint.memory → ResumedSo m ctx
+unfolding outside_ended
+resumed_so m ctx reply outside is kept =
+    let j = joint_outside m in
+    let number = next_hart m in
+    let before = outside_leaves m kept in
+    let satp : ℕ = satp_of (hart_in j number).csrs in
+    let r = resume j number satp ctx reply in
+    let leaves = resume_leaves j number satp ctx reply in
+    let turn : joint_step m ≡ outside_ended j number (items_of (told_outside m).world) (kernel.Resume ctx reply) =
+    outside_turn m (kernel.Resume ctx reply) outside is in
+    let joint : (joint_step m).joint ≡ r.joint = ap (λ (t : Turn). t.joint) turn in
+    let root : satp ≡ presented_root m =
+    ap (λ (harts : List Hart). satp_of (slice_index_or harts number (started 0 0)).csrs)
+    (sym (ap (λ (x : Joint). x.harts) joint ∙ leaves.harts)) in
+    record {
+      kept = subst (λ (x : Joint). IsKept x.memory) (sym joint) (leaves.kept before.kept);
+      violates = ap (λ (t : Turn). t.violation) turn
+          ∙ (resume_refuses j number satp ctx reply
+          ∙ (refusal_root m.joint j satp ctx (context_of m.joint ctx) before.root
+          ∙ ap (λ (x : ℕ). refusal m.joint x ctx (context_of m.joint ctx)) root));
+    }
+
+-- what the refusal is of
+refused_root : (m : Moment) (ctx : ℕ) (asks : AsksToResume m ctx) (c : Context) (v : Violation) (first : Option ℕ)
+    (b : Bool) → context_of m.joint ctx ≡ Some c → c.on ≡ None →
+    m.joint.memory.ledger.root (space_id ctx c) ≡ first → is_root (presented_root m) first ≡ b →
+    cond b None (Some (violation.Mapping ctx (presented_root m))) ≡ Some v → Presents m v
+refused_root m ctx asks c v first true there rests recorded is violates = no_violation v violates
+refused_root m ctx asks c v None false there rests recorded is violates = absurd (false≢true (sym is))
+refused_root m ctx asks c v (Some first) false there rests recorded is violates =
+    subst (Presents m) (same_violation (violation.Mapping ctx (presented_root m)) v violates)
+    (record {
+      asks = asks;
+      context = c;
+      there = there;
+      rests = rests;
+      presented = refl;
+      first = first;
+      recorded = recorded;
+      other = λ same. absurd (false≢true (sym is ∙ eq-eqb first (presented_root m) same));
+    })
+
+refused_on : (m : Moment) (ctx : ℕ) (asks : AsksToResume m ctx) (c : Context) (v : Violation) (on : Option _) →
+    context_of m.joint ctx ≡ Some c → c.on ≡ on →
+    cond (is_some on) (Some (violation.Context ctx))
+    (cond (is_root (presented_root m) (m.joint.memory.ledger.root (space_id ctx c))) None
+    (Some (violation.Mapping ctx (presented_root m)))) ≡ Some v → Presents m v
+refused_on m ctx asks c v (Some h) there is violates =
+    subst (Presents m) (same_violation (violation.Context ctx) v violates)
+    (record {
+      asks = asks;
+      cannot = ap can_run there ∙ ap is_none is;
+    })
+refused_on m ctx asks c v None there is violates = refused_root m ctx asks c v _ _ there is refl refl violates
+
+refused : (m : Moment) (ctx : ℕ) (asks : AsksToResume m ctx) (v : Violation) (o : Option Context) →
+    context_of m.joint ctx ≡ o → refusal m.joint (presented_root m) ctx o ≡ Some v → Presents m v
+refused m ctx asks v None there violates =
+    subst (Presents m) (same_violation (violation.Context ctx) v violates)
+    (record { asks = asks; cannot = ap can_run there })
+refused m ctx asks v (Some c) there violates = refused_on m ctx asks c v c.on there refl violates
+
+plain_presents : (m : Moment) (t : Turn) → joint_step m ≡ t → IsKept t.joint.memory → t.violation ≡ None →
+    TurnPresents m
+plain_presents m t is kept none = record {
+  kept = subst (λ (x : Turn). IsKept x.joint.memory) (sym is) kept;
+  presents = λ v violates. no_violation v (sym (ap (λ (x : Turn). x.violation) is ∙ none) ∙ violates);
+}
+
+outside_by : (m : Moment) (e : Kernel) → (stepping_hart m).inside ≡ None → kernel_ending m ≡ e →
+    IsKept m.joint.memory → TurnPresents m
+unfolding outside_ended
+outside_by m kernel.Stay outside is kept =
+    plain_presents m _ (outside_turn m kernel.Stay outside is) (outside_leaves m kept).kept refl
+outside_by m (kernel.Put b) outside is kept =
+    plain_presents m _ (outside_turn m (kernel.Put b) outside is) (outside_leaves m kept).kept refl
+outside_by m (kernel.Halt value) outside is kept =
+    plain_presents m _ (outside_turn m (kernel.Halt value) outside is) (outside_leaves m kept).kept refl
+outside_by m (kernel.Resume ctx reply) outside is kept =
+    let r = resumed_so m ctx reply outside is kept in
+    record {
+      kept = r.kept;
+      presents = λ v violates.
+          refused m ctx (record { answer = reply; outside = outside; asks = is }) v (context_of m.joint ctx) refl
+          (sym r.violates ∙ violates);
+    }
+
+turn_by : (m : Moment) (o : Option ℕ) → (stepping_hart m).inside ≡ o → IsSteady m.joint → IsKept m.joint.memory →
+    TurnPresents m
+turn_by m None is steady kept = outside_by m (kernel_ending m) is refl kept
+turn_by m (Some ctx) is steady kept = inside_presents m ctx is steady kept
+
+pub turn_presents : (m : Moment) → IsSteady m.joint → IsKept m.joint.memory → TurnPresents m
+turn_presents m steady kept = turn_by m _ refl steady kept

@@ -1,0 +1,29 @@
+//! Laws on the definitions alone: why a joint run (`cloak_model`, `specs/Run`) is stopped by a violation, and what its
+//! closing leaves. A violation comes only where the kernel's side presented something other than what is recorded: a
+//! page whose bytes are not those last shown of it, a context that cannot run, or a page table other than the first one
+//! of a space; and presented so, the run stops so, unless a draw is missing, which goes before. When a run was closed, no
+//! frame has anything left to show: all of RAM, of which the report gives the digest, is what the kernel may see.
+#![tactic(auto)]
+
+ghost use Rattle.cause_law.specs.Causes.{ContextIsRefused, MappingIsRefused, PageIsRefused, StoppedIsLast, ViolationHasCause};
+ghost use Rattle.cause_law.specs.Closing.{ClosingOwesNothing, ClosingShowsOwed, ClosingSparesOthers};
+
+/// What the closing of a run shows, and that it leaves nothing to show. It does nothing: its contract is the law.
+pub fn law_of_closing()
+    ensures nothing_owed { ClosingOwesNothing }
+    ensures shown { ClosingShowsOwed }
+    ensures others { ClosingSparesOthers }
+{}
+
+/// A run is stopped by a violation only where that was presented. It does nothing: its contract is the law.
+pub fn law_of_violations()
+    ensures { ViolationHasCause }
+{}
+
+/// What is presented in place of what is recorded stops the run. It does nothing: its contract is the law.
+pub fn law_of_refusals()
+    ensures context { ContextIsRefused }
+    ensures mapping { MappingIsRefused }
+    ensures page { PageIsRefused }
+    ensures stopped { StoppedIsLast }
+{}
