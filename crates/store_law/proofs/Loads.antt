@@ -1,6 +1,5 @@
 -- Each completed load of a run gives what its page has newest.
-use Rattle.std.proofs.Common.{◌≡◌, ◌∙◌, ◌⊎◌, inl, inr, ℕ, zero, suc, ◌+◌, Bool, true, false, List, [], ◌∷◌, ◌++◌, take, slice_get, slice_set, Option, Some, None, Result, Ok, Err, refl, sym, ap, subst}
-use Rattle.cloak_base.specs.Random.{Random}
+use Rattle.std.proofs.Common.{◌≡◌, ◌∙◌, ℕ, zero, suc, Bool, true, false, List, [], ◌∷◌, slice_get, slice_set, Option, Some, None, Result, Ok, Err, refl, sym, subst}
 use Rattle.cloak_base.specs.declared.names.PageId.{PageId}
 use Rattle.cloak_model.specs.declared.context.Phase.{Phase}
 use Rattle.cloak_model.specs.declared.context.Phase.TheVariants.{Plain, CopyIn, Waiting, CopyOut}
@@ -19,7 +18,7 @@ use Rattle.cloak_model.specs.Asking.{Told}
 use Rattle.cloak_model.specs.Calls.{Copy, copy_in_step, copy_out_step}
 use Rattle.cloak_model.specs.Contexts.{Context, Admitted, context_at, domain_of, slot_of}
 use Rattle.cloak_model.specs.DomainState.{Control, Domain}
-use Rattle.cloak_model.specs.DomainStep.{DomainStepped, instruction_ended, copy_ended, phase_step, step_if, domain_step}
+use Rattle.cloak_model.specs.DomainStep.{instruction_ended, copy_ended, phase_step, step_if, domain_step}
 use Rattle.cloak_model.specs.Hart.{Hart}
 use Rattle.cloak_model.specs.InsideStep.{AfterInstruction}
 use Rattle.cloak_model.specs.Joint.{Moment, Turn, cloak_of, outside_ended, after_outside, outside_step, domain_ended, after_domain_step, pages_for, interrupt_ended, after_interrupt, by_interrupt, inside_step, turn_of, joint_step}

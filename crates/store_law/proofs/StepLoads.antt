@@ -1,7 +1,7 @@
 -- What a step of a program loads of its own pages is what they have newest.
-use Rattle.std.proofs.Common.{◌≡◌, ◌∙◌, ℕ, ◌%◌, inl, inr, Bool, true, false, List, [], ◌∷◌, ◌++◌, Option, Some, None, ℤ, refl, sym, ap, subst}
+use Rattle.std.proofs.Common.{◌≡◌, ◌∙◌, ℕ, ◌%◌, inl, inr, Bool, true, false, List, Option, Some, None, ℤ, refl, ap, subst}
 use Rattle.std.specs.Prelude.{◌==◌}
-use Rattle.cloak_base.specs.declared.names.Kind.TheVariants.{Fetch, Load, Store}
+use Rattle.cloak_base.specs.declared.names.Kind.TheVariants.{Fetch, Load}
 use Rattle.cloak_base.specs.declared.names.PageId.{PageId}
 use Rattle.rv_isa.specs.declared.instr.Instr.{Instr}
 use Rattle.rv_isa.specs.declared.instr.Instr.TheVariants as instr
@@ -14,7 +14,7 @@ use Rattle.cloak_model.specs.declared.outcome.Effect.{Effect}
 use Rattle.cloak_model.specs.declared.outcome.Effect.TheVariants as does
 use Rattle.cloak_model.specs.Asking.{Told}
 use Rattle.cloak_model.specs.AskPages.{ask_read}
-use Rattle.cloak_model.specs.Calls.{Copy, in_put, in_reached, in_placed, in_step, copy_in_step, out_reached, out_got, out_placed, out_step, copy_out_step, byte_address, buffer, area, is_cloaked}
+use Rattle.cloak_model.specs.Calls.{Copy, in_put, in_reached, in_placed, in_step, copy_in_step, out_reached, out_got, out_placed, out_step, copy_out_step, byte_address, buffer}
 use Rattle.cloak_model.specs.Contexts.{Context}
 use Rattle.cloak_model.specs.Effect.{IsWidth, offset, effect, jump, go, branch, load_effect, store_effect}
 use Rattle.cloak_model.specs.InsideStep.{AfterInstruction, loaded_inside, load_reached, load_got, load_inside, store_reached, store_put, store_inside, system_inside, done_inside, decoded_inside, executed_inside, fetched_inside, fetch, instruction_inside}
