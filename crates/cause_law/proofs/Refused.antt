@@ -35,10 +35,10 @@ mismatch g c m = record {
   answer = Mismatch;
 }
 
-abbrev untouched : CloakedMemory → AfterSettling
+abbrev pub untouched : CloakedMemory → AfterSettling
 untouched m = record { memory = m; ciphers = []; missed = false }
 
-clean_settle : (g : ℕ) (m : CloakedMemory) → owed_in m g ≡ None → settle g m ≡ untouched m
+pub clean_settle : (g : ℕ) (m : CloakedMemory) → owed_in m g ≡ None → settle g m ≡ untouched m
 unfolding settle settle_if
 clean_settle g m clean = ap (λ (o : Option PageId). settle_if g o m) clean
 

@@ -5,7 +5,7 @@
 //! frame has anything left to show: all of RAM, of which the report gives the digest, is what the kernel may see.
 #![tactic(auto)]
 
-ghost use Rattle.cause_law.specs.Causes.{ContextIsRefused, MappingIsRefused, PageIsRefused, StoppedIsLast, ViolationHasCause};
+ghost use Rattle.cause_law.specs.Causes.{ContextIsRefused, FetchIsRefused, MappingIsRefused, PageIsRefused, StoppedIsLast, ViolationHasCause};
 ghost use Rattle.cause_law.specs.Closing.{ClosingOwesNothing, ClosingShowsOwed, ClosingSparesOthers};
 
 /// What the closing of a run shows, and that it leaves nothing to show. It does nothing: its contract is the law.
@@ -25,5 +25,6 @@ pub fn law_of_refusals()
     ensures context { ContextIsRefused }
     ensures mapping { MappingIsRefused }
     ensures page { PageIsRefused }
+    ensures fetch { FetchIsRefused }
     ensures stopped { StoppedIsLast }
 {}
