@@ -1,9 +1,8 @@
 -- The page of a context's next instruction, presented in a frame that differs, stops the run.
-use Rattle.std.proofs.Common.{◌≡◌, ◌∙◌, ℕ, Bool, true, false, cond, List, [], ◌∷◌, ◌++◌, length, Option, Some, None, Result, Ok, Err, is_some, refl, sym, ap, subst, append-nil}
-use Rattle.std.specs.Prelude.{slice_get}
+use Rattle.std.proofs.Common.{◌≡◌, ◌∙◌, ℕ, Bool, true, false, cond, List, [], ◌∷◌, ◌++◌, Option, Some, None, Result, Ok, Err, is_some, refl, sym, ap, subst, append-nil}
 use Rattle.std.specs.List.{find}
 use Rattle.std.specs.Option.{option_or}
-use Rattle.std.proofs.lemmas.Bool.{false≢true, false_from_ne_true}
+use Rattle.std.proofs.lemmas.Bool.{false≢true}
 use Rattle.std.proofs.lemmas.List.Folds.{find-append}
 use Rattle.cloak_base.specs.declared.causes.Violation.{Violation}
 use Rattle.cloak_base.specs.declared.causes.Violation.TheVariants as violation
@@ -23,24 +22,23 @@ use Rattle.cloak_model.specs.Ahead.{is_owed}
 use Rattle.cloak_model.specs.Ask.{shown_word, ask_word, ask_second, ask_after, ask_first, ask_walk, ask_inside, ask_translate}
 use Rattle.cloak_model.specs.AskPages.{ask_inside_address, ask_reach}
 use Rattle.cloak_model.specs.Asking.{Told}
-use Rattle.cloak_model.specs.Cloaking.{CloakedMemory, AfterSettling, owed_in, settle}
+use Rattle.cloak_model.specs.Cloaking.{CloakedMemory, AfterSettling, owed_in}
 use Rattle.cloak_model.specs.Contexts.{Context, context_at, domain_of, slot_of}
-use Rattle.cloak_model.specs.Csr.{interrupt_due}
 use Rattle.cloak_model.specs.DomainState.{Domain}
 use Rattle.cloak_model.specs.DomainStep.{DomainStepped, within, instruction_ended, phase_step, step_if, domain_step}
 use Rattle.cloak_model.specs.Hart.{Hart}
 use Rattle.cloak_model.specs.Hypercalls.{stopped}
 use Rattle.cloak_model.specs.InsideStep.{fetched_inside, fetch, instruction_inside}
-use Rattle.cloak_model.specs.Joint.{Moment, Turn, next_hart, cloak_of, domain_ended, after_domain_step, pages_for, by_interrupt, inside_step, turn_of, joint_step}
+use Rattle.cloak_model.specs.Joint.{Moment, next_hart, cloak_of, domain_ended, after_domain_step, pages_for, by_interrupt, inside_step, turn_of, joint_step}
 use Rattle.cloak_model.specs.KernelStep.{ticked}
 use Rattle.cloak_model.specs.Memory.{frame_of, is_in_ram, value_at}
 use Rattle.cloak_model.specs.Parts.{Joint}
 use Rattle.cloak_model.specs.Resources.{page_at}
 use Rattle.cloak_model.specs.Walk.{Walk, FirstWord, Ends, GoesOn, has_paging, without_paging, first_entry, first_word, second_word, access_fault, word_in_ram, walk_after, walk, table_at, tables_after, walk_tables}
-use Rattle.cloak_model.specs.World.{World, Cloak, Flat, Cloaked, Alone, settled, settled_in, violation_of, cipher_items}
-use Rattle.cause_law.specs.Causes.{Differs, stepping_hart, table_leads, IsRefused, PresentsFetch}
+use Rattle.cloak_model.specs.World.{World, Cloak, Cloaked, settled, violation_of, cipher_items}
+use Rattle.cause_law.specs.Causes.{Differs, stepping_hart, IsRefused, PresentsFetch}
 use Rattle.cause_law.proofs.Leading.{access_of}
-use Rattle.cause_law.proofs.Refused.{untouched, clean_settle, page_is_refused}
+use Rattle.cause_law.proofs.Refused.{clean_settle, page_is_refused}
 
 -- A walk whose table frames are owed nothing changes nothing.
 
