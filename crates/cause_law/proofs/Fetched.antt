@@ -153,7 +153,8 @@ fetch_stops slot d c q w there plain lies stops =
     let t = ask_reach q c.pc Fetch w in
     ap (λ (o : Option Context). step_if o slot d w) there
     ∙ (ap (λ (p : Phase). phase_step p slot c d w) plain
-    ∙ (ap (λ (o : Option PageId). let u = fetch n r c o w in instruction_ended slot d u.answer.context u.answer.ending u.world)
+    ∙ (ap (λ (o : Option PageId). let u = fetch n r c o w in
+    instruction_ended slot d u.answer.context u.answer.ending u.world)
     lies
     ∙ ap (λ (a : Answer). let u = fetched_inside n r c q a t.world in
     instruction_ended slot d u.answer.context u.answer.ending u.world) stops))

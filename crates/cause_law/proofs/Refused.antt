@@ -76,7 +76,8 @@ offered_refuses : (q : PageId) (g : ℕ) (write : Bool) (c : Cloak) → Differs 
 unfolding ask_offer offered_by replies
 offered_refuses q g write c d =
     subst (λ (o : AfterOffer). IsRefused q g (offered_by q g o.answer
-    (Cloaked (record c { memory = o.memory; items = c.items ++ cipher_items o.ciphers })))) (sym (offer_refuses q g write c.memory d))
+    (Cloaked (record c { memory = o.memory; items = c.items ++ cipher_items o.ciphers }))))
+    (sym (offer_refuses q g write c.memory d))
     (record { answer = refl; violation = refl })
 
 drawn_refuses : (q : PageId) (g : ℕ) (b : Bool) (t u : Told Answer) → b ≡ false → IsRefused q g u →

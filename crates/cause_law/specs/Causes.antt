@@ -52,8 +52,8 @@ stepping_hart m = hart_in m.joint (next_hart m)
 
 -- A page that is not the recorded one.
 
--- A frame has other bytes than those that the kernel was last shown of a page. The kernel sees the frame's bytes, and no
--- frame hides newer ones of the page.
+-- A frame has other bytes than those that the kernel was last shown of a page. The kernel sees the frame's bytes, and
+-- no frame hides newer ones of the page.
 pub record Differs (q : PageId) (f : ℕ) (m : CloakedMemory) : Type 0 where
   pub shown : List ℕ
   pub recorded : m.ledger.recorded q ≡ Some shown
@@ -176,9 +176,9 @@ PageIsRefused =
     c'.memory.ledger.missed ≡ false → Differs q (frame_of pa) c'.memory →
     IsRefused q (frame_of pa) (ask_reach q va kind (Cloaked c))
 
--- The context that a hart runs is to fetch its next instruction from page q. As the step begins, the kernel's page table
--- leads the fetch to a frame in RAM that differs from what was last shown of q, and none of its table frames is owed a
--- page, so that nothing is settled on the way.
+-- The context that a hart runs is to fetch its next instruction from page q. As the step begins, the kernel's page
+-- table leads the fetch to a frame in RAM that differs from what was last shown of q, and none of its table frames is
+-- owed a page, so that nothing is settled on the way.
 pub record PresentsFetch (m : Moment) (q : PageId) (f : ℕ) : Type 0 where
   pub ctx : ℕ
   pub runs : (stepping_hart m).inside ≡ Some ctx
@@ -210,8 +210,8 @@ pub record HasStopped (r : Run) (t : Turn) : Type 0 where
   pub met : t.violation ≡ Some violates
   pub stop : r.stop ≡ stop.Violation violates
 
--- A step in which a question of a program was stopped is the last of the run, which stops with the violation that it met
--- unless a draw is missing.
+-- A step in which a question of a program was stopped is the last of the run, which stops with the violation that the
+-- step met, unless a draw is missing.
 pub record StopsTheRun (r : Run) (n : ℕ) (t : Turn) : Type 0 where
   pub last : length r.turns ≡ suc n
   pub stop : (r.stop ≡ stop.NoRandom) ⊎ HasStopped r t
