@@ -182,7 +182,8 @@ ready q g from m ciphers kept = record {
   more = λ is. let clash : Ready ≡ Mismatch = is in absurd cc;
 }
 
-taken_kept : (q : PageId) (g : ℕ) (write : Bool) (m : CloakedMemory) → IsKept m → IsHome q m → IsKept (taken q g write m)
+taken_kept : (q : PageId) (g : ℕ) (write : Bool) (m : CloakedMemory) → IsKept m → IsHome q m →
+    IsKept (taken q g write m)
 taken_kept q g true m kept home = kept_owed q g m kept home
 taken_kept q g false m kept home = kept
 

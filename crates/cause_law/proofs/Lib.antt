@@ -8,4 +8,5 @@ pub mod Steps
 pub mod Opened
 pub mod Refused
 pub mod Stopped
+pub mod Fetched
 pub mod Runs

@@ -35,10 +35,10 @@ mismatch g c m = record {
   answer = Mismatch;
 }
 
-abbrev untouched : CloakedMemory → AfterSettling
+abbrev pub untouched : CloakedMemory → AfterSettling
 untouched m = record { memory = m; ciphers = []; missed = false }
 
-clean_settle : (g : ℕ) (m : CloakedMemory) → owed_in m g ≡ None → settle g m ≡ untouched m
+pub clean_settle : (g : ℕ) (m : CloakedMemory) → owed_in m g ≡ None → settle g m ≡ untouched m
 unfolding settle settle_if
 clean_settle g m clean = ap (λ (o : Option PageId). settle_if g o m) clean
 
@@ -76,7 +76,8 @@ offered_refuses : (q : PageId) (g : ℕ) (write : Bool) (c : Cloak) → Differs 
 unfolding ask_offer offered_by replies
 offered_refuses q g write c d =
     subst (λ (o : AfterOffer). IsRefused q g (offered_by q g o.answer
-    (Cloaked (record c { memory = o.memory; items = c.items ++ cipher_items o.ciphers })))) (sym (offer_refuses q g write c.memory d))
+    (Cloaked (record c { memory = o.memory; items = c.items ++ cipher_items o.ciphers }))))
+    (sym (offer_refuses q g write c.memory d))
     (record { answer = refl; violation = refl })
 
 drawn_refuses : (q : PageId) (g : ℕ) (b : Bool) (t u : Told Answer) → b ≡ false → IsRefused q g u →

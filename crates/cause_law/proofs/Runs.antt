@@ -17,7 +17,8 @@ use Rattle.cloak_model.specs.Run.{Run, joint_run, unless_stopped, turns_from, jo
 use Rattle.kernel_isolation.proofs.Isolated.{of_opened}
 use Rattle.kernel_isolation.proofs.Opened.{is_opened}
 use Rattle.kernel_isolation.proofs.Turns.{IsSteady, turn_is_alone}
-use Rattle.cause_law.specs.Causes.{moment_at, LastStepPresents, ViolationHasCause, IsStoppedBy, ContextIsRefused, MappingIsRefused, presented_root, can_run, context_of, HasStopped, StopsTheRun, StoppedIsLast}
+use Rattle.cause_law.specs.Causes.{moment_at, LastStepPresents, ViolationHasCause, IsStoppedBy, ContextIsRefused, MappingIsRefused, presented_root, can_run, context_of, HasStopped, StopsTheRun, StoppedIsLast, FetchIsRefused}
+use Rattle.cause_law.proofs.Fetched.{fetch_violates}
 use Rattle.cause_law.proofs.Kept.{IsKept}
 use Rattle.cause_law.proofs.Opened.{opened_kept}
 use Rattle.cause_law.proofs.Resumed.{space_id, refusal}
@@ -319,3 +320,8 @@ pub stopped_is_last : StoppedIsLast
 stopped_is_last b stream budget r is n low d before after told =
     let so = run_so b stream budget r is in
     step_is_last b r so n low (told_stops (moment_at b r n) d before after (so.reaches n low).steady told)
+
+pub fetch_is_refused : FetchIsRefused
+fetch_is_refused b stream budget r is n low q f presents =
+    stopped_by b r (run_so b stream budget r is) n low (violation.Page q (record { 0 = f }))
+    (fetch_violates (moment_at b r n) q f presents)

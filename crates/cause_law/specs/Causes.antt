@@ -1,33 +1,39 @@
 -- Why a run is stopped by a violation: what the kernel's side presented in its last step.
-use Rattle.std.specs.Prelude.{ℕ, ◌≡◌, ◌≢◌, ◌<◌, ◌⊎◌, suc, Bool, false, List, [], ◌∷◌, ◌++◌, length, take, Option, Some, None, Ok, slice_get, slice_index_or, option_and_then, is_none}
+use Rattle.std.specs.Prelude.{ℕ, ◌≡◌, ◌≢◌, ◌<◌, ◌⊎◌, suc, Bool, true, false, List, [], ◌∷◌, ◌++◌, length, take, Option, Some, None, Ok, slice_get, slice_index_or, option_and_then, is_none}
+use Rattle.std.specs.List.{find}
 use Rattle.cloak_base.specs.Random.{Random}
 use Rattle.cloak_base.specs.declared.causes.Stop.TheVariants as stop
 use Rattle.cloak_base.specs.declared.causes.Violation.{Violation}
 use Rattle.cloak_base.specs.declared.causes.Violation.TheVariants as violation
 use Rattle.cloak_base.specs.declared.names.Kind.{Kind}
+use Rattle.cloak_base.specs.declared.names.Kind.TheVariants.{Fetch}
 use Rattle.cloak_base.specs.declared.names.Mode.TheVariants.{U}
 use Rattle.cloak_base.specs.declared.names.PageId.{PageId}
 use Rattle.cloak_model.specs.declared.image.Bundle.{Bundle}
+use Rattle.cloak_model.specs.declared.access.Access.{Access}
 use Rattle.cloak_model.specs.declared.access.Walked.{Walked}
 use Rattle.cloak_model.specs.declared.answer.Answer.{Answer}
 use Rattle.cloak_model.specs.declared.answer.Answer.TheVariants as answer
+use Rattle.cloak_model.specs.declared.context.Phase.TheVariants.{Plain}
 use Rattle.cloak_model.specs.declared.item.Item.{Item}
 use Rattle.cloak_model.specs.declared.item.Item.TheVariants as item
 use Rattle.cloak_model.specs.declared.outcome.Kernel.{Kernel}
 use Rattle.cloak_model.specs.declared.outcome.Kernel.TheVariants as kernel
-use Rattle.cloak_model.specs.Ahead.{settled_step}
+use Rattle.cloak_model.specs.Ahead.{is_owed, settled_step}
 use Rattle.cloak_model.specs.Asking.{Told}
 use Rattle.cloak_model.specs.AskPages.{ask_inside_address, ask_reach}
 use Rattle.cloak_model.specs.Cloaking.{CloakedMemory, owed_in}
 use Rattle.cloak_model.specs.Contexts.{Context, context_at, domain_of, slot_of}
-use Rattle.cloak_model.specs.Csr.{satp_of, sum_of, mxr_of}
+use Rattle.cloak_model.specs.Csr.{satp_of, sum_of, mxr_of, interrupt_due}
+use Rattle.cloak_model.specs.DomainState.{Domain}
 use Rattle.cloak_model.specs.Hart.{Hart}
 use Rattle.cloak_model.specs.Joint.{Moment, Turn, next_hart, hart_in, cloak_outside, joint_step}
 use Rattle.cloak_model.specs.Parts.{Joint}
 use Rattle.cloak_model.specs.KernelStep.{ticked}
-use Rattle.cloak_model.specs.Memory.{frame_of}
+use Rattle.cloak_model.specs.Memory.{frame_of, is_in_ram}
+use Rattle.cloak_model.specs.Resources.{page_at}
 use Rattle.cloak_model.specs.Run.{Run, joint_run, joint_after}
-use Rattle.cloak_model.specs.Walk.{Walk, walk}
+use Rattle.cloak_model.specs.Walk.{Walk, walk, walk_tables}
 use Rattle.cloak_model.specs.World.{Cloak, Cloaked, violation_of}
 
 -- The machine as a run goes on.
@@ -46,8 +52,8 @@ stepping_hart m = hart_in m.joint (next_hart m)
 
 -- A page that is not the recorded one.
 
--- A frame has other bytes than those that the kernel was last shown of a page. The kernel sees the frame's bytes, and no
--- frame hides newer ones of the page.
+-- A frame has other bytes than those that the kernel was last shown of a page. The kernel sees the frame's bytes, and
+-- no frame hides newer ones of the page.
 pub record Differs (q : PageId) (f : ℕ) (m : CloakedMemory) : Type 0 where
   pub shown : List ℕ
   pub recorded : m.ledger.recorded q ≡ Some shown
@@ -55,10 +61,16 @@ pub record Differs (q : PageId) (f : ℕ) (m : CloakedMemory) : Type 0 where
   pub visible : owed_in m f ≡ None
   pub newest : (g : ℕ) → owed_in m g ≢ Some q
 
--- where the page table of a hart leads an access of a program, in RAM as the kernel sees it
+-- an access of a program on this hart
+abbrev pub access_on : Hart → Kind → ℕ → Access
+access_on h kind va = record { mode = U; sum = sum_of h.csrs; mxr = mxr_of h.csrs; va = va; kind = kind }
+
+-- where the page table of a hart leads it, in RAM as the kernel sees it, and by which frames
 abbrev pub table_leads : Hart → List (List ℕ) → Kind → ℕ → Walk
-table_leads h ram kind va =
-    walk ram (satp_of h.csrs) (record { mode = U; sum = sum_of h.csrs; mxr = mxr_of h.csrs; va = va; kind = kind })
+table_leads h ram kind va = walk ram (satp_of h.csrs) (access_on h kind va)
+
+abbrev pub table_frames : Hart → List (List ℕ) → Kind → ℕ → List ℕ
+table_frames h ram kind va = walk_tables ram (satp_of h.csrs) (access_on h kind va)
 
 -- In a step of a context, whose program page q is, the kernel's page table leads an access to a frame that differs from
 -- what was last shown of q.
@@ -164,14 +176,42 @@ PageIsRefused =
     c'.memory.ledger.missed ≡ false → Differs q (frame_of pa) c'.memory →
     IsRefused q (frame_of pa) (ask_reach q va kind (Cloaked c))
 
+-- The context that a hart runs is to fetch its next instruction from page q. As the step begins, the kernel's page
+-- table leads the fetch to a frame in RAM that differs from what was last shown of q, and none of its table frames is
+-- owed a page, so that nothing is settled on the way.
+pub record PresentsFetch (m : Moment) (q : PageId) (f : ℕ) : Type 0 where
+  pub ctx : ℕ
+  pub runs : (stepping_hart m).inside ≡ Some ctx
+  pub domain : Domain
+  pub program : slice_get m.joint.domains (domain_of ctx) ≡ Some domain
+  pub context : Context
+  pub there : context_at domain.control.contexts (slot_of ctx) ≡ Some context
+  pub plain : context.phase ≡ Plain
+  pub goes : interrupt_due (ticked (stepping_hart m)).mode (ticked (stepping_hart m)).csrs ≡ false
+  pub lies : page_at domain.control.number domain.control.resources context.space context.pc ≡ Some q
+  pub walked : Walked
+  pub leads : table_leads (ticked (stepping_hart m)) m.joint.memory.ram Fetch context.pc ≡ Ok walked
+  pub tables : find (is_owed m.joint.memory)
+      (table_frames (ticked (stepping_hart m)) m.joint.memory.ram Fetch context.pc) ≡ None
+  pub inside : is_in_ram m.joint.memory.ram walked.pa ≡ true
+  pub frame : frame_of walked.pa ≡ f
+  pub drawn : m.joint.memory.ledger.missed ≡ false
+  pub differs : Differs q f m.joint.memory
+
+abbrev pub FetchIsRefused : Type 0
+FetchIsRefused =
+    (b : Bundle) (stream : Random) (budget : ℕ) (r : Run) → joint_run b stream budget ≡ Ok r → (n : ℕ) →
+    n < length r.turns → (q : PageId) (f : ℕ) → PresentsFetch (moment_at b r n) q f →
+    IsStoppedBy r n (violation.Page q (record { 0 = f }))
+
 -- The run stopped with the violation of this step.
 pub record HasStopped (r : Run) (t : Turn) : Type 0 where
   pub violates : Violation
   pub met : t.violation ≡ Some violates
   pub stop : r.stop ≡ stop.Violation violates
 
--- A step in which a question of a program was stopped is the last of the run, which stops with the violation that it met
--- unless a draw is missing.
+-- A step in which a question of a program was stopped is the last of the run, which stops with the violation that the
+-- step met, unless a draw is missing.
 pub record StopsTheRun (r : Run) (n : ℕ) (t : Turn) : Type 0 where
   pub last : length r.turns ≡ suc n
   pub stop : (r.stop ≡ stop.NoRandom) ⊎ HasStopped r t

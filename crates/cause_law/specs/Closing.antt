@@ -30,7 +30,8 @@ owed_frames m = filter (is_owed m) (numbers_below (length m.ram))
 abbrev pub ClosingShowsOwed : Type 0
 ClosingShowsOwed =
     (b : Bundle) (stream : Random) (budget : ℕ) (r : Run) → joint_run b stream budget ≡ Ok r →
-    r.closed.items ≡ map (λ f. item.Cipher f (slice_index_or (closed_memory r).ram f [])) (owed_frames (memory_at_end r))
+    r.closed.items
+    ≡ map (λ f. item.Cipher f (slice_index_or (closed_memory r).ram f [])) (owed_frames (memory_at_end r))
 
 -- All other frames stay as the kernel saw them.
 abbrev pub ClosingSparesOthers : Type 0

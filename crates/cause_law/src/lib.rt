@@ -1,11 +1,21 @@
 //! Laws on the definitions alone: why a joint run (`cloak_model`, `specs/Run`) is stopped by a violation, and what its
 //! closing leaves. A violation comes only where the kernel's side presented something other than what is recorded: a
 //! page whose bytes are not those last shown of it, a context that cannot run, or a page table other than the first one
-//! of a space; and presented so, the run stops so, unless a draw is missing, which goes before. When a run was closed, no
-//! frame has anything left to show: all of RAM, of which the report gives the digest, is what the kernel may see.
+//! of a space. And presented so, the run stops so, unless a draw is missing, which goes before. When a run was closed,
+//! no frame has anything left to show: all of RAM, of which the report gives the digest, is what the kernel may see.
+//!
+//! A page is presented in the middle of a step. So it is said in parts that this stops the run: the question that meets
+//! it is stopped with the violation that names page and frame, and a step with a stopped question is the last one. Of
+//! the fetch it is said of the memory as the step begins. Of a violation it is not said that the page lies at the
+//! address, in the space of the context, from which the page table leads to the frame.
+//!
+//! No body turns a law, so there is no wrong body to refuse here. These changed definitions were tried on a copy, and
+//! with none of them did the proofs go through. Of the closing: the last frame is not settled. Of violations and
+//! refusals: a resume with another page table stops the run as one of a context that cannot run; the violation of a
+//! page names the next frame.
 #![tactic(auto)]
 
-ghost use Rattle.cause_law.specs.Causes.{ContextIsRefused, MappingIsRefused, PageIsRefused, StoppedIsLast, ViolationHasCause};
+ghost use Rattle.cause_law.specs.Causes.{ContextIsRefused, FetchIsRefused, MappingIsRefused, PageIsRefused, StoppedIsLast, ViolationHasCause};
 ghost use Rattle.cause_law.specs.Closing.{ClosingOwesNothing, ClosingShowsOwed, ClosingSparesOthers};
 
 /// What the closing of a run shows, and that it leaves nothing to show. It does nothing: its contract is the law.
@@ -25,5 +35,6 @@ pub fn law_of_refusals()
     ensures context { ContextIsRefused }
     ensures mapping { MappingIsRefused }
     ensures page { PageIsRefused }
+    ensures fetch { FetchIsRefused }
     ensures stopped { StoppedIsLast }
 {}

@@ -11,3 +11,5 @@ pub mod Opened
 pub mod Ciphers
 pub mod OwnDraws
 pub mod OwnPages
+pub mod StepLoads
+pub mod Loads

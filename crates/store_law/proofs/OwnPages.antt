@@ -155,7 +155,7 @@ turn_keeps d j number h (Some ctx) programs other =
     (λ same. other (ap (λ (x : ℕ). Some x) (sym same)))
 
 -- the moment behind so many steps
-abbrev moment_behind : Moment → ℕ → List Turn → Moment
+abbrev pub moment_behind : Moment → ℕ → List Turn → Moment
 moment_behind m n turns =
     record { schedule = m.schedule; steps = m.steps + n; joint = joint_after m.joint (take n turns) }
 
@@ -175,7 +175,7 @@ behind_stop (Some cause) later zero steps m t is more = absurd cc
 behind_stop (Some cause) later (suc n) steps m t is more = absurd cc
 behind_stop None later n steps m t is more = more is
 
-step_is : (budget n : ℕ) (m : Moment) (t : Turn) → slice_get (turns_from budget m) n ≡ Some t →
+pub step_is : (budget n : ℕ) (m : Moment) (t : Turn) → slice_get (turns_from budget m) n ≡ Some t →
     joint_step (moment_behind m n (turns_from budget m)) ≡ t
 unfolding turns_from joint_after
 step_is zero zero m t is = absurd cc

@@ -96,7 +96,8 @@ unfolding instruction_ended
 instruction_ends slot d u t ran.Stay is i = i.ends
 instruction_ends slot d u t (ran.Loaded address value) is i = i.ends
 instruction_ends slot d u t (ran.Trap cause address) is i = i.ends
-instruction_ends slot d u t ran.Ecall is i = ShowsFirst-behind u t.world _ (i.calls is) (ends_hypercall _ slot _ _ t.world)
+instruction_ends slot d u t ran.Ecall is i =
+    ShowsFirst-behind u t.world _ (i.calls is) (ends_hypercall _ slot _ _ t.world)
 instruction_ends slot d u t ran.Stopped is i = i.ends
 
 ends_phase_step : (phase : Phase) (slot : ℕ) (c : Context) (d : Domain) (w : World) →

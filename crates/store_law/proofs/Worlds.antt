@@ -61,10 +61,12 @@ unchanged_alone h v = record { by = λ c is. absurd (alone_not h c is) }
 
 -- of the joint machine's
 pub shows_from : (c : Cloak) (v : World) → OnlyShowsFrom c v → OnlyShows (Cloaked c) v
-shows_from c v s = record { by = λ c' is. let same : c ≡ c' = cc in subst (λ (x : Cloak). OnlyShowsFrom x v) same s }
+shows_from c v s =
+    record { by = λ c' is. let same : c ≡ c' = cc in subst (λ (x : Cloak). OnlyShowsFrom x v) same s }
 
 pub changes_from : (c : Cloak) (v : World) → OnlyChangesFrom c v → OnlyChanges (Cloaked c) v
-changes_from c v s = record { by = λ c' is. let same : c ≡ c' = cc in subst (λ (x : Cloak). OnlyChangesFrom x v) same s }
+changes_from c v s =
+    record { by = λ c' is. let same : c ≡ c' = cc in subst (λ (x : Cloak). OnlyChangesFrom x v) same s }
 
 -- one after another
 
