@@ -16,14 +16,10 @@ use Rattle.read_back.proofs.Answered.{view_refuses, solo_refuses}
 use Rattle.run_command.proofs.AnswerFacts.{answers_no_run, same_files}
 use Rattle.cloak_cli.specs.Answering.{Answers, Keeps}
 
-pub answers_asked : {S O : Type 0} {asked same : spec.Asked} {before after : Outside S O} {given : Status} →
+pub answers_asked : {S O : Type 0} (asked same : spec.Asked) (before after : Outside S O) (given : Status) →
     asked ≡ same → Answers asked before after given → Answers same before after given
-answers_asked {S} {O} {asked} {same} {before} {after} {given} is answers =
+answers_asked {S} {O} asked same before after given is answers =
     subst (λ (a : spec.Asked). Answers a before after given) is answers
-
-pub keeps_asked : {asked same : spec.Asked} (given : Status) (held held' : List ℕ → Option (List ℕ)) →
-    asked ≡ same → Keeps asked given held held' → Keeps same given held held'
-keeps_asked {asked} {same} given held held' is keeps = subst (λ (a : spec.Asked). Keeps a given held held') is keeps
 
 -- Want of memory while the words are read.
 

@@ -1,5 +1,5 @@
 -- The random stream of a number has no end, so a run under it opens.
-use Rattle.std.proofs.Common.{◌≡◌, ℕ, zero, suc, ◌+◌, List, [], ◌∷◌, Option, Some, None, Ok, Err}
+use Rattle.std.proofs.Common.{◌≡◌, ℕ, zero, suc, ◌+◌, List, [], ◌∷◌, Option, Some, None, Err}
 use Rattle.std.specs.Prelude.{option_and_then}
 use Rattle.cloak_base.specs.Random.{Random, handed, keyed, numbered, next_draw}
 use Rattle.cloak_base.specs.declared.names.PageId.{PageId}

@@ -1,5 +1,5 @@
 -- The steps of a machine, of which nothing is written.
-use Rattle.std.specs.Prelude.{ℕ, ◌≡◌, ◌+◌, false, List, length, Option, None}
+use Rattle.std.specs.Prelude.{◌≡◌, ◌+◌, false, List, length, Option, None}
 use Rattle.cloak_base.specs.declared.causes.Stop.{Stop}
 use Rattle.cloak_base.specs.declared.causes.Stop.TheVariants as stop
 use Rattle.cloak_model.specs.Parts.{Joint}

@@ -14,8 +14,8 @@ domain 1 state 66687aadf862bd776c8fc18b8e9f8e20089714856ee233b3902a591d0d5f2925 
 domain 2 state 66687aadf862bd776c8fc18b8e9f8e20089714856ee233b3902a591d0d5f2925 loads 231 17bc4d4bfc4de5da65b70528b9163522e3430e25f5dbfe2c513817469df6841c
 ";
 
-/// What `gen` answers where the shelf's and the output's calls of these numbers fail, the length of its file, and whether
-/// this line was shown.
+/// What `gen` answers where the shelf's and the output's calls of these numbers fail, the length of its file, and
+/// whether this line was shown.
 fn generated(
     alloc: Global,
     number: u64,
