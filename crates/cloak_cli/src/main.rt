@@ -1,9 +1,9 @@
-//! The program `cloak`: runs a guest image, and writes console, report and record.
+//! The program `cloak`: runs guest images, reads the records of runs back, and makes guest images.
 //!
-//! `cloak run BUNDLE RECORD --steps N --number K` runs the guest image in the file BUNDLE for N steps at the
-//! most, with the random stream of number K. It shows the console and a report, writes the record of the run
-//! to the file RECORD, and exits with the number of its status. `program::run_program` is all of it over any
-//! words, files and output; its clause `exits` gives each status its cause and each run its bytes.
+//! `command::cloak` reads the words and hands them to the command that they name: `run` (`run_command`), `view` and `solo`
+//! (`read_back`), `gen` and `demo` (`image_commands`). The program exits with the number of the command's status.
+//! `program::run_program` is all of it over any words, files and output; its clause `exits` gives each status its cause
+//! and each command what it writes.
 #![tactic(auto)]
 
 mod command;
