@@ -192,7 +192,16 @@ fn refused_words(rt: HostRuntime) -> Result<(), Fail> {
             Status::Usage,
             "usage: number\n",
         ),
-        ("view a.b a.r", Status::Unbuilt, "unbuilt 0\n"),
+        (
+            "stats a.b --steps 10 --number 0",
+            Status::Unbuilt,
+            "unbuilt 0\n",
+        ),
+        ("view a.b", Status::Usage, "usage: words\n"),
+        ("view a.b a.r", Status::BadRecord, "\nrecord: short at 0\n"),
+        ("solo 4 a.b a.r", Status::Usage, "usage: number\n"),
+        ("solo 0 a.b a.r", Status::Usage, "usage: no such domain\n"),
+        ("demo 9", Status::Usage, "usage: words\n"),
         (
             "run a.b a.r --steps 10 --number 0 --stream a.b",
             Status::Usage,

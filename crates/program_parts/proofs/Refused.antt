@@ -19,12 +19,15 @@ pub only_refuses : {S O : Type 0} {asked : spec.Asked} {r : Refusal} {before aft
 only_refuses {S} {O} {asked} {r} {before} {after} {given} none low (inl shows) =
     inl (record { refused = r; status = shows.answer; no_run = none; line = shows.line_shown; faults = shows.faults })
 only_refuses {S} {O} {asked} {r} {before} {after} {given} none low (inr front) =
-    inr (front.answer, record {
-      refused = r;
-      no_run = none;
-      line = front.front_shown;
-      faults = raised front.faults low;
-    })
+    inr (
+      front.answer,
+      record {
+        refused = r;
+        no_run = none;
+        line = front.front_shown;
+        faults = raised front.faults low;
+      },
+    )
 
 -- the bundle was not read
 pub no_bundle : {S : Type 0} {asked : spec.Asked} {name : List ℕ} (r : Refusal) (before after : FilesOutside S) →

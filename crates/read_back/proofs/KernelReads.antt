@@ -100,7 +100,7 @@ kernel_takes_next {E} {gave} {e} {f} {h} {k} {old} {new} {told} {was} {now} give
     let took = takes k.schedule (kernel_alone k reads.items) is reads.stands in
     let same = taken_more k.schedule (opened_kernel k) reads.items i in
     let console : (kernel_alone k (reads.items ++ i ∷ [])).kernel.console ≡
-        (kernel_alone k reads.items).kernel.console ++ took.gains.more =
+    (kernel_alone k reads.items).kernel.console ++ took.gains.more =
     ap (λ (s : model.KernelAlone). s.kernel.console) same ∙ took.gains.console in
     record {
       before = reads.items;

@@ -84,13 +84,16 @@ view_broke {S} {O} held reading writing taken faults {k} {machine} {first} {now}
     let rose : Rose (faults o) (faults o') =
     subst (λ (x : O). Rose (faults x) (faults o')) same_first
     (subst (λ (x : O). Rose (faults first.out.now) (faults x)) (sym same_now) front.1) in
-    inr (refl, record {
-      items = views.items;
-      ended = ended;
-      read = views.read;
-      shown = view_front (taken o) (taken o') (kernel_alone k views.items).kernel ended shown;
-      faults = rose;
-    })
+    inr (
+      refl,
+      record {
+        items = views.items;
+        ended = ended;
+        read = views.read;
+        shown = view_front (taken o) (taken o') (kernel_alone k views.items).kernel ended shown;
+        faults = rose;
+      },
+    )
 
 -- `view`: the console was shown, and then the end
 pub view_whole : {S O : Type 0} (held : S → List ℕ → Option (List ℕ)) (reading writing : S → ℕ)
@@ -140,13 +143,16 @@ view_cut {S} {O} held reading writing taken faults {k} {machine} {first} {now} {
     subst (λ (x : O). Grows (taken x) (taken mid) console) same_first
     (subst (λ (x : O). Grows (taken first.out.now) (taken x) console) (sym same_now) whole.0) in
     let same : faults mid ≡ faults o = ap faults same_now ∙ (whole.1 ∙ ap faults same_first) in
-    inr (refl, record {
-      items = views.items;
-      ended = Some ended;
-      read = views.read;
-      shown = GrowsByFront-append (taken o) (taken mid) (taken o') console end shown puts.0;
-      faults = Rose-after (faults o) (faults mid) (faults o') same puts.1;
-    })
+    inr (
+      refl,
+      record {
+        items = views.items;
+        ended = Some ended;
+        read = views.read;
+        shown = GrowsByFront-append (taken o) (taken mid) (taken o') console end shown puts.0;
+        faults = Rose-after (faults o) (faults mid) (faults o') same puts.1;
+      },
+    )
 
 -- `solo`
 
@@ -180,10 +186,13 @@ pub solo_cut : {S O : Type 0} (held : S → List ℕ → Option (List ℕ)) (rea
     (outside held reading writing taken faults s o) (outside held reading writing taken faults s' o')
 solo_cut {S} {O} held reading writing taken faults {d} {k} {p} {machine} {name} {s} {s'} {ended} {e} o o' solos
     puts =
-    inr (refl, record {
-      items = solos.items;
-      ended = Some ended;
-      read = solos.read;
-      shown = puts.0;
-      faults = puts.1;
-    })
+    inr (
+      refl,
+      record {
+        items = solos.items;
+        ended = Some ended;
+        read = solos.read;
+        shown = puts.0;
+        faults = puts.1;
+      },
+    )
