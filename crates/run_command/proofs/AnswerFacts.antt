@@ -25,8 +25,11 @@ use Rattle.run_command.specs.Preparing.{IsPrepared}
 use Rattle.run_command.specs.Recording.{Records, GrowsSome}
 use Rattle.program_parts.specs.Refusing.{Refuses}
 use Rattle.program_parts.proofs.FaultFacts.{raised}
+use Rattle.cause_law.proofs.Runs.{violation_has_cause}
+use Rattle.kernel_isolation.proofs.Isolated.{kernel_ends_alone}
+use Rattle.domain_isolation.proofs.Isolated.{domain_ends_alone}
 use Rattle.program_parts.specs.NoRun.{NoRun, IsRefused}
-use Rattle.run_command.specs.Answering.{AsksRun, HasRun, RunAnswers, KeepsFiles}
+use Rattle.run_command.specs.Answering.{AsksRun, IsLawful, HasRun, RunAnswers, KeepsFiles}
 
 -- A line that refuses.
 
@@ -212,6 +215,21 @@ asks_run {asked} {held} {record_name} {steps} {ready} prepared = record {
       prepared.opens;
 }
 
+-- what the laws say of it
+lawful_run : {asked : spec.Asked} {held : List ℕ → Option (List ℕ)} {name : List ℕ} {r : Run} (asks : AsksRun asked held name r) →
+    IsLawful asks.bundle r
+lawful_run {asked} {held} {name} {r} asks = record {
+  kernel = kernel_ends_alone asks.bundle asks.stream asks.steps r asks.joint;
+  programs = λ d p there. domain_ends_alone asks.bundle d p r (record {
+    in_grammar = asks.asks.file.in_grammar;
+    program = there;
+    stream = asks.stream;
+    budget = asks.steps;
+    runs = asks.joint;
+  });
+  cause = violation_has_cause asks.bundle asks.stream asks.steps r asks.joint;
+}
+
 pub answers_recorded : {S O : Type 0} {asked : spec.Asked} {name : List ℕ} {before mid after : Outside S O}
     {given : Status} {r : Run} → AsksRun asked before.files.held name r →
     OnlyRead before.files mid.files → mid.output ≡ before.output → before.files.writing < 2 ^ 64 - 1 →
@@ -229,6 +247,7 @@ answers_recorded {S} {O} {asked} {name} {before} {mid} {after} {given} {r} asks 
             record_name = name;
             made = r;
             asks = asks;
+            lawful = lawful_run asks;
             written = λ none. let w = all.written none in record {
               status = w.status;
               file = w.file;

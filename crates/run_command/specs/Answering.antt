@@ -1,9 +1,18 @@
 -- What a run answers, each status with its cause.
-use Rattle.std.specs.Prelude.{ℕ, ◌≡◌, ◌⊎◌, List, [], Option, Ok}
+use Rattle.std.specs.Prelude.{ℕ, ◌≡◌, ◌⊎◌, List, [], slice_get, Option, Some, Ok}
 use Rattle.cloak_base.specs.Random.{Random}
 use Rattle.outside_io.specs.Told.{Tells, SameFiles, OtherFiles}
 use Rattle.cloak_model.specs.declared.image.Bundle.{Bundle}
-use Rattle.cloak_model.specs.Run.{Run, joint_run}
+use Rattle.cloak_model.specs.declared.image.Program.{Program}
+use Rattle.cloak_model.specs.DomainAlone.{domain_alone}
+use Rattle.cloak_model.specs.KernelAlone.{kernel_alone}
+use Rattle.cloak_model.specs.Parts.{kernel_part, domain_part}
+use Rattle.cloak_model.specs.Run.{Run, exchange, joint_run}
+use Rattle.cloak_base.specs.declared.causes.Violation.{Violation}
+use Rattle.cloak_base.specs.declared.causes.Stop.TheVariants as stop
+use Rattle.cause_law.specs.Causes.{LastStepPresents}
+use Rattle.kernel_isolation.specs.Isolation.{HasKernel}
+use Rattle.domain_isolation.specs.Isolation.{HasDomain}
 use Rattle.command_words.specs.Command as spec
 use Rattle.program_parts.specs.declared.status.Status.{Status}
 use Rattle.program_parts.specs.declared.status.Status.TheVariants as status
@@ -23,11 +32,20 @@ pub record AsksRun (asked : spec.Asked) (held : List ℕ → Option (List ℕ)) 
 
 -- The run.
 
+-- What is so of a run, whatever its kernel does: the kernel by itself and each program by itself, given what the run wrote,
+-- have the parts that the run ended with; and where it stopped with a violation, its last step presented what that names.
+pub record IsLawful (b : Bundle) (r : Run) : Type 0 where
+  pub kernel : HasKernel (kernel_alone b.kernel (exchange r)) (kernel_part r.closed.joint)
+  pub programs : (d : ℕ) (p : Program) → slice_get b.programs d ≡ Some p →
+      HasDomain (domain_alone d b.kernel.schedule p (exchange r)) (domain_part r.closed.joint d)
+  pub cause : (v : Violation) → r.stop ≡ stop.Violation v → LastStepPresents b r v
+
 -- The run was made. Where no pages clashed in it, all that is due of it was written.
 pub record HasRun {S O : Type 0} (asked : spec.Asked) (answer : Status) (before after : Outside S O) : Type 0 where
   pub record_name : List ℕ
   pub made : Run
   pub asks : AsksRun asked before.files.held record_name made
+  pub lawful : IsLawful asks.bundle made
   pub written : NoClash made → IsWritten made record_name answer before after
   pub grows : GrowsSome before.output.taken after.output.taken
   pub others : OtherFiles record_name before.files.held after.files.held
