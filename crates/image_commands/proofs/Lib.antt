@@ -1,4 +1,3 @@
-pub mod Clashes
 pub mod Draws
 pub mod Runs
 pub mod StepFacts

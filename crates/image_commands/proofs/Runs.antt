@@ -21,7 +21,7 @@ use Rattle.guest_kernel.specs.Summary.{summary_line}
 use Rattle.program_parts.specs.Outside.{Output}
 use Rattle.program_parts.specs.declared.status.Status.{Status}
 use Rattle.program_parts.specs.declared.status.Status.TheVariants as status
-use Rattle.image_commands.specs.Steps.{MadeAll, NoClash, moment_behind, status_of}
+use Rattle.run_command.specs.Running.{MadeAll, NoClash, moment_behind, status_of}
 use Rattle.image_commands.specs.Demonstrating.{DemoAnswers, HasDemonstrated, IsEndOf, demo_lines}
 use Rattle.image_commands.specs.Showing.{IsShownInPart}
 

@@ -8,8 +8,8 @@ use Rattle.cloak_model.specs.Joint.{Moment, Turn, joint_step, after_turn, stop_o
 use Rattle.cloak_model.specs.Run.{unless_stopped, turns_from, joint_after, last_stop}
 use Rattle.cloak_machine.specs.declared.machine.Machine.{Machine}
 use Rattle.cloak_machine.specs.Standing.{StandsForMoment}
-use Rattle.image_commands.specs.Steps.{MadeAll, NoClashYet, moment_behind}
-use Rattle.image_commands.proofs.Clashes.{rest_unclashed, turns_unclashed}
+use Rattle.run_command.specs.Running.{MadeAll, NoClashYet, moment_behind}
+use Rattle.run_command.proofs.ClashFacts.{rest_unclashed, turns_unclashed}
 
 -- Steps behind steps.
 

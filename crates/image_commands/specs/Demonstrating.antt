@@ -10,7 +10,7 @@ use Rattle.guest_kernel.specs.Summary.{summary_line}
 use Rattle.program_parts.specs.Outside.{Output, Raised}
 use Rattle.program_parts.specs.declared.status.Status.{Status}
 use Rattle.program_parts.specs.declared.status.Status.TheVariants as status
-use Rattle.image_commands.specs.Steps.{NoClash, status_of}
+use Rattle.run_command.specs.Running.{NoClash, status_of}
 use Rattle.image_commands.specs.Showing.{IsShown, IsShownInPart, no_memory_line}
 
 -- the joint run of the image of number n, under the random stream of number n, with at most so many steps

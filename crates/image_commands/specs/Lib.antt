@@ -1,4 +1,3 @@
-pub mod Steps
 pub mod Showing
 pub mod Generating
 pub mod Demonstrating

@@ -12,7 +12,7 @@ ghost use Rattle.guest_kernel.specs.Generated.{generated};
 ghost use Rattle.guest_kernel.specs.Summary.{summary_line};
 ghost use Rattle.program_parts.specs.Outside.{output};
 ghost use Rattle.image_commands.specs.Demonstrating.{DemoAnswers, IsEndOf};
-ghost use Rattle.image_commands.specs.Steps.{MadeAll, NoClash, NoClashYet, status_of};
+ghost use Rattle.run_command.specs.Running.{MadeAll, NoClash, NoClashYet, status_of};
 
 use crate::unheard::Unheard;
 use cloak_base::{Failed, NoMemory, Stop};

@@ -1,5 +1,5 @@
 use Rattle.cloak_model.specs.Run.{first_moment}
-use Rattle.image_commands.proofs.Clashes.{run_unclashed}
+use Rattle.run_command.proofs.ClashFacts.{run_unclashed}
 use Rattle.image_commands.proofs.Runs.{end_of}
 use Rattle.image_commands.proofs.demonstrating.end_of_run.Goals as goal
 
