@@ -14,7 +14,8 @@ use Rattle.cloak_model.specs.Parts.{DomainPart, domain_part}
 use Rattle.cloak_model.specs.Joint.{Turn}
 use Rattle.cloak_model.specs.Run.{Run, turns_from, first_moment, joint_after, closing, run_of, exchange, run_inward_half}
 use Rattle.cloak_model.specs.DomainAlone.{DomainAlone, domain_alone}
-use Rattle.domain_isolation.specs.Isolation.{Hosts, HasDomain, items_until, DomainDependsOnHalf}
+use Rattle.domain_isolation.specs.Isolation.{Hosts, HasDomain, DomainDependsOnHalf}
+use Rattle.kernel_isolation.specs.Isolation.{items_until}
 use Rattle.domain_isolation.proofs.Ignoring.{inward_half_suffices}
 use Rattle.domain_isolation.proofs.Opened.{opened_half}
 use Rattle.domain_isolation.proofs.Isolated.{told_by, hosted, run_after, all_taken, domain_is_alone, domain_ends_alone}

@@ -19,7 +19,8 @@ use Rattle.cloak_model.specs.Parts.{Joint, DomainPart, domain_part}
 use Rattle.cloak_model.specs.Joint.{Moment, Turn, joint_step, stop_of, hart_in, turn_of}
 use Rattle.cloak_model.specs.Run.{Run, unless_stopped, turns_from, joint_after, closing, first_moment, run_of, exchange}
 use Rattle.cloak_model.specs.DomainAlone.{DomainAlone, Between, domain_step_ended, domain_taken, domain_takes, opened_domain, domain_alone}
-use Rattle.domain_isolation.specs.Isolation.{HasDomain, Hosts, items_until, DomainIsAlone, DomainEndsAlone}
+use Rattle.domain_isolation.specs.Isolation.{HasDomain, Hosts, DomainIsAlone, DomainEndsAlone}
+use Rattle.kernel_isolation.specs.Isolation.{items_until}
 use Rattle.domain_isolation.proofs.Ignoring.{half_taken, taken_append, taken_half, item_taken}
 use Rattle.domain_isolation.proofs.Alone.{alone_at, ended, RestsAt, from_ended, begins, closes}
 use Rattle.domain_isolation.proofs.InOrder.{InOrder}

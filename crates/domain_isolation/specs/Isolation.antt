@@ -13,6 +13,7 @@ use Rattle.cloak_model.specs.Parts.{Joint, DomainPart, domain_part}
 use Rattle.cloak_model.specs.Joint.{Turn}
 use Rattle.cloak_model.specs.Run.{Run, joint_run, joint_after, exchange, run_inward_half}
 use Rattle.cloak_model.specs.DomainAlone.{DomainAlone, domain_alone}
+use Rattle.kernel_isolation.specs.Isolation.{items_until, joint_until}
 
 -- The program alone ignores the items that are not in its half.
 abbrev pub InwardHalfSuffices : Type 0
@@ -27,15 +28,6 @@ pub record Hosts (b : Bundle) (d : ℕ) (p : Program) (r : Run) : Type 0 where
   pub stream : Random
   pub budget : ℕ
   pub runs : joint_run b stream budget ≡ Ok r
-
--- what a run wrote in its opening and its first n steps, with their markers, and a Close behind it
-abbrev pub items_until : ℕ → Run → List Item
-items_until n r =
-    r.opened.items ++ (steps_items 1 (map (λ (t : Turn). t.items) (take n r.turns)) ++ item.Close n ∷ [])
-
--- the joint machine behind the opening and the first n steps
-abbrev pub joint_until : ℕ → Run → Joint
-joint_until n r = joint_after r.opened.joint (take n r.turns)
 
 -- The program alone has the part that there is in the joint machine, and no item was unfit.
 pub record HasDomain (s : DomainAlone) (part : Option DomainPart) : Type 0 where

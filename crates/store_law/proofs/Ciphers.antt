@@ -8,7 +8,8 @@ use Rattle.cloak_model.specs.declared.item.Item.TheVariants as item
 use Rattle.cloak_model.specs.Joint.{Turn}
 use Rattle.cloak_model.specs.Opening.{Lack, Opened, opening}
 use Rattle.cloak_model.specs.Run.{Run, turns_from, joint_after, first_moment, run_of, closing}
-use Rattle.store_law.specs.Ciphers.{ShowsPage, ShowPages, pages_of_programs, ciphers_of_steps, draws_before, joint_behind, placing_draw, ciphers_in, ItemPlace, InOpening, InStep, InClosing, items_of_turn, item_at, plain_at, draw_number, CiphersShowPages}
+use Rattle.store_law.specs.Ciphers.{ShowsPage, ShowPages, pages_of_programs, ciphers_of_steps, draws_before, placing_draw, ciphers_in, ItemPlace, InOpening, InStep, InClosing, items_of_turn, item_at, plain_at, draw_number, CiphersShowPages}
+use Rattle.kernel_isolation.specs.Isolation.{joint_until}
 use Rattle.store_law.proofs.Draws.{HasDrawn, AreShown, each_shown}
 use Rattle.store_law.proofs.Opened.{opening_shows}
 use Rattle.store_law.proofs.Runs.{turns_use, behind_steps, steps_count, drawn_behind, step_shown, closing_shown}
@@ -40,7 +41,7 @@ count_is b turns n =
 steps_show : (b : Bundle) (stream : Random) (budget : ℕ) (o : Opened) → opening b stream ≡ Ok o →
     let r = run_of b budget o in
     (n : ℕ) (t : Turn) → slice_get r.turns n ≡ Some t →
-    ShowPages stream (joint_behind r n).memory.plain (draws_before b r n) t.items
+    ShowPages stream (joint_until n r).memory.plain (draws_before b r n) t.items
 unfolding run_of
 steps_show b stream budget o opens n t is =
     let turns : List Turn = turns_from budget (first_moment b o.joint) in
@@ -53,7 +54,7 @@ steps_show b stream budget o opens n t is =
 
 closing_shows : (b : Bundle) (stream : Random) (budget : ℕ) (o : Opened) → opening b stream ≡ Ok o →
     let r = run_of b budget o in let n = length r.turns in
-    ShowPages stream (joint_behind r n).memory.plain (draws_before b r n) r.closed.items
+    ShowPages stream (joint_until n r).memory.plain (draws_before b r n) r.closed.items
 unfolding run_of
 closing_shows b stream budget o opens =
     let turns : List Turn = turns_from budget (first_moment b o.joint) in
@@ -81,7 +82,7 @@ ciphers_show b stream budget o opens (InStep n at) frame bytes is =
   where
     by : (found : Option Turn) → slice_get (run_of b budget o).turns n ≡ found →
         slice_get (items_of_turn found) at ≡ Some (item.Cipher frame bytes) →
-        ShowsPage stream (joint_behind (run_of b budget o) n).memory.plain
+        ShowsPage stream (joint_until n (run_of b budget o)).memory.plain
         (draws_before b (run_of b budget o) n + ciphers_in (take at (items_of_turn found))) bytes
     by None found there = absurd (nothing_there at (item.Cipher frame bytes) there)
     by (Some t) found there = steps_show b stream budget o opens n t found at frame bytes there

@@ -28,7 +28,8 @@ use Rattle.cloak_model.specs.Parts.{Joint}
 use Rattle.cloak_model.specs.Resuming.{by_root, by_context, by_domain, resume}
 use Rattle.cloak_model.specs.Run.{Run, turns_from, first_moment, run_of}
 use Rattle.cloak_model.specs.World.{World, Cloak, Cloaked}
-use Rattle.store_law.specs.Ciphers.{joint_behind}
+use Rattle.store_law.specs.Ciphers.{}
+use Rattle.kernel_isolation.specs.Isolation.{joint_until}
 use Rattle.store_law.specs.Loads.{LoadsNewest, NoLoad, OneLoad, StepsLoadNewest}
 use Rattle.store_law.proofs.Ciphers.{of_opened}
 use Rattle.store_law.proofs.OwnPages.{moment_behind, step_is}
@@ -203,7 +204,7 @@ joint_load m = turn_load m.joint _ _ _
 
 run_loads : (b : Bundle) (budget : ℕ) (o : Opened) → let r = run_of b budget o in
     (n : ℕ) (t : Turn) → slice_get r.turns n ≡ Some t →
-    DomainsLoad (joint_behind r n).domains (joint_behind r n).memory.plain t.joint.domains
+    DomainsLoad (joint_until n r).domains (joint_until n r).memory.plain t.joint.domains
 unfolding run_of
 run_loads b budget o n t is =
     let turns : List Turn = turns_from budget (first_moment b o.joint) in
@@ -215,5 +216,5 @@ pub steps_load_newest : StepsLoadNewest
 steps_load_newest b stream budget r is =
     of_opened b budget
     (λ (r : Run). (n : ℕ) (t : Turn) → slice_get r.turns n ≡ Some t →
-    DomainsLoad (joint_behind r n).domains (joint_behind r n).memory.plain t.joint.domains)
+    DomainsLoad (joint_until n r).domains (joint_until n r).memory.plain t.joint.domains)
     (opening b stream) r is (λ o opens. run_loads b budget o)

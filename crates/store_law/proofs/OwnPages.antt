@@ -31,7 +31,8 @@ use Rattle.domain_isolation.proofs.Answers.{IsServing}
 use Rattle.domain_isolation.proofs.Steady.{is_cloaked}
 use Rattle.kernel_isolation.proofs.Isolated.{until_read}
 use Rattle.kernel_isolation.proofs.Numbers.{AreFrom, number_at}
-use Rattle.store_law.specs.Ciphers.{joint_behind}
+use Rattle.store_law.specs.Ciphers.{}
+use Rattle.kernel_isolation.specs.Isolation.{joint_until}
 use Rattle.store_law.specs.OwnPages.{program_of_step, StepsKeepPages, ClosingKeepsPages}
 use Rattle.store_law.proofs.Ciphers.{of_opened}
 use Rattle.store_law.proofs.OwnDraws.{is_step}
@@ -203,7 +204,7 @@ joint_keeps d m programs other = turn_keeps d m.joint (next_hart m) _ _ programs
 steps_keep : (b : Bundle) (stream : Random) (budget : ℕ) (o : Opened) → opening b stream ≡ Ok o →
     let r = run_of b budget o in
     (n : ℕ) (t : Turn) → slice_get r.turns n ≡ Some t → (d : ℕ) → program_of_step b r n ≢ Some d →
-    domain_pages d t.joint.memory.plain ≡ domain_pages d (joint_behind r n).memory.plain
+    domain_pages d t.joint.memory.plain ≡ domain_pages d (joint_until n r).memory.plain
 unfolding run_of
 steps_keep b stream budget o opens n t is d other =
     let turns : List Turn = turns_from budget (first_moment b o.joint) in
@@ -222,7 +223,7 @@ unfolding closing
 closing_is_kept j = (below_draws (length j.memory.ram) j.memory (hart_in j 0)).plain
 
 closing_keeps : (b : Bundle) (budget : ℕ) (o : Opened) → let r = run_of b budget o in
-    r.closed.joint.memory.plain ≡ (joint_behind r (length r.turns)).memory.plain
+    r.closed.joint.memory.plain ≡ (joint_until (length r.turns) r).memory.plain
 unfolding run_of
 closing_keeps b budget o =
     let turns : List Turn = turns_from budget (first_moment b o.joint) in
@@ -234,11 +235,11 @@ pub steps_keep_pages : StepsKeepPages
 steps_keep_pages b stream budget r is =
     of_opened b budget
     (λ (r : Run). (n : ℕ) (t : Turn) → slice_get r.turns n ≡ Some t → (d : ℕ) → program_of_step b r n ≢ Some d →
-    domain_pages d t.joint.memory.plain ≡ domain_pages d (joint_behind r n).memory.plain)
+    domain_pages d t.joint.memory.plain ≡ domain_pages d (joint_until n r).memory.plain)
     (opening b stream) r is (steps_keep b stream budget)
 
 pub closing_keeps_pages : ClosingKeepsPages
 closing_keeps_pages b stream budget r is =
     of_opened b budget
-    (λ (r : Run). r.closed.joint.memory.plain ≡ (joint_behind r (length r.turns)).memory.plain)
+    (λ (r : Run). r.closed.joint.memory.plain ≡ (joint_until (length r.turns) r).memory.plain)
     (opening b stream) r is (λ o opens. closing_keeps b budget o)

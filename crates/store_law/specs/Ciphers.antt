@@ -13,6 +13,7 @@ use Rattle.cloak_model.specs.Joint.{Turn}
 use Rattle.cloak_model.specs.Opening.{is_placed}
 use Rattle.cloak_model.specs.Parts.{Joint}
 use Rattle.cloak_model.specs.Run.{Run, joint_run, joint_after}
+use Rattle.kernel_isolation.specs.Isolation.{joint_until}
 
 -- The draws of a stream are numbered from 0.
 
@@ -70,10 +71,6 @@ ciphers_of_steps (t ∷ turns) = ciphers_in t.items + ciphers_of_steps turns
 abbrev pub draws_before : Bundle → Run → ℕ → ℕ
 draws_before b r n = 1 + (pages_of_programs b.programs + ciphers_of_steps (take n r.turns))
 
--- the joint machine behind the opening and the first n steps
-abbrev pub joint_behind : Run → ℕ → Joint
-joint_behind r n = joint_after r.opened.joint (take n r.turns)
-
 -- the number of the draw under which the page in a frame was placed: the pages of these programs are placed one after
 -- another, the first under this draw, and what is placed later in one frame stays
 abbrev pub placing_draw : ℕ → List Program → ℕ → ℕ
@@ -101,8 +98,8 @@ item_at r (InClosing at) = slice_get r.closed.items at
 -- the newest bytes of each page as the opening, a step or the closing found them
 abbrev pub plain_at : Run → ItemPlace → PageId → List ℕ
 plain_at r (InOpening at) = r.opened.joint.memory.plain
-plain_at r (InStep n at) = (joint_behind r n).memory.plain
-plain_at r (InClosing at) = (joint_behind r (length r.turns)).memory.plain
+plain_at r (InStep n at) = (joint_until n r).memory.plain
+plain_at r (InClosing at) = (joint_until (length r.turns) r).memory.plain
 
 -- The draw of a Cipher of this frame: that of the placing, and later the next one that was not made.
 abbrev pub draw_number : Bundle → Run → ItemPlace → ℕ → ℕ

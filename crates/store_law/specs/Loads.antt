@@ -10,7 +10,8 @@ use Rattle.cloak_model.specs.Joint.{Turn}
 use Rattle.cloak_model.specs.Memory.{value_in}
 use Rattle.cloak_model.specs.Resources.{Resources, page_at}
 use Rattle.cloak_model.specs.Run.{Run, joint_run}
-use Rattle.store_law.specs.Ciphers.{joint_behind}
+use Rattle.store_law.specs.Ciphers.{}
+use Rattle.kernel_isolation.specs.Isolation.{joint_until}
 
 -- The value is the bytes of one width that the page at the address has.
 pub record IsLoadOf (number : ℕ) (r : Resources) (space : ℕ) (plain : PageId → List ℕ) (va value : ℕ) : Type 0 where
@@ -33,5 +34,5 @@ abbrev pub StepsLoadNewest : Type 0
 StepsLoadNewest =
     (b : Bundle) (stream : Random) (budget : ℕ) (r : Run) → joint_run b stream budget ≡ Ok r →
     (n : ℕ) (t : Turn) → slice_get r.turns n ≡ Some t → (d : ℕ) (was now : Domain) →
-    slice_get (joint_behind r n).domains d ≡ Some was → slice_get t.joint.domains d ≡ Some now →
-    LoadsNewest was (joint_behind r n).memory.plain now
+    slice_get (joint_until n r).domains d ≡ Some was → slice_get t.joint.domains d ≡ Some now →
+    LoadsNewest was (joint_until n r).memory.plain now

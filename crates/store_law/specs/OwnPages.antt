@@ -6,13 +6,14 @@ use Rattle.cloak_model.specs.Contexts.{domain_of}
 use Rattle.cloak_model.specs.Joint.{Turn, hart_in}
 use Rattle.cloak_model.specs.Parts.{domain_pages}
 use Rattle.cloak_model.specs.Run.{Run, joint_run}
-use Rattle.store_law.specs.Ciphers.{joint_behind}
+use Rattle.store_law.specs.Ciphers.{}
+use Rattle.kernel_isolation.specs.Isolation.{joint_until}
 
 -- the program that makes the step behind n steps: that of the context which the hart of the step runs, if it runs one
 abbrev pub program_of_step : Bundle → Run → ℕ → Option ℕ
 program_of_step b r n =
     option_map domain_of
-    (hart_in (joint_behind r n) (slice_index b.kernel.schedule (n % length b.kernel.schedule))).inside
+    (hart_in (joint_until n r) (slice_index b.kernel.schedule (n % length b.kernel.schedule))).inside
 
 -- A step of the kernel, or of another program, leaves each page of a program as it is; whatever it settles, moves or
 -- maps.
@@ -20,10 +21,10 @@ abbrev pub StepsKeepPages : Type 0
 StepsKeepPages =
     (b : Bundle) (stream : Random) (budget : ℕ) (r : Run) → joint_run b stream budget ≡ Ok r →
     (n : ℕ) (t : Turn) → slice_get r.turns n ≡ Some t → (d : ℕ) → program_of_step b r n ≢ Some d →
-    domain_pages d t.joint.memory.plain ≡ domain_pages d (joint_behind r n).memory.plain
+    domain_pages d t.joint.memory.plain ≡ domain_pages d (joint_until n r).memory.plain
 
 -- So does the closing.
 abbrev pub ClosingKeepsPages : Type 0
 ClosingKeepsPages =
     (b : Bundle) (stream : Random) (budget : ℕ) (r : Run) → joint_run b stream budget ≡ Ok r →
-    r.closed.joint.memory.plain ≡ (joint_behind r (length r.turns)).memory.plain
+    r.closed.joint.memory.plain ≡ (joint_until (length r.turns) r).memory.plain
