@@ -10,7 +10,7 @@ use Rattle.cloak_model.specs.declared.image.KernelImage.{KernelImage}
 use Rattle.outside_io.specs.Told.{Counts, Puts}
 use Rattle.alone_views.specs.KernelConsole.{ConsoleCounts}
 use Rattle.alone_views.specs.KernelPlaces.{stood_place}
-use Rattle.alone_views.specs.KernelStanding.{StandsForKernel, schedule_of}
+use Rattle.alone_views.specs.KernelStanding.{StandsForKernel, turns_of}
 use Rattle.alone_views.specs.declared.kernel.KernelAlone.{KernelAlone}
 
 length-started_harts : (entry n : ℕ) → length (started_harts entry n) ≡ n
@@ -28,7 +28,7 @@ turns_inside turns schedule harts entry n same started inside =
 
 pub opens_so : (k : KernelImage) (new : KernelAlone) → new.harts.items ≡ started_harts k.entry k.harts →
     new.ram.frames.items ≡ with_segments (zero_ram k.frames) k.segments → new.disk ≡ k.disk →
-    schedule_of new ≡ k.schedule → new.steps ≡ 0 → stood_place new.place ≡ model.Between → new.halted ≡ false →
+    turns_of new ≡ k.schedule → new.steps ≡ 0 → stood_place new.place ≡ model.Between → new.halted ≡ false →
     new.unfit ≡ None → ConsoleCounts new.console [] → StandsForKernel new k.schedule (opened_kernel k)
 unfolding started_kernel
 opens_so k new harts ram disk schedule steps place halted unfit console = record {

@@ -10,7 +10,7 @@ use Rattle.kernel_report.specs.declared.console.Console.{Console}
 use Rattle.alone_views.specs.KernelConsole.{ConsoleCounts}
 use Rattle.alone_views.specs.KernelPlaces.{stood_place}
 use Rattle.alone_views.specs.KernelChanges.{ChangesTo}
-use Rattle.alone_views.specs.KernelStanding.{Gains, StandsForKernel, state_with, schedule_of}
+use Rattle.alone_views.specs.KernelStanding.{Gains, StandsForKernel, state_with, turns_of}
 use Rattle.alone_views.specs.declared.kernel.KernelAlone.{KernelAlone}
 
 -- nothing is given
@@ -76,7 +76,7 @@ pub gains_byte : {E : Type 0} (gave : E → E → List Piece → Type 0) (e e' :
     (turns : List ℕ) (s : model.KernelAlone) (number : ℕ) (k : Kernel) → StandsForKernel old turns s →
     ((console : List ℕ) → state_with mid (console ++ console_byte k) ≡ plain_step number (state_with old console)) →
     mid.console ≡ old.console → ((console : List ℕ) → state_with new console ≡ state_with mid console) →
-    schedule_of new ≡ schedule_of old →
+    turns_of new ≡ turns_of old →
     ((bytes : List ℕ) → ConsoleCounts mid.console bytes → ConsoleCounts new.console (bytes ++ console_byte k)) →
     Emits gave e e' (shown_each (console_byte k)) → Gains gave e e' new turns s (plain_step number s)
 gains_byte {E} gave e e' old mid new turns s number k stands steps stays same schedule shows emits =

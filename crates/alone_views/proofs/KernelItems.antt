@@ -9,7 +9,7 @@ use Rattle.cloak_model.specs.Record.{IsItem, IsItemWidth}
 use Rattle.cloak_model.specs.declared.item.Item.{Item}
 use Rattle.cloak_model.specs.declared.item.Item.TheVariants as item
 use Rattle.alone_views.specs.KernelChanges.{ChangesTo}
-use Rattle.alone_views.specs.KernelStanding.{Gains, StandsForKernel, schedule_of, unfit_step}
+use Rattle.alone_views.specs.KernelStanding.{Gains, StandsForKernel, turns_of, unfit_step}
 use Rattle.alone_views.specs.declared.kernel.KernelAlone.{KernelAlone}
 use Rattle.alone_views.proofs.KernelGains.{gains_nothing, gains_then}
 
@@ -44,7 +44,7 @@ takes_leave {E} gave e old new turns s i shown is becomes stands =
 pub takes_step : {E : Type 0} (gave : E → E → List Piece → Type 0) (e e' : E) (mid new : KernelAlone) (turns : List ℕ)
     (s : model.KernelAlone) (i : Item) (number : ℕ) → i ≡ item.Step number →
     Gains gave e e' mid turns s (kernel_step_ended s.place s) →
-    ChangesTo mid new (take_kernel_step (schedule_of mid) number) → Gains gave e e' new turns s (kernel_takes turns i s)
+    ChangesTo mid new (take_kernel_step (turns_of mid) number) → Gains gave e e' new turns s (kernel_takes turns i s)
 unfolding kernel_takes
 takes_step {E} gave e e' mid new turns s i number is gains becomes =
     subst (λ (x : Item). Gains gave e e' new turns s (kernel_takes turns x s)) (sym is)

@@ -3,14 +3,14 @@ use Rattle.std.specs.Prelude.{ℕ, ◌≡◌, ◌%◌, ◌==◌, ◌&&◌, Bool,
 use Rattle.cloak_model.specs.Effect.{IsWidth}
 use Rattle.cloak_model.specs.KernelAlone as model
 use Rattle.cloak_model.specs.Memory.{is_in_frames}
-use Rattle.alone_views.specs.KernelStanding.{state_with, schedule_of}
+use Rattle.alone_views.specs.KernelStanding.{state_with, turns_of}
 use Rattle.alone_views.specs.declared.kernel.KernelAlone.{KernelAlone}
 
 -- The state becomes the one that follows it, whatever the console; console and schedule stay.
 pub record ChangesTo (old new : KernelAlone) (next : model.KernelAlone → model.KernelAlone) : Type 0 where
   pub state : (console : List ℕ) → state_with new console ≡ next (state_with old console)
   pub console : new.console ≡ old.console
-  pub schedule : schedule_of new ≡ schedule_of old
+  pub schedule : turns_of new ≡ turns_of old
 
 -- a value of this width may be stored at this address: it lies in RAM, and is a multiple of the width
 abbrev pub may_store : ℕ → ℕ → ℕ → Bool

@@ -12,12 +12,12 @@ stood_place (here.Inside hart ctx) = model.Inside hart ctx
 stood_place here.Left = model.Left
 
 -- the hart whose step it is, and which has not left
-abbrev pub stepping_hart : KernelPlace → Option ℕ
-stepping_hart here.Between = None
-stepping_hart (here.Outside hart) = Some hart
-stepping_hart (here.Inside hart ctx) = Some hart
-stepping_hart here.Left = None
+abbrev pub hart_in_step : KernelPlace → Option ℕ
+hart_in_step here.Between = None
+hart_in_step (here.Outside hart) = Some hart
+hart_in_step (here.Inside hart ctx) = Some hart
+hart_in_step here.Left = None
 
 -- it is one of this many
 abbrev pub IsPlaceAmong : ℕ → KernelPlace → Type 0
-IsPlaceAmong harts place = (hart : ℕ) → stepping_hart place ≡ Some hart → hart < harts
+IsPlaceAmong harts place = (hart : ℕ) → hart_in_step place ≡ Some hart → hart < harts

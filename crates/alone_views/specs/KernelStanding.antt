@@ -8,8 +8,8 @@ use Rattle.alone_views.specs.declared.kernel.KernelAlone.{KernelAlone}
 use Rattle.alone_views.specs.declared.unfit.Unfit.{Unfit}
 
 -- the hart of each step, used cyclically
-abbrev pub schedule_of : KernelAlone → List ℕ
-schedule_of machine = machine.schedule.items
+abbrev pub turns_of : KernelAlone → List ℕ
+turns_of machine = machine.schedule.items
 
 -- the step at which an item was unfit
 abbrev pub unfit_step : KernelAlone → Option ℕ
@@ -33,7 +33,7 @@ state_with machine console = record {
 -- The machine is that of this state, under this schedule. Of what its console was shown it knows the digest and the
 -- length.
 pub record StandsForKernel (machine : KernelAlone) (turns : List ℕ) (s : model.KernelAlone) : Type 0 where
-  pub schedule : schedule_of machine ≡ turns
+  pub schedule : turns_of machine ≡ turns
   pub state : s ≡ state_with machine s.kernel.console
   pub console : ConsoleCounts machine.console s.kernel.console
 

@@ -45,7 +45,7 @@ pub struct KernelAlone {
 impl KernelAlone {
     ghost use Rattle.alone_views.specs.KernelChanges.{ChangesTo};
     ghost use Rattle.alone_views.specs.KernelStanding.{Gains, StandsForKernel, TakesItem};
-    ghost use Rattle.alone_views.specs.KernelStanding.{answer_for, schedule_of, unfit_step};
+    ghost use Rattle.alone_views.specs.KernelStanding.{answer_for, turns_of, unfit_step};
 
     /// The kernel of a guest image before any item.
     pub fn open(alloc: Global, k: &KernelImage) -> Result<KernelAlone, NoMemory>
@@ -80,7 +80,7 @@ impl KernelAlone {
     fn take_fit<E: Emit>(&mut self, i: &Item, e: &mut E)
         ensures gains { (turns : List ℕ) (s : spec.KernelAlone) → IsItem i.now → StandsForKernel self.old turns s →
             Gains E.gave e.old e.new self.new turns s (spec.kernel_takes turns i.now s) }
-        ensures schedule { schedule_of self.new ≡ schedule_of self.old }
+        ensures schedule { turns_of self.new ≡ turns_of self.old }
         ensures emits_some { EmitsSome E.gave e.old e.new }
     {
         match i {
@@ -111,7 +111,7 @@ impl KernelAlone {
         ensures gains { (turns : List ℕ) (s : spec.KernelAlone) → IsItem i.now → StandsForKernel self.old turns s →
             Gains E.gave e.old e.new self.new turns s (spec.take_kernel_item turns s i.now) }
         ensures stays { IsSome (unfit_step self.old) → (self.new ≡ self.old) × (e.new ≡ e.old) }
-        ensures schedule { schedule_of self.new ≡ schedule_of self.old }
+        ensures schedule { turns_of self.new ≡ turns_of self.old }
         ensures emits_some { EmitsSome E.gave e.old e.new }
     {
         if self.unfit.is_some() {

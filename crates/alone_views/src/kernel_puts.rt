@@ -17,7 +17,7 @@ fn is_width(width: u32) -> bool
 
 impl KernelAlone {
     ghost use Rattle.alone_views.specs.KernelChanges.{ChangesTo, MayStore, may_store, store_or_unfit};
-    ghost use Rattle.alone_views.specs.KernelStanding.{schedule_of};
+    ghost use Rattle.alone_views.specs.KernelStanding.{turns_of};
 
     /// A Put may store at this address: it lies in RAM, and is a multiple of the width.
     fn may_store(&self, address: u32, width: u32) -> bool
@@ -30,7 +30,7 @@ impl KernelAlone {
     /// Stores the lowest bytes of a value at an address of RAM that is a multiple of their count.
     fn store(&mut self, address: u32, width: u32, value: u32)
         ensures becomes { IsItemWidth width → ChangesTo self.old self.new (store_or_unfit address width value) }
-        ensures schedule { schedule_of self.new ≡ schedule_of self.old }
+        ensures schedule { turns_of self.new ≡ turns_of self.old }
     {
         if self.may_store(address, width) {
             self.ram.store(address, width, value)
@@ -43,7 +43,7 @@ impl KernelAlone {
     pub(crate) fn take_put(&mut self, address: u32, width: u32, value: u32)
         ensures becomes { IsItemWidth width →
             ChangesTo self.old self.new (λ s. spec.take_put s.place address width value s) }
-        ensures schedule { schedule_of self.new ≡ schedule_of self.old }
+        ensures schedule { turns_of self.new ≡ turns_of self.old }
     {
         match self.place {
             KernelPlace::Inside { .. } => self.store(address, width, value),

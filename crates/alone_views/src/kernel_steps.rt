@@ -22,7 +22,7 @@ fn has_halted(ending: Kernel) -> bool
 
 impl KernelAlone {
     ghost use Rattle.alone_views.specs.KernelChanges.{ChangesTo};
-    ghost use Rattle.alone_views.specs.KernelStanding.{Gains, StandsForKernel, schedule_of, state_with};
+    ghost use Rattle.alone_views.specs.KernelStanding.{Gains, StandsForKernel, turns_of, state_with};
 
     /// Makes the plain step of a hart, which is outside.
     fn step_plainly(&mut self, hart: usize) -> Kernel
@@ -30,7 +30,7 @@ impl KernelAlone {
         ensures state { (console : List ℕ) → state_with self.new (console ++ spec.console_byte result)
             ≡ spec.plain_step hart (state_with self.old console) }
         ensures console { self.new.console ≡ self.old.console }
-        ensures schedule { schedule_of self.new ≡ schedule_of self.old }
+        ensures schedule { turns_of self.new ≡ turns_of self.old }
     {
         let ending = kernel_step(&mut self.harts[hart], &mut self.disk, &mut self.ram);
         self.place = KernelPlace::Between;
@@ -43,7 +43,7 @@ impl KernelAlone {
         requires { hart < length self.old.harts.items }
         ensures gains { (turns : List ℕ) (s : spec.KernelAlone) → StandsForKernel self.old turns s →
             Gains E.gave e.old e.new self.new turns s (spec.plain_step hart s) }
-        ensures schedule { schedule_of self.new ≡ schedule_of self.old }
+        ensures schedule { turns_of self.new ≡ turns_of self.old }
         ensures emits_some { EmitsSome E.gave e.old e.new }
     {
         let ending = self.step_plainly(hart);
@@ -54,7 +54,7 @@ impl KernelAlone {
     pub(crate) fn end_step<E: Emit>(&mut self, e: &mut E)
         ensures gains { (turns : List ℕ) (s : spec.KernelAlone) → StandsForKernel self.old turns s →
             Gains E.gave e.old e.new self.new turns s (spec.kernel_step_ended s.place s) }
-        ensures schedule { schedule_of self.new ≡ schedule_of self.old }
+        ensures schedule { turns_of self.new ≡ turns_of self.old }
         ensures emits_some { EmitsSome E.gave e.old e.new }
     {
         match self.place {
@@ -68,7 +68,7 @@ impl KernelAlone {
     /// The hart of the step with this number.
     fn hart_of(&self, number: u32) -> usize
         ensures there { result < length self.now.harts.items }
-        ensures turn { result ≡ slice_index (schedule_of self.now) ((number - 1) % length (schedule_of self.now)) }
+        ensures turn { result ≡ slice_index (turns_of self.now) ((number - 1) % length (turns_of self.now)) }
     {
         self.schedule[number.saturating_sub(1) as usize % self.schedule.len()] as usize
     }
@@ -90,7 +90,7 @@ impl KernelAlone {
 
     /// Takes a Step behind the end of the last one.
     pub(crate) fn take_step(&mut self, number: u32)
-        ensures { ChangesTo self.old self.new (spec.take_kernel_step (schedule_of self.old) number) }
+        ensures { ChangesTo self.old self.new (spec.take_kernel_step (turns_of self.old) number) }
     {
         if self.halted {
             return self.refuse();

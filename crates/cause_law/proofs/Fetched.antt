@@ -36,7 +36,7 @@ use Rattle.cloak_model.specs.Parts.{Joint}
 use Rattle.cloak_model.specs.Resources.{page_at}
 use Rattle.cloak_model.specs.Walk.{Walk, FirstWord, Ends, GoesOn, has_paging, without_paging, first_entry, first_word, second_word, access_fault, word_in_ram, walk_after, walk, table_at, tables_after, walk_tables}
 use Rattle.cloak_model.specs.World.{World, Cloak, Cloaked, settled, violation_of, cipher_items}
-use Rattle.cause_law.specs.Causes.{Differs, stepping_hart, IsRefused, PresentsFetch}
+use Rattle.cause_law.specs.Causes.{Differs, hart_of_step, QuestionIsRefused, PresentsFetch}
 use Rattle.cause_law.proofs.Leading.{access_of}
 use Rattle.cause_law.proofs.Refused.{clean_settle, page_is_refused}
 
@@ -182,18 +182,18 @@ unfolding joint_step turn_of inside_step by_interrupt
 fetch_violates m q f p =
     let j = m.joint in
     let number = next_hart m in
-    let h = ticked (stepping_hart m) in
+    let h = ticked (hart_of_step m) in
     let e = domain_of p.ctx in
     let slot = slot_of p.ctx in
     let v = violation.Page q (record { 0 = f }) in
     let c : Cloak = cloak_of j.memory h e (pages_for p.domain (context_at p.domain.control.contexts slot)) in
     let leads = address_still p.context.pc Fetch c p.walked p.tables p.leads p.inside in
-    let refused : IsRefused q f (ask_reach q p.context.pc Fetch (Cloaked c)) =
-    subst (λ (g : ℕ). IsRefused q g (ask_reach q p.context.pc Fetch (Cloaked c))) p.frame
+    let refused : QuestionIsRefused q f (ask_reach q p.context.pc Fetch (Cloaked c)) =
+    subst (λ (g : ℕ). QuestionIsRefused q g (ask_reach q p.context.pc Fetch (Cloaked c))) p.frame
     (page_is_refused q p.context.pc Fetch c c p.walked.pa leads p.drawn
     (subst (λ (g : ℕ). Differs q g j.memory) (sym p.frame) p.differs)) in
     let step = fetch_stops slot p.domain p.context q (Cloaked c) p.there p.plain p.lies refused.answer in
-    ap (λ (o : Option ℕ). (turn_of j number (stepping_hart m) o).violation) p.runs
+    ap (λ (o : Option ℕ). (turn_of j number (hart_of_step m) o).violation) p.runs
     ∙ (ap (λ (o : Option Domain). (inside_step j number h e slot o).violation) p.program
     ∙ (ap (λ (b : Bool). (by_interrupt b j number h e slot p.domain).violation) p.goes
     ∙ stopped_violation j number h e (domain_step slot p.domain (Cloaked c)) _ v step refl refused.violation))

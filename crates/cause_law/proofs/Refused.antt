@@ -14,7 +14,7 @@ use Rattle.cloak_model.specs.Asking.{Told}
 use Rattle.cloak_model.specs.Cloaking.{CloakedMemory, AfterSettling, AfterOffer, Ready, Mismatch, owed_in, owes, owing_frame, settle, settle_if, settle_frame_if, with_comparison, taken, compared, unless_missed, offer}
 use Rattle.cloak_model.specs.Memory.{frame_of}
 use Rattle.cloak_model.specs.World.{Cloak, Cloaked, cipher_items}
-use Rattle.cause_law.specs.Causes.{Differs, IsRefused, PageIsRefused}
+use Rattle.cause_law.specs.Causes.{Differs, QuestionIsRefused, PageIsRefused}
 use Rattle.cause_law.proofs.Kept.{IsHome, owes_page}
 
 -- no frame that is owed a page is found where there is none
@@ -72,21 +72,21 @@ offer_refuses q g write m d =
 -- The question.
 
 offered_refuses : (q : PageId) (g : ℕ) (write : Bool) (c : Cloak) → Differs q g c.memory →
-    IsRefused q g (ask_offer q g write (Cloaked c))
+    QuestionIsRefused q g (ask_offer q g write (Cloaked c))
 unfolding ask_offer offered_by replies
 offered_refuses q g write c d =
-    subst (λ (o : AfterOffer). IsRefused q g (offered_by q g o.answer
+    subst (λ (o : AfterOffer). QuestionIsRefused q g (offered_by q g o.answer
     (Cloaked (record c { memory = o.memory; items = c.items ++ cipher_items o.ciphers }))))
     (sym (offer_refuses q g write c.memory d))
     (record { answer = refl; violation = refl })
 
-drawn_refuses : (q : PageId) (g : ℕ) (b : Bool) (t u : Told Answer) → b ≡ false → IsRefused q g u →
-    IsRefused q g (cond b t u)
+drawn_refuses : (q : PageId) (g : ℕ) (b : Bool) (t u : Told Answer) → b ≡ false → QuestionIsRefused q g u →
+    QuestionIsRefused q g (cond b t u)
 drawn_refuses q g true t u is refuses = absurd (false≢true (sym is))
 drawn_refuses q g false t u is refuses = refuses
 
 reached_refuses : (q : PageId) (kind : Kind) (pa : ℕ) (c : Cloak) → c.memory.ledger.missed ≡ false →
-    Differs q (frame_of pa) c.memory → IsRefused q (frame_of pa) (if_drawn (reached q kind (Ok pa)) (Cloaked c))
+    Differs q (frame_of pa) c.memory → QuestionIsRefused q (frame_of pa) (if_drawn (reached q kind (Ok pa)) (Cloaked c))
 unfolding if_drawn reached
 reached_refuses q kind pa c drawn d =
     drawn_refuses q (frame_of pa) c.memory.ledger.missed _ _ drawn
@@ -95,5 +95,5 @@ reached_refuses q kind pa c drawn d =
 pub page_is_refused : PageIsRefused
 unfolding ask_reach reach_by_table
 page_is_refused q va kind c c' pa leads drawn d =
-    subst (λ (to : Told (Result ℕ ℕ)). IsRefused q (frame_of pa) (if_drawn (reached q kind to.answer) to.world))
+    subst (λ (to : Told (Result ℕ ℕ)). QuestionIsRefused q (frame_of pa) (if_drawn (reached q kind to.answer) to.world))
     (sym leads) (reached_refuses q kind pa c' drawn d)

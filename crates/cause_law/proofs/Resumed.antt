@@ -12,7 +12,7 @@ use Rattle.cloak_model.specs.DomainState.{Control, Domain}
 use Rattle.cloak_model.specs.DomainStep.{resume_told, resume_slot}
 use Rattle.cloak_model.specs.Parts.{Joint}
 use Rattle.cloak_model.specs.Resuming.{AfterResume, space_of, by_root, by_context, by_domain, resume}
-use Rattle.cause_law.specs.Causes.{context_of}
+use Rattle.cause_law.specs.Causes.{context_running}
 use Rattle.cause_law.proofs.Kept.{IsKept}
 
 -- the space of a context, by the context's number
@@ -84,7 +84,7 @@ domain_by j hart satp ctx reply (Some was) = slot_by j hart satp ctx reply was _
 
 -- the violation of a resuming
 pub resume_refuses : (j : Joint) (hart satp ctx reply : ℕ) →
-    (resume j hart satp ctx reply).violation ≡ refusal j satp ctx (context_of j ctx)
+    (resume j hart satp ctx reply).violation ≡ refusal j satp ctx (context_running j ctx)
 unfolding resume
 resume_refuses j hart satp ctx reply = domain_by j hart satp ctx reply (slice_get j.domains (domain_of ctx))
 

@@ -17,7 +17,7 @@ use Rattle.cloak_model.specs.Run.{Run, joint_run, unless_stopped, turns_from, jo
 use Rattle.kernel_isolation.proofs.Isolated.{of_opened}
 use Rattle.kernel_isolation.proofs.Opened.{is_opened}
 use Rattle.kernel_isolation.proofs.Turns.{IsSteady, turn_is_alone}
-use Rattle.cause_law.specs.Causes.{moment_at, LastStepPresents, ViolationHasCause, IsStoppedBy, ContextIsRefused, MappingIsRefused, presented_root, can_run, context_of, HasStopped, StopsTheRun, StoppedIsLast, FetchIsRefused}
+use Rattle.cause_law.specs.Causes.{moment_at, LastStepPresents, ViolationHasCause, IsStoppedBy, ContextIsRefused, MappingIsRefused, presented_root, can_run, context_running, HasStopped, StopsTheRun, StoppedIsLast, FetchIsRefused}
 use Rattle.cause_law.proofs.Fetched.{fetch_violates}
 use Rattle.cause_law.proofs.Kept.{IsKept}
 use Rattle.cause_law.proofs.Opened.{opened_kept}
@@ -255,7 +255,7 @@ context_is_refused b stream budget r is n low ctx presents =
     let a = presents.asks in
     let resumed = resumed_so m ctx a.answer a.outside a.asks (so.reaches n low).kept in
     stopped_by b r so n low (violation.Context ctx)
-    (resumed.violates ∙ refused_context m.joint (presented_root m) ctx (context_of m.joint ctx) presents.cannot)
+    (resumed.violates ∙ refused_context m.joint (presented_root m) ctx (context_running m.joint ctx) presents.cannot)
 
 refused_mapping : (j : Joint) (satp ctx first : ℕ) (c : Context) → c.on ≡ None →
     j.memory.ledger.root (space_id ctx c) ≡ Some first → first ≢ satp →

@@ -36,7 +36,7 @@ use Rattle.settling_ahead.proofs.Touching.{writes_touched_alone}
 use Rattle.kernel_isolation.proofs.Numbers.{number_at}
 use Rattle.kernel_isolation.proofs.Turns.{IsSteady}
 use Rattle.domain_isolation.proofs.StepScripts.{of_domain, step_scripted}
-use Rattle.cause_law.specs.Causes.{Differs, stepping_hart, table_leads, kernel_ending, AsksToResume, context_of, can_run, presented_root, Presents}
+use Rattle.cause_law.specs.Causes.{Differs, hart_of_step, table_leads, kernel_ending, AsksToResume, context_running, can_run, presented_root, Presents}
 use Rattle.cause_law.proofs.Kept.{IsKept, kept_settled}
 use Rattle.cause_law.proofs.Asked.{IsCalm, HasMet, Calm, Met, EndsCalmOrMet, played_meets}
 use Rattle.cause_law.proofs.Resumed.{space_id, refusal, resume_refuses, resume_leaves}
@@ -176,7 +176,7 @@ touched_kept h disk m kept = while_kept (λ ram. touched h ram disk) (length m.l
 
 -- the machine behind the plain step of a hart outside
 abbrev pub told_outside : Moment → Told After
-told_outside m = settled_step (stepping_hart m) m.joint.disk (cloak_outside m.joint.memory (stepping_hart m))
+told_outside m = settled_step (hart_of_step m) m.joint.disk (cloak_outside m.joint.memory (hart_of_step m))
 
 abbrev pub joint_outside : Moment → Joint
 joint_outside m = after_kernel_step m.joint (next_hart m) (told_outside m)
@@ -188,7 +188,7 @@ record Outside (m : Moment) : Type 0 where
 outside_leaves : (m : Moment) → IsKept m.joint.memory → Outside m
 unfolding settled_step made_after
 outside_leaves m kept =
-    let h = stepping_hart m in
+    let h = hart_of_step m in
     let s = settle_touched h m.joint.disk m.joint.memory in
     let there = touched_kept h m.joint.disk m.joint.memory kept in
     record {
@@ -200,11 +200,11 @@ outside_leaves m kept =
     }
 
 -- the step, by its ending
-pub outside_turn : (m : Moment) (e : Kernel) → (stepping_hart m).inside ≡ None → kernel_ending m ≡ e →
+pub outside_turn : (m : Moment) (e : Kernel) → (hart_of_step m).inside ≡ None → kernel_ending m ≡ e →
     joint_step m ≡ outside_ended (joint_outside m) (next_hart m) (items_of (told_outside m).world) e
 unfolding joint_step turn_of outside_step after_outside
 outside_turn m e outside is =
-    ap (turn_of m.joint (next_hart m) (stepping_hart m)) outside
+    ap (turn_of m.joint (next_hart m) (hart_of_step m)) outside
     ∙ ap (outside_ended (joint_outside m) (next_hart m) (items_of (told_outside m).world)) is
 
 -- Every step.
@@ -213,15 +213,15 @@ pub record TurnPresents (m : Moment) : Type 0 where
   pub kept : IsKept (joint_step m).joint.memory
   pub presents : (v : Violation) → (joint_step m).violation ≡ Some v → Presents m v
 
-inside_turn : (m : Moment) (ctx : ℕ) → (stepping_hart m).inside ≡ Some ctx → IsSteady m.joint →
-    IsKept m.joint.memory → Meets (ticked (stepping_hart m)) (domain_of ctx) (joint_step m)
+inside_turn : (m : Moment) (ctx : ℕ) → (hart_of_step m).inside ≡ Some ctx → IsSteady m.joint →
+    IsKept m.joint.memory → Meets (ticked (hart_of_step m)) (domain_of ctx) (joint_step m)
 unfolding joint_step turn_of
 inside_turn m ctx inside steady kept =
-    subst (λ (t : Turn). Meets (ticked (stepping_hart m)) (domain_of ctx) t)
-    (sym (ap (turn_of m.joint (next_hart m) (stepping_hart m)) inside))
-    (inside_meets m.joint (next_hart m) (ticked (stepping_hart m)) ctx _ steady kept refl)
+    subst (λ (t : Turn). Meets (ticked (hart_of_step m)) (domain_of ctx) t)
+    (sym (ap (turn_of m.joint (next_hart m) (hart_of_step m)) inside))
+    (inside_meets m.joint (next_hart m) (ticked (hart_of_step m)) ctx _ steady kept refl)
 
-inside_presents : (m : Moment) (ctx : ℕ) → (stepping_hart m).inside ≡ Some ctx → IsSteady m.joint →
+inside_presents : (m : Moment) (ctx : ℕ) → (hart_of_step m).inside ≡ Some ctx → IsSteady m.joint →
     IsKept m.joint.memory → TurnPresents m
 inside_presents m ctx inside steady kept =
     let meets = inside_turn m ctx inside steady kept in
@@ -246,7 +246,7 @@ inside_presents m ctx inside steady kept =
 -- resuming, as the step's ending
 pub record ResumedSo (m : Moment) (ctx : ℕ) : Type 0 where
   pub kept : IsKept (joint_step m).joint.memory
-  pub violates : (joint_step m).violation ≡ refusal m.joint (presented_root m) ctx (context_of m.joint ctx)
+  pub violates : (joint_step m).violation ≡ refusal m.joint (presented_root m) ctx (context_running m.joint ctx)
 
 refusal_root : (j j' : Joint) (satp ctx : ℕ) (o : Option Context) → j'.memory.ledger.root ≡ j.memory.ledger.root →
     refusal j' satp ctx o ≡ refusal j satp ctx o
@@ -255,7 +255,7 @@ refusal_root j j' satp ctx (Some c) same =
     ap (λ (root : _ → Option ℕ). cond (is_some c.on) (Some (violation.Context ctx))
     (cond (is_root satp (root (space_id ctx c))) None (Some (violation.Mapping ctx satp)))) same
 
-pub resumed_so : (m : Moment) (ctx reply : ℕ) → (stepping_hart m).inside ≡ None →
+pub resumed_so : (m : Moment) (ctx reply : ℕ) → (hart_of_step m).inside ≡ None →
     kernel_ending m ≡ kernel.Resume ctx reply → IsKept m.joint.memory → ResumedSo m ctx
 unfolding outside_ended
 resumed_so m ctx reply outside is kept =
@@ -275,13 +275,13 @@ resumed_so m ctx reply outside is kept =
       kept = subst (λ (x : Joint). IsKept x.memory) (sym joint) (leaves.kept before.kept);
       violates = ap (λ (t : Turn). t.violation) turn
           ∙ (resume_refuses j number satp ctx reply
-          ∙ (refusal_root m.joint j satp ctx (context_of m.joint ctx) before.root
-          ∙ ap (λ (x : ℕ). refusal m.joint x ctx (context_of m.joint ctx)) root));
+          ∙ (refusal_root m.joint j satp ctx (context_running m.joint ctx) before.root
+          ∙ ap (λ (x : ℕ). refusal m.joint x ctx (context_running m.joint ctx)) root));
     }
 
 -- what the refusal is of
 refused_root : (m : Moment) (ctx : ℕ) (asks : AsksToResume m ctx) (c : Context) (v : Violation) (first : Option ℕ)
-    (b : Bool) → context_of m.joint ctx ≡ Some c → c.on ≡ None →
+    (b : Bool) → context_running m.joint ctx ≡ Some c → c.on ≡ None →
     m.joint.memory.ledger.root (space_id ctx c) ≡ first → is_root (presented_root m) first ≡ b →
     cond b None (Some (violation.Mapping ctx (presented_root m))) ≡ Some v → Presents m v
 refused_root m ctx asks c v first true there rests recorded is violates = no_violation v violates
@@ -300,7 +300,7 @@ refused_root m ctx asks c v (Some first) false there rests recorded is violates 
     })
 
 refused_on : (m : Moment) (ctx : ℕ) (asks : AsksToResume m ctx) (c : Context) (v : Violation) (on : Option _) →
-    context_of m.joint ctx ≡ Some c → c.on ≡ on →
+    context_running m.joint ctx ≡ Some c → c.on ≡ on →
     cond (is_some on) (Some (violation.Context ctx))
     (cond (is_root (presented_root m) (m.joint.memory.ledger.root (space_id ctx c))) None
     (Some (violation.Mapping ctx (presented_root m)))) ≡ Some v → Presents m v
@@ -313,7 +313,7 @@ refused_on m ctx asks c v (Some h) there is violates =
 refused_on m ctx asks c v None there is violates = refused_root m ctx asks c v _ _ there is refl refl violates
 
 refused : (m : Moment) (ctx : ℕ) (asks : AsksToResume m ctx) (v : Violation) (o : Option Context) →
-    context_of m.joint ctx ≡ o → refusal m.joint (presented_root m) ctx o ≡ Some v → Presents m v
+    context_running m.joint ctx ≡ o → refusal m.joint (presented_root m) ctx o ≡ Some v → Presents m v
 refused m ctx asks v None there violates =
     subst (Presents m) (same_violation (violation.Context ctx) v violates)
     (record { asks = asks; cannot = ap can_run there })
@@ -326,7 +326,7 @@ plain_presents m t is kept none = record {
   presents = λ v violates. no_violation v (sym (ap (λ (x : Turn). x.violation) is ∙ none) ∙ violates);
 }
 
-outside_by : (m : Moment) (e : Kernel) → (stepping_hart m).inside ≡ None → kernel_ending m ≡ e →
+outside_by : (m : Moment) (e : Kernel) → (hart_of_step m).inside ≡ None → kernel_ending m ≡ e →
     IsKept m.joint.memory → TurnPresents m
 unfolding outside_ended
 outside_by m kernel.Stay outside is kept =
@@ -340,11 +340,11 @@ outside_by m (kernel.Resume ctx reply) outside is kept =
     record {
       kept = r.kept;
       presents = λ v violates.
-          refused m ctx (record { answer = reply; outside = outside; asks = is }) v (context_of m.joint ctx) refl
+          refused m ctx (record { answer = reply; outside = outside; asks = is }) v (context_running m.joint ctx) refl
           (sym r.violates ∙ violates);
     }
 
-turn_by : (m : Moment) (o : Option ℕ) → (stepping_hart m).inside ≡ o → IsSteady m.joint → IsKept m.joint.memory →
+turn_by : (m : Moment) (o : Option ℕ) → (hart_of_step m).inside ≡ o → IsSteady m.joint → IsKept m.joint.memory →
     TurnPresents m
 turn_by m None is steady kept = outside_by m (kernel_ending m) is refl kept
 turn_by m (Some ctx) is steady kept = inside_presents m ctx is steady kept

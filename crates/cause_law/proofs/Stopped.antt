@@ -37,7 +37,7 @@ use Rattle.domain_isolation.proofs.Played.{answers_of, answer_items, played_item
 use Rattle.domain_isolation.proofs.Scripts.{played}
 use Rattle.domain_isolation.proofs.Steady.{is_halted}
 use Rattle.domain_isolation.proofs.StepScripts.{of_domain, step_scripted}
-use Rattle.cause_law.specs.Causes.{stepping_hart, kernel_ending}
+use Rattle.cause_law.specs.Causes.{hart_of_step, kernel_ending}
 use Rattle.cause_law.proofs.Steps.{joint_outside, outside_turn}
 
 abbrev is_stop : Item → Bool
@@ -120,12 +120,12 @@ ended_tells d j number ciphers (kernel.Resume ctx reply) =
     tells_none d _ (ap (list_any is_stop) (after_ciphers d ciphers _)
     ∙ resume_tells d j number (satp_of (hart_in j number).csrs) ctx reply)
 
-outside_tells : (d : ℕ) (m : Moment) → (stepping_hart m).inside ≡ None → Tells d (joint_step m)
+outside_tells : (d : ℕ) (m : Moment) → (hart_of_step m).inside ≡ None → Tells d (joint_step m)
 unfolding settled_step made_after
 outside_tells d m outside =
     subst (λ (t : Turn). Tells d t) (sym (outside_turn m (kernel_ending m) outside refl))
     (ended_tells d (joint_outside m) (next_hart m)
-    (settle_touched (stepping_hart m) m.joint.disk m.joint.memory).ciphers (kernel_ending m))
+    (settle_touched (hart_of_step m) m.joint.disk m.joint.memory).ciphers (kernel_ending m))
 
 -- A hart inside.
 
@@ -238,13 +238,13 @@ inside_tells d j number h ctx None steady is = tells_none d _ refl
 inside_tells d j number h ctx (Some was) steady is =
     interrupted_tells d _ j number h ctx was (number_at (domain_of ctx) j.domains was steady.programs is)
 
-turn_tells : (d : ℕ) (m : Moment) (o : Option ℕ) → (stepping_hart m).inside ≡ o → IsSteady m.joint →
+turn_tells : (d : ℕ) (m : Moment) (o : Option ℕ) → (hart_of_step m).inside ≡ o → IsSteady m.joint →
     Tells d (joint_step m)
 unfolding joint_step turn_of
 turn_tells d m None is steady = outside_tells d m is
 turn_tells d m (Some ctx) is steady =
-    subst (λ (t : Turn). Tells d t) (sym (ap (turn_of m.joint (next_hart m) (stepping_hart m)) is))
-    (inside_tells d m.joint (next_hart m) (ticked (stepping_hart m)) ctx _ steady refl)
+    subst (λ (t : Turn). Tells d t) (sym (ap (turn_of m.joint (next_hart m) (hart_of_step m)) is))
+    (inside_tells d m.joint (next_hart m) (ticked (hart_of_step m)) ctx _ steady refl)
 
 -- a step of which an item tells a program of a stop
 pub told_stops : (m : Moment) (d : ℕ) (before after : List Item) → IsSteady m.joint →

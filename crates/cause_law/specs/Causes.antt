@@ -47,8 +47,8 @@ moment_at b r n = record {
 }
 
 -- the hart of the next step
-abbrev pub stepping_hart : Moment → Hart
-stepping_hart m = hart_in m.joint (next_hart m)
+abbrev pub hart_of_step : Moment → Hart
+hart_of_step m = hart_in m.joint (next_hart m)
 
 -- A page that is not the recorded one.
 
@@ -76,12 +76,12 @@ table_frames h ram kind va = walk_tables ram (satp_of h.csrs) (access_on h kind 
 -- what was last shown of q.
 pub record PresentsPage (m : Moment) (q : PageId) (f : ℕ) : Type 0 where
   pub ctx : ℕ
-  pub runs : (stepping_hart m).inside ≡ Some ctx
+  pub runs : (hart_of_step m).inside ≡ Some ctx
   pub own : q.domain ≡ domain_of ctx
   pub va : ℕ
   pub kind : Kind
   pub walked : Walked
-  pub leads : table_leads (ticked (stepping_hart m)) (joint_step m).joint.memory.ram kind va ≡ Ok walked
+  pub leads : table_leads (ticked (hart_of_step m)) (joint_step m).joint.memory.ram kind va ≡ Ok walked
   pub there : frame_of walked.pa ≡ f
   pub differs : Differs q f (joint_step m).joint.memory
 
@@ -90,17 +90,17 @@ pub record PresentsPage (m : Moment) (q : PageId) (f : ℕ) : Type 0 where
 -- how the step of a hart outside ends, as the kernel's code has it
 abbrev pub kernel_ending : Moment → Kernel
 kernel_ending m =
-    (settled_step (stepping_hart m) m.joint.disk (cloak_outside m.joint.memory (stepping_hart m))).answer.ending
+    (settled_step (hart_of_step m) m.joint.disk (cloak_outside m.joint.memory (hart_of_step m))).answer.ending
 
 -- The kernel asks to resume a context.
 pub record AsksToResume (m : Moment) (ctx : ℕ) : Type 0 where
   pub answer : ℕ
-  pub outside : (stepping_hart m).inside ≡ None
+  pub outside : (hart_of_step m).inside ≡ None
   pub asks : kernel_ending m ≡ kernel.Resume ctx answer
 
 -- the context of a number, where there is one
-abbrev pub context_of : Joint → ℕ → Option Context
-context_of j ctx =
+abbrev pub context_running : Joint → ℕ → Option Context
+context_running j ctx =
     option_and_then (λ d. context_at d.control.contexts (slot_of ctx)) (slice_get j.domains (domain_of ctx))
 
 -- a context is there, and runs on no hart
@@ -110,7 +110,7 @@ can_run (Some c) = is_none c.on
 
 pub record PresentsContext (m : Moment) (ctx : ℕ) : Type 0 where
   pub asks : AsksToResume m ctx
-  pub cannot : can_run (context_of m.joint ctx) ≡ false
+  pub cannot : can_run (context_running m.joint ctx) ≡ false
 
 -- the page table with which the hart comes out of the kernel's step
 abbrev pub presented_root : Moment → ℕ
@@ -119,7 +119,7 @@ presented_root m = satp_of (hart_in (joint_step m).joint (next_hart m)).csrs
 pub record PresentsMapping (m : Moment) (ctx root : ℕ) : Type 0 where
   pub asks : AsksToResume m ctx
   pub context : Context
-  pub there : context_of m.joint ctx ≡ Some context
+  pub there : context_running m.joint ctx ≡ Some context
   pub rests : context.on ≡ None
   pub presented : root ≡ presented_root m
   -- the page table that the context's space was first resumed with
@@ -163,7 +163,7 @@ MappingIsRefused =
 -- Pages are asked for in the middle of a step, at most twice, and in no other way than by this question.
 
 -- A question was stopped, with the violation that names this page and this frame.
-pub record IsRefused (q : PageId) (f : ℕ) (told : Told Answer) : Type 0 where
+pub record QuestionIsRefused (q : PageId) (f : ℕ) (told : Told Answer) : Type 0 where
   pub answer : told.answer ≡ answer.Stopped
   pub violation : violation_of told.world ≡ Some (violation.Page q (record { 0 = f }))
 
@@ -174,25 +174,25 @@ PageIsRefused =
     (q : PageId) (va : ℕ) (kind : Kind) (c c' : Cloak) (pa : ℕ) →
     ask_inside_address va kind (Cloaked c) ≡ record { answer = Ok pa; world = Cloaked c' } →
     c'.memory.ledger.missed ≡ false → Differs q (frame_of pa) c'.memory →
-    IsRefused q (frame_of pa) (ask_reach q va kind (Cloaked c))
+    QuestionIsRefused q (frame_of pa) (ask_reach q va kind (Cloaked c))
 
 -- The context that a hart runs is to fetch its next instruction from page q. As the step begins, the kernel's page
 -- table leads the fetch to a frame in RAM that differs from what was last shown of q, and none of its table frames is
 -- owed a page, so that nothing is settled on the way.
 pub record PresentsFetch (m : Moment) (q : PageId) (f : ℕ) : Type 0 where
   pub ctx : ℕ
-  pub runs : (stepping_hart m).inside ≡ Some ctx
+  pub runs : (hart_of_step m).inside ≡ Some ctx
   pub domain : Domain
   pub program : slice_get m.joint.domains (domain_of ctx) ≡ Some domain
   pub context : Context
   pub there : context_at domain.control.contexts (slot_of ctx) ≡ Some context
   pub plain : context.phase ≡ Plain
-  pub goes : interrupt_due (ticked (stepping_hart m)).mode (ticked (stepping_hart m)).csrs ≡ false
+  pub goes : interrupt_due (ticked (hart_of_step m)).mode (ticked (hart_of_step m)).csrs ≡ false
   pub lies : page_at domain.control.number domain.control.resources context.space context.pc ≡ Some q
   pub walked : Walked
-  pub leads : table_leads (ticked (stepping_hart m)) m.joint.memory.ram Fetch context.pc ≡ Ok walked
+  pub leads : table_leads (ticked (hart_of_step m)) m.joint.memory.ram Fetch context.pc ≡ Ok walked
   pub tables : find (is_owed m.joint.memory)
-      (table_frames (ticked (stepping_hart m)) m.joint.memory.ram Fetch context.pc) ≡ None
+      (table_frames (ticked (hart_of_step m)) m.joint.memory.ram Fetch context.pc) ≡ None
   pub inside : is_in_ram m.joint.memory.ram walked.pa ≡ true
   pub frame : frame_of walked.pa ≡ f
   pub drawn : m.joint.memory.ledger.missed ≡ false

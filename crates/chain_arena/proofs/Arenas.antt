@@ -11,9 +11,9 @@ use Rattle.chain_arena.specs.declared.chain.Chain.{Chain}
 use Rattle.chain_arena.specs.declared.chain.Chain.TheVariants as chain
 use Rattle.chain_arena.specs.declared.arena.ChainArena.TheInside.{Inside}
 use Rattle.chain_arena.specs.Links.{link_of}
-use Rattle.chain_arena.specs.Chains.{IsIn, without, IsLinked}
+use Rattle.chain_arena.specs.Chains.{IsMemberOf, without, IsLinked}
 use Rattle.chain_arena.specs.Nodes.{payload_of, next_of, previous_of, linked_in, taken_out}
-use Rattle.chain_arena.specs.Arena.{Arena, arena, chains, chain_at, with_chains, IsInUse, Stands, hooked, unhooked, behind}
+use Rattle.chain_arena.specs.Arena.{Arena, arena, chains, chain_at, with_chains, IsInUse, Stands, hooked, unhooked, next_behind}
 use Rattle.chain_arena.specs.Inside.{base_of, heads_of, held, payloads_of, AreMade, AreSorted, arena_of, IsArena}
 use Rattle.chain_arena.proofs.AllChains.{was, had}
 use Rattle.chain_arena.proofs.Nodes.{cases_link, payload-linked_in, payload-taken_out}
@@ -26,7 +26,7 @@ Not A = A → ⊥
 pub carried : {A B : Type 0} (P : A → B → Type 0) {a v : A} {b w : B} → a ≡ v → b ≡ w → P v w → P a b
 carried P {a} {v} {b} {w} e f p = subst (λ x. P x b) (sym e) (subst (P v) (sym f) p)
 
-pub in_some_chain : (css : List (List ℕ)) (h s : ℕ) → IsIn s (get_or css h []) → h < length css
+pub in_some_chain : (css : List (List ℕ)) (h s : ℕ) → IsMemberOf s (get_or css h []) → h < length css
 in_some_chain [] h s p = absurd p
 in_some_chain (c ∷ css) zero s p = omega arith
 in_some_chain (c ∷ css) (suc h) s p = let more = in_some_chain css h s p in omega arith
@@ -51,7 +51,7 @@ not_free chain.Second e = cc
 
 -- readers of a chain
 
-pub first_is : (nx pv : ℕ → ℕ) (n a : ℕ) (xs : List ℕ) (b : ℕ) → IsLinked nx pv a xs b → ((i : ℕ) → IsIn i xs → i < n)
+pub first_is : (nx pv : ℕ → ℕ) (n a : ℕ) (xs : List ℕ) (b : ℕ) → IsLinked nx pv a xs b → ((i : ℕ) → IsMemberOf i xs → i < n)
     → n ≤ b → (nx a < n → Some (nx a) ≡ slice_get xs 0) × (n ≤ nx a → None ≡ slice_get xs 0)
 first_is nx pv n a [] b l below over = ((λ h. absurd (omega (arith, l.0))), (λ h. refl))
 first_is nx pv n a (x ∷ xs) b l below over = (
@@ -61,18 +61,18 @@ first_is nx pv n a (x ∷ xs) b l below over = (
 )
 
 pub behind_is : (nx pv : ℕ → ℕ) (n a s : ℕ) (xs : List ℕ) (b : ℕ) → IsLinked nx pv a xs b
-    → ((i : ℕ) → IsIn i xs → i < n) → n ≤ b → IsIn s xs
-    → (nx s < n → Some (nx s) ≡ behind s xs) × (n ≤ nx s → None ≡ behind s xs)
+    → ((i : ℕ) → IsMemberOf i xs → i < n) → n ≤ b → IsMemberOf s xs
+    → (nx s < n → Some (nx s) ≡ next_behind s xs) × (n ≤ nx s → None ≡ next_behind s xs)
 behind_is nx pv n a s [] b l below over h = absurd h
 behind_is nx pv n a s (x ∷ xs) b l below over h = elim (cases_eq s x) [
   | inl e ↦
-      let is : behind s (x ∷ xs) ≡ slice_get xs 0 = ap (λ t. cond t (slice_get xs 0) (behind s xs)) (eq-eqb s x e) in
+      let is : next_behind s (x ∷ xs) ≡ slice_get xs 0 = ap (λ t. cond t (slice_get xs 0) (next_behind s xs)) (eq-eqb s x e) in
       let f = first_is nx pv n s xs b (subst (λ j. IsLinked nx pv j xs b) (sym e) l.2)
       (λ i p. below i (inr p)) over in
       ((λ k. f.0 k ∙ sym is), (λ k. f.1 k ∙ sym is))
   | inr d ↦
-      let is : behind s (x ∷ xs) ≡ behind s xs = ap (λ t. cond t (slice_get xs 0) (behind s xs)) (ne_eqb s x d) in
-      let rest : IsIn s xs = elim h [ inl e ↦ absurd (d e) | inr p ↦ p ] in
+      let is : next_behind s (x ∷ xs) ≡ next_behind s xs = ap (λ t. cond t (slice_get xs 0) (next_behind s xs)) (ne_eqb s x d) in
+      let rest : IsMemberOf s xs = elim h [ inl e ↦ absurd (d e) | inr p ↦ p ] in
       let f = behind_is nx pv n x s xs b l.2 (λ i p. below i (inr p)) over rest in
       ((λ k. f.0 k ∙ sym is), (λ k. f.1 k ∙ sym is))
 ]
@@ -167,8 +167,8 @@ module _ {X : Type 0} where
       head_in : (h : ℕ) → h < heads_of m k → h < m
       head_in h l = subst (λ j. h < j) (heads_is m c) l
 
-      stands_in : (s h : ℕ) → IsIn s (chain_at (arena_of a) c h) → IsIn s (get_or (css k) h [])
-      stands_in s h p = subst (λ ds. IsIn s (get_or ds h [])) (chains_held xs n m c) p
+      stands_in : (s h : ℕ) → IsMemberOf s (chain_at (arena_of a) c h) → IsMemberOf s (get_or (css k) h [])
+      stands_in s h p = subst (λ ds. IsMemberOf s (get_or ds h [])) (chains_held xs n m c) p
 
       pub next_in_block : (h : ℕ) → h < m → next_of k xs (n + h) < length xs
       next_in_block h l =
@@ -190,7 +190,7 @@ module _ {X : Type 0} where
       linked_at h l = subst (λ b. IsLinked (next_of k xs) (previous_of k xs) (b + h) (get_or (css k) h []) (b + h))
           (base_is n m c) (is.made.linked k h (subst (λ j. h < j) (sym (is.made.heads k)) (head_of h l)))
 
-      below_at : (h i : ℕ) → h < m → IsIn i (get_or (css k) h []) → i < n
+      below_at : (h i : ℕ) → h < m → IsMemberOf i (get_or (css k) h []) → i < n
       below_at h i l p = (is.made.tidy k).below h i (subst (λ j. h < j) (sym (is.made.heads k)) (head_of h l)) p
 
       pub first_of : (h : ℕ) → h < m → (next_of k xs (n + h) < n
@@ -202,13 +202,13 @@ module _ {X : Type 0} where
           let same = ap (λ ds. slice_get (get_or ds h []) 0) (sym (chains_held xs n m c)) in
           ((λ q. f.0 q ∙ same), (λ q. f.1 q ∙ same))
 
-      pub behind_of : (s h : ℕ) → h < m → IsIn s (chain_at (arena_of a) c h)
-          → (next_of k xs s < n → Some (next_of k xs s) ≡ behind s (chain_at (arena_of a) c h)) × (n ≤ next_of k xs s
-          → None ≡ behind s (chain_at (arena_of a) c h))
+      pub behind_of : (s h : ℕ) → h < m → IsMemberOf s (chain_at (arena_of a) c h)
+          → (next_of k xs s < n → Some (next_of k xs s) ≡ next_behind s (chain_at (arena_of a) c h)) × (n ≤ next_of k xs s
+          → None ≡ next_behind s (chain_at (arena_of a) c h))
       behind_of s h l p =
           let f = behind_is (next_of k xs) (previous_of k xs) n (n + h) s (get_or (css k) h []) (n + h)
           (linked_at h l) (λ i q. below_at h i l q) (omega arith) (stands_in s h p) in
-          let same = ap (λ ds. behind s (get_or ds h [])) (sym (chains_held xs n m c)) in
+          let same = ap (λ ds. next_behind s (get_or ds h [])) (sym (chains_held xs n m c)) in
           ((λ q. f.0 q ∙ same), (λ q. f.1 q ∙ same))
 
       -- hook
@@ -218,8 +218,8 @@ module _ {X : Type 0} where
         slot : s < n
         slot = (payload_in xs n s (Some used.0) used.1).0
 
-        out : (g : ℕ) → g < heads_of m k → Not (IsIn s (get_or (css k) g []))
-        out g l p = apart (g, head_in g l, subst (λ ds. IsIn s (get_or ds g [])) (sym (chains_held xs n m c)) p)
+        out : (g : ℕ) → g < heads_of m k → Not (IsMemberOf s (get_or (css k) g []))
+        out g l p = apart (g, head_in g l, subst (λ ds. IsMemberOf s (get_or ds g [])) (sym (chains_held xs n m c)) p)
 
         abbrev ds : Link → List (List ℕ)
         ds = put k (slice_set (css k) h (s ∷ get_or (css k) h [])) css
@@ -237,7 +237,7 @@ module _ {X : Type 0} where
         free_same = put_other k (slice_set (css k) h (s ∷ get_or (css k) h [])) css link.Free
             (λ e. not_free c (sym e))
 
-        still_used : (j : Link) (g i : ℕ) → Not (j ≡ link.Free) → g < m → IsIn i (get_or (ds j) g [])
+        still_used : (j : Link) (g i : ℕ) → Not (j ≡ link.Free) → g < m → IsMemberOf i (get_or (ds j) g [])
             → Not (payload_of ys i ≡ None)
         still_used j g i d l p e = let none = sym (payloads i) ∙ e in elim (cases_link j k) [
           | inl f ↦
@@ -246,20 +246,20 @@ module _ {X : Type 0} where
               let h_in : h < length (css k) = subst (λ z. h < z) (sym long) (head_of h head) in
               elim (was n (base_of n m k) (css k) (base_over n m k) (is.made.tidy k) s h slot h_in
               (λ q r. out q (subst (λ z. q < z) long r)) g i g_in
-              (subst (λ z. IsIn i (get_or z g [])) (put_here k
+              (subst (λ z. IsMemberOf i (get_or z g [])) (put_here k
               (slice_set (css k) h (s ∷ get_or (css k) h [])) css j f) p)) [
                 | inl q ↦ taken s used (ap (payload_of xs) (sym q.0) ∙ none)
                 | inr q ↦ is.sorted.in_use k g i (not_free c) l q none
               ]
-          | inr f ↦ is.sorted.in_use j g i d l (subst (λ z. IsIn i (get_or z g []))
+          | inr f ↦ is.sorted.in_use j g i d l (subst (λ z. IsMemberOf i (get_or z g []))
               (put_other k (slice_set (css k) h (s ∷ get_or (css k) h [])) css j f) p) none
         ]
 
         sorted : AreSorted ys n m ds
         sorted = record {
-          free = λ i l e. subst (λ z. IsIn i (get_or z 0 [])) (sym free_same) (is.sorted.free i l (sym (payloads i)
+          free = λ i l e. subst (λ z. IsMemberOf i (get_or z 0 [])) (sym free_same) (is.sorted.free i l (sym (payloads i)
               ∙ e));
-          spare = λ i p. payloads i ∙ is.sorted.spare i (subst (λ z. IsIn i (get_or z 0 [])) free_same p);
+          spare = λ i p. payloads i ∙ is.sorted.spare i (subst (λ z. IsMemberOf i (get_or z 0 [])) free_same p);
           in_use = still_used;
         }
 
@@ -293,21 +293,21 @@ module _ {X : Type 0} where
         same_free : es link.Free ≡ css link.Free
         same_free = put_other k (map (without s) (css k)) css link.Free (λ e. not_free c (sym e))
 
-        used_still : (j : Link) (g i : ℕ) → Not (j ≡ link.Free) → g < m → IsIn i (get_or (es j) g [])
+        used_still : (j : Link) (g i : ℕ) → Not (j ≡ link.Free) → g < m → IsMemberOf i (get_or (es j) g [])
             → Not (payload_of zs i ≡ None)
         used_still j g i d l p e = let none = sym (same_payloads i) ∙ e in elim (cases_link j k) [
           | inl f ↦ is.sorted.in_use k g i (not_free c) l
               (had n (base_of n m k) (css k) (base_over n m k) (is.made.tidy k) s g i
-              (subst (λ z. IsIn i (get_or z g [])) (put_here k (map (without s) (css k)) css j f) p)) none
-          | inr f ↦ is.sorted.in_use j g i d l (subst (λ z. IsIn i (get_or z g []))
+              (subst (λ z. IsMemberOf i (get_or z g [])) (put_here k (map (without s) (css k)) css j f) p)) none
+          | inr f ↦ is.sorted.in_use j g i d l (subst (λ z. IsMemberOf i (get_or z g []))
               (put_other k (map (without s) (css k)) css j f) p) none
         ]
 
         less_sorted : AreSorted zs n m es
         less_sorted = record {
-          free = λ i l e. subst (λ z. IsIn i (get_or z 0 [])) (sym same_free)
+          free = λ i l e. subst (λ z. IsMemberOf i (get_or z 0 [])) (sym same_free)
               (is.sorted.free i l (sym (same_payloads i) ∙ e));
-          spare = λ i p. same_payloads i ∙ is.sorted.spare i (subst (λ z. IsIn i (get_or z 0 [])) same_free p);
+          spare = λ i p. same_payloads i ∙ is.sorted.spare i (subst (λ z. IsMemberOf i (get_or z 0 [])) same_free p);
           in_use = used_still;
         }
 

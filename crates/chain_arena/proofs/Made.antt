@@ -4,7 +4,7 @@ use Rattle.std.proofs.lemmas.List.{length-set, length-map}
 use Rattle.chain_arena.specs.declared.node.Node.{Node}
 use Rattle.chain_arena.specs.declared.node.Link.{Link}
 use Rattle.chain_arena.specs.declared.node.Link.TheVariants as link
-use Rattle.chain_arena.specs.Chains.{IsIn, without, IsTidy, AreLinked}
+use Rattle.chain_arena.specs.Chains.{IsMemberOf, without, IsTidy, AreLinked}
 use Rattle.chain_arena.specs.Nodes.{next_of, previous_of, linked_in, taken_out, with_content}
 use Rattle.chain_arena.specs.Inside.{base_of, heads_of, held, AreMade, AreSorted}
 use Rattle.chain_arena.proofs.Chains.{first_in, after_in, before_in}
@@ -60,9 +60,9 @@ module _ {X : Type 0} where
   pub sorted_settled : (xs : List (Node X)) (n m : ℕ) (css ds : Link → List (List ℕ)) → AreSorted xs n m css
       → ((k : Link) → ds k ≡ css k) → AreSorted xs n m ds
   sorted_settled xs n m css ds sorted same = record {
-    free = λ i l e. subst (λ c. IsIn i (get_or c 0 [])) (sym (same link.Free)) (sorted.free i l e);
-    spare = λ i p. sorted.spare i (subst (λ c. IsIn i (get_or c 0 [])) (same link.Free) p);
-    in_use = λ k h i d l p. sorted.in_use k h i d l (subst (λ c. IsIn i (get_or c h [])) (same k) p);
+    free = λ i l e. subst (λ c. IsMemberOf i (get_or c 0 [])) (sym (same link.Free)) (sorted.free i l e);
+    spare = λ i p. sorted.spare i (subst (λ c. IsMemberOf i (get_or c 0 [])) (same link.Free) p);
+    in_use = λ k h i d l p. sorted.in_use k h i d l (subst (λ c. IsMemberOf i (get_or c h [])) (same k) p);
   }
 
   module _ (xs : List (Node X)) (n m : ℕ) (css : Link → List (List ℕ)) (made : AreMade xs n m css) (c : Link) where
@@ -79,27 +79,27 @@ module _ {X : Type 0} where
     within h l = subst (λ k. h < k) (sym (made.heads c)) l
 
     -- the nodes of a chain, its head included, are nodes
-    pub ring_below : (h i : ℕ) → h < heads_of m c → IsIn i ((base + h) ∷ get_or (css c) h []) → i < length xs
+    pub ring_below : (h i : ℕ) → h < heads_of m c → IsMemberOf i ((base + h) ∷ get_or (css c) h []) → i < length xs
     ring_below h i l (inl e) = let b = head_node n m c h l in omega (arith, made.long)
     ring_below h i l (inr p) = let tidy = made.tidy c in let b = tidy.below h i (within h l) p in
         omega (arith, made.long)
 
-    pub next_in : (h : ℕ) → h < heads_of m c → IsIn (nx (base + h)) ((base + h) ∷ get_or (css c) h [])
+    pub next_in : (h : ℕ) → h < heads_of m c → IsMemberOf (nx (base + h)) ((base + h) ∷ get_or (css c) h [])
     next_in h l = in_ring n base (css c) (base_over n m c) (made.tidy c) h (nx (base + h))
         (first_in nx pv (base + h) (get_or (css c) h []) (base + h) (made.linked c h (within h l)))
 
-    pub after_is_in : (h s : ℕ) → h < heads_of m c → IsIn s (get_or (css c) h [])
-        → IsIn (nx s) ((base + h) ∷ get_or (css c) h [])
+    pub after_is_in : (h s : ℕ) → h < heads_of m c → IsMemberOf s (get_or (css c) h [])
+        → IsMemberOf (nx s) ((base + h) ∷ get_or (css c) h [])
     after_is_in h s l p = in_ring n base (css c) (base_over n m c) (made.tidy c) h (nx s)
         (after_in nx pv (base + h) (get_or (css c) h []) (base + h) s (made.linked c h (within h l)) p)
 
-    pub before_is_in : (h s : ℕ) → h < heads_of m c → IsIn s (get_or (css c) h [])
-        → IsIn (pv s) ((base + h) ∷ get_or (css c) h [])
+    pub before_is_in : (h s : ℕ) → h < heads_of m c → IsMemberOf s (get_or (css c) h [])
+        → IsMemberOf (pv s) ((base + h) ∷ get_or (css c) h [])
     before_is_in h s l p = before_in nx pv (base + h) (get_or (css c) h []) (base + h) s
         (made.linked c h (within h l)) p
 
     module _ (s h : ℕ) (slot : s < n) (head : h < heads_of m c) (out : (g : ℕ) → g < heads_of m c
-        → Not (IsIn s (get_or (css c) g []))) where
+        → Not (IsMemberOf s (get_or (css c) g []))) where
       abbrev a : ℕ
       a = base + h
 
@@ -116,10 +116,10 @@ module _ {X : Type 0} where
       not_next e = elim (next_in h head) [
         | inl f ↦ not_head (e
             ∙ f)
-        | inr p ↦ out h head (subst (λ i. IsIn i (get_or (css c) h [])) (sym e) p)
+        | inr p ↦ out h head (subst (λ i. IsMemberOf i (get_or (css c) h [])) (sym e) p)
       ]
 
-      out_all : (g : ℕ) → g < length (css c) → Not (IsIn s (get_or (css c) g []))
+      out_all : (g : ℕ) → g < length (css c) → Not (IsMemberOf s (get_or (css c) g []))
       out_all g l = out g (subst (λ k. g < k) (made.heads c) l)
 
       hook_linked : AreLinked (next_of c ys) (previous_of c ys) base with_hook
@@ -157,7 +157,7 @@ module _ {X : Type 0} where
         ];
       }
 
-    module _ (s h : ℕ) (head : h < heads_of m c) (stands : IsIn s (get_or (css c) h [])) where
+    module _ (s h : ℕ) (head : h < heads_of m c) (stands : IsMemberOf s (get_or (css c) h [])) where
       abbrev pub with_unhook : List (List ℕ)
       with_unhook = map (without s) (css c)
 

@@ -9,7 +9,7 @@ use Rattle.chain_arena.specs.declared.node.Link.{Link}
 use Rattle.chain_arena.specs.declared.node.Link.TheVariants as link
 use Rattle.chain_arena.specs.declared.arena.ChainArena.TheInside.{Inside}
 use Rattle.chain_arena.specs.Links.{leads_to}
-use Rattle.chain_arena.specs.Chains.{IsIn, IsOnce, IsTidy, IsLinked, AreLinked}
+use Rattle.chain_arena.specs.Chains.{IsMemberOf, IsOnce, IsTidy, IsLinked, AreLinked}
 use Rattle.chain_arena.specs.Nodes.{payload_of, next_of, previous_of, linked_in, AreAlone}
 use Rattle.chain_arena.specs.Arena.{arena, empty_arena}
 use Rattle.chain_arena.specs.Inside.{base_of, heads_of, held, payloads_of, AreMade, AreSorted, IsArena}
@@ -24,12 +24,12 @@ abbrev pub down : ℕ → List ℕ
 down zero = []
 down (suc i) = i ∷ down i
 
-in_down : (j i : ℕ) → IsIn j (down i) → j < i
+in_down : (j i : ℕ) → IsMemberOf j (down i) → j < i
 in_down j zero p = absurd p
 in_down j (suc i) (inl e) = omega arith
 in_down j (suc i) (inr p) = let b = in_down j i p in omega arith
 
-down_in : (j i : ℕ) → j < i → IsIn j (down i)
+down_in : (j i : ℕ) → j < i → IsMemberOf j (down i)
 down_in j zero l = absurd (omega arith)
 down_in j (suc i) l = elim (cases_eq j i) [ inl e ↦ inl e | inr d ↦ inr (down_in j i (omega arith)) ]
 
@@ -129,9 +129,9 @@ module _ {X : Type 0} where
         subst (λ l. IsLinked (next_of k xs) (previous_of k xs) (base_of n m k + h) l (base_of n m k + h))
         (sym (none_begun m k h)) (alone.next k (base_of n m k + h) head, alone.previous k (base_of n m k + h) head);
     tidy = λ k. record {
-      below = λ h i lt p. absurd (subst (IsIn i) (none_begun m k h) p);
+      below = λ h i lt p. absurd (subst (IsMemberOf i) (none_begun m k h) p);
       once = λ h lt. subst IsOnce (sym (none_begun m k h)) tt;
-      apart = λ g h i lg lh p q. absurd (subst (IsIn i) (none_begun m k g) p);
+      apart = λ g h i lg lh p q. absurd (subst (IsMemberOf i) (none_begun m k g) p);
     };
   }
 
@@ -151,7 +151,7 @@ module _ {X : Type 0} where
       let at_zero : n + m ≡ n + m + 0 = omega arith in
       let all = made_hooked xs n m (begun m i) made link.Free i 0 slot (omega arith) (λ g l p.
       let head : g ≡ 0 = omega arith in let b =
-      in_down i i (subst (λ h. IsIn i (get_or (down i ∷ []) h [])) head p) in absurd (omega arith)) in
+      in_down i i (subst (λ h. IsMemberOf i (get_or (down i ∷ []) h [])) head p) in absurd (omega arith)) in
       subst (λ l. AreMade l n m (begun m (suc i))) (sym (now ∙ ap (λ b. linked_in link.Free i b xs) at_zero))
       (made_same (linked_in link.Free i (n + m + 0) xs) n m (put link.Free more (begun m i)) (begun m (suc i))
       (more_same m i) all)
@@ -170,7 +170,7 @@ module _ {X : Type 0} where
     begun_sorted = record {
       free = λ i l e. down_in i n l;
       spare = λ i p. empty i;
-      in_use = λ k h i d l p. absurd (subst (IsIn i) (begun_empty m n k h d) p);
+      in_use = λ k h i d l p. absurd (subst (IsMemberOf i) (begun_empty m n k h d) p);
     }
 
     pub opened : n + m + 1 < 2 ^ 64 → IsArena (let b : Inside X = record { block = xs; nodes = n; heads = m } in b)

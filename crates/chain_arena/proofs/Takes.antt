@@ -11,7 +11,7 @@ use Rattle.chain_arena.specs.declared.chain.Chain.{Chain}
 use Rattle.chain_arena.specs.declared.chain.Chain.TheVariants as chain
 use Rattle.chain_arena.specs.declared.arena.ChainArena.TheInside.{Inside}
 use Rattle.chain_arena.specs.Links.{link_of}
-use Rattle.chain_arena.specs.Chains.{IsIn, without, IsTidy, IsLinked}
+use Rattle.chain_arena.specs.Chains.{IsMemberOf, without, IsTidy, IsLinked}
 use Rattle.chain_arena.specs.Nodes.{payload_of, next_of, previous_of, linked_in, taken_out}
 use Rattle.chain_arena.specs.Nodes as nodes
 use Rattle.chain_arena.specs.Arena.{Arena, arena, chains, IsFree, IsInUse, Stands, with_payload, IsTidyArena}
@@ -33,13 +33,13 @@ chain_of link.Free d = absurd (d refl)
 
 -- the head's link leads past the slots exactly where the chain is empty
 
-none_past : (nx pv : ℕ → ℕ) (n a : ℕ) (xs : List ℕ) (b i : ℕ) → IsLinked nx pv a xs b → ((i : ℕ) → IsIn i xs → i < n)
-    → n ≤ nx a → Not (IsIn i xs)
+none_past : (nx pv : ℕ → ℕ) (n a : ℕ) (xs : List ℕ) (b i : ℕ) → IsLinked nx pv a xs b → ((i : ℕ) → IsMemberOf i xs → i < n)
+    → n ≤ nx a → Not (IsMemberOf i xs)
 none_past nx pv n a [] b i l below past p = p
 none_past nx pv n a (x ∷ xs) b i l below past p = let q = below x (inl refl) in absurd (omega (arith, l.0))
 
 first_slot : (nx pv : ℕ → ℕ) (n a : ℕ) (xs : List ℕ) (b : ℕ) → IsLinked nx pv a xs b → n ≤ b → nx a < n
-    → IsIn (nx a) xs
+    → IsMemberOf (nx a) xs
 first_slot nx pv n a xs b l over slot = elim
     (in_push (nx a) b xs (first_in nx pv a xs b l)) [ inl p ↦ p | inr e ↦ absurd (omega arith) ]
 
@@ -109,7 +109,7 @@ module _ {X : Type 0} where
     free_linked = subst (λ b. IsLinked nx (previous_of link.Free xs) b fs b) at_zero
         (is.made.linked link.Free 0 one_head)
 
-    free_below : (i : ℕ) → IsIn i fs → i < n
+    free_below : (i : ℕ) → IsMemberOf i fs → i < n
     free_below i p = (is.made.tidy link.Free).below 0 i one_head p
 
     pub all_taken : n ≤ nx (n + m) → (s : ℕ) → Not (IsFree (arena_of a) s)
@@ -126,7 +126,7 @@ module _ {X : Type 0} where
     -- a slot that stands in a chain is in use
     pub stands_used : (c : Chain) (s : ℕ) → Stands (arena_of a) c s → Not (payload_of xs s ≡ None)
     stands_used c s st = is.sorted.in_use (link_of c) st.0 s (not_free c) st.1
-        (subst (λ z. IsIn s (get_or z st.0 [])) (chains_held xs n m c) st.2)
+        (subst (λ z. IsMemberOf s (get_or z st.0 [])) (chains_held xs n m c) st.2)
 
     pub every_tidy : IsTidyArena (arena_of a)
     every_tidy = record {
@@ -135,8 +135,8 @@ module _ {X : Type 0} where
           (subst (IsTidy n) (sym (chains_held xs n m c)) (is.made.tidy (link_of c)));
       in_use = λ c h s l p.
           let used = stands_used c s (h, l, p) in
-          let q : IsIn s (get_or (css (link_of c)) h []) =
-          subst (λ z. IsIn s (get_or z h [])) (chains_held xs n m c) p in
+          let q : IsMemberOf s (get_or (css (link_of c)) h []) =
+          subst (λ z. IsMemberOf s (get_or z h [])) (chains_held xs n m c) p in
           let slot : s < n = (is.made.tidy (link_of c)).below h s
           (subst (λ z. h < z) (sym (is.made.heads (link_of c) ∙ heads_is m c)) l) q in
           some_of (payload_of xs s) (payload_is xs n s slot) used;
@@ -148,8 +148,8 @@ module _ {X : Type 0} where
     -- take
 
     module _ (s : ℕ) (is_first : s ≡ nx (n + m)) (slot : s < n) where
-      pub is_free_in : IsIn s fs
-      is_free_in = subst (λ i. IsIn i fs) (sym is_first)
+      pub is_free_in : IsMemberOf s fs
+      is_free_in = subst (λ i. IsMemberOf i fs) (sym is_first)
           (first_slot nx (previous_of link.Free xs) n (n + m) fs (n + m) free_linked (omega arith)
           (subst (λ i. i < n) is_first slot))
 
@@ -194,12 +194,12 @@ module _ {X : Type 0} where
 
         sorted : AreSorted ws n m es
         sorted = record {
-          free = λ i l e. subst (IsIn i) (sym free_list)
+          free = λ i l e. subst (IsMemberOf i) (sym free_list)
               (in_still s i fs (is.sorted.free i l (sym (elsewhere i (other i e)) ∙ e)) (other i e));
-          spare = λ i p. let q = in_without s i fs (subst (IsIn i) free_list p) in
+          spare = λ i p. let q = in_without s i fs (subst (IsMemberOf i) free_list p) in
               elsewhere i q.1 ∙ is.sorted.spare i q.0;
           in_use = λ k h i d l p e. is.sorted.in_use k h i d l
-              (subst (λ z. IsIn i (get_or z h [])) (put_other link.Free (map (without s) (css link.Free)) css k d) p)
+              (subst (λ z. IsMemberOf i (get_or z h [])) (put_other link.Free (map (without s) (css link.Free)) css k d) p)
               (sym (elsewhere i (other i e)) ∙ e);
         }
 
@@ -231,10 +231,10 @@ module _ {X : Type 0} where
       back_made : AreMade us n m css
       back_made = made_payload xs n m css is.made s false value
 
-      back_out : (g : ℕ) → g < 1 → Not (IsIn s (get_or (css link.Free) g []))
+      back_out : (g : ℕ) → g < 1 → Not (IsMemberOf s (get_or (css link.Free) g []))
       back_out g l p =
           let zero_head : g ≡ 0 = omega arith in
-          none-some used.0 (sym (is.sorted.spare s (subst (λ h. IsIn s (get_or (css link.Free) h [])) zero_head p))
+          none-some used.0 (sym (is.sorted.spare s (subst (λ h. IsMemberOf s (get_or (css link.Free) h [])) zero_head p))
           ∙ (payload_in xs n s (Some used.0) used.1).1)
 
       pub back_long : length us ≡ length xs
@@ -268,26 +268,26 @@ module _ {X : Type 0} where
         more_list = ap (λ z. get_or z 0 []) (put_here link.Free more css link.Free refl)
             ∙ get_or-set_same (css link.Free) 0 (s ∷ fs) [] one_head
 
-        still_used : (k : Link) (h i : ℕ) → Not (k ≡ link.Free) → h < m → IsIn i (get_or (ds k) h [])
+        still_used : (k : Link) (h i : ℕ) → Not (k ≡ link.Free) → h < m → IsMemberOf i (get_or (ds k) h [])
             → Not (payload_of ys i ≡ None)
         still_used k h i d l p e =
-            let q : IsIn i (get_or (css k) h []) = subst (λ z. IsIn i (get_or z h []))
+            let q : IsMemberOf i (get_or (css k) h []) = subst (λ z. IsMemberOf i (get_or z h []))
             (put_other link.Free more css k d) p in
             elim (cases_eq i s) [
               | inl f ↦ let c = chain_of k d in
                   apart c.0 (
                     h,
                     l,
-                    subst (λ z. IsIn s (get_or z h [])) (sym (chains_held xs n m c.0))
-                        (subst (λ j. IsIn s (get_or (css j) h [])) (sym c.1)
-                        (subst (λ j. IsIn j (get_or (css k) h [])) f q)),
+                    subst (λ z. IsMemberOf s (get_or z h [])) (sym (chains_held xs n m c.0))
+                        (subst (λ j. IsMemberOf s (get_or (css j) h [])) (sym c.1)
+                        (subst (λ j. IsMemberOf j (get_or (css k) h [])) f q)),
                   )
               | inr f ↦ is.sorted.in_use k h i d l q (sym (same_elsewhere i f) ∙ e)
             ]
 
         given_sorted : AreSorted ys n m ds
         given_sorted = record {
-          free = λ i l e. subst (IsIn i) (sym more_list)
+          free = λ i l e. subst (IsMemberOf i) (sym more_list)
               (elim (cases_eq i s) [
                 | inl f ↦ inl f
                 | inr f ↦ inr (is.sorted.free i l (sym (same_elsewhere i f)
@@ -295,7 +295,7 @@ module _ {X : Type 0} where
               ]);
           spare = λ i p. elim (cases_eq i s) [
             | inl f ↦ ap (payload_of ys) f ∙ none_here
-            | inr f ↦ let q : IsIn i (s ∷ fs) = subst (IsIn i) more_list p in
+            | inr f ↦ let q : IsMemberOf i (s ∷ fs) = subst (IsMemberOf i) more_list p in
                 same_elsewhere i f ∙ is.sorted.spare i (elim q [ inl g ↦ absurd (f g) | inr g ↦ g ])
           ];
           in_use = still_used;

@@ -6,7 +6,7 @@ use Rattle.chain_arena.specs.declared.node.Node.{Node}
 use Rattle.chain_arena.specs.declared.node.Link.{Link}
 use Rattle.chain_arena.specs.declared.node.Link.TheVariants as link
 use Rattle.chain_arena.specs.Arena.{Arena, arena}
-use Rattle.chain_arena.specs.Chains.{IsIn, IsTidy, AreLinked, chains_from}
+use Rattle.chain_arena.specs.Chains.{IsMemberOf, IsTidy, AreLinked, chains_from}
 use Rattle.chain_arena.specs.Nodes.{payload_of, next_of, previous_of}
 use Rattle.chain_arena.specs.declared.arena.ChainArena.TheInside.{Inside}
 
@@ -42,9 +42,9 @@ module _ {X : Type 0} where
 
   -- a slot is free, or in use
   pub record AreSorted (xs : List (Node X)) (n m : ℕ) (css : Link → List (List ℕ)) : Type 0 where
-    pub free : (i : ℕ) → i < n → payload_of xs i ≡ None → IsIn i (get_or (css link.Free) 0 [])
-    pub spare : (i : ℕ) → IsIn i (get_or (css link.Free) 0 []) → payload_of xs i ≡ None
-    pub in_use : (k : Link) (h i : ℕ) → (k ≡ link.Free → ⊥) → h < m → IsIn i (get_or (css k) h [])
+    pub free : (i : ℕ) → i < n → payload_of xs i ≡ None → IsMemberOf i (get_or (css link.Free) 0 [])
+    pub spare : (i : ℕ) → IsMemberOf i (get_or (css link.Free) 0 []) → payload_of xs i ≡ None
+    pub in_use : (k : Link) (h i : ℕ) → (k ≡ link.Free → ⊥) → h < m → IsMemberOf i (get_or (css k) h [])
         → payload_of xs i ≡ None → ⊥
 
   abbrev pub arena_of : Inside X → Arena X

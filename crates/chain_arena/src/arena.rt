@@ -1,8 +1,8 @@
 //! The arena: a block of nodes, seen as payloads and chains.
 ghost use Rattle.std.specs.Prelude.{◌≡◌, ◌+◌, ◌<◌, ◌≤◌, ℕ, length, slice_get, Some, None, IfOk, IfSome, IfNone};
 ghost use Rattle.chain_arena.specs.Arena.{empty_arena, chain_at, IsFree, IsInUse, Stands, hooked, unhooked};
-ghost use Rattle.chain_arena.specs.Arena.{with_payload, behind, IsTidyArena};
-ghost use Rattle.chain_arena.specs.Chains.{IsIn};
+ghost use Rattle.chain_arena.specs.Arena.{with_payload, next_behind, IsTidyArena};
+ghost use Rattle.chain_arena.specs.Chains.{IsMemberOf};
 ghost use Rattle.chain_arena.specs.Nodes.{next_of, previous_of, with_next, with_previous, with_content};
 ghost use Rattle.chain_arena.specs.Nodes.{linked_in, taken_out, AreAlone};
 
@@ -208,7 +208,7 @@ impl<T: Copy> ChainArena<T> {
     pub fn next(&self, s: Slot, c: Chain) -> Option<Slot>
         requires in_use { IsInUse self.now s }
         requires stands { Stands self.now c s }
-        ensures { (h : ℕ) → IsIn s (chain_at self.now c h) → result ≡ behind s (chain_at self.now c h) }
+        ensures { (h : ℕ) → IsMemberOf s (chain_at self.now c h) → result ≡ next_behind s (chain_at self.now c h) }
     {
         slot_at(self.block.get(s.index).next.get(c.link()), self.nodes)
     }

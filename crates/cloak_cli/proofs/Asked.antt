@@ -14,7 +14,7 @@ use Rattle.image_commands.specs.Demonstrating.{DemoAnswers}
 use Rattle.image_commands.specs.Generating.{GenAnswers}
 use Rattle.read_back.proofs.Answered.{view_refuses, solo_refuses}
 use Rattle.run_command.proofs.AnswerFacts.{answers_no_run, same_files}
-use Rattle.cloak_cli.specs.Answering.{Answers, Keeps}
+use Rattle.cloak_cli.specs.Answering.{Answers, KeepsOthers}
 
 pub answers_asked : {S O : Type 0} (asked same : spec.Asked) (before after : Outside S O) (given : Status) →
     asked ≡ same → Answers asked before after given → Answers same before after given
@@ -74,7 +74,7 @@ wants_memory (spec.Demo number steps) before after given same low refuses =
     record { answers = demo_lacks number steps before after given low refuses; untouched = same }
 
 -- files that were not touched are kept, whatever the words ask for
-pub keeps_same : (asked : spec.Asked) (given : Status) (held : List ℕ → Option (List ℕ)) → Keeps asked given held held
+pub keeps_same : (asked : spec.Asked) (given : Status) (held : List ℕ → Option (List ℕ)) → KeepsOthers asked given held held
 keeps_same spec.NotBuilt given held = λ name. refl
 keeps_same (spec.Faulty fault) given held = λ name. refl
 keeps_same (spec.Run bundle record_name steps randomness) given held =
@@ -86,7 +86,7 @@ keeps_same (spec.Demo number steps) given held = λ name. refl
 
 -- `gen` changes the file that it writes, and no other
 pub gen_keeps : {S O : Type 0} (number : ℕ) (name : List ℕ) (before after : Outside S O) (given : Status) →
-    GenAnswers number name before after given → Keeps (spec.Gen number name) given before.files.held after.files.held
+    GenAnswers number name before after given → KeepsOthers (spec.Gen number name) given before.files.held after.files.held
 gen_keeps number name before after status.Done has = has.file.others
 gen_keeps {S} {O} number name before after status.NoMemory lacks =
     λ other apart. ap (λ (f : FilesOutside S). f.held other) lacks.untouched

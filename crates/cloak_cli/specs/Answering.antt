@@ -28,12 +28,12 @@ Answers (spec.Demo number steps) before after answer = Demonstrates number steps
 
 -- Every file keeps its bytes, save the record of a run that was begun, or might have been, and the bundle that `gen`
 -- writes.
-abbrev pub Keeps : spec.Asked → Status → (List ℕ → Option (List ℕ)) → (List ℕ → Option (List ℕ)) → Type 0
-Keeps spec.NotBuilt answer held held' = SameFiles held held'
-Keeps (spec.Faulty fault) answer held held' = SameFiles held held'
-Keeps (spec.Run bundle record_name steps randomness) answer held held' =
+abbrev pub KeepsOthers : spec.Asked → Status → (List ℕ → Option (List ℕ)) → (List ℕ → Option (List ℕ)) → Type 0
+KeepsOthers spec.NotBuilt answer held held' = SameFiles held held'
+KeepsOthers (spec.Faulty fault) answer held held' = SameFiles held held'
+KeepsOthers (spec.Run bundle record_name steps randomness) answer held held' =
     KeepsFiles (spec.Run bundle record_name steps randomness) answer held held'
-Keeps (spec.View bundle record_name) answer held held' = SameFiles held held'
-Keeps (spec.Solo domain bundle record_name) answer held held' = SameFiles held held'
-Keeps (spec.Gen number bundle_name) answer held held' = OtherFiles bundle_name held held'
-Keeps (spec.Demo number steps) answer held held' = SameFiles held held'
+KeepsOthers (spec.View bundle record_name) answer held held' = SameFiles held held'
+KeepsOthers (spec.Solo domain bundle record_name) answer held held' = SameFiles held held'
+KeepsOthers (spec.Gen number bundle_name) answer held held' = OtherFiles bundle_name held held'
+KeepsOthers (spec.Demo number steps) answer held held' = SameFiles held held'

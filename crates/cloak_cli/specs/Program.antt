@@ -8,7 +8,7 @@ use Rattle.program_parts.specs.declared.status.Status.{Status}
 use Rattle.program_parts.specs.declared.status.Status.TheVariants as status
 use Rattle.cloak_cli.specs.declared.words.Words.{Words}
 use Rattle.cloak_cli.specs.declared.words.Words.TheVariants as words
-use Rattle.cloak_cli.specs.Answering.{Answers, Keeps}
+use Rattle.cloak_cli.specs.Answering.{Answers, KeepsOthers}
 use Rattle.program_parts.specs.Outside.{Outside, NothingRose}
 use Rattle.program_parts.specs.Refusing.{Refuses}
 
@@ -16,7 +16,7 @@ use Rattle.program_parts.specs.Refusing.{Refuses}
 pub record AnswersAsked {S O : Type 0} (asked : spec.Asked) (before after : Outside S O) (answer : Status) : Type 0
   where
     pub answers : Answers asked before after answer
-    pub kept : Keeps asked answer before.files.held after.files.held
+    pub kept : KeepsOthers asked answer before.files.held after.files.held
 
 -- the line of want of memory was shown, and no file was asked for anything
 pub record WantsMemory {S O : Type 0} (before after : Outside S O) (answer : Status) : Type 0 where

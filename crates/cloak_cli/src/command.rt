@@ -1,7 +1,7 @@
 //! The top call.
 ghost use Rattle.std.specs.Prelude.{◌<◌, ◌-◌, ◌^◌, map, string_bytes};
 ghost use Rattle.command_words.specs.Command as spec;
-ghost use Rattle.cloak_cli.specs.Answering.{Answers, Keeps};
+ghost use Rattle.cloak_cli.specs.Answering.{Answers, KeepsOthers};
 ghost use Rattle.program_parts.specs.Outside.{outside};
 
 use command_words::{Request, read_words};
@@ -26,7 +26,7 @@ pub fn cloak<S: Shelf, O: Sink>(
     ensures answers { Answers (spec.words_of (map string_bytes words.now.items))
         (outside S.held S.reading_faults S.writing_faults O.taken O.faults shelf.old out.old)
         (outside S.held S.reading_faults S.writing_faults O.taken O.faults shelf.new out.new) result }
-    ensures kept { Keeps (spec.words_of (map string_bytes words.now.items)) result
+    ensures kept { KeepsOthers (spec.words_of (map string_bytes words.now.items)) result
         (S.held shelf.old) (S.held shelf.new) }
 {
     let request = match read_words(alloc, words.as_slice()) {

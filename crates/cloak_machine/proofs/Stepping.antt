@@ -27,8 +27,8 @@ use Rattle.cloaked_side.proofs.Emitting.{emits_then, emits_items}
 use Rattle.kernel_report.specs.Console.{ConsoleShows}
 use Rattle.kernel_report.specs.KernelText.{kernel_text}
 use Rattle.kernel_report.proofs.KernelSaid.{IsSaid, kernel_text-is}
-use Rattle.cloak_machine.specs.Lines.{lines_of}
-use Rattle.cloak_machine.specs.Standing.{StandsForMoment, MakesTurn, EndsAs, HaveFewLoads}
+use Rattle.cloak_machine.specs.Lines.{lines_kept}
+use Rattle.cloak_machine.specs.Standing.{StandsForMoment, MakesTurn, FinishesAs, HaveFewLoads}
 use Rattle.cloak_machine.specs.Turns.{IsAt}
 use Rattle.kernel_report.specs.declared.console.Console.{Console}
 use Rattle.cloak_machine.specs.declared.end.End.{End}
@@ -151,8 +151,8 @@ pub ends_as : {E : Type 0} {gave : E → E → List Piece → Type 0} {e f g h :
     end.stop ≡ (if missed then cause.NoRandom else stopped) → end.steps ≡ machine.steps →
     end.draws ≡ (closing m.joint).joint.memory.ledger.draws →
     IsSaid end.lines (kernel_part (closing m.joint).joint) →
-    lines_of end.domains ≡ map domain_line (closing m.joint).joint.domains →
-    EndsAs gave e h end stopped m (closing m.joint)
+    lines_kept end.domains ≡ map domain_line (closing m.joint).joint.domains →
+    FinishesAs gave e h end stopped m (closing m.joint)
 ends_as {E} {gave} {e} {f} {g} {h} {joint} {machine} {end} {stopped} m missed stands close shows last miss stop steps
     draws said lines =
     let o = closing m.joint in
@@ -160,7 +160,7 @@ ends_as {E} {gave} {e} {f} {g} {h} {joint} {machine} {end} {stopped} m missed st
     subst (λ n. Emits gave e f (item_pieces (item.Close n ∷ []))) (sym stands.steps) close in
     let same : end.steps ≡ m.steps = steps ∙ sym stands.steps in
     let kernel : kernel_text end.lines ≡ kernel_lines (kernel_part o.joint) = kernel_text-is end.lines _ said in
-    let texts : concat (lines_of end.domains) ≡ flat_map domain_line o.joint.domains =
+    let texts : concat (lines_kept end.domains) ≡ flat_map domain_line o.joint.domains =
     ap concat lines ∙ concat_is (map domain_line o.joint.domains)
     ∙ flat_map-map (λ (l : List ℕ). l) domain_line o.joint.domains in
     record {

@@ -8,9 +8,9 @@ abbrev pub line_text : DomainLine → List ℕ
 line_text line = take line.end line.bytes
 
 -- what all lines say
-abbrev pub lines_of : DomainLines → List (List ℕ)
-lines_of lines = map line_text (take lines.count lines.lines)
+abbrev pub lines_kept : DomainLines → List (List ℕ)
+lines_kept lines = map line_text (take lines.count lines.lines)
 
 -- what the line of a program says, and nothing where there is no such program
 abbrev pub line_of_program : DomainLines → ℕ → List ℕ
-line_of_program lines d = unwrap_or (slice_get (lines_of lines) d) []
+line_of_program lines d = unwrap_or (slice_get (lines_kept lines) d) []

@@ -64,7 +64,7 @@ pub record MakesTurn {E : Type 0} (gave : E → E → List Piece → Type 0) (e 
   pub stands : StandsForMoment machine (after_turn m t)
 
 -- what the closing of a run that this stopped emits, where it closes so, and what is reported then
-pub record EndsAs {E : Type 0} (gave : E → E → List Piece → Type 0) (e e' : E) (end : End) (stopped : Stop)
+pub record FinishesAs {E : Type 0} (gave : E → E → List Piece → Type 0) (e e' : E) (end : End) (stopped : Stop)
     (m : Moment) (closed : Opened) : Type 0 where
   pub emits : Emits gave e e' (item_pieces (item.Close m.steps ∷ (closed.items ++ item.End ∷ [])))
   pub steps : end.steps ≡ m.steps

@@ -52,10 +52,10 @@ impl DomainLine {
 }
 
 impl DomainLines {
-    ghost use Rattle.cloak_machine.specs.Lines.{line_text, lines_of, line_of_program};
+    ghost use Rattle.cloak_machine.specs.Lines.{line_text, lines_kept, line_of_program};
 
     fn new() -> DomainLines
-        ensures none { lines_of result ≡ [] }
+        ensures none { lines_kept result ≡ [] }
         ensures count { result.count ≡ 0 }
     {
         DomainLines {
@@ -66,7 +66,7 @@ impl DomainLines {
 
     /// All lines.
     pub fn all(&self) -> &[DomainLine]
-        ensures { map line_text result.now ≡ lines_of self.now }
+        ensures { map line_text result.now ≡ lines_kept self.now }
     {
         &self.lines[..self.count]
     }
@@ -85,7 +85,7 @@ impl DomainLines {
     fn add(&mut self, line: DomainLine)
         requires { self.old.count < 4 }
         ensures count { self.new.count ≡ self.old.count + 1 }
-        ensures lines { lines_of self.new ≡ lines_of self.old ++ line_text line ∷ [] }
+        ensures lines { lines_kept self.new ≡ lines_kept self.old ++ line_text line ∷ [] }
     {
         self.lines[self.count] = line;
         self.count += 1;
@@ -95,7 +95,7 @@ impl DomainLines {
     pub fn of(domains: Vec<Domain>) -> DomainLines
         requires { length domains.items ≤ 4 }
         ensures { (ds : List model.Domain) → AreDomains domains.items ds → All (λ d. length d.loads < 2 ^ 64) ds →
-            lines_of result ≡ map domain_line ds }
+            lines_kept result ≡ map domain_line ds }
     {
         let mut lines = DomainLines::new();
         for domain in domains {

@@ -66,7 +66,7 @@ fn stop_of(missed: bool, stop: Stop) -> Stop
 }
 
 impl Machine {
-    ghost use Rattle.cloak_machine.specs.Standing.{EndsAs, MakesTurn, Opens, ShowsOpening};
+    ghost use Rattle.cloak_machine.specs.Standing.{FinishesAs, MakesTurn, Opens, ShowsOpening};
     ghost use Rattle.cloak_machine.specs.Standing.{StandsForMoment, steps_made};
 
     /// The machine of a guest image, before its first step. Its key is the first draw of the stream, and each page of
@@ -132,7 +132,7 @@ impl Machine {
     pub fn finish<E: Emit>(self, stop: Stop, e: &mut E) -> End
         ensures emits_some { EmitsSome E.gave e.old e.new }
         ensures ends { (m : Moment) → StandsForMoment self m →
-            EndsAs E.gave e.old e.new result stop m (closing m.joint) }
+            FinishesAs E.gave e.old e.new result stop m (closing m.joint) }
     {
         let Machine {
             mut joint,

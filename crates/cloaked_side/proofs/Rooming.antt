@@ -25,7 +25,7 @@ use Rattle.cloak_pager.proofs.Offers.{unowed_nowhere, unowed_clean, none_owing, 
 use Rattle.cloak_model.specs.World.{cipher_items}
 use Rattle.cloak_model.specs.Exchange.{Piece, Emits, item_pieces}
 use Rattle.cloak_pager.specs.AfterCall.{MeetsUnclashed, after_offer}
-use Rattle.cloaked_side.specs.Offering.{behind, offer_left, Rooms, Offers, offer_of}
+use Rattle.cloaked_side.specs.Offering.{behind_ciphers, offer_left, Rooms, Offers, offer_of}
 use Rattle.cloaked_side.specs.declared.memory.Memory.{Memory}
 use Rattle.cloaked_side.specs.declared.memory.Offer.{Offer as Ended}
 use Rattle.cloaked_side.proofs.Settling.{Counts, counts, draws_by, missed_by}
@@ -119,17 +119,17 @@ unless_miss s next missed = ap (λ b. let o = next s.memory in
     (record { memory = o.memory; ciphers = s.ciphers ++ o.ciphers; answer = o.answer })) missed
 
 pub unless_no_miss : (s : AfterSettling) (next : CloakedMemory → AfterOffer) → s.missed ≡ false →
-    unless_missed s next ≡ behind s.ciphers (next s.memory)
+    unless_missed s next ≡ behind_ciphers s.ciphers (next s.memory)
 unfolding unless_missed
 unless_no_miss s next missed = ap (λ b. let o = next s.memory in
     cond b (record { memory = s.memory; ciphers = s.ciphers; answer = Missed })
     (record { memory = o.memory; ciphers = s.ciphers ++ o.ciphers; answer = o.answer })) missed
 
 behind_nothing : (ciphers : List (ℕ × List ℕ)) (q : PageId) (g : ℕ) (write : Bool) (m : CloakedMemory) →
-    record { memory = m; ciphers = ciphers; answer = Missed } ≡ behind ciphers (offer_left false q g write m)
+    record { memory = m; ciphers = ciphers; answer = Missed } ≡ behind_ciphers ciphers (offer_left false q g write m)
 behind_nothing ciphers q g write m = λ i. record { memory = m; ciphers = sym (append-nil ciphers) i; answer = Missed }
 
-behind_both : (cs ds : List (ℕ × List ℕ)) (o : AfterOffer) → behind cs (behind ds o) ≡ behind (cs ++ ds) o
+behind_both : (cs ds : List (ℕ × List ℕ)) (o : AfterOffer) → behind_ciphers cs (behind_ciphers ds o) ≡ behind_ciphers (cs ++ ds) o
 behind_both cs ds o = λ i. record {
   memory = o.memory;
   ciphers = sym (append_assoc cs ds o.ciphers) i;
@@ -140,7 +140,7 @@ behind_both cs ds o = λ i. record {
 -- The frame's draw was missing.
 pub rooms_missed : (p : PagerState) (w : PageId → Bool) (m : CloakedMemory) (g : ℕ) (q : PageId) (write : Bool) →
     StandsForMemory p w m → held_in p g ≢ Some q → (settle g m).missed ≡ true →
-    offer q g write m ≡ behind (settle g m).ciphers (offer_left false q g write (settle g m).memory)
+    offer q g write m ≡ behind_ciphers (settle g m).ciphers (offer_left false q g write (settle g m).memory)
 rooms_missed p w m g q write s n missed =
     offer_later q g write m (unowed_here p w m g q s n) ∙ unless_miss (settle g m) (later q g write) missed
     ∙ behind_nothing (settle g m).ciphers q g write (settle g m).memory
@@ -157,29 +157,29 @@ later_alone p w m g q write s outside nowhere =
 pub rooms_alone : (p p1 : PagerState) (w w1 : PageId → Bool) (m : CloakedMemory) (g : ℕ) (q : PageId) (write : Bool) →
     StandsForMemory p w m → held_in p g ≢ Some q → (settle g m).missed ≡ false →
     StandsForMemory p1 w1 (settle g m).memory → held_in p1 g ≡ None → ((k : ℕ) → held_in p1 k ≢ Some q) →
-    offer q g write m ≡ behind (settle g m).ciphers (offer q g write (settle g m).memory)
+    offer q g write m ≡ behind_ciphers (settle g m).ciphers (offer q g write (settle g m).memory)
 rooms_alone p p1 w w1 m g q write s n missed s1 outside nowhere =
     offer_later q g write m (unowed_here p w m g q s n) ∙ unless_no_miss (settle g m) (later q g write) missed
-    ∙ ap (λ o. behind (settle g m).ciphers o) (later_alone p1 w1 (settle g m).memory g q write s1 outside nowhere)
+    ∙ ap (λ o. behind_ciphers (settle g m).ciphers o) (later_alone p1 w1 (settle g m).memory g q write s1 outside nowhere)
 
 -- A frame holds it, and is settled too.
 pub rooms_home : (p p1 : PagerState) (w w1 : PageId → Bool) (m : CloakedMemory) (g f : ℕ) (q : PageId)
     (write room : Bool) → StandsForMemory p w m → held_in p g ≢ Some q → (settle g m).missed ≡ false →
     StandsForMemory p1 w1 (settle g m).memory → held_in p1 f ≡ Some q →
-    unless_missed (settle f (settle g m).memory) (λ m'. compared q g write (m'.ledger.recorded q) m') ≡ behind
+    unless_missed (settle f (settle g m).memory) (λ m'. compared q g write (m'.ledger.recorded q) m') ≡ behind_ciphers
     (settle f (settle g m).memory).ciphers (offer_left room q g write (settle f (settle g m).memory).memory) →
-    offer q g write m ≡ behind ((settle g m).ciphers ++ (settle f (settle g m).memory).ciphers)
+    offer q g write m ≡ behind_ciphers ((settle g m).ciphers ++ (settle f (settle g m).memory).ciphers)
     (offer_left room q g write (settle f (settle g m).memory).memory)
 rooms_home p p1 w w1 m g f q write room s n missed s1 held rest =
     let m1 : CloakedMemory = (settle g m).memory in
     offer_later q g write m (unowed_here p w m g q s n) ∙ unless_no_miss (settle g m) (later q g write) missed
-    ∙ ap (λ o. behind (settle g m).ciphers o)
+    ∙ ap (λ o. behind_ciphers (settle g m).ciphers o)
     (ap (λ x. unless_missed x (λ m'. compared q g write (m'.ledger.recorded q) m'))
     (home_settled p1 w1 m1 f q s1 held) ∙ rest)
     ∙ behind_both (settle g m).ciphers (settle f m1).ciphers (offer_left room q g write (settle f m1).memory)
 
 pub rest_missed : (m : CloakedMemory) (g f : ℕ) (q : PageId) (write : Bool) → (settle f m).missed ≡ true →
-    unless_missed (settle f m) (λ m'. compared q g write (m'.ledger.recorded q) m') ≡ behind (settle f m).ciphers
+    unless_missed (settle f m) (λ m'. compared q g write (m'.ledger.recorded q) m') ≡ behind_ciphers (settle f m).ciphers
     (offer_left false q g write (settle f m).memory)
 rest_missed m g f q write missed =
     unless_miss (settle f m) _ missed ∙ behind_nothing (settle f m).ciphers q g write (settle f m).memory
@@ -187,11 +187,11 @@ rest_missed m g f q write missed =
 pub rest_drawn : (p2 : PagerState) (w2 : PageId → Bool) (m : CloakedMemory) (g f : ℕ) (q : PageId) (write : Bool) →
     (settle f m).missed ≡ false → StandsForMemory p2 w2 (settle f m).memory → held_in p2 g ≡ None →
     ((k : ℕ) → held_in p2 k ≢ Some q) →
-    unless_missed (settle f m) (λ m'. compared q g write (m'.ledger.recorded q) m') ≡ behind (settle f m).ciphers
+    unless_missed (settle f m) (λ m'. compared q g write (m'.ledger.recorded q) m') ≡ behind_ciphers (settle f m).ciphers
     (offer_left true q g write (settle f m).memory)
 rest_drawn p2 w2 m g f q write missed s outside nowhere =
     unless_no_miss (settle f m) (λ m'. compared q g write (m'.ledger.recorded q) m') missed
-    ∙ ap (λ o. behind (settle f m).ciphers o) (offer_bare p2 w2 (settle f m).memory g q write s outside nowhere)
+    ∙ ap (λ o. behind_ciphers (settle f m).ciphers o) (offer_bare p2 w2 (settle f m).memory g q write s outside nowhere)
 
 -- the frame that held the page was settled: nobody holds it
 pub home_gone : (p p' : PagerState) (f : ℕ) (q : PageId) → IsWholePager p → StaysBut f p p' → held_in p' f ≡ None →
@@ -211,7 +211,7 @@ outside_still p p' f g q stays outside held =
 pub rest_by : (p2 : PagerState) (w2 : PageId → Bool) (m : CloakedMemory) (g f : ℕ) (q : PageId)
     (write missed : Bool) → (settle f m).missed ≡ missed → StandsForMemory p2 w2 (settle f m).memory →
     held_in p2 g ≡ None → ((k : ℕ) → held_in p2 k ≢ Some q) →
-    unless_missed (settle f m) (λ m'. compared q g write (m'.ledger.recorded q) m') ≡ behind (settle f m).ciphers
+    unless_missed (settle f m) (λ m'. compared q g write (m'.ledger.recorded q) m') ≡ behind_ciphers (settle f m).ciphers
     (offer_left (not missed) q g write (settle f m).memory)
 rest_by p2 w2 m g f q write true missed s outside nowhere = rest_missed m g f q write missed
 rest_by p2 w2 m g f q write false missed s outside nowhere = rest_drawn p2 w2 m g f q write missed s outside nowhere
@@ -321,7 +321,7 @@ pub offers_so : {E : Type 0} (gave : E → E → List Piece → Type 0) (e e' : 
 offers_so {E} gave e e' old new given answer q g write m r not_missed is moves stream draws missed clash =
     let x : CloakedMemory = r.memory in
     let o : AfterOffer = offer q g write x in
-    let whole : offer q g write m ≡ behind r.ciphers o = r.offers write in
+    let whole : offer q g write m ≡ behind_ciphers r.ciphers o = r.offers write in
     let v = moves r.holds.wiped x r.holds.pager
     (sym (ap (λ (y : AfterOffer). y.memory.ledger.clashed) whole) ∙ clash) in
     let none : o.ciphers ≡ [] = sym (ap (λ (y : List (ℕ × List ℕ) × Offer). y.0) v.answered) in

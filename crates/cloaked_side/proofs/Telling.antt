@@ -13,7 +13,7 @@ use Rattle.cloak_model.specs.World.{items_of}
 use Rattle.cloak_pager.specs.State.{PagerState}
 use Rattle.cloaked_side.specs.Holding.{Holds, SameSize, HoldsNoMore}
 use Rattle.cloaked_side.specs.Seeing.{Sees}
-use Rattle.cloaked_side.specs.Telling.{HoldsWorld, Tells}
+use Rattle.cloaked_side.specs.Telling.{HoldsWorld, TellsSide}
 use Rattle.cloaked_side.specs.declared.memory.Memory.{Memory}
 use Rattle.cloaked_side.specs.declared.side.Side.{Side}
 use Rattle.cloaked_side.proofs.Emitting.{emits_none}
@@ -44,7 +44,7 @@ emits_world gave first now (Cloaked c) sees = sees.emits
 -- what followed, of the memory and the emitter that the side gave back
 pub tells_from : {E A : Type 0} (gave : E → E → List Piece → Type 0) (first now : Side E) (after : A) (told : Told A)
     (memory : Memory) (e : E) → memory ≡ now.memory.now → e ≡ now.emitter.now →
-    FollowsFrom (λ side w. Sees gave first side w) now after told → Tells gave first.emitter.now e memory after told
+    FollowsFrom (λ side w. Sees gave first side w) now after told → TellsSide gave first.emitter.now e memory after told
 tells_from gave first now after told memory e same_memory same_emitter follows = record {
   answer = follows.answer;
   emits = subst (λ x. Emits gave first.emitter.now x (item_pieces (items_of told.world))) (sym same_emitter)
@@ -73,9 +73,9 @@ pub tells_ahead : {E : Type 0} (gave : E → E → List Piece → Type 0) (first
     memory ≡ now.memory.now → e ≡ now.emitter.now → c.memory.ledger.clashed ≡ false →
     (is_clashed (kernel_step h disk (Cloaked c)).world ≡ false →
     FollowsFrom (λ side w. Sees gave first side w) now after (kernel_step h disk (Cloaked c))) →
-    Tells gave first.emitter.now e memory after (settled_step h disk c)
+    TellsSide gave first.emitter.now e memory after (settled_step h disk c)
 tells_ahead gave first now after h disk c memory e same_memory same_emitter unclashed follows =
-    subst (λ (t : Told After). Tells gave first.emitter.now e memory after t) (settles_ahead h disk c)
+    subst (λ (t : Told After). TellsSide gave first.emitter.now e memory after t) (settles_ahead h disk c)
     (tells_from gave first now after (kernel_step h disk (Cloaked c)) memory e same_memory same_emitter
     (follows (unclashed_step h disk c unclashed)))
 

@@ -10,8 +10,8 @@ use Rattle.cloaked_side.specs.declared.memory.Offer.{Offer as Ended}
 use Rattle.cloaked_side.specs.declared.memory.Offer.TheVariants as ended
 
 -- an offer before which this was shown
-abbrev pub behind : List (ℕ × List ℕ) → AfterOffer → AfterOffer
-behind ciphers o = record { memory = o.memory; ciphers = ciphers ++ o.ciphers; answer = o.answer }
+abbrev pub behind_ciphers : List (ℕ × List ℕ) → AfterOffer → AfterOffer
+behind_ciphers ciphers o = record { memory = o.memory; ciphers = ciphers ++ o.ciphers; answer = o.answer }
 
 -- what remains of an offer once there is room; it has ended where a draw was missing
 abbrev pub offer_left : Bool → PageId → ℕ → Bool → CloakedMemory → AfterOffer
@@ -25,7 +25,7 @@ pub record Rooms {E : Type 0} (gave : E → E → List Piece → Type 0) (e e' :
   pub ciphers : List (ℕ × List ℕ)
   pub holds : Holds new memory
   pub emits : Emits gave e e' (item_pieces (cipher_items ciphers))
-  pub offers : (write : Bool) → offer q g write m ≡ behind ciphers (offer_left room q g write memory)
+  pub offers : (write : Bool) → offer q g write m ≡ behind_ciphers ciphers (offer_left room q g write memory)
 
 -- how an offer ends
 abbrev pub offer_of : Ended → Offer

@@ -13,7 +13,7 @@ HoldsWorld memory (Alone handed) = ⊥
 HoldsWorld memory (Cloaked c) = Holds memory c.memory
 
 -- What was told has come about: what it answers, the items, and the memory.
-pub record Tells {E A : Type 0} (gave : E → E → List Piece → Type 0) (e e' : E) (memory : Memory) (given : A)
+pub record TellsSide {E A : Type 0} (gave : E → E → List Piece → Type 0) (e e' : E) (memory : Memory) (given : A)
     (told : Told A) :
     Type 0 where
   pub answer : given ≡ told.answer

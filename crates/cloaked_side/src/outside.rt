@@ -6,7 +6,7 @@ ghost use Rattle.cloak_model.specs.Ahead.{settled_step};
 ghost use Rattle.cloak_model.specs.Joint.{cloak_outside};
 ghost use Rattle.cloak_model.specs.Exchange.{EmitsSome};
 ghost use Rattle.cloaked_side.specs.Holding.{Holds, HoldsNoMore, SameSize};
-ghost use Rattle.cloaked_side.specs.Telling.{Tells};
+ghost use Rattle.cloaked_side.specs.Telling.{TellsSide};
 
 use crate::kept_items::KeptItems;
 use crate::memory::Memory;
@@ -42,7 +42,7 @@ pub fn outside_step<E: Emit>(
     ensures no_more { HoldsNoMore memory.old.pager memory.new.pager }
     ensures emits_some { EmitsSome E.gave e.old e.new }
     ensures tells { (m : CloakedMemory) → Holds memory.old m → m.ledger.clashed ≡ false →
-        Tells E.gave e.old e.new memory.new (record { hart = h.new; disk = d.new; ending = result })
+        TellsSide E.gave e.old e.new memory.new (record { hart = h.new; disk = d.new; ending = result })
         (settled_step h.old d.old (cloak_outside m h.old)) }
 {
     let view = view_of(h, 0);

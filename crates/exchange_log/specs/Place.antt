@@ -5,8 +5,8 @@ use Rattle.exchange_log.specs.Reading.{StandsBehind}
 use Rattle.exchange_log.specs.declared.reader.Reader.{Reader}
 
 -- the offset of the next item in the file; 0 before the magic is read
-abbrev pub place_of : Reader → ℕ
-place_of reader = reader.at
+abbrev pub reader_offset : Reader → ℕ
+reader_offset reader = reader.at
 
 -- it stands behind these items of a file
 abbrev pub IsBehind : Reader → List ℕ → List Item → Type 0

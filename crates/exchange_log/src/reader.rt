@@ -24,13 +24,13 @@ pub struct Reader<'a> {
 }
 
 impl<'a> Reader<'a> {
-    ghost use Rattle.exchange_log.specs.Place.{place_of};
+    ghost use Rattle.exchange_log.specs.Place.{reader_offset};
 
     /// At the front of the file of this name.
     pub fn open(name: &'a str) -> Reader<'a>
         ensures front { (bytes : List ℕ) → StandsBehind result.at result.stage bytes [] }
         ensures name { result.name.now ≡ name.now }
-        ensures start { place_of result ≡ 0 }
+        ensures start { reader_offset result ≡ 0 }
     {
         Reader {
             name,
@@ -45,8 +45,8 @@ impl<'a> Reader<'a> {
             StandsBehind self.old.at self.old.stage (readable bytes) front →
             ReadsNext (readable bytes) front self.new.at self.new.stage result) }
         ensures item { IfOk result (λ found. IfSome found IsItem) }
-        ensures moves { IfOk result (λ found. IfSome found (λ i. place_of self.old < place_of self.new)) }
-        ensures within { place_of self.new < 2 ^ 64 }
+        ensures moves { IfOk result (λ found. IfSome found (λ i. reader_offset self.old < reader_offset self.new)) }
+        ensures within { reader_offset self.new < 2 ^ 64 }
         ensures same { self.new.name ≡ self.old.name }
         ensures unchanged { OnErr result (self.new ≡ self.old) }
         ensures files { SameFiles (S.held shelf.old) (S.held shelf.new) }

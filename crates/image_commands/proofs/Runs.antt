@@ -15,7 +15,7 @@ use Rattle.cloak_model.specs.Run.{Run, cause_of, closing, first_moment, joint_af
 use Rattle.cloak_machine.specs.declared.end.End.{End}
 use Rattle.cloak_machine.specs.declared.machine.Machine.{Machine}
 use Rattle.cloak_machine.specs.Ending.{end_short_report, short_report}
-use Rattle.cloak_machine.specs.Standing.{EndsAs, OpensMachine, StandsForMoment}
+use Rattle.cloak_machine.specs.Standing.{FinishesAs, OpensMachine, StandsForMoment}
 use Rattle.guest_kernel.specs.Generated.{generated}
 use Rattle.guest_kernel.specs.Summary.{summary_line}
 use Rattle.program_parts.specs.Outside.{Output}
@@ -30,7 +30,7 @@ pub end_of : {E : Type 0} {gave : E → E → List Piece → Type 0} {e f : E} (
     (machine : Machine) (stopped : Option Stop) (cause : Stop) (end : End) →
     MadeAll machine stopped (first_moment b o.joint) (turns_from steps (first_moment b o.joint)) →
     cause ≡ unwrap_or stopped stop.Budget →
-    ((m : Moment) → StandsForMoment machine m → EndsAs gave e f end cause m (closing m.joint)) →
+    ((m : Moment) → StandsForMoment machine m → FinishesAs gave e f end cause m (closing m.joint)) →
     IsEndOf end (run_of b steps o)
 unfolding run_of
 end_of {E} {gave} {e} {f} b steps o machine stopped cause end all unwrapped each =

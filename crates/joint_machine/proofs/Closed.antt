@@ -23,7 +23,7 @@ use Rattle.cloaked_side.specs.Holding.{Holds, Settles}
 use Rattle.cloaked_side.specs.declared.memory.Memory.{Memory}
 use Rattle.cloaked_side.proofs.Emitting.{emits_none, emits_items}
 use Rattle.joint_machine.specs.declared.joint.Joint.{Joint}
-use Rattle.joint_machine.specs.Closing.{SettlesAll}
+use Rattle.joint_machine.specs.Closing.{SettlesFrames}
 use Rattle.joint_machine.specs.Standing.{AreDomains, ShowsAs, StandsForJoint}
 
 -- What is held.
@@ -46,13 +46,13 @@ outside_all p i whole below end k = elim (cases_lt k i) [
 -- What is settled.
 
 pub settles_none : {E : Type 0} (gave : E → E → List Piece → Type 0) (e : E) (memory : Memory) (m : CloakedMemory)
-    (h : Hart) → Holds memory m → SettlesAll gave e e memory (settled_below 0 (cloak_outside m h))
+    (h : Hart) → Holds memory m → SettlesFrames gave e e memory (settled_below 0 (cloak_outside m h))
 unfolding settled_below
 settles_none gave e memory m h holds = record { holds = holds; emits = emits_none gave e }
 
 settles_next : {E : Type 0} (gave : E → E → List Piece → Type 0) (e f g : E) (old new : Memory) (i : ℕ) (c : Cloak) →
-    SettlesAll gave e f old c →
-    ((m : CloakedMemory) → Holds old m → Settles gave f g new (settle i m)) → SettlesAll gave e g new (settled_in i c)
+    SettlesFrames gave e f old c →
+    ((m : CloakedMemory) → Holds old m → Settles gave f g new (settle i m)) → SettlesFrames gave e g new (settled_in i c)
 settles_next gave e f g old new i c so_far settles =
     let s = settles c.memory so_far.holds in
     record {
@@ -61,12 +61,12 @@ settles_next gave e f g old new i c so_far settles =
     }
 
 pub settles_more : {E : Type 0} (gave : E → E → List Piece → Type 0) (e f g : E) (old new : Memory) (i : ℕ) (c : Cloak) →
-    SettlesAll gave e f old (settled_below i c) →
+    SettlesFrames gave e f old (settled_below i c) →
     ((m : CloakedMemory) → Holds old m → Settles gave f g new (settle i m)) →
-    SettlesAll gave e g new (settled_below (i + 1) c)
+    SettlesFrames gave e g new (settled_below (i + 1) c)
 unfolding settled_below
 settles_more gave e f g old new i c so_far settles =
-    subst (λ (n : ℕ). SettlesAll gave e g new (settled_below n c)) (sym (add-one i))
+    subst (λ (n : ℕ). SettlesFrames gave e g new (settled_below n c)) (sym (add-one i))
     (settles_next gave e f g old new i (settled_below i c) so_far settles)
 
 -- The page tables that are recorded stay.
@@ -98,11 +98,11 @@ below_roots (suc n) c s = settle_roots n (settled_below n c).memory s ∙ below_
 pub closes_as : {E : Type 0} (gave : E → E → List Piece → Type 0) (e e' : E) (old new : Joint) (j : model.Joint) (n : ℕ) →
     StandsForJoint old j → n ≡ length j.memory.ram → new.harts ≡ old.harts → new.disk ≡ old.disk →
     new.domains ≡ old.domains → new.roots ≡ old.roots →
-    SettlesAll gave e e' new.memory (settled_below n (cloak_outside j.memory (hart_in j 0))) →
+    SettlesFrames gave e e' new.memory (settled_below n (cloak_outside j.memory (hart_in j 0))) →
     ShowsAs gave e e' new (closing j)
 unfolding closing
 closes_as gave e e' old new j n stands count harts disk domains roots settles =
-    let all = subst (λ k. SettlesAll gave e e' new.memory (settled_below k (cloak_outside j.memory (hart_in j 0)))) count settles in
+    let all = subst (λ k. SettlesFrames gave e e' new.memory (settled_below k (cloak_outside j.memory (hart_in j 0)))) count settles in
     record {
       emits = all.emits;
       stands = record {

@@ -22,7 +22,7 @@ use Rattle.hypercalls.specs.Standing.{StandsFor, ResumesAs, control_of}
 use Rattle.thread_context.specs.Recorded.{root_at}
 use Rattle.joint_machine.specs.declared.joint.Joint.{Joint}
 use Rattle.joint_machine.specs.Standing.{AreDomains, StandsForJoint}
-use Rattle.joint_machine.specs.Turning.{AreRoots, Resumes, ResumesIn, idle_space}
+use Rattle.joint_machine.specs.Turning.{AreRoots, ResumesJoint, ResumesIn, idle_space}
 use Rattle.joint_machine.proofs.Gone.{holds_rooted}
 use Rattle.joint_machine.proofs.Places.{domain_at, domains_set, none_past, set_same}
 
@@ -191,9 +191,9 @@ module _ {E : Type 0} (gave : E → E → List Piece → Type 0) (e : E) (domain
 -- The machine after a resuming in the program of its place.
 
 pub resumes_none : {E : Type 0} (gave : E → E → List Piece → Type 0) (e : E) (joint : Joint) (given : Option Violation) (j : model.Joint) (number satp ctx reply : ℕ) →
-    StandsForJoint joint j → length joint.domains.items ≤ domain_of ctx → given ≡ Some (violation.Context ctx) → Resumes gave e e joint given (resume j number satp ctx reply)
+    StandsForJoint joint j → length joint.domains.items ≤ domain_of ctx → given ≡ Some (violation.Context ctx) → ResumesJoint gave e e joint given (resume j number satp ctx reply)
 unfolding resume by_domain
-resumes_none gave e joint given j number satp ctx reply s past met = subst (λ (o : Option program.Domain). Resumes gave e e joint given (by_domain j number satp ctx reply o)) (sym (none_past joint.domains.items j.domains (domain_of ctx) s.domains past)) (record {
+resumes_none gave e joint given j number satp ctx reply s past met = subst (λ (o : Option program.Domain). ResumesJoint gave e e joint given (by_domain j number satp ctx reply o)) (sym (none_past joint.domains.items j.domains (domain_of ctx) s.domains past)) (record {
   emits = emits_none gave e;
   violation = met;
   stands = s;
@@ -203,13 +203,13 @@ pub resumes_there : {E : Type 0} (gave : E → E → List Piece → Type 0) (e e
     StandsForJoint old j → slice_get old.domains.items (domain_of ctx) ≡ Some x →
     new.harts.items ≡ old.harts.items → new.disk ≡ old.disk → new.memory ≡ old.memory → new.domains.items ≡ slice_set old.domains.items (domain_of ctx) x' →
     ((was : program.Domain) → slice_get j.domains (domain_of ctx) ≡ Some was → StandsFor x was → ResumesIn gave e e' x' new.roots given j (domain_of ctx) (by_domain j number satp ctx reply (Some was))) →
-    Resumes gave e e' new given (resume j number word ctx reply)
+    ResumesJoint gave e e' new given (resume j number word ctx reply)
 unfolding resume
 resumes_there gave e e' old new given j number satp word ctx reply x x' same s there harts disk memory domains resumes =
     let at = domain_at old.domains.items j.domains (domain_of ctx) x s.domains there in
     let was = at.0 in
     let r = resumes was at.1.0 at.1.1 in
-    subst (λ (w : ℕ). Resumes gave e e' new given (by_domain j number w ctx reply (slice_get j.domains (domain_of ctx)))) same (subst (λ (o : Option program.Domain). Resumes gave e e' new given (by_domain j number satp ctx reply o)) (sym at.1.0) (record {
+    subst (λ (w : ℕ). ResumesJoint gave e e' new given (by_domain j number w ctx reply (slice_get j.domains (domain_of ctx)))) same (subst (λ (o : Option program.Domain). ResumesJoint gave e e' new given (by_domain j number satp ctx reply o)) (sym at.1.0) (record {
       emits = r.emits;
       violation = r.violation;
       stands = record {

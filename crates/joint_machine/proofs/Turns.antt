@@ -20,7 +20,7 @@ use Rattle.cloak_model.specs.Parts as model
 use Rattle.cloak_model.specs.Resuming.{resume}
 use Rattle.cloak_model.specs.World.{items_of}
 use Rattle.cloaked_side.specs.Holding.{Holds}
-use Rattle.cloaked_side.specs.Telling.{Tells}
+use Rattle.cloaked_side.specs.Telling.{TellsSide}
 use Rattle.cloaked_side.specs.declared.memory.Memory.{Memory}
 use Rattle.cloaked_side.proofs.Emitting.{emits_none, emits_items}
 use Rattle.hypercalls.specs.declared.domain.Domain.{Domain}
@@ -29,7 +29,7 @@ use Rattle.settling_ahead.proofs.Laws.{keeps_rest}
 use Rattle.joint_machine.specs.declared.ended.Ended.{Ended}
 use Rattle.joint_machine.specs.declared.joint.Joint.{Joint}
 use Rattle.joint_machine.specs.Standing.{AreDomains, StandsForJoint, shown_byte, turn_in}
-use Rattle.joint_machine.specs.Turning.{AreRoots, EndsTurn, Resumes, StepsPlainly, TurnsIn}
+use Rattle.joint_machine.specs.Turning.{AreRoots, EndsTurn, ResumesJoint, StepsPlainly, TurnsIn}
 use Rattle.joint_machine.proofs.Insides.{holds_memory}
 use Rattle.joint_machine.proofs.Places.{domain_at, domains_set, none_past}
 
@@ -102,13 +102,13 @@ plain_roots h disk m = (keeps_rest h disk m).root
 pub steps_plainly : {E : Type 0} (gave : E → E → List Piece → Type 0) (e e' : E) (old new : Joint) (given : Kernel) (j : model.Joint) (number : ℕ) (h h' : Hart) →
     StandsForJoint old j → h ≡ hart_in j number →
     new.harts.items ≡ slice_set old.harts.items number h' → new.domains.items ≡ old.domains.items → new.roots ≡ old.roots →
-    Tells gave e e' new.memory (record { hart = h'; disk = new.disk; ending = given }) (settled_step h old.disk (cloak_outside j.memory h)) →
+    TellsSide gave e e' new.memory (record { hart = h'; disk = new.disk; ending = given }) (settled_step h old.disk (cloak_outside j.memory h)) →
     StepsPlainly gave e e' new given j number (settled_step (hart_in j number) j.disk (cloak_outside j.memory (hart_in j number)))
 steps_plainly gave e e' old new given j number h h' s is harts domains roots tells =
     let told : Hart → List ℕ → Told After = λ x disk. settled_step x disk (cloak_outside j.memory x) in
-    let told_here : Tells gave e e' new.memory (record { hart = h'; disk = new.disk; ending = given }) (told (hart_in j number) j.disk) =
-    subst (λ (x : Hart). Tells gave e e' new.memory (record { hart = h'; disk = new.disk; ending = given }) (told x j.disk)) is
-    (subst (λ (disk : List ℕ). Tells gave e e' new.memory (record { hart = h'; disk = new.disk; ending = given }) (told h disk)) s.disk tells) in
+    let told_here : TellsSide gave e e' new.memory (record { hart = h'; disk = new.disk; ending = given }) (told (hart_in j number) j.disk) =
+    subst (λ (x : Hart). TellsSide gave e e' new.memory (record { hart = h'; disk = new.disk; ending = given }) (told x j.disk)) is
+    (subst (λ (disk : List ℕ). TellsSide gave e e' new.memory (record { hart = h'; disk = new.disk; ending = given }) (told h disk)) s.disk tells) in
     record {
       answer = ap (λ (a : After). a.ending) told_here.answer;
       emits = told_here.emits;
@@ -158,7 +158,7 @@ module _ {E : Type 0} (gave : E → E → List Piece → Type 0) (e e' : E) (joi
   })
 
   pub ends_resumed : (ctx answer : ℕ) (e'' : E) (joint' : Joint) (met : Option Violation) → given ≡ kernel.Resume ctx answer → ended ≡ record { console = None; violation = met; halt = None } →
-      Resumes gave e' e'' joint' met (resume (after_kernel_step j number told) number (satp_of (hart_in (after_kernel_step j number told) number).csrs) ctx answer) → EndsTurn gave e e'' joint' ended (after_outside j number told)
+      ResumesJoint gave e' e'' joint' met (resume (after_kernel_step j number told) number (satp_of (hart_in (after_kernel_step j number told) number).csrs) ctx answer) → EndsTurn gave e e'' joint' ended (after_outside j number told)
   unfolding after_outside outside_ended
   ends_resumed ctx answer e'' joint' met is none r = subst (λ (k : Kernel). EndsTurn gave e e'' joint' ended (outside_ended (after_kernel_step j number told) number (items_of told.world) k)) (sym is ∙ s.answer) (record {
     emits = emits_items (items_of told.world) _ s.emits r.emits;

@@ -49,7 +49,7 @@ pub record StepsPlainly {E : Type 0} (gave : E → E → List Piece → Type 0) 
   pub stands : StandsForJoint joint (after_kernel_step j number told)
 
 -- a resuming has come about
-pub record Resumes {E : Type 0} (gave : E → E → List Piece → Type 0) (e e' : E) (joint : Joint) (given : Option Violation) (r : AfterResume) : Type 0 where
+pub record ResumesJoint {E : Type 0} (gave : E → E → List Piece → Type 0) (e e' : E) (joint : Joint) (given : Option Violation) (r : AfterResume) : Type 0 where
   pub emits : Emits gave e e' (item_pieces r.items)
   pub violation : given ≡ r.violation
   pub stands : StandsForJoint joint r.joint

@@ -8,7 +8,7 @@ ghost use Rattle.cloak_model.specs.Parts as model;
 ghost use Rattle.cloak_model.specs.Run.{closing, settled_below};
 ghost use Rattle.cloak_pager.specs.State.{held_in};
 ghost use Rattle.cloaked_side.specs.Holding.{Holds, SameSize, frames_of};
-ghost use Rattle.joint_machine.specs.Closing.{SettlesAll};
+ghost use Rattle.joint_machine.specs.Closing.{SettlesFrames};
 
 use crate::joint::Joint;
 use cloak_base::Frame;
@@ -21,7 +21,7 @@ fn settle_all<E: Emit>(memory: &mut Memory, e: &mut E)
     ensures outside { (k : ℕ) → held_in memory.new.pager k ≡ None }
     ensures emits_some { EmitsSome E.gave e.old e.new }
     ensures settles { (m : CloakedMemory) (h : AnyHart) → Holds memory.old m →
-        SettlesAll E.gave e.old e.new memory.new (settled_below (frames_of memory.old) (cloak_outside m h)) }
+        SettlesFrames E.gave e.old e.new memory.new (settled_below (frames_of memory.old) (cloak_outside m h)) }
 {
     let count = memory.pager.count();
     for i in 0..count {

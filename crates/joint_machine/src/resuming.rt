@@ -73,7 +73,7 @@ fn resume_in<E: Emit>(
 impl Joint {
     ghost use Rattle.cloak_model.specs.Joint.{hart_in};
     ghost use Rattle.joint_machine.specs.Standing.{StandsForJoint, harts_of};
-    ghost use Rattle.joint_machine.specs.Turning.{Resumes};
+    ghost use Rattle.joint_machine.specs.Turning.{ResumesJoint};
 
     /// This hart resumes a context with an answer. Answers the violation, where it may not.
     pub(crate) fn resume<E: Emit>(
@@ -87,7 +87,7 @@ impl Joint {
         ensures harts { harts_of self.new ≡ harts_of self.old }
         ensures emits_some { EmitsSome E.gave e.old e.new }
         ensures resumes { (j : parts.Joint) → StandsForJoint self.old j →
-            Resumes E.gave e.old e.new self.new result
+            ResumesJoint E.gave e.old e.new self.new result
             (spec.resume j number (satp_of (hart_in j number).csrs) ctx answer) }
     {
         let d = (ctx / 8) as usize;

@@ -15,7 +15,7 @@ use Rattle.program_parts.specs.Outside.{Outside, Output, FilesOutside, Raised}
 use Rattle.program_parts.specs.Refusal.{status_of_refusal}
 use Rattle.program_parts.specs.Refusing.{Refuses}
 use Rattle.program_parts.proofs.FaultFacts.{raised}
-use Rattle.read_back.specs.Answering.{AsksView, AsksSolo, OnlyShows, HasView, HasSolo, ViewAnswers, SoloAnswers, kernel_unfit, kernel_text, program_unfit, program_text}
+use Rattle.read_back.specs.Answering.{AsksView, AsksSolo, OnlyShows, HasView, HasSolo, ViewAnswers, SoloAnswers, viewed_unfit, viewed_text, program_unfit, program_text}
 use Rattle.read_back.specs.Reading.{IsReadTo, ReadsBack, BreaksOff, ShowsRecord, status_of_ending}
 use Rattle.read_back.specs.declared.ending.Ending.{Ending}
 use Rattle.read_back.specs.declared.ending.Ending.TheVariants as ending
@@ -156,7 +156,7 @@ pub view_answers : {S O : Type 0} {asked : spec.Asked} {name : List ℕ} {bundle
     {given : Status} → AsksView asked before.files.held name bundle → SameFiles before.files.held mid.files.held →
     mid.files.reading ≡ before.files.reading → mid.output ≡ before.output → OnlyShows before after →
     before.output.faults < 2 ^ 64 - 1 →
-    ShowsRecord (kernel_unfit bundle.kernel) (kernel_text bundle.kernel) name given mid after →
+    ShowsRecord (viewed_unfit bundle.kernel) (viewed_text bundle.kernel) name given mid after →
     ViewAnswers asked before after given
 view_answers {S} {O} {asked} {name} {bundle} {before} {mid} {after} {given} asks held reading output only low
     (inl reads) =
@@ -166,7 +166,7 @@ view_answers {S} {O} {asked} {name} {bundle} {before} {mid} {after} {given} asks
       record_name = name;
       bundle = bundle;
       asks = asks;
-      reads = subst (λ (x : Status). ReadsBack (kernel_unfit bundle.kernel) (kernel_text bundle.kernel) name x before after)
+      reads = subst (λ (x : Status). ReadsBack (viewed_unfit bundle.kernel) (viewed_text bundle.kernel) name x before after)
           r.status r;
       only = only;
     }))

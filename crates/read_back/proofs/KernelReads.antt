@@ -11,11 +11,11 @@ use Rattle.cloak_model.specs.Opening.{started_kernel}
 use Rattle.alone_views.specs.declared.kernel.KernelAlone.{KernelAlone}
 use Rattle.alone_views.specs.declared.unfit.Unfit.{Unfit}
 use Rattle.alone_views.specs.KernelStanding.{StandsForKernel, TakesItem, answer_for}
-use Rattle.exchange_log.specs.Place.{IsBehind, place_of}
+use Rattle.exchange_log.specs.Place.{IsBehind, reader_offset}
 use Rattle.exchange_log.specs.Reading.{readable}
 use Rattle.exchange_log.specs.declared.reader.Reader.{Reader}
 use Rattle.outside_io.proofs.ToldFacts.{Grows-none}
-use Rattle.read_back.specs.Answering.{kernel_unfit}
+use Rattle.read_back.specs.Answering.{viewed_unfit}
 use Rattle.read_back.specs.Reading.{IsReadTo}
 use Rattle.read_back.specs.Screen.{GaveScreen, ShowsText}
 use Rattle.read_back.specs.Viewing.{ViewsTo}
@@ -28,11 +28,11 @@ use Rattle.read_back.proofs.NextItem.{told_begins}
 pub record KernelReads {E : Type 0} (gave : E → E → List Piece → Type 0) (e e' : E) (k : KernelImage)
     (machine : KernelAlone) (told : Option (List ℕ)) (reader : Reader) : Type 0 where
   pub items : List Item
-  pub fits : kernel_unfit k items ≡ None
+  pub fits : viewed_unfit k items ≡ None
   pub stands : StandsForKernel machine k.schedule (kernel_alone k items)
   pub behind : IfSome told (λ bytes. IsBehind reader (readable bytes) items)
   pub shows : Emits gave e e' (shown_each (kernel_alone k items).kernel.console)
-  pub few : length (kernel_alone k items).kernel.console ≤ place_of reader
+  pub few : length (kernel_alone k items).kernel.console ≤ reader_offset reader
 
 emits_nothing : {E : Type 0} (gave : E → E → List Piece → Type 0) (e : E) → Emits gave e e []
 emits_nothing {E} gave e = record {
@@ -77,12 +77,12 @@ pub record KernelTook {E : Type 0} (gave : E → E → List Piece → Type 0) (e
     (machine : KernelAlone) (told : Option (List ℕ)) (reader : Reader) (given : Result Unit Unfit) : Type 0 where
   pub before : List Item
   pub last : Item
-  pub fits : kernel_unfit k before ≡ None
-  pub answer : given ≡ answer_for (kernel_unfit k (before ++ last ∷ []))
+  pub fits : viewed_unfit k before ≡ None
+  pub answer : given ≡ answer_for (viewed_unfit k (before ++ last ∷ []))
   pub stands : StandsForKernel machine k.schedule (kernel_alone k (before ++ last ∷ []))
   pub behind : IfSome told (λ bytes. IsBehind reader (readable bytes) (before ++ last ∷ []))
   pub shows : Emits gave e e' (shown_each (kernel_alone k (before ++ last ∷ [])).kernel.console)
-  pub few : length (kernel_alone k (before ++ last ∷ [])).kernel.console ≤ place_of reader
+  pub few : length (kernel_alone k (before ++ last ∷ [])).kernel.console ≤ reader_offset reader
 
 shown_append : (a b : List ℕ) → shown_each (a ++ b) ≡ shown_each a ++ shown_each b
 shown_append [] b = refl
@@ -95,7 +95,7 @@ pub kernel_takes_next : {E : Type 0} {gave : E → E → List Piece → Type 0} 
     TakesItem gave f h new given turns s (take_kernel_item turns s i)) →
     ((items : List Item) → IfSome told (λ bytes. IsBehind was (readable bytes) items) →
     IfSome told (λ bytes. IsBehind now (readable bytes) (items ++ i ∷ []))) →
-    place_of was < place_of now → KernelTook gave e h k new told now given
+    reader_offset was < reader_offset now → KernelTook gave e h k new told now given
 kernel_takes_next {E} {gave} {e} {f} {h} {k} {old} {new} {told} {was} {now} given i reads is takes next moved =
     let took = takes k.schedule (kernel_alone k reads.items) is reads.stands in
     let same = taken_more k.schedule (opened_kernel k) reads.items i in
@@ -147,7 +147,7 @@ answer_unfits (Some step) f is = ap (λ (s : ℕ). Some s) (sym (ap (λ (r : Res
 
 pub kernel_unfits : {E : Type 0} {gave : E → E → List Piece → Type 0} {e e' : E} {k : KernelImage}
     {machine : KernelAlone} {told : Option (List ℕ)} {reader : Reader} {m n : ℕ} (given : Result Unit Unfit) (f : Unfit) →
-    KernelTook gave e e' k machine told reader given → given ≡ Err f → place_of reader < 2 ^ 64 → n ≡ m →
+    KernelTook gave e e' k machine told reader given → given ≡ Err f → reader_offset reader < 2 ^ 64 → n ≡ m →
     ViewsTo gave e e' k machine told m n (Some (ending.Unfit f.step))
 kernel_unfits {E} {gave} {e} {e'} {k} {machine} {told} {reader} {m} {n} given f took is low same = record {
   items = took.before ++ took.last ∷ [];
@@ -169,8 +169,8 @@ kernel_unfits {E} {gave} {e} {e'} {k} {machine} {told} {reader} {m} {n} given f 
 
 pub kernel_ends : {E : Type 0} {gave : E → E → List Piece → Type 0} {e e' : E} {k : KernelImage}
     {machine : KernelAlone} {told : Option (List ℕ)} {reader : Reader} {m n : ℕ} {ended : Option Ending}
-    (reads : KernelReads gave e e' k machine told reader) → IsReadTo (kernel_unfit k) told m n reads.items ended →
-    place_of reader < 2 ^ 64 → ViewsTo gave e e' k machine told m n ended
+    (reads : KernelReads gave e e' k machine told reader) → IsReadTo (viewed_unfit k) told m n reads.items ended →
+    reader_offset reader < 2 ^ 64 → ViewsTo gave e e' k machine told m n ended
 kernel_ends {E} {gave} {e} {e'} {k} {machine} {told} {reader} {m} {n} {ended} reads read low = record {
   items = reads.items;
   read = read;

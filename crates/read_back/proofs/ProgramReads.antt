@@ -10,7 +10,7 @@ use Rattle.alone_views.specs.declared.domain.DomainAlone.{DomainAlone}
 use Rattle.alone_views.specs.declared.unfit.Unfit.{Unfit}
 use Rattle.alone_views.specs.DomainStanding.{StandsForDomain, TakesDomainItem, answer_by}
 use Rattle.alone_views.proofs.DomainLoads.{few_taken}
-use Rattle.exchange_log.specs.Place.{IsBehind, place_of}
+use Rattle.exchange_log.specs.Place.{IsBehind, reader_offset}
 use Rattle.exchange_log.specs.Reading.{readable}
 use Rattle.exchange_log.specs.declared.reader.Reader.{Reader}
 use Rattle.read_back.specs.Answering.{program_unfit}
@@ -31,7 +31,7 @@ pub record ProgramReads (d : ℕ) (k : KernelImage) (p : Program) (machine : Dom
   pub fits : program_unfit d k p items ≡ None
   pub stands : StandsForDomain d k.schedule machine (domain_alone d k.schedule p items)
   pub behind : IfSome told (λ bytes. IsBehind reader (readable bytes) items)
-  pub few : loads_in d k p items ≤ place_of reader
+  pub few : loads_in d k p items ≤ reader_offset reader
 
 at_front : (reader : Reader) (told : Option (List ℕ)) → ((bytes : List ℕ) → IsBehind reader bytes []) →
     IfSome told (λ bytes. IsBehind reader (readable bytes) [])
@@ -67,7 +67,7 @@ pub record ProgramTook (d : ℕ) (k : KernelImage) (p : Program) (machine : Doma
   pub answer : given ≡ answer_by (program_unfit d k p (before ++ last ∷ []))
   pub stands : StandsForDomain d k.schedule machine (domain_alone d k.schedule p (before ++ last ∷ []))
   pub behind : IfSome told (λ bytes. IsBehind reader (readable bytes) (before ++ last ∷ []))
-  pub few : loads_in d k p (before ++ last ∷ []) ≤ place_of reader
+  pub few : loads_in d k p (before ++ last ∷ []) ≤ reader_offset reader
 
 pub program_takes_next : {d : ℕ} {k : KernelImage} {p : Program} {old new : DomainAlone} {told : Option (List ℕ)}
     {was now : Reader} (given : Result Unit Unfit) (i : Item) → ProgramReads d k p old told was →
@@ -75,7 +75,7 @@ pub program_takes_next : {d : ℕ} {k : KernelImage} {p : Program} {old new : Do
     TakesDomainItem number turns new given (take_domain_item number turns s i)) →
     ((items : List Item) → IfSome told (λ bytes. IsBehind was (readable bytes) items) →
     IfSome told (λ bytes. IsBehind now (readable bytes) (items ++ i ∷ []))) →
-    place_of was < place_of now → ProgramTook d k p new told now given
+    reader_offset was < reader_offset now → ProgramTook d k p new told now given
 program_takes_next {d} {k} {p} {old} {new} {told} {was} {now} given i reads takes next moved =
     let took = takes d k.schedule (domain_alone d k.schedule p reads.items) reads.stands in
     let same = taken_more d k.schedule (opened_domain d p) reads.items i in
@@ -119,7 +119,7 @@ answer_unfits (Some step) f is = ap (λ (s : ℕ). Some s) (sym (ap (λ (r : Res
 
 pub program_unfits : {d : ℕ} {k : KernelImage} {p : Program} {machine : DomainAlone} {told : Option (List ℕ)}
     {reader : Reader} {m n : ℕ} (given : Result Unit Unfit) (f : Unfit) →
-    ProgramTook d k p machine told reader given → given ≡ Err f → place_of reader < 2 ^ 64 → n ≡ m →
+    ProgramTook d k p machine told reader given → given ≡ Err f → reader_offset reader < 2 ^ 64 → n ≡ m →
     SolosTo d k p machine told m n (Some (ending.Unfit f.step))
 program_unfits {d} {k} {p} {machine} {told} {reader} {m} {n} given f took is low same = record {
   items = took.before ++ took.last ∷ [];
@@ -140,7 +140,7 @@ program_unfits {d} {k} {p} {machine} {told} {reader} {m} {n} given f took is low
 
 pub program_ends : {d : ℕ} {k : KernelImage} {p : Program} {machine : DomainAlone} {told : Option (List ℕ)}
     {reader : Reader} {m n : ℕ} {ended : Ending} (reads : ProgramReads d k p machine told reader) →
-    IsReadTo (program_unfit d k p) told m n reads.items (Some ended) → place_of reader < 2 ^ 64 →
+    IsReadTo (program_unfit d k p) told m n reads.items (Some ended) → reader_offset reader < 2 ^ 64 →
     SolosTo d k p machine told m n (Some ended)
 program_ends {d} {k} {p} {machine} {told} {reader} {m} {n} {ended} reads read low = record {
   items = reads.items;

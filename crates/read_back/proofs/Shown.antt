@@ -17,7 +17,7 @@ use Rattle.alone_views.specs.declared.kernel.KernelAlone.{KernelAlone}
 use Rattle.program_parts.specs.declared.status.Status.{Status}
 use Rattle.program_parts.specs.declared.status.Status.TheVariants as status
 use Rattle.program_parts.specs.Outside.{Outside, outside}
-use Rattle.read_back.specs.Answering.{kernel_unfit, kernel_text, program_unfit, program_text}
+use Rattle.read_back.specs.Answering.{viewed_unfit, viewed_text, program_unfit, program_text}
 use Rattle.read_back.specs.Reading.{status_of_ending, IsReadTo, ShowsRecord}
 use Rattle.read_back.specs.Screen.{ShowsText, GaveScreen}
 use Rattle.read_back.specs.Text.{lines_or_fault, view_text}
@@ -72,7 +72,7 @@ pub view_broke : {S O : Type 0} (held : S → List ℕ → Option (List ℕ)) (r
     {name : List ℕ} {s s' : S} {o o' : O} {ended : Option Ending} →
     ViewsTo (GaveScreen taken faults) first now k machine (held s name) (reading s) (reading s') ended →
     first.failed ≡ false → now.failed ≡ true → first.out.now ≡ o → o' ≡ now.out.now →
-    ShowsRecord (kernel_unfit k) (kernel_text k) name status.WriteFault (outside held reading writing taken faults s o)
+    ShowsRecord (viewed_unfit k) (viewed_text k) name status.WriteFault (outside held reading writing taken faults s o)
     (outside held reading writing taken faults s' o')
 view_broke {S} {O} held reading writing taken faults {k} {machine} {first} {now} {name} {s} {s'} {o} {o'}
     {ended} views fresh broken same_first same_now =
@@ -104,7 +104,7 @@ pub view_whole : {S O : Type 0} (held : S → List ℕ → Option (List ℕ)) (r
     Puts (taken mid) (taken o') (faults mid) (faults o')
     (codes "\n" ++ lines_or_fault (kernel_lines (kernel_alone k views.items).kernel) ended) (Ok u) →
     given ≡ status_of_ending ended →
-    ShowsRecord (kernel_unfit k) (kernel_text k) name given (outside held reading writing taken faults s o)
+    ShowsRecord (viewed_unfit k) (viewed_text k) name given (outside held reading writing taken faults s o)
     (outside held reading writing taken faults s' o')
 view_whole {S} {O} held reading writing taken faults {k} {machine} {first} {now} {name} {s} {s'} {o} {mid}
     {ended} {given} {u} o' views fresh well same_first same_now puts answer =
@@ -132,7 +132,7 @@ pub view_cut : {S O : Type 0} (held : S → List ℕ → Option (List ℕ)) (rea
     first.failed ≡ false → now.failed ≡ false → first.out.now ≡ o → mid ≡ now.out.now →
     Puts (taken mid) (taken o') (faults mid) (faults o')
     (codes "\n" ++ lines_or_fault (kernel_lines (kernel_alone k views.items).kernel) ended) (Err e) →
-    ShowsRecord (kernel_unfit k) (kernel_text k) name status.WriteFault (outside held reading writing taken faults s o)
+    ShowsRecord (viewed_unfit k) (viewed_text k) name status.WriteFault (outside held reading writing taken faults s o)
     (outside held reading writing taken faults s' o')
 view_cut {S} {O} held reading writing taken faults {k} {machine} {first} {now} {name} {s} {s'} {o} {mid}
     {ended} {e} o' views fresh well same_first same_now puts =

@@ -19,11 +19,11 @@ use Rattle.read_back.specs.declared.ending.Ending.{Ending}
 
 -- The machines.
 
-abbrev pub kernel_unfit : KernelImage → List Item → Option ℕ
-kernel_unfit k items = (kernel_alone k items).unfit
+abbrev pub viewed_unfit : KernelImage → List Item → Option ℕ
+viewed_unfit k items = (kernel_alone k items).unfit
 
-abbrev pub kernel_text : KernelImage → List Item → Option Ending → List ℕ
-kernel_text k items ended = view_text (kernel_alone k items).kernel ended
+abbrev pub viewed_text : KernelImage → List Item → Option Ending → List ℕ
+viewed_text k items ended = view_text (kernel_alone k items).kernel ended
 
 abbrev pub program_unfit : ℕ → KernelImage → Program → List Item → Option ℕ
 program_unfit d k p items = (domain_alone d k.schedule p items).unfit
@@ -58,14 +58,14 @@ pub record HasView {S O : Type 0} (asked : spec.Asked) (answer : Status) (before
   pub record_name : List ℕ
   pub bundle : Bundle
   pub asks : AsksView asked before.files.held record_name bundle
-  pub reads : ReadsBack (kernel_unfit bundle.kernel) (kernel_text bundle.kernel) record_name answer before after
+  pub reads : ReadsBack (viewed_unfit bundle.kernel) (viewed_text bundle.kernel) record_name answer before after
   pub only : OnlyShows before after
 
 pub record BreaksView {S O : Type 0} (asked : spec.Asked) (before after : Outside S O) : Type 0 where
   pub record_name : List ℕ
   pub bundle : Bundle
   pub asks : AsksView asked before.files.held record_name bundle
-  pub breaks : BreaksOff Raised (kernel_unfit bundle.kernel) (kernel_text bundle.kernel) record_name before after
+  pub breaks : BreaksOff Raised (viewed_unfit bundle.kernel) (viewed_text bundle.kernel) record_name before after
   pub only : OnlyShows before after
 
 pub record HasSolo {S O : Type 0} (asked : spec.Asked) (answer : Status) (before after : Outside S O) : Type 0 where

@@ -12,13 +12,13 @@ use Rattle.alone_views.specs.KernelStanding.{StandsForKernel}
 use Rattle.alone_views.specs.DomainStanding.{StandsForDomain}
 use Rattle.read_back.specs.declared.ending.Ending.{Ending}
 use Rattle.read_back.specs.Reading.{IsReadTo}
-use Rattle.read_back.specs.Answering.{kernel_unfit, program_unfit}
+use Rattle.read_back.specs.Answering.{viewed_unfit, program_unfit}
 
 -- the kernel alone was given the items of a record, and showed its console
 pub record ViewsTo {E : Type 0} (gave : E → E → List Piece → Type 0) (e e' : E) (k : KernelImage) (machine : KernelAlone)
     (told : Option (List ℕ)) (reading reads : ℕ) (ended : Option Ending) : Type 0 where
   pub items : List Item
-  pub read : IsReadTo (kernel_unfit k) told reading reads items ended
+  pub read : IsReadTo (viewed_unfit k) told reading reads items ended
   pub stands : StandsForKernel machine k.schedule (kernel_alone k items)
   pub shows : Emits gave e e' (shown_each (kernel_alone k items).kernel.console)
   -- so its console can be counted

@@ -7,7 +7,7 @@ ghost use Rattle.command_words.specs.Request.{asked_of_view};
 ghost use Rattle.alone_views.specs.KernelStanding.{StandsForKernel};
 ghost use Rattle.cloak_model.specs.Report.{kernel_lines};
 ghost use Rattle.program_parts.specs.Outside.{outside};
-ghost use Rattle.read_back.specs.Answering.{ViewAnswers, kernel_text, kernel_unfit};
+ghost use Rattle.read_back.specs.Answering.{ViewAnswers, viewed_text, viewed_unfit};
 ghost use Rattle.read_back.specs.Reading.{ShowsRecord};
 ghost use Rattle.read_back.specs.Text.{lines_or_fault};
 ghost use Rattle.read_back.specs.Screen.{GaveScreen};
@@ -80,7 +80,7 @@ fn view_record<S: Shelf, O: Sink>(
     requires settled { S.is_settled shelf.old }
     requires output { O.faults out.old < 2 ^ 64 - 1 }
     ensures shows { (k : KernelImage) → StandsForKernel kernel k.schedule (model.opened_kernel k) →
-        ShowsRecord (kernel_unfit k) (kernel_text k) name.now result
+        ShowsRecord (viewed_unfit k) (viewed_text k) name.now result
         (outside S.held S.reading_faults S.writing_faults O.taken O.faults shelf.old out.old)
         (outside S.held S.reading_faults S.writing_faults O.taken O.faults shelf.new out.new) }
     ensures files { SameFiles (S.held shelf.old) (S.held shelf.new) }

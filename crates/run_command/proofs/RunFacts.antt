@@ -15,7 +15,7 @@ use Rattle.cloak_model.specs.Joint.{Moment, Turn, joint_step, after_turn, stop_o
 use Rattle.cloak_model.specs.Run.{unless_stopped, turns_from, joint_after, last_stop, turn_pieces, turns_pieces}
 use Rattle.cloak_model.specs.Run.{closing, cause_of, first_moment, run_of, due}
 use Rattle.cloak_machine.specs.declared.machine.Machine.{Machine}
-use Rattle.cloak_machine.specs.Standing.{StandsForMoment, ShowsOpening, MakesTurn, EndsAs}
+use Rattle.cloak_machine.specs.Standing.{StandsForMoment, ShowsOpening, MakesTurn, FinishesAs}
 use Rattle.cloak_machine.specs.Ending.{end_report}
 use Rattle.cloak_machine.specs.declared.end.End.{End}
 use Rattle.program_parts.specs.declared.status.Status.{Status}
@@ -330,7 +330,7 @@ writes-whole {E} gave mid_failed failed e f g h i opened machine stopped cause g
 -- the end of a run, by what the machine's end emits and says
 pub ends_run : {E : Type 0} {gave : E → E → List Piece → Type 0} {e f g h : E} {end : End} {stopped : Stop}
     {m : Moment} {closed : Opened} {given : Status} →
-    EndsAs gave e f end stopped m closed → Emits gave f g (shown (codes "\n") ∷ []) →
+    FinishesAs gave e f end stopped m closed → Emits gave f g (shown (codes "\n") ∷ []) →
     Emits gave g h (shown (end_report end) ∷ []) → given ≡ status_of end.stop →
     EndsRun gave e h given stopped m.steps closed
 ends_run {E} {gave} {e} {f} {g} {h} {end} {stopped} {m} {closed} {given} ends line lines is = record {

@@ -6,7 +6,7 @@ use Rattle.cloak_model.specs.Joint.{cloak_outside}
 use Rattle.cloak_model.specs.Run.{settled_below}
 use Rattle.cloak_pager.specs.State.{held_in}
 use Rattle.cloaked_side.specs.Holding.{Holds, SameSize}
-use Rattle.joint_machine.specs.Closing.{SettlesAll}
+use Rattle.joint_machine.specs.Closing.{SettlesFrames}
 use Rattle.joint_machine.proofs.closing.settle_all.Given as goal
 
 -- the frames below the next one are settled
@@ -16,5 +16,5 @@ invariant-loop-i g l = record {
   outside : (k : ℕ) → k < l.i → held_in l.memory.pager k ≡ None;
   emits_some : EmitsSome g.E.Emit.gave l.fn.e l.e;
   settles : (m : CloakedMemory) (h : Hart) → Holds l.fn.memory m →
-      SettlesAll g.E.Emit.gave l.fn.e l.e l.memory (settled_below l.i (cloak_outside m h));
+      SettlesFrames g.E.Emit.gave l.fn.e l.e l.memory (settled_below l.i (cloak_outside m h));
 }

@@ -1,5 +1,5 @@
 use Rattle.std.proofs.Common.{◌≡◌, ◌<◌, ◌∙◌, Ok, Err, Some, None, refl, ap, sym, arith}
-use Rattle.exchange_log.specs.Place.{place_of}
+use Rattle.exchange_log.specs.Place.{reader_offset}
 use Rattle.exchange_log.specs.declared.fault.NextFault.TheVariants.{Read, Record}
 use Rattle.read_back.specs.declared.ending.Ending.TheVariants as ending
 use Rattle.read_back.proofs.ProgramReads.{program_opens, program_takes_next, program_goes_on, program_unfits, program_ends}
@@ -34,7 +34,7 @@ pub loop-item-smaller : goal.loop-item-smaller
 loop-item-smaller g c =
     let is : c.next.result ≡ Ok (Some c.in-Ok-Some.item) =
     c.in-Ok-Some.is ∙ ap (λ x. Ok x) c.in-Ok-Some.field-0-is in
-    let moved : place_of c.loop-item.reader < place_of c.next.new.self =
+    let moved : reader_offset c.loop-item.reader < reader_offset c.next.new.self =
     moves_on c.next.result c.in-Ok-Some.item _ is c.next.ensures.moves in
     let low = c.next.ensures.within in omega (arith, moved, low)
 

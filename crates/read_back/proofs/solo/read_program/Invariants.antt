@@ -4,7 +4,7 @@ use Rattle.cloak_model.specs.declared.image.KernelImage.{KernelImage}
 use Rattle.cloak_model.specs.declared.image.Program.{Program}
 use Rattle.cloak_model.specs.DomainAlone.{opened_domain}
 use Rattle.alone_views.specs.DomainStanding.{StandsForDomain}
-use Rattle.exchange_log.specs.Place.{place_of}
+use Rattle.exchange_log.specs.Place.{reader_offset}
 use Rattle.read_back.proofs.ProgramReads.{ProgramReads}
 use Rattle.read_back.proofs.solo.read_program.Given as goal
 
@@ -18,8 +18,8 @@ invariant-loop-item g l = record {
   reading : g.S.Shelf.reading_faults l.shelf ≡ g.S.Shelf.reading_faults l.fn.shelf;
   writing : g.S.Shelf.writing_faults l.shelf ≡ g.S.Shelf.writing_faults l.fn.shelf;
   settled : g.S.Shelf.is_settled l.shelf;
-  low : place_of l.reader < 2 ^ 64;
+  low : reader_offset l.reader < 2 ^ 64;
 }
 
 abbrev pub decreases-loop-item : goal.decreases-loop-item
-decreases-loop-item g l = 2 ^ 64 - place_of l.reader
+decreases-loop-item g l = 2 ^ 64 - reader_offset l.reader

@@ -1,5 +1,5 @@
 use Rattle.std.proofs.Common.{◌≡◌, ◌<◌, ◌∙◌, Ok, Err, Some, None, refl, ap, sym, arith}
-use Rattle.exchange_log.specs.Place.{place_of}
+use Rattle.exchange_log.specs.Place.{reader_offset}
 use Rattle.exchange_log.specs.declared.fault.NextFault.TheVariants.{Read, Record}
 use Rattle.read_back.proofs.KernelReads.{kernel_opens, kernel_takes_next, kernel_goes_on, kernel_unfits, kernel_ends, same_screen}
 use Rattle.read_back.proofs.NextItem.{next_item, next_none, next_fault, told_begins, counted, counted_fault, risen, moves_on, item_there}
@@ -35,7 +35,7 @@ pub loop-screen-smaller : goal.loop-screen-smaller
 loop-screen-smaller g c =
     let is : c.next.result ≡ Ok (Some c.in-Ok-Some.item) =
     c.in-Ok-Some.is ∙ ap (λ x. Ok x) c.in-Ok-Some.field-0-is in
-    let moved : place_of c.loop-screen.reader < place_of c.next.new.self =
+    let moved : reader_offset c.loop-screen.reader < reader_offset c.next.new.self =
     moves_on c.next.result c.in-Ok-Some.item _ is c.next.ensures.moves in
     let low = c.next.ensures.within in omega (arith, moved, low)
 

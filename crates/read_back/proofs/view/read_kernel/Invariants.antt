@@ -3,7 +3,7 @@ use Rattle.outside_io.specs.Told.{SameFiles}
 use Rattle.cloak_model.specs.declared.image.KernelImage.{KernelImage}
 use Rattle.cloak_model.specs.KernelAlone.{opened_kernel}
 use Rattle.alone_views.specs.KernelStanding.{StandsForKernel}
-use Rattle.exchange_log.specs.Place.{place_of}
+use Rattle.exchange_log.specs.Place.{reader_offset}
 use Rattle.read_back.specs.Screen.{GaveScreen}
 use Rattle.read_back.proofs.KernelReads.{KernelReads}
 use Rattle.read_back.proofs.view.read_kernel.Given as goal
@@ -20,8 +20,8 @@ invariant-loop-screen g l = record {
   reading : g.S.Shelf.reading_faults l.shelf ≡ g.S.Shelf.reading_faults l.fn.shelf;
   writing : g.S.Shelf.writing_faults l.shelf ≡ g.S.Shelf.writing_faults l.fn.shelf;
   settled : g.S.Shelf.is_settled l.shelf;
-  low : place_of l.reader < 2 ^ 64;
+  low : reader_offset l.reader < 2 ^ 64;
 }
 
 abbrev pub decreases-loop-screen : goal.decreases-loop-screen
-decreases-loop-screen g l = 2 ^ 64 - place_of l.reader
+decreases-loop-screen g l = 2 ^ 64 - reader_offset l.reader

@@ -4,7 +4,7 @@ use Rattle.std.specs.Vec.Iter.{into_iter_items}
 use Rattle.std.proofs.lemmas.List.{length_push, map-append}
 use Rattle.cloak_model.specs.DomainState as model
 use Rattle.cloak_model.specs.DomainState.{domain_line}
-use Rattle.cloak_machine.specs.Lines.{lines_of}
+use Rattle.cloak_machine.specs.Lines.{lines_kept}
 use Rattle.cloak_machine.proofs.DomainOrder.{ends_in, of_last, of_front}
 use Rattle.cloak_machine.proofs.domains.DomainLines.of.Goals as goal
 
@@ -31,7 +31,7 @@ loop-domain-preserved c =
           let e = ends_in at.yielded x ds are in
           let all : All IsShort (e.front ++ e.last ∷ []) = subst (λ (l : List model.Domain). All IsShort l) e.is few in
           c.add.ensures.lines
-          ∙ ap (λ (l : List ℕ). lines_of at.lines ++ l ∷ [])
+          ∙ ap (λ (l : List ℕ). lines_kept at.lines ++ l ∷ [])
           (c.of.ensures e.last e.stands (of_last IsShort e.front e.last all))
           ∙ ap (λ (l : List (List ℕ)). l ++ domain_line e.last ∷ [])
           (at.invariant.text e.front e.are (of_front IsShort e.front e.last all))
