@@ -12,6 +12,10 @@ use std::io::{Error, ErrorKind, Read, Seek, SeekFrom};
 /// How many bytes are read ahead at the most.
 const WINDOW: usize = 65536;
 
+/// How many bytes stay in the window, before those that are read next. A pipe cannot be read twice, so a reader that
+/// looks ahead less than this reads it like a file.
+const KEPT: usize = 8192;
+
 /// Reads one file at a time, which stays open. Small pieces that follow one another come from one window.
 #[derive(Drop)]
 pub struct Reader<F: Read + Seek + Drop> {
@@ -109,10 +113,27 @@ impl<F: Read + Seek + Drop> Reader<F> {
             self.position = at.saturating_add(n as u64);
             return Ok(n);
         }
-        let n = file.read(&mut self.window)?;
+        let kept = match at.checked_sub(self.start) {
+            Some(behind) if behind == self.filled as u64 => {
+                keep_last(self.window.as_mut_slice(), self.filled)
+            }
+            _ => 0,
+        };
+        let n = file.read(&mut self.window[kept..])?;
         self.position = at.saturating_add(n as u64);
-        self.start = at;
-        self.filled = n;
+        self.start = at - kept as u64;
+        self.filled = kept + n;
         Ok(self.copy(at, into))
     }
+}
+
+/// Moves the last of so many bytes to the front, and says how many.
+fn keep_last(window: &mut [u8], filled: usize) -> usize
+    requires { filled ≤ length window.old }
+    ensures fits { result ≤ filled }
+    ensures window { length window.new ≡ length window.old }
+{
+    let kept = filled.min(KEPT);
+    window.copy_within(filled - kept..filled, 0);
+    kept
 }
