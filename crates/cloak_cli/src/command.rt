@@ -3,6 +3,7 @@ ghost use Rattle.std.specs.Prelude.{◌<◌, ◌-◌, ◌^◌, map, string_bytes
 ghost use Rattle.command_words.specs.Command as spec;
 ghost use Rattle.cloak_cli.specs.Answering.{Answers, KeepsOthers};
 ghost use Rattle.program_parts.specs.Outside.{outside};
+ghost use Rattle.completeness.specs.Complete.{IsComplete};
 
 use command_words::{Request, read_words};
 use image_commands::{demo_command, gen_command};
@@ -12,8 +13,8 @@ use read_back::{solo_command, view_command};
 use run_command::run_command;
 use std::alloc::Global;
 
-/// Does what the words ask for, with the files of a shelf on which nothing is gathered, and shows it.
-pub fn cloak<S: Shelf, O: Sink>(
+/// Reads the words, and hands what they ask for to its command.
+fn carry_out<S: Shelf, O: Sink>(
     alloc: Global,
     words: &Vec<String>,
     shelf: &mut S,
@@ -42,4 +43,27 @@ pub fn cloak<S: Shelf, O: Sink>(
         Request::Gen(image) => gen_command(alloc, image.number, image.bundle, shelf, out),
         Request::Demo(demo) => demo_command(alloc, demo.number, demo.steps, out),
     }
+}
+
+/// Does what the words ask for, with the files of a shelf on which nothing is gathered, and shows it.
+pub fn cloak<S: Shelf, O: Sink>(
+    alloc: Global,
+    words: &Vec<String>,
+    shelf: &mut S,
+    out: &mut O,
+) -> Status
+    requires settled { S.is_settled shelf.old }
+    requires reading { S.reading_faults shelf.old < 2 ^ 64 - 1 }
+    requires writing { S.writing_faults shelf.old < 2 ^ 64 - 1 }
+    requires output { O.faults out.old < 2 ^ 64 - 1 }
+    ensures answers { Answers (spec.words_of (map string_bytes words.now.items))
+        (outside S.held S.reading_faults S.writing_faults O.taken O.faults shelf.old out.old)
+        (outside S.held S.reading_faults S.writing_faults O.taken O.faults shelf.new out.new) result }
+    ensures kept { KeepsOthers (spec.words_of (map string_bytes words.now.items)) result
+        (S.held shelf.old) (S.held shelf.new) }
+    ensures complete { IsComplete (spec.words_of (map string_bytes words.now.items)) result
+        (outside S.held S.reading_faults S.writing_faults O.taken O.faults shelf.old out.old)
+        (outside S.held S.reading_faults S.writing_faults O.taken O.faults shelf.new out.new) }
+{
+    carry_out(alloc, words, shelf, out)
 }

@@ -1,0 +1,5 @@
+pub mod Asked
+pub mod Runs
+pub mod Views
+pub mod Images
+pub mod Complete

@@ -1,0 +1,30 @@
+//! Completeness: what a command comes to where no call on files or output fails. The causes that each command's table of
+//! answers gives (`run_command`, `read_back`, `image_commands`) leave one answer then, or want of memory before anything
+//! is begun: so no body can answer a fault that did not come.
+//!
+//! No body turns a law, so there is no wrong body to refuse here; `cloak_cli` has edits for its clause.
+#![tactic(auto)]
+
+ghost use Rattle.completeness.specs.Runs.{RunsAreComplete};
+ghost use Rattle.completeness.specs.Views.{SolosAreComplete, ViewsAreComplete};
+ghost use Rattle.completeness.specs.Images.{DemosAreComplete, GensAreComplete};
+
+use outside_io::{Shelf, Sink};
+
+/// Where no call fails, `run` comes to what the opening and the joint run say. It does nothing: its contract is the law.
+pub fn law_of_complete_runs<S: Shelf, O: Sink>()
+    ensures { RunsAreComplete S O }
+{}
+
+/// Where no call fails and the record fits, `view` and `solo` read it to its end. It does nothing: its contract is the law.
+pub fn law_of_complete_views<S: Shelf, O: Sink>()
+    ensures views { ViewsAreComplete S O }
+    ensures solos { SolosAreComplete S O }
+{}
+
+/// Where no call fails, `gen` writes its image, and `demo` comes to what the joint run of its image says. It does nothing:
+/// its contract is the law.
+pub fn law_of_complete_images<S: Shelf, O: Sink>()
+    ensures gens { GensAreComplete S O }
+    ensures demos { DemosAreComplete O }
+{}
