@@ -112,3 +112,13 @@ bytes_with_value page at width value all =
 
 pub extended_below : (is_signed : Bool) (width value : ℕ) → IsWord value → IsWord (extended is_signed width value)
 extended_below is_signed width value below = either IsWord _ _ _ (rest_below _) below
+
+pub by_place : {A : Type 0} (P : A → Type 0) (xs : List A) → AllByRecursion P xs → All P xs
+by_place P [] all k d low = absurd (omega (arith, low))
+by_place P (x ∷ xs) all zero d low = all.0
+by_place P (x ∷ xs) all (suc k) d low = by_place P xs all.1 k d (omega (arith, low))
+
+pub both_true : (a b : Bool) → (a && b) ≡ true → (a ≡ true) × (b ≡ true)
+both_true true true is = (refl, refl)
+both_true true false is = absurd cc
+both_true false b is = absurd cc
