@@ -8,3 +8,5 @@ pub mod KernelSteps
 pub mod Programs
 pub mod Controls
 pub mod Turns
+pub mod Opened
+pub mod Runs

@@ -82,7 +82,7 @@ record Seals (m : CloakedMemory) (ciphers : List (ℕ × List ℕ)) (after : Clo
   pub key : after.ledger.key ≡ m.ledger.key
   pub stream : IsStreamOfBytes after.ledger.stream
 
-zero_page_fits : SealedFits zero_page
+pub zero_page_fits : SealedFits zero_page
 unfolding zero_page
 zero_page_fits = record { bytes = zero_bytes; long = length-replicate {A = ℕ} 4096 0 }
 
