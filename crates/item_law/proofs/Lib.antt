@@ -1,0 +1,12 @@
+pub mod Bounds
+pub mod Effects
+pub mod Harts
+pub mod Ciphers
+pub mod Memories
+pub mod Worlds
+pub mod KernelSteps
+pub mod Programs
+pub mod Controls
+pub mod Turns
+pub mod Opened
+pub mod Runs

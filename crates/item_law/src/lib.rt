@@ -1,0 +1,12 @@
+//! A law on the definitions alone: each field of each item that a run writes (`cloak_model`, `specs/Run`) is in its range,
+//! so that the bytes of its record are the record of its exchange (`specs/Record`), and of nothing else (`record_law`).
+//! The law holds of each bundle of the grammar whose bytes are bytes, under each stream of bytes, and of each budget that
+//! the program takes.
+#![tactic(auto)]
+
+ghost use Rattle.item_law.specs.Writing.{WritesARecord};
+
+/// What a run writes is the record of its exchange. It does nothing: its contract is the law.
+pub fn law_of_items()
+    ensures { WritesARecord }
+{}
