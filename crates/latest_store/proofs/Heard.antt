@@ -1,0 +1,88 @@
+-- What a program was told so far in a step, and what a part of a step did to its pages.
+use Rattle.std.proofs.Common.{◌≡◌, ◌∙◌, ℕ, Bool, true, cond, List, [], ◌∷◌, ◌++◌, refl, sym, ap, append-nil, eq-eqb}
+use Rattle.std.specs.Prelude.{if◌then◌else◌}
+use Rattle.cloak_base.specs.declared.names.PageId.{PageId}
+use Rattle.cloak_model.specs.declared.answer.Answer.{Answer}
+use Rattle.cloak_model.specs.declared.answer.Answer.TheVariants as told
+use Rattle.cloak_model.specs.declared.item.Item.{Item}
+use Rattle.cloak_model.specs.declared.item.Item.TheVariants as item
+use Rattle.cloak_model.specs.Halves.{inward_half}
+use Rattle.cloak_model.specs.World.{World, Flat, Cloaked, Alone, plain_of, view_of, items_of, with_plain}
+use Rattle.cloak_model.specs.Asking.{Told}
+use Rattle.cloak_model.specs.AskPages.{answer_item}
+use Rattle.cloak_model.specs.DomainStep.{DomainStepped}
+use Rattle.domain_isolation.proofs.Scripts.{Question, asked}
+use Rattle.domain_isolation.proofs.Steady.{is_cloaked}
+use Rattle.domain_isolation.proofs.Answers.{question_answered}
+use Rattle.latest_store.specs.Moves.{Move}
+use Rattle.latest_store.specs.Deeds.{both_granted}
+use Rattle.latest_store.proofs.Moved.{moved_by, given_by}
+
+-- A world in a step of domain d, in which pages have these bytes, behind these answers.
+pub record Heard (d : ℕ) (plain : PageId → List ℕ) (answers : List Item) (w : World) : Type 0 where
+  pub form : is_cloaked w ≡ true
+  pub view : (view_of w).domain ≡ d
+  pub pages : plain_of w ≡ plain
+  pub told : inward_half d (items_of w) ≡ answers
+
+-- an answer is told to its domain
+own_item : (d : ℕ) (a : Answer) → inward_half d (answer_item d a ∷ []) ≡ answer_item d a ∷ []
+own_item d told.Ok = ap (λ (b : Bool). cond b (item.Ok d ∷ []) []) (eq-eqb d d refl)
+own_item d (told.Absent cause) = ap (λ (b : Bool). cond b (item.Absent d cause ∷ []) []) (eq-eqb d d refl)
+own_item d (told.Word value) = ap (λ (b : Bool). cond b (item.Word d value ∷ []) []) (eq-eqb d d refl)
+own_item d told.Stopped = ap (λ (b : Bool). cond b (item.Stopped d ∷ []) []) (eq-eqb d d refl)
+
+-- one more question
+pub heard_asked : (d : ℕ) (plain : PageId → List ℕ) (answers : List Item) (question : Question d) (w : World) →
+    Heard d plain answers w →
+    Heard d plain (answers ++ answer_item d (asked question w).answer ∷ []) (asked question w).world
+heard_asked d plain answers question w heard =
+    let t = asked question w in
+    let r = (question_answered question w heard.form).replied in
+    record {
+      form = r.form ∙ heard.form;
+      view = ap (λ (view : _). view.domain) r.view ∙ heard.view;
+      pages = r.plain ∙ heard.pages;
+      told = r.items d
+          ∙ ap (λ (l : List Item). l ++ inward_half d (answer_item (view_of w).domain t.answer ∷ [])) heard.told
+          ∙ ap (λ (n : ℕ). answers ++ inward_half d (answer_item n t.answer ∷ [])) heard.view
+          ∙ ap (λ (l : List Item). answers ++ l) (own_item d t.answer);
+    }
+
+-- A step of domain d, whose completed loads and pages were these, did these moves, by what it was told.
+pub record Did (d : ℕ) (plain : PageId → List ℕ) (was : List (ℕ × ℕ)) (moves : List Item → List Move)
+    (t : Told DomainStepped) : Type 0 where
+  pub answers : List Item
+  pub form : is_cloaked t.world ≡ true
+  pub told : inward_half d (items_of t.world) ≡ answers
+  pub pages : plain_of t.world ≡ moved_by (moves answers) plain
+  pub loads : t.answer.domain.loads ≡ was ++ given_by (moves answers) plain
+
+-- it did nothing
+pub quiet : (d : ℕ) (plain : PageId → List ℕ) (was : List (ℕ × ℕ)) (moves : List Item → List Move)
+    (answers : List Item) (x : DomainStepped) (w : World) → Heard d plain answers w → moves answers ≡ [] →
+    x.domain.loads ≡ was → Did d plain was moves (record { answer = x; world = w })
+quiet d plain was moves answers x w heard none same = record {
+  answers = answers;
+  form = heard.form;
+  told = heard.told;
+  pages = heard.pages ∙ ap (λ (ms : List Move). moved_by ms plain) (sym none);
+  loads = same ∙ sym (append-nil was) ∙ ap (λ (ms : List Move). was ++ given_by ms plain) (sym none);
+}
+
+-- moves that are made where both questions were granted
+abbrev pub if_granted : List Move → List Item → List Move
+if_granted moves answers = if both_granted answers then moves else []
+
+-- other bytes in the pages
+pub record Rewrites (w v : World) (plain : PageId → List ℕ) : Type 0 where
+  pub form : is_cloaked v ≡ true
+  pub view : view_of v ≡ view_of w
+  pub pages : plain_of v ≡ plain
+  pub items : items_of v ≡ items_of w
+
+pub with_plain_rewrites : (d : ℕ) (plain : PageId → List ℕ) (w : World) → is_cloaked w ≡ true →
+    Rewrites w (with_plain d plain w) plain
+with_plain_rewrites d plain (Flat ram) form = absurd cc
+with_plain_rewrites d plain (Cloaked c) form = record { form = refl; view = refl; pages = refl; items = refl }
+with_plain_rewrites d plain (Alone h) form = absurd cc

@@ -1,0 +1,248 @@
+-- A run from its opening on, and the law.
+use Rattle.std.proofs.Common.{◌≡◌, ◌≢◌, ◌∙◌, ℕ, zero, suc, ◌+◌, ◌*◌, ◌%◌, ◌<◌, ◌≤◌, cond, List, [], ◌∷◌, ◌++◌, length, take, drop, slice_get, slice_index, Option, Some, None, Ok, refl, sym, ap, subst, arith, length-drop, All}
+use Rattle.std.specs.Prelude.{option_and_then, ◌==◌}
+use Rattle.std.proofs.lemmas.List.{length-take}
+use Rattle.std.proofs.lemmas.List.Elements.{All-head, All-tail}
+use Rattle.cloak_base.specs.Random.{Random, next_draw}
+use Rattle.cloak_base.specs.Pages.{with_page}
+use Rattle.cloak_base.specs.declared.names.PageId.{PageId}
+use Rattle.cloak_model.specs.declared.image.Bundle.{Bundle}
+use Rattle.cloak_model.specs.declared.image.Program.{Program}
+use Rattle.cloak_model.specs.Bundle.{IsInGrammar, IsProgramIn}
+use Rattle.cloak_model.specs.Cloaking.{CloakedMemory}
+use Rattle.cloak_model.specs.DomainState.{Domain, started_domain}
+use Rattle.cloak_model.specs.Joint.{Moment, Turn, hart_in}
+use Rattle.cloak_model.specs.Ledger.{vector_of}
+use Rattle.cloak_model.specs.Opening.{program_page, place_pages, place_programs, opening_items, started_domains, started_memory, started_joint, Opened, opened_with, opened_by, opening}
+use Rattle.cloak_model.specs.PageMoves.{place, place_with}
+use Rattle.cloak_model.specs.Parts.{Joint}
+use Rattle.cloak_model.specs.Run.{Run, turns_from, joint_run, joint_after, first_moment, run_of}
+use Rattle.kernel_isolation.specs.Isolation.{joint_until}
+use Rattle.kernel_isolation.proofs.Isolated.{until_read}
+use Rattle.store_law.specs.Ciphers.{items_of_turn}
+use Rattle.store_law.specs.OwnPages.{program_of_step}
+use Rattle.store_law.proofs.Ciphers.{of_opened}
+use Rattle.store_law.proofs.OwnPages.{moment_behind, step_is, steps_keep_pages}
+use Rattle.latest_store.specs.Moves.{Move, Makes, latest, loads_of, with_moves}
+use Rattle.latest_store.specs.Deeds.{step_moves}
+use Rattle.latest_store.specs.LatestStore.{made_pages, made_programs, context_of_step, history, IsLatest, RunsGiveLatest}
+use Rattle.latest_store.proofs.Values.{zero_page_at, zero_page_whole}
+use Rattle.latest_store.proofs.Moved.{Agrees, given_by, move_agrees, moves_agree, moves_load}
+use Rattle.latest_store.proofs.Turned.{TurnDid, joint_did}
+
+-- The opening.
+
+same_some : {A : Type 0} (x y : A) → Some x ≡ Some y → x ≡ y
+same_some x y is = cc
+
+record Before {A B : Type 0} (f : A → Option B) (o : Option A) (b : B) : Type 0 where
+  pub value : A
+  pub was : o ≡ Some value
+  pub next : f value ≡ Some b
+
+before : {A B : Type 0} (f : A → Option B) (o : Option A) (b : B) → option_and_then f o ≡ Some b → Before f o b
+before f None b is = absurd cc
+before f (Some a) b is = record { value = a; was = refl; next = is }
+
+placed_with : (q : PageId) (f : ℕ) (bytes : List ℕ) (draw : Option (List ℕ × Random)) (m m' : CloakedMemory) →
+    place_with q f bytes draw m ≡ Some m' → m'.plain ≡ with_page m.plain q bytes
+unfolding place_with
+placed_with q f bytes None m m' is = absurd cc
+placed_with q f bytes (Some draw) m m' is = ap (λ (x : CloakedMemory). x.plain) (sym (same_some _ m' is))
+
+placed : (q : PageId) (f : ℕ) (bytes : List ℕ) (m m' : CloakedMemory) → place q f bytes m ≡ Some m' →
+    m'.plain ≡ with_page m.plain q bytes
+unfolding place
+placed q f bytes m m' is = placed_with q f bytes (vector_of m.ledger q) m m' is
+
+page_whole : (bytes : List ℕ) (pages n : ℕ) → length bytes ≡ 4096 * pages → n < pages →
+    length (program_page bytes n) ≡ 4096
+page_whole bytes pages n whole less =
+    omega (arith, whole, less, length-take 4096 (drop (4096 * n) bytes), length-drop (4096 * n) bytes)
+
+pages_agree : (d : ℕ) (p : Program) (n : ℕ) (m m' : CloakedMemory) (history : List Move) →
+    length p.bytes ≡ 4096 * p.start.pages → n ≤ p.start.pages → place_pages d p n m ≡ Some m' →
+    Agrees history m.plain → Agrees (made_pages d p n history) m'.plain
+pages_agree d p zero m m' history whole low is agrees =
+    subst (λ (x : CloakedMemory). Agrees history x.plain) (same_some m m' is) agrees
+pages_agree d p (suc n) m m' history whole low is agrees =
+    let q : PageId = record { domain = d; resource = 0; page = n } in
+    let bytes = program_page p.bytes n in
+    let b = before (place q (p.place + n) bytes) (place_pages d p n m) m' is in
+    let rest = pages_agree d p n m b.value history whole (omega (arith, low)) b.was agrees in
+    subst (Agrees (Makes q bytes ∷ made_pages d p n history))
+    (sym (placed q (p.place + n) bytes b.value m' b.next))
+    (move_agrees d (Makes q bytes) (made_pages d p n history) b.value.plain
+    (page_whole p.bytes p.start.pages n whole (omega (arith, low))) rest)
+
+programs_agree : (frames d : ℕ) (programs : List Program) (m m' : CloakedMemory) (history : List Move) →
+    All (IsProgramIn frames) programs → place_programs d programs m ≡ Some m' → Agrees history m.plain →
+    Agrees (made_programs d programs history) m'.plain
+programs_agree frames d [] m m' history all is agrees =
+    subst (λ (x : CloakedMemory). Agrees history x.plain) (same_some m m' is) agrees
+programs_agree frames d (p ∷ programs) m m' history all is agrees =
+    let b = before (place_programs (d + 1) programs) (place_pages d p p.start.pages m) m' is in
+    let fits = All-head (IsProgramIn frames) p programs all in
+    programs_agree frames (d + 1) programs b.value m' (made_pages d p p.start.pages history)
+    (All-tail (IsProgramIn frames) p programs all) b.next
+    (pages_agree d p p.start.pages m b.value history fits.bytes (omega arith) b.was agrees)
+
+zeros_agree : (b : Bundle) (key : List ℕ) (stream : Random) → Agrees [] (started_memory b.kernel key stream).plain
+unfolding started_memory latest
+zeros_agree b key stream q = record { whole = zero_page_whole; each = λ at. zero_page_at at }
+
+-- no load is in it
+
+pages_loads : (d e : ℕ) (p : Program) (n : ℕ) (history : List Move) →
+    loads_of e (made_pages d p n history) ≡ loads_of e history
+unfolding loads_of
+pages_loads d e p zero history = refl
+pages_loads d e p (suc n) history = pages_loads d e p n history
+
+programs_loads : (d e : ℕ) (programs : List Program) (history : List Move) →
+    loads_of e (made_programs d programs history) ≡ loads_of e history
+programs_loads d e [] history = refl
+programs_loads d e (p ∷ programs) history =
+    programs_loads (d + 1) e programs (made_pages d p p.start.pages history)
+    ∙ pages_loads d e p p.start.pages history
+
+no_loads : (d e : ℕ) (programs : List Program) (program : Domain) →
+    slice_get (started_domains d programs) e ≡ Some program → program.loads ≡ []
+unfolding started_domain
+no_loads d e [] program is = absurd cc
+no_loads d zero (p ∷ programs) program is =
+    ap (λ (x : Domain). x.loads) (sym (same_some (started_domain d p.start) program is))
+no_loads d (suc e) (p ∷ programs) program is = no_loads (d + 1) e programs program is
+
+-- The joint machine has the pages and the loads of a history.
+record Holds (history : List Move) (j : Joint) : Type 0 where
+  pub agrees : Agrees history j.memory.plain
+  pub loads : (d : ℕ) (program : Domain) → slice_get j.domains d ≡ Some program →
+      program.loads ≡ loads_of d history
+
+empty_loads : (d : ℕ) → loads_of d [] ≡ []
+unfolding loads_of
+empty_loads d = refl
+
+started_holds : (b : Bundle) (m : CloakedMemory) → Agrees (made_programs 0 b.programs []) m.plain →
+    Holds (made_programs 0 b.programs []) (started_joint b m)
+unfolding started_joint
+started_holds b m agrees = record {
+  agrees = agrees;
+  loads = λ d program is.
+      no_loads 0 d b.programs program is ∙ sym (programs_loads 0 d b.programs [] ∙ empty_loads d);
+}
+
+opened_holds_with : (b : Bundle) (key : List ℕ) (stream : Random) (placed : Option CloakedMemory) (o : Opened) →
+    IsInGrammar b → place_programs 0 b.programs (started_memory b.kernel key stream) ≡ placed →
+    opened_with b placed ≡ Ok o → Holds (made_programs 0 b.programs []) o.joint
+unfolding opened_with
+opened_holds_with b key stream None o fits is opens = absurd cc
+opened_holds_with b key stream (Some m) o fits is opens =
+    let made : Opened = record { joint = started_joint b m; items = opening_items b.programs m.ram } in
+    let same : made ≡ o = cc in
+    subst (λ (x : Opened). Holds (made_programs 0 b.programs []) x.joint) same
+    (started_holds b m
+    (programs_agree b.kernel.frames 0 b.programs (started_memory b.kernel key stream) m [] fits.programs is
+    (zeros_agree b key stream)))
+
+opened_holds_by : (b : Bundle) (draw : Option (List ℕ × Random)) (o : Opened) → IsInGrammar b →
+    opened_by b draw ≡ Ok o → Holds (made_programs 0 b.programs []) o.joint
+unfolding opened_by
+opened_holds_by b None o fits opens = absurd cc
+opened_holds_by b (Some draw) o fits opens = opened_holds_with b draw.0 draw.1 _ o fits refl opens
+
+-- The steps.
+
+next_holds : (history moves : List Move) (j : Joint) (t : Turn) → TurnDid moves j t → Holds history j →
+    Holds (with_moves moves history) t.joint
+next_holds history moves j t did holds = record {
+  agrees = λ q. subst (IsLatest (with_moves moves history) q) (sym (did.pages q))
+      (moves_agree did.program moves history j.memory.plain did.sound holds.agrees q);
+  loads = λ d program is.
+      let g = did.loads d program is in
+      g.loads
+      ∙ ap (λ (l : List (ℕ × ℕ)). l ++ cond (did.program == d) (given_by moves j.memory.plain) [])
+      (holds.loads d g.was g.there)
+      ∙ sym (moves_load did.program d moves history j.memory.plain did.sound holds.agrees);
+}
+
+-- the step behind n steps, where there is one
+record HasStep (turns : List Turn) (n : ℕ) : Type 0 where
+  pub turn : Turn
+  pub is : slice_get turns n ≡ Some turn
+
+has_step : (turns : List Turn) (n : ℕ) → n < length turns → HasStep turns n
+has_step [] n less = absurd (omega (arith, less))
+has_step (t ∷ turns) zero less = record { turn = t; is = refl }
+has_step (t ∷ turns) (suc n) less =
+    let rest = has_step turns n (omega (arith, less)) in record { turn = rest.turn; is = rest.is }
+
+after_step : (j : Joint) (turns : List Turn) (n : ℕ) (t : Turn) → slice_get turns n ≡ Some t →
+    joint_after j (take (suc n) turns) ≡ t.joint
+unfolding joint_after
+after_step j [] zero t is = absurd cc
+after_step j [] (suc n) t is = absurd cc
+after_step j (x ∷ turns) zero t is = ap (λ (y : Turn). y.joint) (same_some x t is)
+after_step j (x ∷ turns) (suc n) t is = after_step x.joint turns n t is
+
+run_holds : (b : Bundle) (stream : Random) (budget : ℕ) (o : Opened) → opening b stream ≡ Ok o → IsInGrammar b →
+    let r = run_of b budget o in
+    (n : ℕ) → n ≤ length r.turns → Holds (history b r n) (joint_until n r)
+unfolding run_of history joint_after
+run_holds b stream budget o opens fits zero low = opened_holds_by b (next_draw stream) o fits opens
+run_holds b stream budget o opens fits (suc n) low =
+    let r : Run = run_of b budget o in
+    let turns : List Turn = turns_from budget (first_moment b o.joint) in
+    let low' : n ≤ length turns = omega (arith, low) in
+    let holds = run_holds b stream budget o opens fits n low' in
+    let step = has_step turns n (omega (arith, low)) in
+    let t = step.turn in
+    let m : Moment = moment_behind (first_moment b o.joint) n turns in
+    let steady = (until_read b stream budget o opens n low').steady in
+    let earlier : List Move = history b r n in
+    let did : TurnDid (step_moves earlier m.joint.domains
+    (hart_in m.joint (slice_index b.kernel.schedule (m.steps % length b.kernel.schedule))).inside t.items) m.joint t =
+    subst (λ (x : Turn). TurnDid (step_moves earlier m.joint.domains
+    (hart_in m.joint (slice_index b.kernel.schedule (m.steps % length b.kernel.schedule))).inside x.items) m.joint x)
+    (step_is budget n (first_moment b o.joint) t step.is) (joint_did earlier m steady.programs holds.agrees) in
+    let number : m.steps ≡ n = omega arith in
+    let did' = subst (λ (k : ℕ). TurnDid (step_moves earlier m.joint.domains
+    (hart_in m.joint (slice_index b.kernel.schedule (k % length b.kernel.schedule))).inside t.items) m.joint t)
+    number did in
+    let did'' = subst (λ (found : Option Turn). TurnDid (step_moves earlier m.joint.domains
+    (context_of_step b r n) (items_of_turn found)) m.joint t) (sym step.is) did' in
+    subst (Holds (history b r (suc n))) (sym (after_step o.joint turns n t step.is))
+    (next_holds earlier _ m.joint t did'' holds)
+
+-- The law.
+
+abbrev HoldsAlways : Bundle → Run → Type 0
+HoldsAlways b r = (n : ℕ) → n ≤ length r.turns → Holds (history b r n) (joint_until n r)
+
+-- a step that is not the program's own
+others_stay : (b : Bundle) (stream : Random) (budget : ℕ) (r : Run) → joint_run b stream budget ≡ Ok r →
+    HoldsAlways b r → (n : ℕ) → suc n ≤ length r.turns → (q : PageId) → program_of_step b r n ≢ Some q.domain →
+    (at : ℕ) → latest (history b r (suc n)) q at ≡ latest (history b r n) q at
+others_stay b stream budget r runs holds n low q other at =
+    let step = has_step r.turns n (omega (arith, low)) in
+    let t = step.turn in
+    let kept = steps_keep_pages b stream budget r runs n t step.is q.domain other in
+    let same : t.joint.memory.plain q ≡ (joint_until n r).memory.plain q =
+    ap (λ (pages : ℕ → ℕ → List ℕ). pages q.resource q.page) kept in
+    let now = (holds (suc n) low).agrees q in
+    let was = (holds n (omega (arith, low))).agrees q in
+    sym (now.each at)
+    ∙ ap (λ (j : Joint). slice_index (j.memory.plain q) at) (after_step r.opened.joint r.turns n t step.is)
+    ∙ ap (λ (bytes : List ℕ). slice_index bytes at) same ∙ was.each at
+
+pub runs_give_latest : RunsGiveLatest
+runs_give_latest b stream budget r fits runs =
+    let holds : HoldsAlways b r =
+    of_opened b budget (HoldsAlways b) (opening b stream) r runs
+    (λ o opens. run_holds b stream budget o opens fits) in
+    record {
+      loads = λ n low. (holds n low).loads;
+      pages = λ n low. (holds n low).agrees;
+      others = others_stay b stream budget r runs holds;
+    }

@@ -1,0 +1,9 @@
+pub mod Values
+pub mod Moved
+pub mod Heard
+pub mod HypercallDeeds
+pub mod InstructionDeeds
+pub mod CopyDeeds
+pub mod Sound
+pub mod Turned
+pub mod Histories

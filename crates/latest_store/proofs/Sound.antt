@@ -1,0 +1,171 @@
+-- The moves of a step are sound: stores stay inside their page, and loads are of the program's own pages.
+use Rattle.std.proofs.Common.{◌≡◌, inl, inr, ℕ, ◌%◌, Bool, true, false, cond, List, [], ◌∷◌, map, Option, Some, None, ℤ, refl, subst, arith, eqb-true}
+use Rattle.std.specs.Prelude.{◌==◌}
+use Rattle.cloak_base.specs.declared.names.PageId.{PageId}
+use Rattle.rv_isa.specs.declared.instr.Instr.{Instr}
+use Rattle.rv_isa.specs.declared.instr.Instr.TheVariants as instr
+use Rattle.rv_isa.specs.Table.{instruction}
+use Rattle.cloak_model.specs.declared.context.Phase.{Phase}
+use Rattle.cloak_model.specs.declared.context.Phase.TheVariants.{Plain, CopyIn, Waiting, CopyOut}
+use Rattle.cloak_model.specs.declared.item.Item.{Item}
+use Rattle.cloak_model.specs.declared.item.Item.TheVariants as item
+use Rattle.cloak_model.specs.declared.outcome.Effect.{Effect}
+use Rattle.cloak_model.specs.declared.outcome.Effect.TheVariants as does
+use Rattle.cloak_model.specs.Calls.{buffer, byte_address}
+use Rattle.cloak_model.specs.Contexts.{Context}
+use Rattle.cloak_model.specs.DomainState.{Control}
+use Rattle.cloak_model.specs.Effect.{offset, effect, jump, go, branch, load_effect}
+use Rattle.cloak_model.specs.Fork.{copies, private_numbers}
+use Rattle.cloak_model.specs.Hypercalls.{Hypercall, ForkSpace, Exit, hypercall_of}
+use Rattle.cloak_model.specs.Resources.{page_at}
+use Rattle.domain_isolation.proofs.InstructionScripts.{IsOwn, own_page}
+use Rattle.latest_store.specs.Moves.{Move, Copies, Drops, latest_value}
+use Rattle.latest_store.specs.Deeds.{both_granted, load_at, store_at, hypercall_moves, ecall_moves, effect_moves, word_moves, fetched_moves, byte_moves, phase_moves, context_moves}
+use Rattle.latest_store.proofs.Values.{IsPlace}
+use Rattle.latest_store.proofs.Moved.{AreSound}
+
+-- An instruction that stores has a width, and its address is a multiple of it.
+
+record StoresInside (e : Effect) : Type 0 where
+  pub is : (va width value : ℕ) → e ≡ does.Store va width value → IsPlace (va % 4096) width
+
+no_store : (e : Effect) → ((va width value : ℕ) → e ≡ does.Store va width value → ⊥) → StoresInside e
+no_store e none = record { is = λ va width value same. absurd (none va width value same) }
+
+inside_either : (test : Bool) (e f : Effect) → StoresInside e → StoresInside f → StoresInside (cond test e f)
+inside_either true e f p q = p
+inside_either false e f p q = q
+
+raise_inside : (cause value : ℕ) → StoresInside (does.Raise cause value)
+raise_inside cause value = no_store _ (λ va width value' x. cc)
+
+jump_inside : (rd pc target : ℕ) → StoresInside (jump rd pc target)
+jump_inside rd pc target =
+    inside_either (target % 4 == 0) _ _ (no_store _ (λ va width value x. cc)) (raise_inside 0 target)
+
+go_inside : (target : ℕ) → StoresInside (go target)
+go_inside target = inside_either (target % 4 == 0) _ _ (no_store _ (λ va width value x. cc)) (raise_inside 0 target)
+
+branch_inside : (taken : Bool) (pc : ℕ) (imm : ℤ) → StoresInside (branch taken pc imm)
+branch_inside taken pc imm =
+    inside_either taken _ _ (go_inside (offset pc imm)) (no_store _ (λ va width value x. cc))
+
+load_inside : (rd va width : ℕ) (signed : Bool) → StoresInside (load_effect rd va width signed)
+load_inside rd va width signed =
+    inside_either (va % width == 0) _ _ (no_store _ (λ va width value x. cc)) (raise_inside 4 va)
+
+one_place : (va : ℕ) → IsPlace (va % 4096) 1
+one_place va = record { is_width = inl refl; inside = omega arith }
+
+two_place : (va : ℕ) → va % 2 ≡ 0 → IsPlace (va % 4096) 2
+two_place va even = record { is_width = inr (inl refl); inside = omega (arith, even) }
+
+four_place : (va : ℕ) → va % 4 ≡ 0 → IsPlace (va % 4096) 4
+four_place va even = record { is_width = inr (inr refl); inside = omega (arith, even) }
+
+store_if : (test : Bool) (va width value : ℕ) → (test ≡ true → IsPlace (va % 4096) width) →
+    StoresInside (cond test (does.Store va width value) (does.Raise 6 va))
+store_if true va width value place = record {
+  is = λ va' width' value' same.
+      let a : va ≡ va' = cc in
+      let b : width ≡ width' = cc in
+      subst (λ (x : ℕ). IsPlace (x % 4096) width') a (subst (λ (x : ℕ). IsPlace (va % 4096) x) b (place refl));
+}
+store_if false va width value place = raise_inside 6 va
+
+effect_inside : (i : Instr) (r : List ℕ) (pc : ℕ) → StoresInside (effect i r pc)
+unfolding effect
+effect_inside (instr.Jal rd imm) r pc = jump_inside rd pc _
+effect_inside (instr.Jalr rd rs1 imm) r pc = jump_inside rd pc _
+effect_inside (instr.Beq rs1 rs2 imm) r pc = branch_inside _ pc imm
+effect_inside (instr.Bne rs1 rs2 imm) r pc = branch_inside _ pc imm
+effect_inside (instr.Blt rs1 rs2 imm) r pc = branch_inside _ pc imm
+effect_inside (instr.Bge rs1 rs2 imm) r pc = branch_inside _ pc imm
+effect_inside (instr.Bltu rs1 rs2 imm) r pc = branch_inside _ pc imm
+effect_inside (instr.Bgeu rs1 rs2 imm) r pc = branch_inside _ pc imm
+effect_inside (instr.Lb rd rs1 imm) r pc = load_inside rd _ 1 true
+effect_inside (instr.Lh rd rs1 imm) r pc = load_inside rd _ 2 true
+effect_inside (instr.Lw rd rs1 imm) r pc = load_inside rd _ 4 true
+effect_inside (instr.Lbu rd rs1 imm) r pc = load_inside rd _ 1 false
+effect_inside (instr.Lhu rd rs1 imm) r pc = load_inside rd _ 2 false
+effect_inside (instr.Sb rs1 rs2 imm) r pc = store_if _ _ 1 _ (λ test. one_place _)
+effect_inside (instr.Sh rs1 rs2 imm) r pc = store_if _ _ 2 _ (λ test. two_place _ (eqb-true _ 0 test))
+effect_inside (instr.Sw rs1 rs2 imm) r pc = store_if _ _ 4 _ (λ test. four_place _ (eqb-true _ 0 test))
+effect_inside _ r pc = no_store _ (λ va width value x. cc)
+
+-- The moves.
+
+load_sound : (n va width : ℕ) (place : Option PageId) → IsOwn n place → AreSound n (load_at va width place)
+load_sound n va width None own = tt
+load_sound n va width (Some q) own = (own, tt)
+
+store_sound : (n va width value : ℕ) (place : Option PageId) → IsPlace (va % 4096) width →
+    AreSound n (store_at va width value place)
+store_sound n va width value None is = tt
+store_sound n va width value (Some q) is = (is, tt)
+
+copies_sound : (n : ℕ) (list : List (ℕ × ℕ)) →
+    AreSound n (map (λ (copy : ℕ × ℕ). Copies n copy.0 copy.1) list)
+copies_sound n [] = tt
+copies_sound n (copy ∷ list) = (tt, copies_sound n list)
+
+drops_sound : (n : ℕ) (list : List ℕ) → AreSound n (map (λ (resource : ℕ). Drops n resource) list)
+drops_sound n [] = tt
+drops_sound n (resource ∷ list) = (tt, drops_sound n list)
+
+hypercall_sound : (h : Hypercall) (d : Control) (c : Context) → AreSound d.number (hypercall_moves h d c)
+unfolding hypercall_moves
+hypercall_sound ForkSpace d c = copies_sound d.number (copies c.space d.resources)
+hypercall_sound Exit d c = drops_sound d.number (private_numbers c.space d.resources)
+hypercall_sound _ d c = tt
+
+ecall_sound : (d : Control) (c : Context) (i : Instr) → AreSound d.number (ecall_moves d c i)
+unfolding ecall_moves
+ecall_sound d c instr.Ecall = hypercall_sound (hypercall_of c) d c
+ecall_sound d c _ = tt
+
+effect_sound : (d : Control) (c : Context) (i : Instr) (e : Effect) → StoresInside e →
+    AreSound d.number (effect_moves d c i e)
+unfolding effect_moves
+effect_sound d c i (does.Load rd va width signed) inside =
+    load_sound d.number va width _ (own_page d.number d.resources c.space va)
+effect_sound d c i (does.Store va width value) inside =
+    store_sound d.number va width value _ (inside.is va width value refl)
+effect_sound d c i does.System inside = ecall_sound d c i
+effect_sound d c i _ inside = tt
+
+word_sound : (d : Control) (c : Context) (i : Option Instr) → AreSound d.number (word_moves d c i)
+unfolding word_moves
+word_sound d c None = tt
+word_sound d c (Some i) = effect_sound d c i (effect i c.regs c.pc) (effect_inside i c.regs c.pc)
+
+fetched_sound : (history : List Move) (d : Control) (c : Context) (place : Option PageId) →
+    AreSound d.number (fetched_moves history d c place)
+unfolding fetched_moves
+fetched_sound history d c None = tt
+fetched_sound history d c (Some q) = word_sound d c (instruction (latest_value history q (c.pc % 4096) 4))
+
+sound_if : (test : Bool) (n : ℕ) (moves : List Move) → AreSound n moves → AreSound n (cond test moves [])
+sound_if true n moves sound = sound
+sound_if false n moves sound = tt
+
+bytes_sound : (n va : ℕ) (place : Option PageId) (answers : List Item) → AreSound n (byte_moves va place answers)
+bytes_sound n va place (item.Word domain byte ∷ item.Ok domain' ∷ []) = store_sound n va 1 byte place (one_place va)
+bytes_sound n va place _ = tt
+
+phase_sound : (p : Phase) (history : List Move) (d : Control) (c : Context) (answers : List Item) →
+    AreSound d.number (phase_moves p history d c answers)
+unfolding phase_moves
+phase_sound Plain history d c answers =
+    sound_if (both_granted answers) d.number _ (fetched_sound history d c (page_at d.number d.resources c.space c.pc))
+phase_sound (CopyIn done) history d c answers =
+    let va = byte_address (buffer c) done in
+    sound_if (both_granted answers) d.number _ (load_sound d.number va 1 _ (own_page d.number d.resources c.space va))
+phase_sound Waiting history d c answers = tt
+phase_sound (CopyOut done total) history d c answers = bytes_sound d.number (byte_address (buffer c) done) _ answers
+
+pub context_sound : (o : Option Context) (history : List Move) (d : Control) (answers : List Item) →
+    AreSound d.number (context_moves o history d answers)
+unfolding context_moves
+context_sound None history d answers = tt
+context_sound (Some c) history d answers = phase_sound c.phase history d c answers

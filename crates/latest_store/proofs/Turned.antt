@@ -1,0 +1,328 @@
+-- What a step of the joint machine does to the pages and the completed loads of programs.
+use Rattle.std.proofs.Common.{◌≡◌, ◌∙◌, ℕ, zero, suc, Bool, true, false, cond, List, [], ◌∷◌, ◌++◌, slice_get, slice_set, Option, Some, None, Result, Ok, Err, refl, sym, ap, subst, append-nil, ◌≢◌, inl, inr, eq-eqb, ne_eqb}
+use Rattle.std.specs.Prelude.{◌==◌}
+use Rattle.std.proofs.lemmas.List.Elements.{filter-append}
+use Rattle.cloak_base.specs.declared.causes.Shown.{Shown}
+use Rattle.cloak_base.specs.declared.names.PageId.{PageId}
+use Rattle.cloak_model.specs.declared.context.Phase.{Phase}
+use Rattle.cloak_model.specs.declared.context.Phase.TheVariants.{Plain, CopyIn, Waiting, CopyOut}
+use Rattle.cloak_model.specs.declared.context.ResumeFault.{ResumeFault}
+use Rattle.cloak_model.specs.declared.inside.Went.{Went}
+use Rattle.cloak_model.specs.declared.inside.Went.TheVariants as went
+use Rattle.cloak_model.specs.declared.item.Item.{Item}
+use Rattle.cloak_model.specs.declared.item.Item.TheVariants as item
+use Rattle.cloak_model.specs.declared.outcome.Kernel.{Kernel}
+use Rattle.cloak_model.specs.declared.outcome.Kernel.TheVariants.{Stay, Put, Halt, Resume}
+use Rattle.cloak_model.specs.Ahead.{settled_step, made_after}
+use Rattle.cloak_model.specs.Asking.{Told}
+use Rattle.cloak_model.specs.Cloaking.{CloakedMemory}
+use Rattle.cloak_model.specs.Contexts.{Context, Admitted, context_at, domain_of, slot_of}
+use Rattle.cloak_model.specs.DomainState.{Control, Domain}
+use Rattle.cloak_model.specs.DomainStep.{DomainStepped, domain_step}
+use Rattle.cloak_model.specs.Halves.{is_inward, inward_half}
+use Rattle.cloak_model.specs.Hart.{Hart}
+use Rattle.cloak_model.specs.Joint.{Moment, Turn, next_hart, hart_in, cloak_of, memory_of, outside_ended, after_outside, outside_step, domain_ended, after_domain_step, pages_for, interrupt_ended, after_interrupt, by_interrupt, inside_step, turn_of, joint_step}
+use Rattle.cloak_model.specs.KernelStep.{ticked}
+use Rattle.cloak_model.specs.Parts.{Joint}
+use Rattle.cloak_model.specs.Resuming.{by_root, by_context, by_domain, resume}
+use Rattle.cloak_model.specs.World.{World, Cloak, Flat, Cloaked, Alone, plain_of, items_of}
+use Rattle.domain_isolation.proofs.InOrder.{decided}
+use Rattle.domain_isolation.proofs.Steady.{is_cloaked}
+use Rattle.kernel_isolation.proofs.Numbers.{AreFrom, number_at}
+use Rattle.store_law.proofs.Settlings.{touched_draws}
+use Rattle.latest_store.specs.Moves.{Move}
+use Rattle.latest_store.specs.Deeds.{phase_moves, context_moves, program_moves, step_moves}
+use Rattle.latest_store.proofs.Moved.{Agrees, moved_by, given_by, AreSound}
+use Rattle.latest_store.proofs.Heard.{Heard, Did}
+use Rattle.latest_store.proofs.CopyDeeds.{step_did}
+use Rattle.latest_store.proofs.Sound.{context_sound}
+
+-- Programs.
+
+-- program d of a list was there before, with all but these loads
+pub record Grew (domains : List Domain) (d : ℕ) (more : List (ℕ × ℕ)) (now : Domain) : Type 0 where
+  pub was : Domain
+  pub there : slice_get domains d ≡ Some was
+  pub loads : now.loads ≡ was.loads ++ more
+
+-- each program of the second list has these loads more, if it is this one
+abbrev pub GrowBy : ℕ → List (ℕ × ℕ) → List Domain → List Domain → Type 0
+GrowBy e more domains domains' =
+    (d : ℕ) (now : Domain) → slice_get domains' d ≡ Some now → Grew domains d (cond (e == d) more []) now
+
+grew_none : (b : Bool) (domains : List Domain) (d : ℕ) (now : Domain) → slice_get domains d ≡ Some now →
+    Grew domains d (cond b [] []) now
+grew_none true domains d now there = record { was = now; there = there; loads = sym (append-nil now.loads) }
+grew_none false domains d now there = record { was = now; there = there; loads = sym (append-nil now.loads) }
+
+same_grow : (e : ℕ) (domains : List Domain) → GrowBy e [] domains domains
+same_grow e domains d now there = grew_none (e == d) domains d now there
+
+set_same : (domains : List Domain) (e : ℕ) (found made now : Domain) → slice_get domains e ≡ Some found →
+    slice_get (slice_set domains e made) e ≡ Some now → made ≡ now
+set_same [] zero found made now there is = absurd cc
+set_same [] (suc e) found made now there is = absurd cc
+set_same (x ∷ domains) zero found made now there is = cc
+set_same (x ∷ domains) (suc e) found made now there is = set_same domains e found made now there is
+
+set_other : (domains : List Domain) (e d : ℕ) (made now : Domain) → e ≢ d →
+    slice_get (slice_set domains e made) d ≡ Some now → slice_get domains d ≡ Some now
+set_other [] e d made now other is = is
+set_other (x ∷ domains) zero zero made now other is = absurd (other refl)
+set_other (x ∷ domains) zero (suc d) made now other is = is
+set_other (x ∷ domains) (suc e) zero made now other is = is
+set_other (x ∷ domains) (suc e) (suc d) made now other is =
+    set_other domains e d made now (λ same. other (ap (λ (k : ℕ). suc k) same)) is
+
+set_grows : (domains : List Domain) (e : ℕ) (found made : Domain) (more : List (ℕ × ℕ)) →
+    slice_get domains e ≡ Some found → made.loads ≡ found.loads ++ more →
+    GrowBy e more domains (slice_set domains e made)
+set_grows domains e found made more there loads d now is = elim (decided e d) [
+  | inl same ↦
+      let here : made ≡ now = set_same domains e found made now there
+      (subst (λ (k : ℕ). slice_get (slice_set domains e made) k ≡ Some now) (sym same) is) in
+      record {
+        was = found;
+        there = subst (λ (k : ℕ). slice_get domains k ≡ Some found) same there;
+        loads = ap (λ (y : Domain). y.loads) (sym here) ∙ loads
+            ∙ ap (λ (b : Bool). found.loads ++ cond b more []) (sym (eq-eqb e d same));
+      }
+  | inr other ↦
+      record {
+        was = now;
+        there = set_other domains e d made now other is;
+        loads = sym (append-nil now.loads)
+            ∙ ap (λ (b : Bool). now.loads ++ cond b more []) (sym (ne_eqb e d other));
+      }
+]
+
+-- These moves, of one program, were done.
+pub record TurnDid (moves : List Move) (j : Joint) (t : Turn) : Type 0 where
+  pub program : ℕ
+  pub sound : AreSound program moves
+  pub pages : (q : PageId) → t.joint.memory.plain q ≡ moved_by moves j.memory.plain q
+  pub loads : GrowBy program (given_by moves j.memory.plain) j.domains t.joint.domains
+
+-- A hart outside does nothing.
+
+record Keeps (j j' : Joint) : Type 0 where
+  pub pages : j'.memory.plain ≡ j.memory.plain
+  pub loads : GrowBy 0 [] j.domains j'.domains
+
+kept : (j j' : Joint) → j'.memory.plain ≡ j.memory.plain → j'.domains ≡ j.domains → Keeps j j'
+kept j j' pages domains = record {
+  pages = pages;
+  loads = subst (GrowBy 0 [] j.domains) (sym domains) (same_grow 0 j.domains);
+}
+
+set_none : (domains : List Domain) (e : ℕ) (found made : Domain) → slice_get domains e ≡ Some found →
+    made.loads ≡ found.loads → GrowBy 0 [] domains (slice_set domains e made)
+set_none domains e found made there same d now is =
+    let g = set_grows domains e found made [] there (same ∙ sym (append-nil found.loads)) d now is in
+    let none : g.was.loads ++ cond (e == d) [] [] ≡ g.was.loads ++ cond (0 == d) [] [] =
+    both_none (e == d) (0 == d) g.was.loads in
+    record { was = g.was; there = g.there; loads = g.loads ∙ none }
+  where
+    both_none : (a b : Bool) (l : List (ℕ × ℕ)) → l ++ cond a [] [] ≡ l ++ cond b [] []
+    both_none true true l = refl
+    both_none true false l = refl
+    both_none false true l = refl
+    both_none false false l = refl
+
+root_keeps : (j : Joint) (satp ctx reply : ℕ) (w : Domain) (control : Control) (a : Admitted)
+    (answer : Result (Unit {0}) ResumeFault) → slice_get j.domains (domain_of ctx) ≡ Some w →
+    Keeps j (by_root j satp ctx reply w control a answer).joint
+unfolding by_root
+root_keeps j satp ctx reply w control a (Err fault) there = kept j j refl refl
+root_keeps j satp ctx reply w control a (Ok done) there = record {
+  pages = refl;
+  loads = set_none j.domains (domain_of ctx) w (record w { control = control }) there refl;
+}
+
+context_keeps : (j : Joint) (satp ctx reply : ℕ) (w : Domain) (control : Control)
+    (answer : Result (Unit {0}) ResumeFault) → slice_get j.domains (domain_of ctx) ≡ Some w →
+    Keeps j (by_context j satp ctx reply w control answer).joint
+unfolding by_context
+context_keeps j satp ctx reply w control (Err fault) there = kept j j refl refl
+context_keeps j satp ctx reply w control (Ok done) there = root_keeps j satp ctx reply w control _ _ there
+
+domain_keeps : (j : Joint) (hart satp ctx reply : ℕ) (found : Option Domain) →
+    slice_get j.domains (domain_of ctx) ≡ found → Keeps j (by_domain j hart satp ctx reply found).joint
+unfolding by_domain
+domain_keeps j hart satp ctx reply None there = kept j j refl refl
+domain_keeps j hart satp ctx reply (Some w) there = context_keeps j satp ctx reply w _ _ there
+
+resume_keeps : (j : Joint) (hart satp ctx reply : ℕ) → Keeps j (resume j hart satp ctx reply).joint
+unfolding resume
+resume_keeps j hart satp ctx reply = domain_keeps j hart satp ctx reply _ refl
+
+ended_keeps : (j : Joint) (number : ℕ) (items : List Item) (k : Kernel) →
+    Keeps j (outside_ended j number items k).joint
+unfolding outside_ended
+ended_keeps j number items Stay = kept j j refl refl
+ended_keeps j number items (Put b) = kept j _ refl refl
+ended_keeps j number items (Halt value) = kept j j refl refl
+ended_keeps j number items (Resume ctx answer) = resume_keeps j number _ ctx answer
+
+outside_keeps : (j : Joint) (number : ℕ) (h : Hart) → Keeps j (outside_step j number h).joint
+unfolding outside_step after_outside settled_step made_after
+outside_keeps j number h =
+    let ended = ended_keeps _ number _ _ in
+    record { pages = ended.pages ∙ (touched_draws h j.disk j.memory).plain; loads = ended.loads }
+
+-- A hart inside.
+
+-- what is shown of a context is told to no program
+leave_told : (e : ℕ) (items : List Item) (s : Shown) →
+    inward_half e (items ++ item.Leave s ∷ []) ≡ inward_half e items
+leave_told e items s = filter-append (is_inward e) items (item.Leave s ∷ []) ∙ append-nil (inward_half e items)
+
+record EndsSo (e : ℕ) (j : Joint) (items : List Item) (t : Turn) : Type 0 where
+  pub told : inward_half e t.items ≡ inward_half e items
+  pub pages : t.joint.memory.plain ≡ j.memory.plain
+  pub domains : t.joint.domains ≡ j.domains
+
+domain_ended_so : (e : ℕ) (j : Joint) (number : ℕ) (h : Hart) (d : ℕ) (w : World) (how : Went) →
+    EndsSo e j (items_of w) (domain_ended j number h d w how)
+unfolding domain_ended
+domain_ended_so e j number h d w went.Stay = record { told = refl; pages = refl; domains = refl }
+domain_ended_so e j number h d w went.Stopped = record { told = refl; pages = refl; domains = refl }
+domain_ended_so e j number h d w (went.Remapped space) = record { told = refl; pages = refl; domains = refl }
+domain_ended_so e j number h d w (went.Leave s) =
+    record { told = leave_told e (items_of w) s; pages = refl; domains = refl }
+domain_ended_so e j number h d w (went.SpaceGone space s) =
+    record { told = leave_told e (items_of w) s; pages = refl; domains = refl }
+
+interrupt_ended_so : (e : ℕ) (j : Joint) (number : ℕ) (h : Hart) (items : List Item) (how : Went) →
+    EndsSo e j items (interrupt_ended j number h items how)
+unfolding interrupt_ended
+interrupt_ended_so e j number h items went.Stay = record { told = refl; pages = refl; domains = refl }
+interrupt_ended_so e j number h items went.Stopped = record { told = refl; pages = refl; domains = refl }
+interrupt_ended_so e j number h items (went.Remapped space) = record { told = refl; pages = refl; domains = refl }
+interrupt_ended_so e j number h items (went.Leave s) =
+    record { told = leave_told e items s; pages = refl; domains = refl }
+interrupt_ended_so e j number h items (went.SpaceGone space s) = record { told = refl; pages = refl; domains = refl }
+
+-- the step of a program, by what it was told
+built : (history : List Move) (j : Joint) (e slot : ℕ) (found made : Domain) (t : Turn) (answers : List Item) →
+    slice_get j.domains e ≡ Some found → found.control.number ≡ e → inward_half e t.items ≡ answers →
+    let moves = context_moves (context_at found.control.contexts slot) history found.control answers in
+    t.joint.memory.plain ≡ moved_by moves j.memory.plain → t.joint.domains ≡ slice_set j.domains e made →
+    made.loads ≡ found.loads ++ given_by moves j.memory.plain →
+    TurnDid (program_moves (Some found) history slot (inward_half e t.items)) j t
+unfolding program_moves
+built history j e slot found made t answers there own told pages domains loads =
+    let of : List Item → List Move = context_moves (context_at found.control.contexts slot) history found.control in
+    let all : List Move → Type 0 = λ moves. TurnDid moves j t in
+    subst (λ (l : List Item). TurnDid (of l) j t) (sym told) (record {
+      program = e;
+      sound = subst (λ (n : ℕ). AreSound n (of answers)) own
+          (context_sound (context_at found.control.contexts slot) history found.control answers);
+      pages = λ q. ap (λ (p : PageId → List ℕ). p q) pages;
+      loads = subst (GrowBy e (given_by (of answers) j.memory.plain) j.domains) (sym domains)
+          (set_grows j.domains e found made (given_by (of answers) j.memory.plain) there loads);
+    })
+
+-- an interrupt is told of by one item, and nothing is done
+
+timer_phase : (p : Phase) (history : List Move) (d : Control) (c : Context) (e : ℕ) →
+    phase_moves p history d c (item.Timer e ∷ []) ≡ []
+unfolding phase_moves
+timer_phase Plain history d c e = refl
+timer_phase (CopyIn done) history d c e = refl
+timer_phase Waiting history d c e = refl
+timer_phase (CopyOut done total) history d c e = refl
+
+timer_none : (o : Option Context) (history : List Move) (d : Control) (e : ℕ) →
+    context_moves o history d (item.Timer e ∷ []) ≡ []
+unfolding context_moves
+timer_none None history d e = refl
+timer_none (Some c) history d e = timer_phase c.phase history d c e
+
+timer_told : (e : ℕ) → inward_half e (item.Timer e ∷ []) ≡ item.Timer e ∷ []
+timer_told e = ap (λ (b : Bool). cond b (item.Timer e ∷ []) []) (eq-eqb e e refl)
+
+memory_plain : (w : World) (m : CloakedMemory) → is_cloaked w ≡ true → plain_of w ≡ (memory_of w m).plain
+memory_plain (Flat ram) m form = absurd cc
+memory_plain (Cloaked c) m form = refl
+memory_plain (Alone h) m form = absurd cc
+
+-- a step of its context
+stepped_did : (history : List Move) (j : Joint) (number : ℕ) (h : Hart) (e slot : ℕ) (found : Domain)
+    (t : Told DomainStepped) → slice_get j.domains e ≡ Some found → found.control.number ≡ e →
+    Did found.control.number j.memory.plain found.loads
+    (context_moves (context_at found.control.contexts slot) history found.control) t →
+    TurnDid (program_moves (Some found) history slot
+    (inward_half e (after_domain_step j number h e t).items)) j (after_domain_step j number h e t)
+unfolding after_domain_step
+stepped_did history j number h e slot found t there own did =
+    let j' : Joint = record j {
+      domains = slice_set j.domains e t.answer.domain;
+      memory = memory_of t.world j.memory;
+    } in
+    let ended = domain_ended_so e j' number h e t.world t.answer.went in
+    built history j e slot found t.answer.domain (domain_ended j' number h e t.world t.answer.went) did.answers there own
+    (ended.told ∙ subst (λ (n : ℕ). inward_half n (items_of t.world) ≡ did.answers) own did.told)
+    (ended.pages ∙ sym (memory_plain t.world j.memory did.form) ∙ did.pages)
+    ended.domains did.loads
+
+by_did : (due : Bool) (history : List Move) (j : Joint) (number : ℕ) (h : Hart) (e slot : ℕ) (found : Domain) →
+    slice_get j.domains e ≡ Some found → found.control.number ≡ e → Agrees history j.memory.plain →
+    let t = by_interrupt due j number h e slot found in
+    TurnDid (program_moves (Some found) history slot (inward_half e t.items)) j t
+unfolding by_interrupt after_interrupt
+by_did true history j number h e slot found there own agrees =
+    let o = context_at found.control.contexts slot in
+    let made : Control → Domain = λ control. record found { control = control } in
+    let none = timer_none o history found.control e in
+    let ended = interrupt_ended_so e _ number h (item.Timer e ∷ []) _ in
+    built history j e slot found (made _) _ (item.Timer e ∷ []) there own (ended.told ∙ timer_told e)
+    (ended.pages ∙ ap (λ (ms : List Move). moved_by ms j.memory.plain) (sym none)) ended.domains
+    (sym (append-nil found.loads) ∙ ap (λ (ms : List Move). found.loads ++ given_by ms j.memory.plain) (sym none))
+by_did false history j number h e slot found there own agrees =
+    let c : Cloak = cloak_of j.memory h e (pages_for found (context_at found.control.contexts slot)) in
+    let heard : Heard found.control.number j.memory.plain [] (Cloaked c) =
+    record { form = refl; view = sym own; pages = refl; told = refl } in
+    stepped_did history j number h e slot found (domain_step slot found (Cloaked c)) there own
+    (step_did slot found history j.memory.plain (Cloaked c) agrees heard)
+
+nothing_did : (j : Joint) (t : Turn) → t.joint.memory.plain ≡ j.memory.plain → t.joint.domains ≡ j.domains →
+    TurnDid [] j t
+nothing_did j t pages domains = record {
+  program = 0;
+  sound = tt;
+  pages = λ q. ap (λ (p : PageId → List ℕ). p q) pages;
+  loads = subst (GrowBy 0 [] j.domains) (sym domains) (same_grow 0 j.domains);
+}
+
+inside_did : (history : List Move) (j : Joint) (number : ℕ) (h : Hart) (e slot : ℕ) (found : Option Domain) →
+    slice_get j.domains e ≡ found → AreFrom 0 j.domains → Agrees history j.memory.plain →
+    let t = inside_step j number h e slot found in
+    TurnDid (program_moves found history slot (inward_half e t.items)) j t
+unfolding inside_step program_moves
+inside_did history j number h e slot None there programs agrees = nothing_did j _ refl refl
+inside_did history j number h e slot (Some found) there programs agrees =
+    by_did _ history j number h e slot found there (number_at e j.domains found programs there) agrees
+
+-- Every step.
+
+turn_did : (history : List Move) (j : Joint) (number : ℕ) (h : Hart) (inside : Option ℕ) → AreFrom 0 j.domains →
+    Agrees history j.memory.plain →
+    let t = turn_of j number h inside in TurnDid (step_moves history j.domains inside t.items) j t
+unfolding turn_of step_moves
+turn_did history j number h None programs agrees =
+    let keeps = outside_keeps j number h in
+    record {
+      program = 0;
+      sound = tt;
+      pages = λ q. ap (λ (p : PageId → List ℕ). p q) keeps.pages;
+      loads = keeps.loads;
+    }
+turn_did history j number h (Some ctx) programs agrees =
+    inside_did history j number (ticked h) (domain_of ctx) (slot_of ctx) _ refl programs agrees
+
+pub joint_did : (history : List Move) (m : Moment) → AreFrom 0 m.joint.domains → Agrees history m.joint.memory.plain →
+    let t = joint_step m in
+    TurnDid (step_moves history m.joint.domains (hart_in m.joint (next_hart m)).inside t.items) m.joint t
+unfolding joint_step
+joint_did history m programs agrees = turn_did history m.joint (next_hart m) _ _ programs agrees

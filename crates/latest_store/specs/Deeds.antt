@@ -1,0 +1,108 @@
+-- What a step does to cloaked pages. It is told by the contexts and the regions of the program that makes the step, by
+-- what the program is answered in the step, and by the history before it: the instruction is the word that was stored
+-- last where the program counter points. No page, no frame and no page table is looked at.
+use Rattle.std.specs.Prelude.{ℕ, ◌%◌, Bool, true, false, List, [], ◌∷◌, map, slice_get, Option, Some, None, if◌then◌else◌}
+use Rattle.cloak_base.specs.declared.names.PageId.{PageId}
+use Rattle.rv_isa.specs.Table.{instruction}
+use Rattle.rv_isa.specs.declared.instr.Instr.{Instr}
+use Rattle.rv_isa.specs.declared.instr.Instr.TheVariants.{Ecall}
+use Rattle.cloak_model.specs.declared.context.Phase.{Phase}
+use Rattle.cloak_model.specs.declared.context.Phase.TheVariants.{Plain, CopyIn, Waiting, CopyOut}
+use Rattle.cloak_model.specs.declared.item.Item.{Item}
+use Rattle.cloak_model.specs.declared.item.Item.TheVariants as item
+use Rattle.cloak_model.specs.declared.outcome.Effect.{Effect}
+use Rattle.cloak_model.specs.declared.outcome.Effect.TheVariants as does
+use Rattle.cloak_model.specs.Effect.{effect}
+use Rattle.cloak_model.specs.Halves.{inward_half}
+use Rattle.cloak_model.specs.Resources.{page_at}
+use Rattle.cloak_model.specs.Contexts.{Context, context_at, domain_of, slot_of}
+use Rattle.cloak_model.specs.DomainState.{Control, Domain}
+use Rattle.cloak_model.specs.Calls.{buffer, byte_address}
+use Rattle.cloak_model.specs.Fork.{copies, private_numbers}
+use Rattle.cloak_model.specs.Hypercalls.{Hypercall, ForkSpace, Exit, hypercall_of}
+use Rattle.latest_store.specs.Moves.{Move, Stores, Copies, Drops, Loads, latest_value}
+
+-- A step of a program asks at most twice: mostly for its instruction, and then for what this is about. It does something
+-- to pages only where both were granted.
+abbrev pub is_granted : Item → Bool
+is_granted (item.Ok domain) = true
+is_granted _ = false
+
+abbrev pub both_granted : List Item → Bool
+both_granted (first ∷ second ∷ []) = if is_granted first then is_granted second else false
+both_granted _ = false
+
+-- the page at an address of a context's space
+abbrev pub page_for : Control → Context → ℕ → Option PageId
+page_for d c address = page_at d.number d.resources c.space address
+
+-- a load, and a store, where the address is cloaked
+
+abbrev pub load_at : ℕ → ℕ → Option PageId → List Move
+load_at address width None = []
+load_at address width (Some q) = Loads q address width ∷ []
+
+abbrev pub store_at : ℕ → ℕ → ℕ → Option PageId → List Move
+store_at address width value None = []
+store_at address width value (Some q) = Stores q (address % 4096) width value ∷ []
+
+-- FORK copies each private resource of the caller's space; EXIT of the last context of a space drops them.
+unfoldable pub hypercall_moves : Hypercall → Control → Context → List Move
+hypercall_moves ForkSpace d c = map (λ (copy : ℕ × ℕ). Copies d.number copy.0 copy.1) (copies c.space d.resources)
+hypercall_moves Exit d c = map (λ (n : ℕ). Drops d.number n) (private_numbers c.space d.resources)
+hypercall_moves _ d c = []
+
+-- an instruction that is an ecall
+unfoldable pub ecall_moves : Control → Context → Instr → List Move
+ecall_moves d c Ecall = hypercall_moves (hypercall_of c) d c
+ecall_moves d c _ = []
+
+-- what an instruction does
+unfoldable pub effect_moves : Control → Context → Instr → Effect → List Move
+effect_moves d c i (does.Load rd address width is_signed) = load_at address width (page_for d c address)
+effect_moves d c i (does.Store address width value) = store_at address width value (page_for d c address)
+effect_moves d c i does.System = ecall_moves d c i
+effect_moves d c i _ = []
+
+-- a word, which may be an instruction
+unfoldable pub word_moves : Control → Context → Option Instr → List Move
+word_moves d c None = []
+word_moves d c (Some i) = effect_moves d c i (effect i c.regs c.pc)
+
+-- the word at the program counter
+unfoldable pub fetched_moves : List Move → Control → Context → Option PageId → List Move
+fetched_moves earlier d c None = []
+fetched_moves earlier d c (Some q) = word_moves d c (instruction (latest_value earlier q (c.pc % 4096) 4))
+
+-- READ: the byte that was told is stored at an address of the buffer, where this was granted
+abbrev pub byte_moves : ℕ → Option PageId → List Item → List Move
+byte_moves address place (item.Word domain byte ∷ item.Ok domain' ∷ []) = store_at address 1 byte place
+byte_moves address place _ = []
+
+-- A step by the context's phase: an instruction, a byte that is copied to the kernel, or one that is copied from it.
+unfoldable pub phase_moves : Phase → List Move → Control → Context → List Item → List Move
+phase_moves Plain earlier d c told =
+    if both_granted told then fetched_moves earlier d c (page_for d c c.pc) else []
+phase_moves (CopyIn done) earlier d c told =
+    let address = byte_address (buffer c) done in
+    if both_granted told then load_at address 1 (page_for d c address) else []
+phase_moves Waiting earlier d c told = []
+phase_moves (CopyOut done total) earlier d c told =
+    let address = byte_address (buffer c) done in byte_moves address (page_for d c address) told
+
+-- a step of the context of a slot
+unfoldable pub context_moves : Option Context → List Move → Control → List Item → List Move
+context_moves None earlier d told = []
+context_moves (Some c) earlier d told = phase_moves c.phase earlier d c told
+
+-- a step of a program
+unfoldable pub program_moves : Option Domain → List Move → ℕ → List Item → List Move
+program_moves None earlier slot told = []
+program_moves (Some d) earlier slot told = context_moves (context_at d.control.contexts slot) earlier d.control told
+
+-- A step of a hart that runs this context, or none, among these programs, which wrote these items: the kernel does
+-- nothing to cloaked pages.
+unfoldable pub step_moves : List Move → List Domain → Option ℕ → List Item → List Move
+step_moves earlier domains None items = []
+step_moves earlier domains (Some ctx) items =
+    program_moves (slice_get domains (domain_of ctx)) earlier (slot_of ctx) (inward_half (domain_of ctx) items)

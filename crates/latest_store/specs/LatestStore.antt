@@ -1,0 +1,67 @@
+-- Every completed cloaked load of a run gives what its own program stored last, or the byte with which the page was
+-- made.
+use Rattle.std.specs.Prelude.{ℕ, zero, suc, ◌≡◌, ◌≢◌, ◌≤◌, ◌+◌, ◌%◌, List, [], ◌∷◌, length, slice_get, slice_index, Option, Some, Ok}
+use Rattle.cloak_base.specs.Random.{Random}
+use Rattle.cloak_base.specs.declared.names.PageId.{PageId}
+use Rattle.cloak_model.specs.declared.image.Bundle.{Bundle}
+use Rattle.cloak_model.specs.declared.image.Program.{Program}
+use Rattle.cloak_model.specs.Bundle.{IsInGrammar}
+use Rattle.cloak_model.specs.DomainState.{Domain}
+use Rattle.cloak_model.specs.Joint.{hart_in}
+use Rattle.cloak_model.specs.Opening.{program_page}
+use Rattle.cloak_model.specs.Run.{Run, joint_run}
+use Rattle.kernel_isolation.specs.Isolation.{joint_until}
+use Rattle.store_law.specs.Ciphers.{items_of_turn}
+use Rattle.store_law.specs.OwnPages.{program_of_step}
+use Rattle.latest_store.specs.Moves.{Move, Makes, latest, loads_of, with_moves}
+use Rattle.latest_store.specs.Deeds.{step_moves}
+
+-- The history of a run.
+
+-- the first pages of a program, up to this many, are made with its bytes
+abbrev pub made_pages : ℕ → Program → ℕ → List Move → List Move
+made_pages d p zero history = history
+made_pages d p (suc n) history =
+    Makes (record { domain = d; resource = 0; page = n }) (program_page p.bytes n) ∷ made_pages d p n history
+
+-- the programs, of which the first has this number
+abbrev pub made_programs : ℕ → List Program → List Move → List Move
+made_programs d [] history = history
+made_programs d (p ∷ programs) history = made_programs (d + 1) programs (made_pages d p p.start.pages history)
+
+-- the context that the hart of the step behind n steps runs, if it runs one
+abbrev pub context_of_step : Bundle → Run → ℕ → Option ℕ
+context_of_step b r n =
+    (hart_in (joint_until n r) (slice_index b.kernel.schedule (n % length b.kernel.schedule))).inside
+
+-- the opening and the first n steps
+unfoldable pub history : Bundle → Run → ℕ → List Move
+history b r zero = made_programs 0 b.programs []
+history b r (suc n) =
+    with_moves (step_moves (history b r n) (joint_until n r).domains (context_of_step b r n)
+    (items_of_turn (slice_get r.turns n))) (history b r n)
+
+-- The law.
+
+-- The page has 4096 bytes, and each was stored last.
+pub record IsLatest (history : List Move) (q : PageId) (bytes : List ℕ) : Type 0 where
+  pub whole : length bytes ≡ 4096
+  pub each : (at : ℕ) → slice_index bytes at ≡ latest history q at
+
+-- What a run gives to programs. At each moment, also behind the last step:
+pub record GivesLatest (b : Bundle) (r : Run) : Type 0 where
+  -- the loads that a program completed are those of the history, each with the value of the bytes stored last
+  pub loads : (n : ℕ) → n ≤ length r.turns → (d : ℕ) (program : Domain) →
+      slice_get (joint_until n r).domains d ≡ Some program → program.loads ≡ loads_of d (history b r n)
+  -- each page has the bytes that were stored last
+  pub pages : (n : ℕ) → n ≤ length r.turns → (q : PageId) →
+      IsLatest (history b r n) q ((joint_until n r).memory.plain q)
+  -- a step that is not the program's own, whatever it settles, moves or maps, changes nothing of what was stored last
+  pub others : (n : ℕ) → suc n ≤ length r.turns → (q : PageId) → program_of_step b r n ≢ Some q.domain → (at : ℕ) →
+      latest (history b r (suc n)) q at ≡ latest (history b r n) q at
+
+-- Every run of an image does.
+abbrev pub RunsGiveLatest : Type 0
+RunsGiveLatest =
+    (b : Bundle) (stream : Random) (budget : ℕ) (r : Run) → IsInGrammar b → joint_run b stream budget ≡ Ok r →
+    GivesLatest b r

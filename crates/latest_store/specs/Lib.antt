@@ -1,0 +1,3 @@
+pub mod Moves
+pub mod Deeds
+pub mod LatestStore

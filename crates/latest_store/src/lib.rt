@@ -1,0 +1,12 @@
+//! A law on the definitions alone: what a completed cloaked load of a joint run (`cloak_model`, `specs/Run`) gives is,
+//! byte by byte, what its own program stored last at that byte of the page since the page was made, or the byte with
+//! which it was made. What was stored is read off the steps: the instructions of the program's contexts, the bytes that
+//! READ copied in, forks and ends of spaces, and the bytes of the image (`specs/Deeds`).
+#![tactic(auto)]
+
+ghost use Rattle.latest_store.specs.LatestStore.{RunsGiveLatest};
+
+/// Each completed cloaked load of a run gives what was stored last. It does nothing: its contract is the law.
+pub fn law_of_latest_store()
+    ensures { RunsGiveLatest }
+{}
