@@ -1,0 +1,113 @@
+ghost use Rattle.std.specs.Prelude.{◌≡◌};
+ghost use Rattle.cloak_model.specs.Contexts.{same_space};
+ghost use Rattle.shadow_fold.specs.Entries as spec;
+
+use cloak_base::{Frame, Kind, Mode, SpaceId};
+use shadow_fold::{Entry, ShadowView};
+
+fn is_same_mode(a: Mode, b: Mode) -> bool
+    ensures { result ≡ spec.same_mode a b }
+{
+    match (a, b) {
+        (Mode::U, Mode::U) => true,
+        (Mode::S, Mode::S) => true,
+        _ => false,
+    }
+}
+
+fn is_same_kind(a: Kind, b: Kind) -> bool
+    ensures { result ≡ spec.same_kind a b }
+{
+    match (a, b) {
+        (Kind::Fetch, Kind::Fetch) => true,
+        (Kind::Load, Kind::Load) => true,
+        (Kind::Store, Kind::Store) => true,
+        _ => false,
+    }
+}
+
+fn is_same_space(a: SpaceId, b: SpaceId) -> bool
+    ensures { result ≡ same_space a b }
+{
+    a.domain == b.domain && a.number == b.number
+}
+
+fn is_same_view(a: &ShadowView, b: &ShadowView) -> bool
+    ensures { result ≡ spec.same_view a.now b.now }
+{
+    match (*a, *b) {
+        (
+            ShadowView::Outside {
+                satp,
+                mode,
+                sum,
+                mxr,
+            },
+            ShadowView::Outside {
+                satp: satp2,
+                mode: mode2,
+                sum: sum2,
+                mxr: mxr2,
+            },
+        ) => { satp == satp2 && (is_same_mode(mode, mode2) && (sum == sum2 && mxr == mxr2)) }
+        (
+            ShadowView::Inside {
+                satp,
+                sum,
+                mxr,
+                space,
+            },
+            ShadowView::Inside {
+                satp: satp2,
+                sum: sum2,
+                mxr: mxr2,
+                space: space2,
+            },
+        ) => { satp == satp2 && (sum == sum2 && (mxr == mxr2 && is_same_space(space, space2))) }
+        _ => false,
+    }
+}
+
+fn is_frame(f: Frame, table: Option<Frame>) -> bool
+    ensures { result ≡ spec.is_frame f table }
+{
+    match table {
+        Some(g) => g.0 == f.0,
+        None => false,
+    }
+}
+
+/// The entry is of this view, page and kind.
+#[tactic(auto, unfolding(shadow_fold::specs::Entries::is_for))]
+pub(crate) fn is_for(e: &Entry, v: &ShadowView, page: u32, kind: Kind) -> bool
+    ensures { result ≡ spec.is_for v.now page kind e.now }
+{
+    is_same_view(&e.view, v) && (e.page == page && is_same_kind(e.kind, kind))
+}
+
+/// The entry leads to this frame.
+#[tactic(auto, unfolding(shadow_fold::specs::Entries::is_target))]
+pub(crate) fn is_target(f: Frame, e: &Entry) -> bool
+    ensures { result ≡ spec.is_target f e.now }
+{
+    e.frame.0 == f.0
+}
+
+/// The frame is one of the entry's table frames.
+#[tactic(auto, unfolding(shadow_fold::specs::Entries::is_table))]
+pub(crate) fn is_table(f: Frame, e: &Entry) -> bool
+    ensures { result ≡ spec.is_table f e.now }
+{
+    is_frame(f, e.pt1) || is_frame(f, e.pt0)
+}
+
+/// The entry is of a view of this space.
+#[tactic(auto, unfolding(shadow_fold::specs::Entries::is_of_space))]
+pub(crate) fn is_of_space(s: SpaceId, e: &Entry) -> bool
+    ensures { result ≡ spec.is_of_space s e.now }
+{
+    match e.view {
+        ShadowView::Inside { space, .. } => is_same_space(space, s),
+        ShadowView::Outside { .. } => false,
+    }
+}

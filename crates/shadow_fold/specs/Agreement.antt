@@ -1,0 +1,55 @@
+-- A live entry agrees with what a fresh walk gives.
+use Rattle.std.specs.Prelude.{ℕ, ◌≡◌, ◌+◌, ◌*◌, List, Option, Some, None, Ok, IfSome}
+use Rattle.cloak_base.specs.declared.names.Kind.{Kind}
+use Rattle.cloak_base.specs.declared.names.Kind.TheVariants.{Store}
+use Rattle.cloak_base.specs.declared.names.Mode.TheVariants.{U}
+use Rattle.cloak_base.specs.declared.names.PageId.{PageId}
+use Rattle.cloak_base.specs.declared.names.SpaceId.{SpaceId}
+use Rattle.cloak_model.specs.declared.access.Access.{Access}
+use Rattle.cloak_model.specs.Memory.{ram_start}
+use Rattle.cloak_model.specs.Walk.{walk}
+use Rattle.shadow_fold.specs.declared.entry.Entry.{Entry}
+use Rattle.shadow_fold.specs.declared.entry.ShadowView.{ShadowView}
+use Rattle.shadow_fold.specs.declared.entry.ShadowView.TheVariants.{Outside, Inside}
+
+-- What agreement speaks of: the frames as the kernel sees them, the page that each frame holds, the page that it is
+-- owed, and the page at an address of a space.
+pub record Present : Type 0 where
+  pub ram : List (List ℕ)
+  pub held : ℕ → Option PageId
+  pub owed : ℕ → Option PageId
+  pub mapped : SpaceId → ℕ → Option PageId
+
+abbrev pub satp_in : ShadowView → ℕ
+satp_in (Outside satp mode sum mxr) = satp
+satp_in (Inside satp sum mxr space) = satp
+
+-- an access of a view
+abbrev pub access_in : ShadowView → ℕ → Kind → Access
+access_in (Outside satp mode sum mxr) va kind = record { mode = mode; sum = sum; mxr = mxr; va = va; kind = kind }
+access_in (Inside satp sum mxr space) va kind = record { mode = U; sum = sum; mxr = mxr; va = va; kind = kind }
+
+-- where an entry leads: the start of its frame
+abbrev pub start_of : ℕ → ℕ
+start_of f = ram_start + 4096 * f
+
+-- the space of the view has the page at the address
+abbrev pub IsMapped : Present → ShadowView → ℕ → PageId → Type 0
+IsMapped p (Outside satp mode sum mxr) va q = ⊥
+IsMapped p (Inside satp sum mxr space) va q = p.mapped space va ≡ Some q
+
+-- An entry without a cloaked page has an outside target. One with a page has a target that holds it, which is owed it
+-- where the entry is for stores, and the page lies at the address.
+abbrev pub TargetAgrees : Present → Entry → Option PageId → Type 0
+TargetAgrees p e None = p.held e.frame.0 ≡ None
+TargetAgrees p e (Some q) =
+    (p.held e.frame.0 ≡ Some q) × (e.kind ≡ Store → p.owed e.frame.0 ≡ Some q) × IsMapped p e.view (4096 * e.page) q
+
+pub record EntryAgrees (p : Present) (e : Entry) : Type 0 where
+  -- the walk of its page gives its frame and its table frames
+  pub walks : walk p.ram (satp_in e.view) (access_in e.view (4096 * e.page) e.kind)
+      ≡ Ok (record { pa = start_of e.frame.0; pt1 = e.pt1; pt0 = e.pt0 })
+  -- no table frame is plain
+  pub first : IfSome e.pt1 (λ f. p.held f.0 ≡ None)
+  pub second : IfSome e.pt0 (λ f. p.held f.0 ≡ None)
+  pub target : TargetAgrees p e e.cloaked

@@ -1,0 +1,7 @@
+pub mod Agreement
+pub mod Entries
+pub mod Events
+pub mod Fold
+pub mod Following
+pub mod Keeping
+pub mod Table
