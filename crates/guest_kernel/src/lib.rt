@@ -22,6 +22,7 @@ mod summary;
 pub use generating::generate;
 pub use laws::law_of_generated_images;
 pub use length::file_length;
+pub use segments::put_words;
 pub use summary::put_summary;
 
 #[cfg(test)]

@@ -1,0 +1,13 @@
+use Rattle.std.proofs.Common.{◌∙◌, sym, subst}
+use Rattle.cloak_model.specs.Bundle.{IsInGrammar}
+use Rattle.hostile_kernels.proofs.Fits.{image_in}
+use Rattle.hostile_kernels.proofs.Made.{ok-then}
+use Rattle.hostile_kernels.proofs.making.hostile.Goals as goal
+
+pub returns-clause-value : goal.returns-clause-value
+returns-clause-value c = ok-then c.image.result c.image.ensures (λ b made. made ∙ c.draft.ensures)
+
+pub returns-clause-in_grammar : goal.returns-clause-in_grammar
+returns-clause-in_grammar c =
+    ok-then c.image.result (returns-clause-value c)
+    (λ b is. subst IsInGrammar (sym is) (image_in c.args.number c.requires))

@@ -1,0 +1,52 @@
+//! A context is resumed under another page table than its first.
+//!
+//! The new word of satp leaves paging off, so no address leads anywhere else than before. It is refused all the same:
+//! the first word is recorded, and only that one will do.
+
+use crate::draft::{Draft, Guest, Words};
+use crate::shared::CALLS;
+use cloak_base::Start;
+
+/// The text of the kernel.
+#[cfg(test)]
+pub const KERNEL_TEXT: &str = r"
+boot:
+    la    x6, handler
+    csrrw x0, 0x105, x6             # stvec: each trap goes to the handler
+    lui   x17, 0x4F560
+    ecall                           # resume context 0
+handler:
+    lui   x6, 0x400
+    csrrw x0, 0x180, x6             # satp: paging off, with a bit in the number of the address space
+    lui   x17, 0x4F560
+    ecall                           # resume context 0
+";
+
+/// The words of the kernel.
+pub const KERNEL: &[u32] = &[
+    0x00000317, 0x01430313, 0x10531073, 0x4f5608b7, 0x00000073, 0x00400337, 0x18031073, 0x4f5608b7,
+    0x00000073,
+];
+
+/// The image.
+pub const IMAGE: Draft = Draft {
+    frames: 64,
+    harts: 1,
+    schedule: &[0],
+    entry: 0x8000_0000,
+    segments: &[Words {
+        address: 0x8000_0000,
+        words: KERNEL,
+    }],
+    blocks: 0,
+    programs: &[Guest {
+        place: 8,
+        start: Start {
+            pages: 1,
+            base: 0x8000_8000,
+            entry: 0x8000_8000,
+            sp: 0x8000_8100,
+        },
+        words: CALLS,
+    }],
+};
