@@ -40,10 +40,10 @@ given_by (m ∷ moves) plain = given m plain ++ given_by moves (moved m plain)
 
 -- Moves of a domain, with whole pages and places inside pages.
 abbrev pub IsSound : ℕ → Move → Type 0
-IsSound d (Makes p bytes) = length bytes ≡ 4096
-IsSound d (Stores p from width value) = IsPlace from width
-IsSound d (Copies domain from to) = Unit {0}
-IsSound d (Drops domain resource) = Unit {0}
+IsSound d (Makes p bytes) = (p.domain ≡ d) × (length bytes ≡ 4096)
+IsSound d (Stores p from width value) = (p.domain ≡ d) × IsPlace from width
+IsSound d (Copies domain from to) = domain ≡ d
+IsSound d (Drops domain resource) = domain ≡ d
 IsSound d (Loads q address width) = q.domain ≡ d
 
 abbrev pub AreSound : ℕ → List Move → Type 0
@@ -72,16 +72,16 @@ pub move_agrees : (d : ℕ) (m : Move) (history : List Move) (plain : PageId →
     Agrees history plain → Agrees (m ∷ history) (moved m plain)
 unfolding latest
 move_agrees d (Makes p bytes) history plain sound agrees = λ q. record {
-  whole = whole_either (same_page q p) bytes (plain q) sound (agrees q).whole;
+  whole = whole_either (same_page q p) bytes (plain q) sound.1 (agrees q).whole;
   each = λ at. byte_either (same_page q p) bytes (plain q) at _ _ refl ((agrees q).each at);
 }
 move_agrees d (Stores p from width value) history plain sound agrees = λ q. record {
-  whole = whole_either (same_page q p) _ (plain q) (stored_whole (plain p) from width value (agrees p).whole sound)
+  whole = whole_either (same_page q p) _ (plain q) (stored_whole (plain p) from width value (agrees p).whole sound.1)
       (agrees q).whole;
   each = λ at.
       store_either (same_page q p) (covers from width at) (with_value_in (plain p) from width value) (plain q) at
       (get_or (to_le_bytes w32 value) (at - from) 0) (latest history q at)
-      (λ same. stored_byte (plain p) from width value at (agrees p).whole sound
+      (λ same. stored_byte (plain p) from width value at (agrees p).whole sound.1
       ∙ ap (λ (v : ℕ). cond (covers from width at) (get_or (to_le_bytes w32 value) (at - from) 0) v)
       ((agrees p).each at ∙ ap (λ (r : PageId). latest history r at) (sym ((same_page-decides q p).0 same))))
       ((agrees q).each at);

@@ -99,19 +99,19 @@ load_sound : (n va width : ℕ) (place : Option PageId) → IsOwn n place → Ar
 load_sound n va width None own = tt
 load_sound n va width (Some q) own = (own, tt)
 
-store_sound : (n va width value : ℕ) (place : Option PageId) → IsPlace (va % 4096) width →
+store_sound : (n va width value : ℕ) (place : Option PageId) → IsOwn n place → IsPlace (va % 4096) width →
     AreSound n (store_at va width value place)
-store_sound n va width value None is = tt
-store_sound n va width value (Some q) is = (is, tt)
+store_sound n va width value None own is = tt
+store_sound n va width value (Some q) own is = ((own, is), tt)
 
 copies_sound : (n : ℕ) (list : List (ℕ × ℕ)) →
     AreSound n (map (λ (copy : ℕ × ℕ). Copies n copy.0 copy.1) list)
 copies_sound n [] = tt
-copies_sound n (copy ∷ list) = (tt, copies_sound n list)
+copies_sound n (copy ∷ list) = (refl, copies_sound n list)
 
 drops_sound : (n : ℕ) (list : List ℕ) → AreSound n (map (λ (resource : ℕ). Drops n resource) list)
 drops_sound n [] = tt
-drops_sound n (resource ∷ list) = (tt, drops_sound n list)
+drops_sound n (resource ∷ list) = (refl, drops_sound n list)
 
 hypercall_sound : (h : Hypercall) (d : Control) (c : Context) → AreSound d.number (hypercall_moves h d c)
 unfolding hypercall_moves
@@ -130,7 +130,7 @@ unfolding effect_moves
 effect_sound d c i (does.Load rd va width signed) inside =
     load_sound d.number va width _ (own_page d.number d.resources c.space va)
 effect_sound d c i (does.Store va width value) inside =
-    store_sound d.number va width value _ (inside.is va width value refl)
+    store_sound d.number va width value _ (own_page d.number d.resources c.space va) (inside.is va width value refl)
 effect_sound d c i does.System inside = ecall_sound d c i
 effect_sound d c i _ inside = tt
 
@@ -149,9 +149,11 @@ sound_if : (test : Bool) (n : ℕ) (moves : List Move) → AreSound n moves → 
 sound_if true n moves sound = sound
 sound_if false n moves sound = tt
 
-bytes_sound : (n va : ℕ) (place : Option PageId) (answers : List Item) → AreSound n (byte_moves va place answers)
-bytes_sound n va place (item.Word domain byte ∷ item.Ok domain' ∷ []) = store_sound n va 1 byte place (one_place va)
-bytes_sound n va place _ = tt
+bytes_sound : (n va : ℕ) (place : Option PageId) (answers : List Item) → IsOwn n place →
+    AreSound n (byte_moves va place answers)
+bytes_sound n va place (item.Word domain byte ∷ item.Ok domain' ∷ []) own =
+    store_sound n va 1 byte place own (one_place va)
+bytes_sound n va place _ own = tt
 
 phase_sound : (p : Phase) (history : List Move) (d : Control) (c : Context) (answers : List Item) →
     AreSound d.number (phase_moves p history d c answers)
@@ -162,7 +164,9 @@ phase_sound (CopyIn done) history d c answers =
     let va = byte_address (buffer c) done in
     sound_if (both_granted answers) d.number _ (load_sound d.number va 1 _ (own_page d.number d.resources c.space va))
 phase_sound Waiting history d c answers = tt
-phase_sound (CopyOut done total) history d c answers = bytes_sound d.number (byte_address (buffer c) done) _ answers
+phase_sound (CopyOut done total) history d c answers =
+    let va = byte_address (buffer c) done in
+    bytes_sound d.number va _ answers (own_page d.number d.resources c.space va)
 
 pub context_sound : (o : Option Context) (history : List Move) (d : Control) (answers : List Item) →
     AreSound d.number (context_moves o history d answers)
