@@ -1,5 +1,5 @@
 -- The pages under free numbers are zeros in a history, whatever a step does.
-use Rattle.std.proofs.Common.{◌≡◌, ◌≢◌, ◌∙◌, ◌⊎◌, inl, inr, ℕ, Bool, true, false, ◌&&◌, cond, List, [], ◌∷◌, map, Some, None, refl, sym, ap, subst, All, is_some, slice_index}
+use Rattle.std.proofs.Common.{◌≡◌, ◌≢◌, ◌∙◌, ◌⊎◌, inl, inr, ℕ, Bool, true, false, ◌&&◌, cond, List, [], ◌∷◌, map, Some, None, Result, Ok, Err, refl, sym, ap, subst, All, is_some, slice_index}
 use Rattle.std.specs.Prelude.{nat_eq, ◌-◌}
 use Rattle.std.specs.Int.{w32, to_le_bytes}
 use Rattle.std.specs.List.{list_any}
@@ -8,9 +8,11 @@ use Rattle.std.proofs.lemmas.List.Elements.{All-head, All-tail}
 use Rattle.cloak_base.specs.Pages.{is_of, page_in}
 use Rattle.cloak_base.proofs.Pages.{same_page-other, is_of-other, is_of-here}
 use Rattle.cloak_base.specs.declared.names.PageId.{PageId}
+use Rattle.cloak_model.specs.declared.resource.MapFault.{MapFault}
 use Rattle.cloak_model.specs.Fork.{private_numbers, copies, forked_resources}
 use Rattle.cloak_model.specs.Resources.{Resources, resource_at, drop_space}
-use Rattle.latest_store.specs.Moves.{Move, Makes, Stores, Copies, Drops, Loads, covers, latest, with_moves}
+use Rattle.latest_store.specs.Moves.{Move, Makes, Stores, Copies, Zeros, Drops, Loads, covers, latest, with_moves}
+use Rattle.latest_store.specs.Deeds.{made_moves}
 use Rattle.latest_store.proofs.Moved.{IsSound, AreSound}
 use Rattle.latest_store.proofs.Numbers.{MapsHeld, Follows, HeldPlace, dropped_free, drop_maps, Enough, fork_maps, fork_free, fork_apart}
 
@@ -80,6 +82,17 @@ either_zero : (b : Bool) (x : ℕ) → x ≡ 0 → cond b 0 x ≡ 0
 either_zero true x is = refl
 either_zero false x is = is
 
+-- a resource is made
+pub fits_make : (d : ℕ) (r : Resources) (made : Result ℕ MapFault) (r' : Resources) → Follows r r' →
+    Fits d r (made_moves d made) r'
+unfolding latest
+fits_make d r (Err fault) r' follows = fits_none d r [] r' refl follows
+fits_make d r (Ok n) r' follows = record {
+  maps = follows.maps;
+  free = λ maps history zero q own free at.
+      either_zero (is_of d n q) (latest history q at) (zero q own (follows.free q.resource free) at);
+}
+
 drops_zero : (d : ℕ) (list : List ℕ) (history : List Move) (q : PageId) (at : ℕ) → q.domain ≡ d →
     ((latest history q at ≡ 0) ⊎ (list_any (λ m. nat_eq m q.resource) list ≡ true)) →
     latest (with_moves (map (λ (n : ℕ). Drops d n) list) history) q at ≡ 0
@@ -111,7 +124,7 @@ fits_drop d space r = record {
 
 -- Moves of another domain.
 
-other_latest : (d : ℕ) (m : Move) (history : List Move) (q : PageId) (at : ℕ) → IsSound d m → q.domain ≢ d →
+other_latest : (d : ℕ) (m : Move) (history : List Move) (q : PageId) (at : ℕ) → IsSound d history m → q.domain ≢ d →
     latest (m ∷ history) q at ≡ latest history q at
 unfolding latest
 other_latest d (Makes p bytes) history q at sound other =
@@ -122,12 +135,15 @@ other_latest d (Stores p from width value) history q at sound other =
 other_latest d (Copies domain from to) history q at sound other =
     ap (λ (b : Bool). cond b (latest history (page_in from q) at) (latest history q at))
     (is_of-other domain to q (λ is. other (is.0 ∙ sound)))
+other_latest d (Zeros domain resource) history q at sound other =
+    ap (λ (b : Bool). cond b 0 (latest history q at))
+    (is_of-other domain resource q (λ is. other (is.0 ∙ sound.0)))
 other_latest d (Drops domain resource) history q at sound other =
     ap (λ (b : Bool). cond b 0 (latest history q at))
     (is_of-other domain resource q (λ is. other (is.0 ∙ sound)))
 other_latest d (Loads p address width) history q at sound other = refl
 
-pub others_latest : (d : ℕ) (moves history : List Move) (q : PageId) (at : ℕ) → AreSound d moves → q.domain ≢ d →
+pub others_latest : (d : ℕ) (moves history : List Move) (q : PageId) (at : ℕ) → AreSound d history moves → q.domain ≢ d →
     latest (with_moves moves history) q at ≡ latest history q at
 others_latest d [] history q at sound other = refl
 others_latest d (m ∷ moves) history q at sound other =

@@ -16,7 +16,7 @@ use Rattle.domain_isolation.proofs.Scripts.{Question, asked}
 use Rattle.domain_isolation.proofs.Steady.{is_cloaked}
 use Rattle.domain_isolation.proofs.Answers.{question_answered}
 use Rattle.latest_store.specs.Moves.{Move}
-use Rattle.latest_store.specs.Deeds.{both_granted}
+use Rattle.latest_store.specs.Deeds.{first_granted, both_granted}
 use Rattle.latest_store.proofs.Moved.{moved_by, given_by}
 use Rattle.latest_store.proofs.Numbers.{Follows}
 use Rattle.latest_store.proofs.Fits.{Fits, fits_none}
@@ -62,20 +62,34 @@ pub record Did (plain : PageId → List ℕ) (was : Domain) (moves : List Item �
   pub loads : t.answer.domain.loads ≡ was.loads ++ given_by (moves answers) plain
   pub fits : Fits was.control.number was.control.resources (moves answers) t.answer.domain.control.resources
 
+-- it changed no page, and completed no load
+pub untouched : (plain : PageId → List ℕ) (was : Domain) (moves : List Item → List Move) (answers : List Item)
+    (x : DomainStepped) (w : World) → Heard was.control.number plain answers w →
+    moved_by (moves answers) plain ≡ plain → given_by (moves answers) plain ≡ [] → x.domain.loads ≡ was.loads →
+    Fits was.control.number was.control.resources (moves answers) x.domain.control.resources →
+    Did plain was moves (record { answer = x; world = w })
+untouched plain was moves answers x w heard still none same fits = record {
+  answers = answers;
+  form = heard.form;
+  told = heard.told;
+  pages = heard.pages ∙ sym still;
+  loads = same ∙ sym (append-nil was.loads) ∙ ap (λ (l : List (ℕ × ℕ)). was.loads ++ l) (sym none);
+  fits = fits;
+}
+
 -- it did nothing
 pub quiet : (plain : PageId → List ℕ) (was : Domain) (moves : List Item → List Move) (answers : List Item)
     (x : DomainStepped) (w : World) → Heard was.control.number plain answers w → moves answers ≡ [] →
     x.domain.loads ≡ was.loads → Follows was.control.resources x.domain.control.resources →
     Did plain was moves (record { answer = x; world = w })
-quiet plain was moves answers x w heard none same follows = record {
-  answers = answers;
-  form = heard.form;
-  told = heard.told;
-  pages = heard.pages ∙ ap (λ (ms : List Move). moved_by ms plain) (sym none);
-  loads = same ∙ sym (append-nil was.loads)
-      ∙ ap (λ (ms : List Move). was.loads ++ given_by ms plain) (sym none);
-  fits = fits_none was.control.number was.control.resources (moves answers) x.domain.control.resources none follows;
-}
+quiet plain was moves answers x w heard none same follows =
+    untouched plain was moves answers x w heard (ap (λ (ms : List Move). moved_by ms plain) none)
+    (ap (λ (ms : List Move). given_by ms plain) none) same
+    (fits_none was.control.number was.control.resources (moves answers) x.domain.control.resources none follows)
+
+-- moves that are made where the first question was granted
+abbrev pub if_fetched : (List Item → List Move) → List Item → List Move
+if_fetched moves answers = if first_granted answers then moves answers else []
 
 -- moves that are made where both questions were granted
 abbrev pub if_granted : List Move → List Item → List Move

@@ -33,7 +33,7 @@ use Rattle.latest_store.proofs.Values.{zero_page_at, zero_page_whole}
 use Rattle.latest_store.proofs.Moved.{Agrees, AreSound, given_by, move_agrees, moves_agree, moves_load}
 use Rattle.latest_store.proofs.Numbers.{MapsHeld, started_maps, started_free}
 use Rattle.latest_store.proofs.Fits.{FreeZero, Fits, others_latest}
-use Rattle.latest_store.proofs.Turned.{TurnDid, joint_did}
+use Rattle.latest_store.proofs.Turned.{FreeInAll, TurnDid, joint_did}
 
 -- The opening.
 
@@ -164,8 +164,7 @@ record Holds (history : List Move) (j : Joint) : Type 0 where
   pub loads : (d : ℕ) (program : Domain) → slice_get j.domains d ≡ Some program →
       program.loads ≡ loads_of d history
   pub maps : (d : ℕ) (program : Domain) → slice_get j.domains d ≡ Some program → MapsHeld program.control.resources
-  pub free : (d : ℕ) (program : Domain) → slice_get j.domains d ≡ Some program →
-      FreeZero history d program.control.resources
+  pub free : FreeInAll history j
 
 empty_loads : (d : ℕ) → loads_of d [] ≡ []
 unfolding loads_of
@@ -215,7 +214,7 @@ given_either false moves plain = refl
 
 -- what these moves, of one program, leave zeros
 next_free : (b : Bool) (program d : ℕ) (moves history : List Move) (r r' : Resources) → (program == d) ≡ b →
-    AreSound program moves → Fits d r (cond b moves []) r' → MapsHeld r → FreeZero history d r →
+    AreSound program history moves → Fits d r (cond b moves []) r' → MapsHeld r → FreeZero history d r →
     FreeZero (with_moves moves history) d r'
 next_free true program d moves history r r' is sound fits maps zeros = fits.free maps history zeros
 next_free false program d moves history r r' is sound fits maps zeros = λ q own free at.
@@ -223,7 +222,7 @@ next_free false program d moves history r r' is sound fits maps zeros = λ q own
     false≢true (sym is ∙ eq-eqb program d (sym same ∙ own)))
     ∙ fits.free maps history zeros q own free at
 
-next_holds : (history moves : List Move) (j : Joint) (t : Turn) → TurnDid moves j t → Holds history j →
+next_holds : (history moves : List Move) (j : Joint) (t : Turn) → TurnDid history moves j t → Holds history j →
     Holds (with_moves moves history) t.joint
 next_holds history moves j t did holds = record {
   agrees = λ q. subst (IsLatest (with_moves moves history) q) (sym (did.pages q))
@@ -276,16 +275,16 @@ run_holds b stream budget o opens fits (suc n) low =
     let m : Moment = moment_behind (first_moment b o.joint) n turns in
     let steady = (until_read b stream budget o opens n low').steady in
     let earlier : List Move = history_until b n r in
-    let did : TurnDid (step_moves earlier m.joint.domains
+    let did : TurnDid earlier (step_moves earlier m.joint.domains
     (hart_in m.joint (slice_index b.kernel.schedule (m.steps % length b.kernel.schedule))).inside t.items) m.joint t =
-    subst (λ (x : Turn). TurnDid (step_moves earlier m.joint.domains
+    subst (λ (x : Turn). TurnDid earlier (step_moves earlier m.joint.domains
     (hart_in m.joint (slice_index b.kernel.schedule (m.steps % length b.kernel.schedule))).inside x.items) m.joint x)
-    (step_is budget n (first_moment b o.joint) t step.is) (joint_did earlier m steady.programs holds.agrees) in
+    (step_is budget n (first_moment b o.joint) t step.is) (joint_did earlier m steady.programs holds.free holds.agrees) in
     let number : m.steps ≡ n = omega arith in
-    let did' = subst (λ (k : ℕ). TurnDid (step_moves earlier m.joint.domains
+    let did' = subst (λ (k : ℕ). TurnDid earlier (step_moves earlier m.joint.domains
     (hart_in m.joint (slice_index b.kernel.schedule (k % length b.kernel.schedule))).inside t.items) m.joint t)
     number did in
-    let did'' = subst (λ (found : Option Turn). TurnDid (step_moves earlier m.joint.domains
+    let did'' = subst (λ (found : Option Turn). TurnDid earlier (step_moves earlier m.joint.domains
     (context_of_step b r n) (items_of_turn found)) m.joint t) (sym step.is) did' in
     subst (Holds (history_until b (suc n) r)) (sym (after_step o.joint turns n t step.is))
     (next_holds earlier _ m.joint t did'' holds)
@@ -319,6 +318,5 @@ runs_give_latest b stream budget r fits runs =
     record {
       loads = λ n low. (holds n low).loads;
       pages = λ n low. (holds n low).agrees;
-      free = λ n low. (holds n low).free;
       others = others_stay b stream budget r runs holds;
     }

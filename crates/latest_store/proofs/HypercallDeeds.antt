@@ -1,6 +1,7 @@
 -- What a hypercall does to the pages of its program: a fork copies resources, and the end of a space drops them.
 use Rattle.std.proofs.Common.{◌≡◌, ◌∙◌, ℕ, Bool, true, false, cond, List, [], ◌∷◌, ◌++◌, length, map, Option, Some, None, Result, Ok, Err, refl, sym, ap, append-nil}
-use Rattle.std.specs.Prelude.{unwrap_or}
+use Rattle.std.specs.Prelude.{unwrap_or, position}
+use Rattle.cloak_base.specs.Registers.{register}
 use Rattle.std.proofs.lemmas.Bool.{and_parts, not-true, ltb-false}
 use Rattle.cloak_base.specs.declared.names.PageId.{PageId}
 use Rattle.cloak_model.specs.declared.answer.Answer.{Answer}
@@ -8,6 +9,7 @@ use Rattle.cloak_model.specs.declared.answer.Answer.TheVariants as told
 use Rattle.cloak_model.specs.declared.item.Item.TheVariants as item
 use Rattle.cloak_model.specs.declared.inside.Begun.{Begun}
 use Rattle.cloak_model.specs.declared.inside.Begun.TheVariants as begun
+use Rattle.cloak_model.specs.declared.resource.Owner.TheVariants.{Space, File}
 use Rattle.cloak_model.specs.declared.resource.MapFault.{MapFault}
 use Rattle.cloak_model.specs.declared.resource.MapFault.TheVariants.{Full}
 use Rattle.cloak_model.specs.Asking.{Asking, answered, then_ask}
@@ -17,18 +19,20 @@ use Rattle.cloak_model.specs.DomainState.{Control, Domain}
 use Rattle.cloak_model.specs.DomainStep.{DomainStepped, within}
 use Rattle.cloak_model.specs.Fork.{Fork, End, copies, marked, private_numbers, free_numbers, has_room, fork_fits, ask_copies, fork_cleared, forked, fork_if, fork, ask_forgets, end_cleared, end_if, end_context}
 use Rattle.cloak_model.specs.Halves.{inward_half}
-use Rattle.cloak_model.specs.Hypercalls.{Stepped, with_spaces, remapped, new_call, map_call, unmap_call, file_call, thread_at, thread_call, fork_told, fork_call, end_told, exit_call, call_begun, kernel_call, Hypercall, New, Map, Unmap, File, Thread, ForkSpace, Exit, Call, Unknown, hypercall}
+use Rattle.cloak_model.specs.Files.{holds_file, file_found, file_resource}
+use Rattle.cloak_model.specs.Hypercalls as hyper
+use Rattle.cloak_model.specs.Hypercalls.{Stepped, with_spaces, remapped, new_call, map_call, unmap_call, file_call, thread_at, thread_call, fork_told, fork_call, end_told, exit_call, call_begun, kernel_call, Hypercall, New, Map, Unmap, Thread, ForkSpace, Exit, Call, Unknown, hypercall}
 use Rattle.cloak_model.specs.PageMoves.{copy_pages, drop_pages}
-use Rattle.cloak_model.specs.Resources.{Resources, first_free}
+use Rattle.cloak_model.specs.Resources.{Resources, first_free, new_resource}
 use Rattle.cloak_model.specs.World.{World, Flat, Cloaked, Alone, plain_of, items_of}
 use Rattle.domain_isolation.proofs.Scripts.{Clear, asked}
 use Rattle.domain_isolation.proofs.Steady.{is_cloaked}
 use Rattle.latest_store.specs.Moves.{Move, Copies, Drops}
-use Rattle.latest_store.specs.Deeds.{hypercall_moves}
+use Rattle.latest_store.specs.Deeds.{made_moves, file_moves, hypercall_moves}
 use Rattle.latest_store.proofs.Moved.{moved_by, given_by}
-use Rattle.latest_store.proofs.Numbers.{Follows, follows_same, follows_equal, new_follows, file_follows, map_follows, unmap_follows, Enough}
-use Rattle.latest_store.proofs.Fits.{Fits, fits_fork, fits_drop}
-use Rattle.latest_store.proofs.Heard.{Heard, heard_asked, Did, quiet, if_granted}
+use Rattle.latest_store.proofs.Numbers.{Follows, follows_same, follows_equal, new_follows, found_follows, map_follows, unmap_follows, Enough}
+use Rattle.latest_store.proofs.Fits.{Fits, fits_none, fits_make, fits_fork, fits_drop}
+use Rattle.latest_store.proofs.Heard.{Heard, heard_asked, Did, untouched, quiet, if_fetched, if_granted}
 
 -- pages are rewritten by these moves, and nothing else
 record Makes (w v : World) (moves : List Move) : Type 0 where
@@ -74,14 +78,14 @@ drops_give n (resource ∷ list) plain = drops_give n list _
 
 abbrev DoesIf : Domain → (PageId → List ℕ) → List Move → Asking Stepped → World → Type 0
 DoesIf d plain moves ask w =
-    Did plain d (if_granted moves) (then_ask ask (λ step. answered (within d step)) w)
+    Did plain d (if_fetched (if_granted moves)) (then_ask ask (λ step. answered (within d step)) w)
 
 -- both questions were granted, and the moves were made
 made_so : (d : Domain) (plain : PageId → List ℕ) (moves : List Move) (x : DomainStepped) (w v : World) →
     Heard d.control.number plain (item.Ok d.control.number ∷ item.Ok d.control.number ∷ []) w → Makes w v moves →
     given_by moves plain ≡ [] → x.domain.loads ≡ d.loads →
     Fits d.control.number d.control.resources moves x.domain.control.resources →
-    Did plain d (if_granted moves) (record { answer = x; world = v })
+    Did plain d (if_fetched (if_granted moves)) (record { answer = x; world = v })
 made_so d plain moves x w v heard makes none same fits = record {
   answers = item.Ok d.control.number ∷ item.Ok d.control.number ∷ [];
   form = makes.form;
@@ -187,7 +191,38 @@ exit_did : (slot : ℕ) (d : Domain) (plain : PageId → List ℕ) (c : Context)
 unfolding exit_call end_context
 exit_did slot d plain c w heard = end_if_did _ slot d plain c w heard
 
--- Every hypercall. Those of resources and regions follow.
+-- What is made changes no page, and is no load.
+
+made_still : (n : ℕ) (made : Result ℕ MapFault) (plain : PageId → List ℕ) → moved_by (made_moves n made) plain ≡ plain
+made_still n (Ok resource) plain = refl
+made_still n (Err fault) plain = refl
+
+made_gives : (n : ℕ) (made : Result ℕ MapFault) (plain : PageId → List ℕ) → given_by (made_moves n made) plain ≡ []
+made_gives n (Ok resource) plain = refl
+made_gives n (Err fault) plain = refl
+
+file_still : (d : Control) (c : Context) (place : Option ℕ) (plain : PageId → List ℕ) →
+    moved_by (file_moves d c place) plain ≡ plain
+file_still d c None plain = made_still d.number _ plain
+file_still d c (Some n) plain = refl
+
+file_gives : (d : Control) (c : Context) (place : Option ℕ) (plain : PageId → List ℕ) →
+    given_by (file_moves d c place) plain ≡ []
+file_gives d c None plain = made_gives d.number _ plain
+file_gives d c (Some n) plain = refl
+
+file_fits : (d : Control) (c : Context) (place : Option ℕ) →
+    Fits d.number d.resources (file_moves d c place)
+    (file_found (register c.regs 10) (register c.regs 11) place d.resources).resources
+unfolding file_found
+file_fits d c None =
+    fits_make d.number d.resources _ _
+    (new_follows (File (register c.regs 10)) (register c.regs 11) d.resources)
+file_fits d c (Some n) =
+    fits_none d.number d.resources [] _ refl
+    (found_follows (register c.regs 10) (register c.regs 11) (Some n) d.resources)
+
+-- Every hypercall. Those of regions follow.
 
 remapped_follows : (slot : ℕ) (c : Context) (answer : Result (Unit {0}) MapFault) (r : Resources) (d : Control) →
     Follows r d.resources → Follows r (remapped slot c answer d).control.resources
@@ -223,14 +258,22 @@ call_same slot c d = begun_same slot _ _ d
 
 pub hypercall_did : (h : Hypercall) (slot : ℕ) (d : Domain) (plain : PageId → List ℕ) (c : Context) (w : World) →
     Heard d.control.number plain (item.Ok d.control.number ∷ []) w →
-    DoesIf d plain (hypercall_moves h d.control c) (hypercall h slot c d.control) w
-unfolding hypercall hypercall_moves new_call map_call unmap_call file_call
-hypercall_did New slot d plain c w heard = quiet _ _ _ _ _ w heard refl refl (new_follows _ _ d.control.resources)
+    Did plain d (if_fetched (hypercall_moves h d.control c))
+    (then_ask (hypercall h slot c d.control) (λ step. answered (within d step)) w)
+unfolding hypercall hypercall_moves new_call map_call unmap_call file_call file_resource
+hypercall_did New slot d plain c w heard =
+    let r = d.control.resources in
+    let made = (new_resource (Space c.space) (register c.regs 10) r).answer in
+    untouched _ _ _ _ _ w heard (made_still d.control.number made plain) (made_gives d.control.number made plain) refl
+    (fits_make d.control.number r made _ (new_follows (Space c.space) (register c.regs 10) r))
 hypercall_did Map slot d plain c w heard =
     quiet _ _ _ _ _ w heard refl refl (remapped_follows slot c _ _ _ (map_follows c.space _ d.control.resources))
 hypercall_did Unmap slot d plain c w heard =
     quiet _ _ _ _ _ w heard refl refl (remapped_follows slot c _ _ _ (unmap_follows c.space _ d.control.resources))
-hypercall_did File slot d plain c w heard = quiet _ _ _ _ _ w heard refl refl (file_follows _ _ d.control.resources)
+hypercall_did hyper.File slot d plain c w heard =
+    let place = position (holds_file (register c.regs 10)) d.control.resources.held in
+    untouched _ _ _ _ _ w heard (file_still d.control c place plain) (file_gives d.control c place plain) refl
+    (file_fits d.control c place)
 hypercall_did Thread slot d plain c w heard =
     quiet _ _ _ _ _ w heard refl refl (follows_equal _ _ (thread_same slot c d.control))
 hypercall_did ForkSpace slot d plain c w heard = fork_did slot d plain c w heard

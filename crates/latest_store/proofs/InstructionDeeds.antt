@@ -32,17 +32,17 @@ use Rattle.latest_store.proofs.Values.{read_value}
 use Rattle.latest_store.proofs.Moved.{Agrees}
 use Rattle.latest_store.proofs.Numbers.{MapsHeld, HeldPlace, held_page, follows_same}
 use Rattle.latest_store.proofs.Fits.{fits_load, fits_store}
-use Rattle.latest_store.proofs.Heard.{Heard, heard_asked, Did, quiet, if_granted, with_plain_rewrites}
+use Rattle.latest_store.proofs.Heard.{Heard, heard_asked, Did, quiet, if_fetched, if_granted, with_plain_rewrites}
 use Rattle.latest_store.proofs.HypercallDeeds.{hypercall_did}
 
 -- an instruction, and then its end
 abbrev pub ended : ℕ → Domain → Asking AfterInstruction → Asking DomainStepped
 ended slot d ask w = then_ask ask (λ made. instruction_ended slot d made.context made.ending) w
 
--- it does these moves, where both questions were granted
-abbrev pub DoesIf : ℕ → Domain → (PageId → List ℕ) → List Move → Asking AfterInstruction → World → Type 0
+-- it does these moves, where the first question was granted
+abbrev pub DoesIf : ℕ → Domain → (PageId → List ℕ) → (List Item → List Move) → Asking AfterInstruction → World → Type 0
 DoesIf slot d plain moves ask w =
-    Did plain d (if_granted moves) (ended slot d ask w)
+    Did plain d (if_fetched moves) (ended slot d ask w)
 
 -- the answers so far
 abbrev first_answer : ℕ → Answer → List Item
@@ -53,7 +53,7 @@ second_answer n a = item.Ok n ∷ answer_item n a ∷ []
 
 load_reached_did : (slot : ℕ) (d : Domain) (plain : PageId → List ℕ) (c : Context) (q : PageId) (rd va width : ℕ)
     (signed : Bool) (a : Answer) (w : World) → Heard d.control.number plain (second_answer d.control.number a) w →
-    DoesIf slot d plain (Loads q va width ∷ []) (load_reached c q rd va width signed a) w
+    DoesIf slot d plain (if_granted (Loads q va width ∷ [])) (load_reached c q rd va width signed a) w
 unfolding load_reached loaded_inside ask_read instruction_ended
 load_reached_did slot d plain c q rd va width signed told.Ok w heard = record {
   answers = second_answer d.control.number told.Ok;
@@ -69,7 +69,7 @@ load_reached_did slot d plain c q rd va width signed told.Stopped w heard = quie
 
 load_got_did : (slot : ℕ) (d : Domain) (plain : PageId → List ℕ) (c : Context) (rd va width : ℕ) (signed : Bool)
     (a : Answer) (w : World) → Heard d.control.number plain (second_answer d.control.number a) w →
-    DoesIf slot d plain [] (load_got c rd va width signed a) w
+    DoesIf slot d plain (if_granted []) (load_got c rd va width signed a) w
 unfolding load_got instruction_ended
 load_got_did slot d plain c rd va width signed told.Ok w heard = quiet _ _ _ _ _ w heard refl refl (follows_same _)
 load_got_did slot d plain c rd va width signed (told.Absent cause) w heard = quiet _ _ _ _ _ w heard refl refl (follows_same _)
@@ -79,7 +79,7 @@ load_got_did slot d plain c rd va width signed told.Stopped w heard = quiet _ _ 
 load_did : (slot : ℕ) (d : Domain) (plain : PageId → List ℕ) (c : Context) (rd va width : ℕ) (signed : Bool)
     (place : Option PageId) (w : World) → IsOwn d.control.number place →
     Heard d.control.number plain (item.Ok d.control.number ∷ []) w →
-    DoesIf slot d plain (load_at va width place) (load_inside c rd va width signed place) w
+    DoesIf slot d plain (if_granted (load_at va width place)) (load_inside c rd va width signed place) w
 unfolding load_inside
 load_did slot d plain c rd va width signed None w own heard =
     let question = Get va width in
@@ -92,7 +92,7 @@ load_did slot d plain c rd va width signed (Some q) w own heard =
 
 store_reached_did : (slot : ℕ) (d : Domain) (plain : PageId → List ℕ) (c : Context) (q : PageId) (va width value : ℕ)
     (a : Answer) (w : World) → (MapsHeld d.control.resources → HeldPlace d.control.resources (Some q)) → Heard d.control.number plain (second_answer d.control.number a) w →
-    DoesIf slot d plain (Stores q (va % 4096) width value ∷ []) (store_reached c q va width value a) w
+    DoesIf slot d plain (if_granted (Stores q (va % 4096) width value ∷ [])) (store_reached c q va width value a) w
 unfolding store_reached ask_write instruction_ended
 store_reached_did slot d plain c q va width value told.Ok w held heard =
     let new : (PageId → List ℕ) → PageId → List ℕ = λ p. with_page p q (with_value_in (p q) (va % 4096) width value) in
@@ -110,7 +110,7 @@ store_reached_did slot d plain c q va width value (told.Word other) w held heard
 store_reached_did slot d plain c q va width value told.Stopped w held heard = quiet _ _ _ _ _ w heard refl refl (follows_same _)
 
 store_put_did : (slot : ℕ) (d : Domain) (plain : PageId → List ℕ) (c : Context) (va : ℕ) (a : Answer) (w : World) →
-    Heard d.control.number plain (second_answer d.control.number a) w → DoesIf slot d plain [] (store_put c va a) w
+    Heard d.control.number plain (second_answer d.control.number a) w → DoesIf slot d plain (if_granted []) (store_put c va a) w
 unfolding store_put instruction_ended
 store_put_did slot d plain c va told.Ok w heard = quiet _ _ _ _ _ w heard refl refl (follows_same _)
 store_put_did slot d plain c va (told.Absent cause) w heard = quiet _ _ _ _ _ w heard refl refl (follows_same _)
@@ -121,7 +121,7 @@ store_did : (slot : ℕ) (d : Domain) (plain : PageId → List ℕ) (c : Context
     (place : Option PageId) (w : World) → IsOwn d.control.number place →
     (MapsHeld d.control.resources → HeldPlace d.control.resources place) →
     Heard d.control.number plain (item.Ok d.control.number ∷ []) w →
-    DoesIf slot d plain (store_at va width value place) (store_inside c va width value place) w
+    DoesIf slot d plain (if_granted (store_at va width value place)) (store_inside c va width value place) w
 unfolding store_inside
 store_did slot d plain c va width value None w own held heard =
     let question = Put va width value in

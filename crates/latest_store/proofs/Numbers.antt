@@ -1,17 +1,18 @@
 -- Which numbers of resources are free, and that regions are of resources that are there.
 use Rattle.std.proofs.Common.{◌≡◌, ◌≢◌, ◌∙◌, ◌⊎◌, inl, inr, ℕ, zero, suc, ◌<◌, ◌≤◌, Bool, true, false, not, cond, List, [], ◌∷◌, length, map, find, filter, get_or, Option, Some, None, option_map, unwrap_or, Ok, refl, sym, ap, subst, arith, All, is_some, slice_index_or, slice_set, eq-eqb, zero-add}
-use Rattle.std.specs.Prelude.{is_none, nat_eq, nat_lt, nat_le, position}
+use Rattle.std.specs.Prelude.{is_none, nat_eq, nat_lt, nat_le}
 use Rattle.std.specs.List.{list_any}
 use Rattle.std.proofs.lemmas.Bool.{false≢true, eqb-true, cases_eq}
 use Rattle.std.proofs.lemmas.List.{get_or-set_other, get_or-set_same, length-set}
 use Rattle.std.proofs.lemmas.List.Elements.{All-nil, All-cons, All-head, All-tail, All-map, All-filter, All-weaker}
 use Rattle.cloak_base.specs.declared.names.PageId.{PageId}
+use Rattle.cloak_model.specs.declared.resource.MapFault.{MapFault}
 use Rattle.cloak_model.specs.declared.resource.MapFault.TheVariants.{Full, BadArg, Overlap, NotFound}
 use Rattle.cloak_model.specs.declared.resource.Owner.{Owner}
 use Rattle.cloak_model.specs.declared.resource.Owner.TheVariants.{Space, File}
 use Rattle.cloak_model.specs.declared.resource.Region.{Region}
 use Rattle.cloak_model.specs.declared.resource.Resource.{Resource}
-use Rattle.cloak_model.specs.Files.{holds_file, file_found, file_resource}
+use Rattle.cloak_model.specs.Files.{file_found}
 use Rattle.cloak_model.specs.Fork.{private_numbers, free_numbers, copies, with_copy, with_copies, copied_region, forked_resources}
 use Rattle.cloak_model.specs.Resources.{Resources, Mapped, resource_at, regions_in, is_inside, place_in, lookup, page_id, page_at, started_resources, pages_of, first_free, refused, made_at, new_resource, is_shared_with, size_for, is_region, overlaps, with_region, with_regions, mapped, map_region, starts_at, unmap_region, is_space, is_private_to, without_space, drop_space}
 use Rattle.resource_map.proofs.Lists.{get_or-replicate_none, get_or-map_all, none_from_test, first_free-at, All-find, inside_from_some}
@@ -128,16 +129,35 @@ new_follows owner pages r =
     (follows_either _ r (refused Full r) (made_at owner pages (first_free r.held) r) (follows_same r)
     (made_follows owner pages (first_free r.held) r refl))
 
-found_follows : (number pages : ℕ) (place : Option ℕ) (r : Resources) →
+pub found_follows : (number pages : ℕ) (place : Option ℕ) (r : Resources) →
     Follows r (file_found number pages place r).resources
 unfolding file_found
 found_follows number pages None r = new_follows (File number) pages r
 found_follows number pages (Some n) r =
     follows_either _ r (record { answer = Ok n; resources = r }) (refused BadArg r) (follows_same r) (follows_same r)
 
-pub file_follows : (number pages : ℕ) (r : Resources) → Follows r (file_resource number pages r).resources
-unfolding file_resource
-file_follows number pages r = found_follows number pages (position (holds_file number) r.held) r
+-- the number that is given was free
+
+at_free : (owner : Owner) (pages : ℕ) (place : Option ℕ) (r : Resources) (n : ℕ) → first_free r.held ≡ place →
+    (made_at owner pages place r).answer ≡ Ok n → resource_at r n ≡ None
+unfolding made_at
+at_free owner pages None r n is made = absurd cc
+at_free owner pages (Some m) r n is made =
+    let same : m ≡ n = cc in
+    subst (λ (k : ℕ). resource_at r k ≡ None) same (first_free-at r.held m is).1
+
+free_either : (b : Bool) (fault : MapFault) (r : Resources) (m : Mapped ℕ) (n : ℕ) →
+    (m.answer ≡ Ok n → resource_at r n ≡ None) → (cond b (refused fault r) m).answer ≡ Ok n → resource_at r n ≡ None
+free_either true fault r m n free made = absurd cc
+free_either false fault r m n free made = free made
+
+pub made_free : (owner : Owner) (pages : ℕ) (r : Resources) (n : ℕ) → (new_resource owner pages r).answer ≡ Ok n →
+    resource_at r n ≡ None
+unfolding new_resource
+made_free owner pages r n made =
+    free_either _ BadArg r _ n
+    (free_either _ Full r (made_at owner pages (first_free r.held) r) n
+    (at_free owner pages (first_free r.held) r n refl)) made
 
 -- A space has other regions.
 

@@ -34,7 +34,7 @@ use Rattle.latest_store.specs.Moves.{Move}
 use Rattle.latest_store.specs.Deeds.{phase_moves, context_moves, program_moves, step_moves}
 use Rattle.latest_store.proofs.Moved.{Agrees, moved_by, given_by, AreSound}
 use Rattle.latest_store.proofs.Numbers.{follows_same, follows_equal}
-use Rattle.latest_store.proofs.Fits.{Fits, fits_none}
+use Rattle.latest_store.proofs.Fits.{FreeZero, Fits, fits_none}
 use Rattle.latest_store.proofs.Heard.{Heard, Did}
 use Rattle.latest_store.proofs.CopyDeeds.{step_did}
 use Rattle.latest_store.proofs.Sound.{context_sound}
@@ -104,12 +104,17 @@ set_grows domains e found made moves plain there loads fits d now is = elim (dec
       (set_other domains e d made now other is)
 ]
 
--- These moves, of one program, were done.
-pub record TurnDid (moves : List Move) (j : Joint) (t : Turn) : Type 0 where
+-- These moves, of one program, were done behind a history.
+pub record TurnDid (history moves : List Move) (j : Joint) (t : Turn) : Type 0 where
   pub program : ℕ
-  pub sound : AreSound program moves
+  pub sound : AreSound program history moves
   pub pages : (q : PageId) → t.joint.memory.plain q ≡ moved_by moves j.memory.plain q
   pub programs : GrowBy program moves j.memory.plain j.domains t.joint.domains
+
+-- the pages under the free numbers of each program are zeros
+abbrev pub FreeInAll : List Move → Joint → Type 0
+FreeInAll history j =
+    (d : ℕ) (program : Domain) → slice_get j.domains d ≡ Some program → FreeZero history d program.control.resources
 
 -- A hart outside does nothing.
 
@@ -232,14 +237,16 @@ built : (history : List Move) (j : Joint) (e slot : ℕ) (found made : Domain) (
     t.joint.memory.plain ≡ moved_by moves j.memory.plain → t.joint.domains ≡ slice_set j.domains e made →
     made.loads ≡ found.loads ++ given_by moves j.memory.plain →
     Fits found.control.number found.control.resources moves made.control.resources →
-    TurnDid (program_moves (Some found) history slot (inward_half e t.items)) j t
+    FreeZero history e found.control.resources →
+    TurnDid history (program_moves (Some found) history slot (inward_half e t.items)) j t
 unfolding program_moves
-built history j e slot found made t answers there own told pages domains loads fits =
+built history j e slot found made t answers there own told pages domains loads fits zeros =
     let of : List Item → List Move = context_moves (context_at found.control.contexts slot) history found.control in
-    subst (λ (l : List Item). TurnDid (of l) j t) (sym told) (record {
+    subst (λ (l : List Item). TurnDid history (of l) j t) (sym told) (record {
       program = e;
-      sound = subst (λ (n : ℕ). AreSound n (of answers)) own
-          (context_sound (context_at found.control.contexts slot) history found.control answers);
+      sound = subst (λ (n : ℕ). AreSound n history (of answers)) own
+          (context_sound (context_at found.control.contexts slot) history found.control answers
+          (subst (λ (n : ℕ). FreeZero history n found.control.resources) (sym own) zeros));
       pages = λ q. ap (λ (p : PageId → List ℕ). p q) pages;
       programs = subst (GrowBy e (of answers) j.memory.plain j.domains) (sym domains)
           (set_grows j.domains e found made (of answers) j.memory.plain there loads
@@ -283,12 +290,13 @@ interrupt_same slot d = interrupt_if_same _ slot d
 -- a step of its context
 stepped_did : (history : List Move) (j : Joint) (number : ℕ) (h : Hart) (e slot : ℕ) (found : Domain)
     (t : Told DomainStepped) → slice_get j.domains e ≡ Some found → found.control.number ≡ e →
+    FreeZero history e found.control.resources →
     Did j.memory.plain found
     (context_moves (context_at found.control.contexts slot) history found.control) t →
-    TurnDid (program_moves (Some found) history slot
+    TurnDid history (program_moves (Some found) history slot
     (inward_half e (after_domain_step j number h e t).items)) j (after_domain_step j number h e t)
 unfolding after_domain_step
-stepped_did history j number h e slot found t there own did =
+stepped_did history j number h e slot found t there own zeros did =
     let j' : Joint = record j {
       domains = slice_set j.domains e t.answer.domain;
       memory = memory_of t.world j.memory;
@@ -297,14 +305,15 @@ stepped_did history j number h e slot found t there own did =
     built history j e slot found t.answer.domain (domain_ended j' number h e t.world t.answer.went) did.answers there own
     (ended.told ∙ subst (λ (n : ℕ). inward_half n (items_of t.world) ≡ did.answers) own did.told)
     (ended.pages ∙ sym (memory_plain t.world j.memory did.form) ∙ did.pages)
-    ended.domains did.loads did.fits
+    ended.domains did.loads did.fits zeros
 
 by_did : (due : Bool) (history : List Move) (j : Joint) (number : ℕ) (h : Hart) (e slot : ℕ) (found : Domain) →
-    slice_get j.domains e ≡ Some found → found.control.number ≡ e → Agrees history j.memory.plain →
+    slice_get j.domains e ≡ Some found → found.control.number ≡ e → FreeZero history e found.control.resources →
+    Agrees history j.memory.plain →
     let t = by_interrupt due j number h e slot found in
-    TurnDid (program_moves (Some found) history slot (inward_half e t.items)) j t
+    TurnDid history (program_moves (Some found) history slot (inward_half e t.items)) j t
 unfolding by_interrupt after_interrupt
-by_did true history j number h e slot found there own agrees =
+by_did true history j number h e slot found there own zeros agrees =
     let o = context_at found.control.contexts slot in
     let made : Control → Domain = λ control. record found { control = control } in
     let none = timer_none o history found.control e in
@@ -312,17 +321,17 @@ by_did true history j number h e slot found there own agrees =
     built history j e slot found (made _) _ (item.Timer e ∷ []) there own (ended.told ∙ timer_told e)
     (ended.pages ∙ ap (λ (ms : List Move). moved_by ms j.memory.plain) (sym none)) ended.domains
     (sym (append-nil found.loads) ∙ ap (λ (ms : List Move). found.loads ++ given_by ms j.memory.plain) (sym none))
-    (fits_none found.control.number _ _ _ none (follows_equal _ _ (interrupt_same slot found.control)))
-by_did false history j number h e slot found there own agrees =
+    (fits_none found.control.number _ _ _ none (follows_equal _ _ (interrupt_same slot found.control))) zeros
+by_did false history j number h e slot found there own zeros agrees =
     let c : Cloak = cloak_of j.memory h e (pages_for found (context_at found.control.contexts slot)) in
     let heard : Heard found.control.number j.memory.plain [] (Cloaked c) =
     record { form = refl; view = sym own; pages = refl; told = refl } in
-    stepped_did history j number h e slot found (domain_step slot found (Cloaked c)) there own
+    stepped_did history j number h e slot found (domain_step slot found (Cloaked c)) there own zeros
     (step_did slot found history j.memory.plain (Cloaked c) agrees heard)
 
-nothing_did : (j : Joint) (t : Turn) → t.joint.memory.plain ≡ j.memory.plain → t.joint.domains ≡ j.domains →
-    TurnDid [] j t
-nothing_did j t pages domains = record {
+nothing_did : (history : List Move) (j : Joint) (t : Turn) → t.joint.memory.plain ≡ j.memory.plain → t.joint.domains ≡ j.domains →
+    TurnDid history [] j t
+nothing_did history j t pages domains = record {
   program = 0;
   sound = tt;
   pages = λ q. ap (λ (p : PageId → List ℕ). p q) pages;
@@ -330,21 +339,22 @@ nothing_did j t pages domains = record {
 }
 
 inside_did : (history : List Move) (j : Joint) (number : ℕ) (h : Hart) (e slot : ℕ) (found : Option Domain) →
-    slice_get j.domains e ≡ found → AreFrom 0 j.domains → Agrees history j.memory.plain →
+    slice_get j.domains e ≡ found → AreFrom 0 j.domains → FreeInAll history j → Agrees history j.memory.plain →
     let t = inside_step j number h e slot found in
-    TurnDid (program_moves found history slot (inward_half e t.items)) j t
+    TurnDid history (program_moves found history slot (inward_half e t.items)) j t
 unfolding inside_step program_moves
-inside_did history j number h e slot None there programs agrees = nothing_did j _ refl refl
-inside_did history j number h e slot (Some found) there programs agrees =
-    by_did _ history j number h e slot found there (number_at e j.domains found programs there) agrees
+inside_did history j number h e slot None there programs zeros agrees = nothing_did history j _ refl refl
+inside_did history j number h e slot (Some found) there programs zeros agrees =
+    by_did _ history j number h e slot found there (number_at e j.domains found programs there) (zeros e found there)
+    agrees
 
 -- Every step.
 
 turn_did : (history : List Move) (j : Joint) (number : ℕ) (h : Hart) (inside : Option ℕ) → AreFrom 0 j.domains →
-    Agrees history j.memory.plain →
-    let t = turn_of j number h inside in TurnDid (step_moves history j.domains inside t.items) j t
+    FreeInAll history j → Agrees history j.memory.plain →
+    let t = turn_of j number h inside in TurnDid history (step_moves history j.domains inside t.items) j t
 unfolding turn_of step_moves
-turn_did history j number h None programs agrees =
+turn_did history j number h None programs zeros agrees =
     let keeps = outside_keeps j number h in
     record {
       program = 0;
@@ -352,11 +362,12 @@ turn_did history j number h None programs agrees =
       pages = λ q. ap (λ (p : PageId → List ℕ). p q) keeps.pages;
       programs = keeps.programs j.memory.plain;
     }
-turn_did history j number h (Some ctx) programs agrees =
-    inside_did history j number (ticked h) (domain_of ctx) (slot_of ctx) _ refl programs agrees
+turn_did history j number h (Some ctx) programs zeros agrees =
+    inside_did history j number (ticked h) (domain_of ctx) (slot_of ctx) _ refl programs zeros agrees
 
-pub joint_did : (history : List Move) (m : Moment) → AreFrom 0 m.joint.domains → Agrees history m.joint.memory.plain →
+pub joint_did : (history : List Move) (m : Moment) → AreFrom 0 m.joint.domains → FreeInAll history m.joint →
+    Agrees history m.joint.memory.plain →
     let t = joint_step m in
-    TurnDid (step_moves history m.joint.domains (hart_in m.joint (next_hart m)).inside t.items) m.joint t
+    TurnDid history (step_moves history m.joint.domains (hart_in m.joint (next_hart m)).inside t.items) m.joint t
 unfolding joint_step
-joint_did history m programs agrees = turn_did history m.joint (next_hart m) _ _ programs agrees
+joint_did history m programs zeros agrees = turn_did history m.joint (next_hart m) _ _ programs zeros agrees

@@ -1,6 +1,6 @@
 -- Every completed cloaked load of a run gives what its own program stored last, or the byte with which the page was
 -- made.
-use Rattle.std.specs.Prelude.{ℕ, zero, suc, ◌≡◌, ◌≢◌, ◌≤◌, ◌+◌, ◌%◌, List, [], ◌∷◌, length, slice_get, slice_index, Option, Some, None, Ok}
+use Rattle.std.specs.Prelude.{ℕ, zero, suc, ◌≡◌, ◌≢◌, ◌≤◌, ◌+◌, ◌%◌, List, [], ◌∷◌, length, slice_get, slice_index, Option, Some, Ok}
 use Rattle.cloak_base.specs.Random.{Random}
 use Rattle.cloak_base.specs.declared.names.PageId.{PageId}
 use Rattle.cloak_model.specs.declared.image.Bundle.{Bundle}
@@ -9,7 +9,6 @@ use Rattle.cloak_model.specs.Bundle.{IsInGrammar}
 use Rattle.cloak_model.specs.DomainState.{Domain}
 use Rattle.cloak_model.specs.Joint.{hart_in}
 use Rattle.cloak_model.specs.Opening.{program_page}
-use Rattle.cloak_model.specs.Resources.{resource_at}
 use Rattle.cloak_model.specs.Run.{Run, joint_run}
 use Rattle.kernel_isolation.specs.Isolation.{joint_until}
 use Rattle.store_law.specs.Ciphers.{items_of_turn}
@@ -57,10 +56,6 @@ pub record GivesLatest (b : Bundle) (r : Run) : Type 0 where
   -- each page has the bytes that were stored last
   pub pages : (n : ℕ) → n ≤ length r.turns → (q : PageId) →
       IsLatest (history_until b n r) q ((joint_until n r).memory.plain q)
-  -- the pages under a number that a program has free are zeros, and so are those that NEW and FILE make under it
-  pub free : (n : ℕ) → n ≤ length r.turns → (d : ℕ) (program : Domain) →
-      slice_get (joint_until n r).domains d ≡ Some program → (q : PageId) → q.domain ≡ d →
-      resource_at program.control.resources q.resource ≡ None → (at : ℕ) → latest (history_until b n r) q at ≡ 0
   -- a step that is not the program's own, whatever it settles, moves or maps, changes nothing of what was stored last
   pub others : (n : ℕ) → suc n ≤ length r.turns → (q : PageId) → program_of_step b r n ≢ Some q.domain → (at : ℕ) →
       latest (history_until b (suc n) r) q at ≡ latest (history_until b n r) q at
