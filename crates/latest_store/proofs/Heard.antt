@@ -10,13 +10,16 @@ use Rattle.cloak_model.specs.Halves.{inward_half}
 use Rattle.cloak_model.specs.World.{World, Flat, Cloaked, Alone, plain_of, view_of, items_of, with_plain}
 use Rattle.cloak_model.specs.Asking.{Told}
 use Rattle.cloak_model.specs.AskPages.{answer_item}
+use Rattle.cloak_model.specs.DomainState.{Domain}
 use Rattle.cloak_model.specs.DomainStep.{DomainStepped}
 use Rattle.domain_isolation.proofs.Scripts.{Question, asked}
 use Rattle.domain_isolation.proofs.Steady.{is_cloaked}
 use Rattle.domain_isolation.proofs.Answers.{question_answered}
 use Rattle.latest_store.specs.Moves.{Move}
-use Rattle.latest_store.specs.Deeds.{both_granted}
+use Rattle.latest_store.specs.Deeds.{first_granted, both_granted}
 use Rattle.latest_store.proofs.Moved.{moved_by, given_by}
+use Rattle.latest_store.proofs.Numbers.{Follows}
+use Rattle.latest_store.proofs.Fits.{Fits, fits_none}
 
 -- A world in a step of domain d, in which pages have these bytes, behind these answers.
 pub record Heard (d : ℕ) (plain : PageId → List ℕ) (answers : List Item) (w : World) : Type 0 where
@@ -49,26 +52,44 @@ heard_asked d plain answers question w heard =
           ∙ ap (λ (l : List Item). answers ++ l) (own_item d t.answer);
     }
 
--- A step of domain d, whose completed loads and pages were these, did these moves, by what it was told.
-pub record Did (d : ℕ) (plain : PageId → List ℕ) (was : List (ℕ × ℕ)) (moves : List Item → List Move)
+-- A step of a program, whose pages were these, did these moves, by what it was told.
+pub record Did (plain : PageId → List ℕ) (was : Domain) (moves : List Item → List Move)
     (t : Told DomainStepped) : Type 0 where
   pub answers : List Item
   pub form : is_cloaked t.world ≡ true
-  pub told : inward_half d (items_of t.world) ≡ answers
+  pub told : inward_half was.control.number (items_of t.world) ≡ answers
   pub pages : plain_of t.world ≡ moved_by (moves answers) plain
-  pub loads : t.answer.domain.loads ≡ was ++ given_by (moves answers) plain
+  pub loads : t.answer.domain.loads ≡ was.loads ++ given_by (moves answers) plain
+  pub fits : Fits was.control.number was.control.resources (moves answers) t.answer.domain.control.resources
 
--- it did nothing
-pub quiet : (d : ℕ) (plain : PageId → List ℕ) (was : List (ℕ × ℕ)) (moves : List Item → List Move)
-    (answers : List Item) (x : DomainStepped) (w : World) → Heard d plain answers w → moves answers ≡ [] →
-    x.domain.loads ≡ was → Did d plain was moves (record { answer = x; world = w })
-quiet d plain was moves answers x w heard none same = record {
+-- it changed no page, and completed no load
+pub untouched : (plain : PageId → List ℕ) (was : Domain) (moves : List Item → List Move) (answers : List Item)
+    (x : DomainStepped) (w : World) → Heard was.control.number plain answers w →
+    moved_by (moves answers) plain ≡ plain → given_by (moves answers) plain ≡ [] → x.domain.loads ≡ was.loads →
+    Fits was.control.number was.control.resources (moves answers) x.domain.control.resources →
+    Did plain was moves (record { answer = x; world = w })
+untouched plain was moves answers x w heard still none same fits = record {
   answers = answers;
   form = heard.form;
   told = heard.told;
-  pages = heard.pages ∙ ap (λ (ms : List Move). moved_by ms plain) (sym none);
-  loads = same ∙ sym (append-nil was) ∙ ap (λ (ms : List Move). was ++ given_by ms plain) (sym none);
+  pages = heard.pages ∙ sym still;
+  loads = same ∙ sym (append-nil was.loads) ∙ ap (λ (l : List (ℕ × ℕ)). was.loads ++ l) (sym none);
+  fits = fits;
 }
+
+-- it did nothing
+pub quiet : (plain : PageId → List ℕ) (was : Domain) (moves : List Item → List Move) (answers : List Item)
+    (x : DomainStepped) (w : World) → Heard was.control.number plain answers w → moves answers ≡ [] →
+    x.domain.loads ≡ was.loads → Follows was.control.resources x.domain.control.resources →
+    Did plain was moves (record { answer = x; world = w })
+quiet plain was moves answers x w heard none same follows =
+    untouched plain was moves answers x w heard (ap (λ (ms : List Move). moved_by ms plain) none)
+    (ap (λ (ms : List Move). given_by ms plain) none) same
+    (fits_none was.control.number was.control.resources (moves answers) x.domain.control.resources none follows)
+
+-- moves that are made where the first question was granted
+abbrev pub if_fetched : (List Item → List Move) → List Item → List Move
+if_fetched moves answers = if first_granted answers then moves answers else []
 
 -- moves that are made where both questions were granted
 abbrev pub if_granted : List Move → List Item → List Move

@@ -1,21 +1,24 @@
 -- A run from its opening on, and the law.
-use Rattle.std.proofs.Common.{◌≡◌, ◌≢◌, ◌∙◌, ℕ, zero, suc, ◌+◌, ◌*◌, ◌%◌, ◌<◌, ◌≤◌, cond, List, [], ◌∷◌, ◌++◌, length, take, drop, slice_get, slice_index, Option, Some, None, Ok, refl, sym, ap, subst, arith, length-drop, All}
+use Rattle.std.proofs.Common.{◌≡◌, ◌≢◌, ◌∙◌, ℕ, zero, suc, ◌+◌, ◌*◌, ◌%◌, ◌<◌, ◌≤◌, cond, List, [], ◌∷◌, ◌++◌, length, take, drop, slice_get, slice_index, Option, Some, None, Ok, refl, sym, ap, subst, arith, length-drop, All, Bool, true, false}
 use Rattle.std.specs.Prelude.{option_and_then, ◌==◌}
 use Rattle.std.proofs.lemmas.List.{length-take}
 use Rattle.std.proofs.lemmas.List.Elements.{All-head, All-tail}
 use Rattle.cloak_base.specs.Random.{Random, next_draw}
+use Rattle.std.proofs.lemmas.Bool.{false≢true, eq-eqb}
+use Rattle.cloak_base.proofs.Pages.{same_page-other}
 use Rattle.cloak_base.specs.Pages.{with_page}
 use Rattle.cloak_base.specs.declared.names.PageId.{PageId}
 use Rattle.cloak_model.specs.declared.image.Bundle.{Bundle}
 use Rattle.cloak_model.specs.declared.image.Program.{Program}
 use Rattle.cloak_model.specs.Bundle.{IsInGrammar, IsProgramIn}
 use Rattle.cloak_model.specs.Cloaking.{CloakedMemory}
-use Rattle.cloak_model.specs.DomainState.{Domain, started_domain}
+use Rattle.cloak_model.specs.DomainState.{Domain, started_control, started_domain}
 use Rattle.cloak_model.specs.Joint.{Moment, Turn, hart_in}
 use Rattle.cloak_model.specs.Ledger.{vector_of}
 use Rattle.cloak_model.specs.Opening.{program_page, place_pages, place_programs, opening_items, started_domains, started_memory, started_joint, Opened, opened_with, opened_by, opening}
 use Rattle.cloak_model.specs.PageMoves.{place, place_with}
 use Rattle.cloak_model.specs.Parts.{Joint}
+use Rattle.cloak_model.specs.Resources.{Resources, resource_at, started_resources}
 use Rattle.cloak_model.specs.Run.{Run, turns_from, joint_run, joint_after, first_moment, run_of}
 use Rattle.kernel_isolation.specs.Isolation.{joint_until}
 use Rattle.kernel_isolation.proofs.Isolated.{until_read}
@@ -25,10 +28,12 @@ use Rattle.store_law.proofs.Ciphers.{of_opened}
 use Rattle.store_law.proofs.OwnPages.{moment_behind, step_is, steps_keep_pages}
 use Rattle.latest_store.specs.Moves.{Move, Makes, latest, loads_of, with_moves}
 use Rattle.latest_store.specs.Deeds.{step_moves}
-use Rattle.latest_store.specs.LatestStore.{made_pages, made_programs, context_of_step, history, IsLatest, RunsGiveLatest}
+use Rattle.latest_store.specs.LatestStore.{made_pages, made_programs, context_of_step, history_until, IsLatest, RunsGiveLatest}
 use Rattle.latest_store.proofs.Values.{zero_page_at, zero_page_whole}
-use Rattle.latest_store.proofs.Moved.{Agrees, given_by, move_agrees, moves_agree, moves_load}
-use Rattle.latest_store.proofs.Turned.{TurnDid, joint_did}
+use Rattle.latest_store.proofs.Moved.{Agrees, AreSound, given_by, move_agrees, moves_agree, moves_load}
+use Rattle.latest_store.proofs.Numbers.{MapsHeld, started_maps, started_free}
+use Rattle.latest_store.proofs.Fits.{FreeZero, Fits, others_latest}
+use Rattle.latest_store.proofs.Turned.{FreeInAll, TurnDid, joint_did}
 
 -- The opening.
 
@@ -73,7 +78,7 @@ pages_agree d p (suc n) m m' history whole low is agrees =
     subst (Agrees (Makes q bytes ∷ made_pages d p n history))
     (sym (placed q (p.place + n) bytes b.value m' b.next))
     (move_agrees d (Makes q bytes) (made_pages d p n history) b.value.plain
-    (page_whole p.bytes p.start.pages n whole (omega (arith, low))) rest)
+    (refl, page_whole p.bytes p.start.pages n whole (omega (arith, low))) rest)
 
 programs_agree : (frames d : ℕ) (programs : List Program) (m m' : CloakedMemory) (history : List Move) →
     All (IsProgramIn frames) programs → place_programs d programs m ≡ Some m' → Agrees history m.plain →
@@ -114,11 +119,52 @@ no_loads d zero (p ∷ programs) program is =
     ap (λ (x : Domain). x.loads) (sym (same_some (started_domain d p.start) program is))
 no_loads d (suc e) (p ∷ programs) program is = no_loads (d + 1) e programs program is
 
--- The joint machine has the pages and the loads of a history.
+-- a program begins with its regions in resource 0, and with the other numbers free
+
+record Starts (program : Domain) : Type 0 where
+  pub pages : ℕ
+  pub base : ℕ
+  pub is : program.control.resources ≡ started_resources pages base
+
+starts : (d e : ℕ) (programs : List Program) (program : Domain) →
+    slice_get (started_domains d programs) e ≡ Some program → Starts program
+unfolding started_domain started_control
+starts d e [] program is = absurd cc
+starts d zero (p ∷ programs) program is = record {
+  pages = p.start.pages;
+  base = p.start.base;
+  is = ap (λ (x : Domain). x.control.resources) (sym (same_some (started_domain d p.start) program is));
+}
+starts d (suc e) (p ∷ programs) program is = starts (d + 1) e programs program is
+
+pages_latest : (d : ℕ) (p : Program) (n : ℕ) (history : List Move) (q : PageId) (at : ℕ) → q.resource ≢ 0 →
+    latest (made_pages d p n history) q at ≡ latest history q at
+unfolding latest
+pages_latest d p zero history q at other = refl
+pages_latest d p (suc n) history q at other =
+    let page : PageId = record { domain = d; resource = 0; page = n } in
+    ap (λ (b : Bool). cond b (slice_index (program_page p.bytes n) at) (latest (made_pages d p n history) q at))
+    (same_page-other q page (λ same. other (ap (λ (x : PageId). x.resource) same)))
+    ∙ pages_latest d p n history q at other
+
+programs_latest : (d : ℕ) (programs : List Program) (history : List Move) (q : PageId) (at : ℕ) → q.resource ≢ 0 →
+    latest (made_programs d programs history) q at ≡ latest history q at
+programs_latest d [] history q at other = refl
+programs_latest d (p ∷ programs) history q at other =
+    programs_latest (d + 1) programs (made_pages d p p.start.pages history) q at other
+    ∙ pages_latest d p p.start.pages history q at other
+
+empty_latest : (q : PageId) (at : ℕ) → latest [] q at ≡ 0
+unfolding latest
+empty_latest q at = refl
+
+-- The joint machine has the pages and the loads of a history, and the pages under free numbers are zeros in it.
 record Holds (history : List Move) (j : Joint) : Type 0 where
   pub agrees : Agrees history j.memory.plain
   pub loads : (d : ℕ) (program : Domain) → slice_get j.domains d ≡ Some program →
       program.loads ≡ loads_of d history
+  pub maps : (d : ℕ) (program : Domain) → slice_get j.domains d ≡ Some program → MapsHeld program.control.resources
+  pub free : FreeInAll history j
 
 empty_loads : (d : ℕ) → loads_of d [] ≡ []
 unfolding loads_of
@@ -131,6 +177,13 @@ started_holds b m agrees = record {
   agrees = agrees;
   loads = λ d program is.
       no_loads 0 d b.programs program is ∙ sym (programs_loads 0 d b.programs [] ∙ empty_loads d);
+  maps = λ d program is.
+      let s = starts 0 d b.programs program is in subst MapsHeld (sym s.is) (started_maps s.pages s.base);
+  free = λ d program is q own free at.
+      let s = starts 0 d b.programs program is in
+      programs_latest 0 b.programs [] q at
+      (started_free s.pages s.base q.resource
+      (subst (λ (r : Resources). resource_at r q.resource ≡ None) s.is free)) ∙ empty_latest q at;
 }
 
 opened_holds_with : (b : Bundle) (key : List ℕ) (stream : Random) (placed : Option CloakedMemory) (o : Opened) →
@@ -154,17 +207,38 @@ opened_holds_by b (Some draw) o fits opens = opened_holds_with b draw.0 draw.1 _
 
 -- The steps.
 
-next_holds : (history moves : List Move) (j : Joint) (t : Turn) → TurnDid moves j t → Holds history j →
+given_either : (b : Bool) (moves : List Move) (plain : PageId → List ℕ) →
+    given_by (cond b moves []) plain ≡ cond b (given_by moves plain) []
+given_either true moves plain = refl
+given_either false moves plain = refl
+
+-- what these moves, of one program, leave zeros
+next_free : (b : Bool) (program d : ℕ) (moves history : List Move) (r r' : Resources) → (program == d) ≡ b →
+    AreSound program history moves → Fits d r (cond b moves []) r' → MapsHeld r → FreeZero history d r →
+    FreeZero (with_moves moves history) d r'
+next_free true program d moves history r r' is sound fits maps zeros = fits.free maps history zeros
+next_free false program d moves history r r' is sound fits maps zeros = λ q own free at.
+    others_latest program moves history q at sound (λ same.
+    false≢true (sym is ∙ eq-eqb program d (sym same ∙ own)))
+    ∙ fits.free maps history zeros q own free at
+
+next_holds : (history moves : List Move) (j : Joint) (t : Turn) → TurnDid history moves j t → Holds history j →
     Holds (with_moves moves history) t.joint
 next_holds history moves j t did holds = record {
   agrees = λ q. subst (IsLatest (with_moves moves history) q) (sym (did.pages q))
       (moves_agree did.program moves history j.memory.plain did.sound holds.agrees q);
   loads = λ d program is.
-      let g = did.loads d program is in
+      let g = did.programs d program is in
       g.loads
-      ∙ ap (λ (l : List (ℕ × ℕ)). l ++ cond (did.program == d) (given_by moves j.memory.plain) [])
+      ∙ ap (λ (l : List (ℕ × ℕ)). l ++ given_by (cond (did.program == d) moves []) j.memory.plain)
       (holds.loads d g.was g.there)
+      ∙ ap (λ (l : List (ℕ × ℕ)). loads_of d history ++ l) (given_either (did.program == d) moves j.memory.plain)
       ∙ sym (moves_load did.program d moves history j.memory.plain did.sound holds.agrees);
+  maps = λ d program is. let g = did.programs d program is in g.fits.maps (holds.maps d g.was g.there);
+  free = λ d program is.
+      let g = did.programs d program is in
+      next_free (did.program == d) did.program d moves history g.was.control.resources program.control.resources refl
+      did.sound g.fits (holds.maps d g.was g.there) (holds.free d g.was g.there);
 }
 
 -- the step behind n steps, where there is one
@@ -188,8 +262,8 @@ after_step j (x ∷ turns) (suc n) t is = after_step x.joint turns n t is
 
 run_holds : (b : Bundle) (stream : Random) (budget : ℕ) (o : Opened) → opening b stream ≡ Ok o → IsInGrammar b →
     let r = run_of b budget o in
-    (n : ℕ) → n ≤ length r.turns → Holds (history b r n) (joint_until n r)
-unfolding run_of history joint_after
+    (n : ℕ) → n ≤ length r.turns → Holds (history_until b n r) (joint_until n r)
+unfolding run_of history_until joint_after
 run_holds b stream budget o opens fits zero low = opened_holds_by b (next_draw stream) o fits opens
 run_holds b stream budget o opens fits (suc n) low =
     let r : Run = run_of b budget o in
@@ -200,30 +274,30 @@ run_holds b stream budget o opens fits (suc n) low =
     let t = step.turn in
     let m : Moment = moment_behind (first_moment b o.joint) n turns in
     let steady = (until_read b stream budget o opens n low').steady in
-    let earlier : List Move = history b r n in
-    let did : TurnDid (step_moves earlier m.joint.domains
+    let earlier : List Move = history_until b n r in
+    let did : TurnDid earlier (step_moves earlier m.joint.domains
     (hart_in m.joint (slice_index b.kernel.schedule (m.steps % length b.kernel.schedule))).inside t.items) m.joint t =
-    subst (λ (x : Turn). TurnDid (step_moves earlier m.joint.domains
+    subst (λ (x : Turn). TurnDid earlier (step_moves earlier m.joint.domains
     (hart_in m.joint (slice_index b.kernel.schedule (m.steps % length b.kernel.schedule))).inside x.items) m.joint x)
-    (step_is budget n (first_moment b o.joint) t step.is) (joint_did earlier m steady.programs holds.agrees) in
+    (step_is budget n (first_moment b o.joint) t step.is) (joint_did earlier m steady.programs holds.free holds.agrees) in
     let number : m.steps ≡ n = omega arith in
-    let did' = subst (λ (k : ℕ). TurnDid (step_moves earlier m.joint.domains
+    let did' = subst (λ (k : ℕ). TurnDid earlier (step_moves earlier m.joint.domains
     (hart_in m.joint (slice_index b.kernel.schedule (k % length b.kernel.schedule))).inside t.items) m.joint t)
     number did in
-    let did'' = subst (λ (found : Option Turn). TurnDid (step_moves earlier m.joint.domains
+    let did'' = subst (λ (found : Option Turn). TurnDid earlier (step_moves earlier m.joint.domains
     (context_of_step b r n) (items_of_turn found)) m.joint t) (sym step.is) did' in
-    subst (Holds (history b r (suc n))) (sym (after_step o.joint turns n t step.is))
+    subst (Holds (history_until b (suc n) r)) (sym (after_step o.joint turns n t step.is))
     (next_holds earlier _ m.joint t did'' holds)
 
 -- The law.
 
 abbrev HoldsAlways : Bundle → Run → Type 0
-HoldsAlways b r = (n : ℕ) → n ≤ length r.turns → Holds (history b r n) (joint_until n r)
+HoldsAlways b r = (n : ℕ) → n ≤ length r.turns → Holds (history_until b n r) (joint_until n r)
 
 -- a step that is not the program's own
 others_stay : (b : Bundle) (stream : Random) (budget : ℕ) (r : Run) → joint_run b stream budget ≡ Ok r →
     HoldsAlways b r → (n : ℕ) → suc n ≤ length r.turns → (q : PageId) → program_of_step b r n ≢ Some q.domain →
-    (at : ℕ) → latest (history b r (suc n)) q at ≡ latest (history b r n) q at
+    (at : ℕ) → latest (history_until b (suc n) r) q at ≡ latest (history_until b n r) q at
 others_stay b stream budget r runs holds n low q other at =
     let step = has_step r.turns n (omega (arith, low)) in
     let t = step.turn in

@@ -1,5 +1,7 @@
 pub mod Values
+pub mod Numbers
 pub mod Moved
+pub mod Fits
 pub mod Heard
 pub mod HypercallDeeds
 pub mod InstructionDeeds

@@ -6,7 +6,7 @@ use Rattle.cloak_base.specs.Pages.{zero_page, same_page, is_of, page_in, with_pa
 use Rattle.cloak_base.proofs.Pages.{same_page-decides}
 use Rattle.cloak_base.specs.declared.names.PageId.{PageId}
 use Rattle.cloak_model.specs.Memory.{value_in, with_value_in}
-use Rattle.latest_store.specs.Moves.{Move, Makes, Stores, Copies, Drops, Loads, covers, latest, latest_value, loads_of, with_moves}
+use Rattle.latest_store.specs.Moves.{Move, Makes, Stores, Copies, Zeros, Drops, Loads, covers, latest, latest_value, loads_of, with_moves}
 use Rattle.latest_store.specs.LatestStore.{IsLatest}
 use Rattle.latest_store.proofs.Values.{IsPlace, stored_byte, stored_whole, zero_page_at, zero_page_whole, read_value}
 
@@ -19,6 +19,7 @@ abbrev pub moved : Move → (PageId → List ℕ) → PageId → List ℕ
 moved (Makes p bytes) plain = with_page plain p bytes
 moved (Stores p from width value) plain = with_page plain p (with_value_in (plain p) from width value)
 moved (Copies domain from to) plain = with_copied plain domain from to
+moved (Zeros domain resource) plain = plain
 moved (Drops domain resource) plain = with_resource plain domain resource zero_page
 moved (Loads q address width) plain = plain
 
@@ -31,6 +32,7 @@ abbrev pub given : Move → (PageId → List ℕ) → List (ℕ × ℕ)
 given (Makes p bytes) plain = []
 given (Stores p from width value) plain = []
 given (Copies domain from to) plain = []
+given (Zeros domain resource) plain = []
 given (Drops domain resource) plain = []
 given (Loads q address width) plain = (address, value_in (plain q) (address % 4096) width) ∷ []
 
@@ -38,17 +40,19 @@ abbrev pub given_by : List Move → (PageId → List ℕ) → List (ℕ × ℕ)
 given_by [] plain = []
 given_by (m ∷ moves) plain = given m plain ++ given_by moves (moved m plain)
 
--- Moves of a domain, with whole pages and places inside pages.
-abbrev pub IsSound : ℕ → Move → Type 0
-IsSound d (Makes p bytes) = length bytes ≡ 4096
-IsSound d (Stores p from width value) = IsPlace from width
-IsSound d (Copies domain from to) = Unit {0}
-IsSound d (Drops domain resource) = Unit {0}
-IsSound d (Loads q address width) = q.domain ≡ d
+-- Moves of a domain behind a history, with whole pages and places inside pages; what is made as zeros was zeros.
+abbrev pub IsSound : ℕ → List Move → Move → Type 0
+IsSound d history (Makes p bytes) = (p.domain ≡ d) × (length bytes ≡ 4096)
+IsSound d history (Stores p from width value) = (p.domain ≡ d) × IsPlace from width
+IsSound d history (Copies domain from to) = domain ≡ d
+IsSound d history (Zeros domain resource) =
+    (domain ≡ d) × ((q : PageId) → is_of domain resource q ≡ true → (at : ℕ) → latest history q at ≡ 0)
+IsSound d history (Drops domain resource) = domain ≡ d
+IsSound d history (Loads q address width) = q.domain ≡ d
 
-abbrev pub AreSound : ℕ → List Move → Type 0
-AreSound d [] = Unit {0}
-AreSound d (m ∷ moves) = IsSound d m × AreSound d moves
+abbrev pub AreSound : ℕ → List Move → List Move → Type 0
+AreSound d history [] = Unit {0}
+AreSound d history (m ∷ moves) = IsSound d history m × AreSound d (m ∷ history) moves
 
 -- One move.
 
@@ -68,20 +72,25 @@ store_either : (test covered : Bool) (new old : List ℕ) (at b v : ℕ) →
 store_either true covered new old at b v here there = here refl
 store_either false covered new old at b v here there = there
 
-pub move_agrees : (d : ℕ) (m : Move) (history : List Move) (plain : PageId → List ℕ) → IsSound d m →
+-- zeros that were zeros
+zero_either : (b : Bool) (x : ℕ) → (b ≡ true → x ≡ 0) → x ≡ cond b 0 x
+zero_either true x is = is refl
+zero_either false x is = refl
+
+pub move_agrees : (d : ℕ) (m : Move) (history : List Move) (plain : PageId → List ℕ) → IsSound d history m →
     Agrees history plain → Agrees (m ∷ history) (moved m plain)
 unfolding latest
 move_agrees d (Makes p bytes) history plain sound agrees = λ q. record {
-  whole = whole_either (same_page q p) bytes (plain q) sound (agrees q).whole;
+  whole = whole_either (same_page q p) bytes (plain q) sound.1 (agrees q).whole;
   each = λ at. byte_either (same_page q p) bytes (plain q) at _ _ refl ((agrees q).each at);
 }
 move_agrees d (Stores p from width value) history plain sound agrees = λ q. record {
-  whole = whole_either (same_page q p) _ (plain q) (stored_whole (plain p) from width value (agrees p).whole sound)
+  whole = whole_either (same_page q p) _ (plain q) (stored_whole (plain p) from width value (agrees p).whole sound.1)
       (agrees q).whole;
   each = λ at.
       store_either (same_page q p) (covers from width at) (with_value_in (plain p) from width value) (plain q) at
       (get_or (to_le_bytes w32 value) (at - from) 0) (latest history q at)
-      (λ same. stored_byte (plain p) from width value at (agrees p).whole sound
+      (λ same. stored_byte (plain p) from width value at (agrees p).whole sound.1
       ∙ ap (λ (v : ℕ). cond (covers from width at) (get_or (to_le_bytes w32 value) (at - from) 0) v)
       ((agrees p).each at ∙ ap (λ (r : PageId). latest history r at) (sym ((same_page-decides q p).0 same))))
       ((agrees q).each at);
@@ -89,6 +98,12 @@ move_agrees d (Stores p from width value) history plain sound agrees = λ q. rec
 move_agrees d (Copies domain from to) history plain sound agrees = λ q. record {
   whole = whole_either (is_of domain to q) _ _ (agrees (page_in from q)).whole (agrees q).whole;
   each = λ at. byte_either (is_of domain to q) _ _ at _ _ ((agrees (page_in from q)).each at) ((agrees q).each at);
+}
+move_agrees d (Zeros domain resource) history plain sound agrees = λ q. record {
+  whole = (agrees q).whole;
+  each = λ at.
+      (agrees q).each at
+      ∙ zero_either (is_of domain resource q) (latest history q at) (λ is. sound.1 q is at);
 }
 move_agrees d (Drops domain resource) history plain sound agrees = λ q. record {
   whole = whole_either (is_of domain resource q) zero_page _ zero_page_whole (agrees q).whole;
@@ -113,12 +128,13 @@ one_more : (b : Bool) (before : List (ℕ × ℕ)) (load load' : ℕ × ℕ) →
 one_more true before load load' same = ap (λ (x : ℕ × ℕ). before ++ x ∷ []) same
 one_more false before load load' same = sym (append-nil before)
 
-move_loads : (d e : ℕ) (m : Move) (history : List Move) (plain : PageId → List ℕ) → IsSound d m →
+move_loads : (d e : ℕ) (m : Move) (history : List Move) (plain : PageId → List ℕ) → IsSound d history m →
     Agrees history plain → LoadsMore d e m history plain
 unfolding loads_of
 move_loads d e (Makes p bytes) history plain sound agrees = none_more (d == e) (loads_of e history)
 move_loads d e (Stores p from width value) history plain sound agrees = none_more (d == e) (loads_of e history)
 move_loads d e (Copies domain from to) history plain sound agrees = none_more (d == e) (loads_of e history)
+move_loads d e (Zeros domain resource) history plain sound agrees = none_more (d == e) (loads_of e history)
 move_loads d e (Drops domain resource) history plain sound agrees = none_more (d == e) (loads_of e history)
 move_loads d e (Loads q address width) history plain sound agrees =
     let before = loads_of e history in
@@ -130,7 +146,7 @@ move_loads d e (Loads q address width) history plain sound agrees =
 
 -- Moves one after another.
 
-pub moves_agree : (d : ℕ) (moves history : List Move) (plain : PageId → List ℕ) → AreSound d moves →
+pub moves_agree : (d : ℕ) (moves history : List Move) (plain : PageId → List ℕ) → AreSound d history moves →
     Agrees history plain → Agrees (with_moves moves history) (moved_by moves plain)
 moves_agree d [] history plain sound agrees = agrees
 moves_agree d (m ∷ moves) history plain sound agrees =
@@ -141,7 +157,7 @@ both_more : (b : Bool) (before xs ys : List (ℕ × ℕ)) →
 both_more true before xs ys = append_assoc before xs ys
 both_more false before xs ys = append-nil (before ++ [])
 
-pub moves_load : (d e : ℕ) (moves history : List Move) (plain : PageId → List ℕ) → AreSound d moves →
+pub moves_load : (d e : ℕ) (moves history : List Move) (plain : PageId → List ℕ) → AreSound d history moves →
     Agrees history plain →
     loads_of e (with_moves moves history) ≡ loads_of e history ++ cond (d == e) (given_by moves plain) []
 moves_load d e [] history plain sound agrees = none_more (d == e) (loads_of e history)

@@ -1,6 +1,10 @@
--- The moves of a step are sound: stores stay inside their page, and loads are of the program's own pages.
-use Rattle.std.proofs.Common.{◌≡◌, inl, inr, ℕ, ◌%◌, Bool, true, false, cond, List, [], ◌∷◌, map, Option, Some, None, ℤ, refl, subst, arith, eqb-true}
+-- The moves of a step are sound: they are of the program, stores stay inside their page, and what is made as zeros was
+-- zeros.
+use Rattle.std.proofs.Common.{◌≡◌, inl, inr, ℕ, ◌%◌, Bool, true, false, cond, List, [], ◌∷◌, map, Option, Some, None, ℤ, refl, subst, arith, eqb-true, Result, Ok, Err, ap, ◌∙◌}
 use Rattle.std.specs.Prelude.{◌==◌}
+use Rattle.cloak_base.specs.Registers.{register}
+use Rattle.cloak_base.specs.Pages.{is_of}
+use Rattle.cloak_base.proofs.Pages.{is_of-decides}
 use Rattle.cloak_base.specs.declared.names.PageId.{PageId}
 use Rattle.rv_isa.specs.declared.instr.Instr.{Instr}
 use Rattle.rv_isa.specs.declared.instr.Instr.TheVariants as instr
@@ -11,18 +15,23 @@ use Rattle.cloak_model.specs.declared.item.Item.{Item}
 use Rattle.cloak_model.specs.declared.item.Item.TheVariants as item
 use Rattle.cloak_model.specs.declared.outcome.Effect.{Effect}
 use Rattle.cloak_model.specs.declared.outcome.Effect.TheVariants as does
+use Rattle.cloak_model.specs.declared.resource.MapFault.{MapFault}
+use Rattle.cloak_model.specs.declared.resource.Owner.TheVariants.{Space, File}
 use Rattle.cloak_model.specs.Calls.{buffer, byte_address}
 use Rattle.cloak_model.specs.Contexts.{Context}
 use Rattle.cloak_model.specs.DomainState.{Control}
 use Rattle.cloak_model.specs.Effect.{offset, effect, jump, go, branch, load_effect}
 use Rattle.cloak_model.specs.Fork.{copies, private_numbers}
-use Rattle.cloak_model.specs.Hypercalls.{Hypercall, ForkSpace, Exit, hypercall_of}
-use Rattle.cloak_model.specs.Resources.{page_at}
+use Rattle.cloak_model.specs.Hypercalls as hyper
+use Rattle.cloak_model.specs.Hypercalls.{Hypercall, New, ForkSpace, Exit, hypercall_of}
+use Rattle.cloak_model.specs.Resources.{Resources, resource_at, page_at}
 use Rattle.domain_isolation.proofs.InstructionScripts.{IsOwn, own_page}
-use Rattle.latest_store.specs.Moves.{Move, Copies, Drops, latest_value}
-use Rattle.latest_store.specs.Deeds.{both_granted, load_at, store_at, hypercall_moves, ecall_moves, effect_moves, word_moves, fetched_moves, byte_moves, phase_moves, context_moves}
+use Rattle.latest_store.specs.Moves.{Move, Copies, Drops, latest, latest_value}
+use Rattle.latest_store.specs.Deeds.{first_granted, both_granted, load_at, store_at, made_moves, file_moves, hypercall_moves, ecall_moves, effect_moves, word_moves, fetched_moves, byte_moves, phase_moves, context_moves}
 use Rattle.latest_store.proofs.Values.{IsPlace}
+use Rattle.latest_store.proofs.Numbers.{made_free}
 use Rattle.latest_store.proofs.Moved.{AreSound}
+use Rattle.latest_store.proofs.Fits.{FreeZero}
 
 -- An instruction that stores has a width, and its address is a multiple of it.
 
@@ -93,79 +102,119 @@ effect_inside (instr.Sh rs1 rs2 imm) r pc = store_if _ _ 2 _ (λ test. two_place
 effect_inside (instr.Sw rs1 rs2 imm) r pc = store_if _ _ 4 _ (λ test. four_place _ (eqb-true _ 0 test))
 effect_inside _ r pc = no_store _ (λ va width value x. cc)
 
--- The moves.
+-- The moves, behind a history in which the pages under free numbers are zeros.
 
-load_sound : (n va width : ℕ) (place : Option PageId) → IsOwn n place → AreSound n (load_at va width place)
-load_sound n va width None own = tt
-load_sound n va width (Some q) own = (own, tt)
+load_sound : (n va width : ℕ) (history : List Move) (place : Option PageId) → IsOwn n place →
+    AreSound n history (load_at va width place)
+load_sound n va width history None own = tt
+load_sound n va width history (Some q) own = (own, tt)
 
-store_sound : (n va width value : ℕ) (place : Option PageId) → IsPlace (va % 4096) width →
-    AreSound n (store_at va width value place)
-store_sound n va width value None is = tt
-store_sound n va width value (Some q) is = (is, tt)
+store_sound : (n va width value : ℕ) (history : List Move) (place : Option PageId) → IsOwn n place →
+    IsPlace (va % 4096) width → AreSound n history (store_at va width value place)
+store_sound n va width value history None own is = tt
+store_sound n va width value history (Some q) own is = ((own, is), tt)
 
-copies_sound : (n : ℕ) (list : List (ℕ × ℕ)) →
-    AreSound n (map (λ (copy : ℕ × ℕ). Copies n copy.0 copy.1) list)
-copies_sound n [] = tt
-copies_sound n (copy ∷ list) = (tt, copies_sound n list)
+copies_sound : (n : ℕ) (history : List Move) (list : List (ℕ × ℕ)) →
+    AreSound n history (map (λ (copy : ℕ × ℕ). Copies n copy.0 copy.1) list)
+copies_sound n history [] = tt
+copies_sound n history (copy ∷ list) = (refl, copies_sound n (Copies n copy.0 copy.1 ∷ history) list)
 
-drops_sound : (n : ℕ) (list : List ℕ) → AreSound n (map (λ (resource : ℕ). Drops n resource) list)
-drops_sound n [] = tt
-drops_sound n (resource ∷ list) = (tt, drops_sound n list)
+drops_sound : (n : ℕ) (history : List Move) (list : List ℕ) →
+    AreSound n history (map (λ (resource : ℕ). Drops n resource) list)
+drops_sound n history [] = tt
+drops_sound n history (resource ∷ list) = (refl, drops_sound n (Drops n resource ∷ history) list)
 
-hypercall_sound : (h : Hypercall) (d : Control) (c : Context) → AreSound d.number (hypercall_moves h d c)
+made_sound : (n : ℕ) (r : Resources) (history : List Move) (made : Result ℕ MapFault) → FreeZero history n r →
+    ((k : ℕ) → made ≡ Ok k → resource_at r k ≡ None) → AreSound n history (made_moves n made)
+made_sound n r history (Err fault) zeros free = tt
+made_sound n r history (Ok k) zeros free =
+    let none : (q : PageId) → is_of n k q ≡ true → (at : ℕ) → latest history q at ≡ 0 =
+    λ q of at. let is = (is_of-decides n k q).0 of in zeros q is.0 (ap (resource_at r) is.1 ∙ free k refl) at in
+    ((refl, none), tt)
+
+file_sound : (d : Control) (c : Context) (history : List Move) (place : Option ℕ) →
+    FreeZero history d.number d.resources → AreSound d.number history (file_moves d c place)
+file_sound d c history None zeros =
+    made_sound d.number d.resources history _ zeros
+    (λ k made. made_free (File (register c.regs 10)) (register c.regs 11) d.resources k made)
+file_sound d c history (Some n) zeros = tt
+
+sound_if : (test : Bool) (n : ℕ) (history moves : List Move) → AreSound n history moves →
+    AreSound n history (cond test moves [])
+sound_if true n history moves sound = sound
+sound_if false n history moves sound = tt
+
+hypercall_sound : (h : Hypercall) (d : Control) (c : Context) (history : List Move) (answers : List Item) →
+    FreeZero history d.number d.resources → AreSound d.number history (hypercall_moves h d c answers)
 unfolding hypercall_moves
-hypercall_sound ForkSpace d c = copies_sound d.number (copies c.space d.resources)
-hypercall_sound Exit d c = drops_sound d.number (private_numbers c.space d.resources)
-hypercall_sound _ d c = tt
+hypercall_sound New d c history answers zeros =
+    made_sound d.number d.resources history _ zeros
+    (λ k made. made_free (Space c.space) (register c.regs 10) d.resources k made)
+hypercall_sound hyper.File d c history answers zeros = file_sound d c history _ zeros
+hypercall_sound ForkSpace d c history answers zeros =
+    sound_if (both_granted answers) d.number history _ (copies_sound d.number history (copies c.space d.resources))
+hypercall_sound Exit d c history answers zeros =
+    sound_if (both_granted answers) d.number history _
+    (drops_sound d.number history (private_numbers c.space d.resources))
+hypercall_sound _ d c history answers zeros = tt
 
-ecall_sound : (d : Control) (c : Context) (i : Instr) → AreSound d.number (ecall_moves d c i)
+ecall_sound : (d : Control) (c : Context) (i : Instr) (history : List Move) (answers : List Item) →
+    FreeZero history d.number d.resources → AreSound d.number history (ecall_moves d c i answers)
 unfolding ecall_moves
-ecall_sound d c instr.Ecall = hypercall_sound (hypercall_of c) d c
-ecall_sound d c _ = tt
+ecall_sound d c instr.Ecall history answers zeros = hypercall_sound (hypercall_of c) d c history answers zeros
+ecall_sound d c _ history answers zeros = tt
 
-effect_sound : (d : Control) (c : Context) (i : Instr) (e : Effect) → StoresInside e →
-    AreSound d.number (effect_moves d c i e)
+effect_sound : (d : Control) (c : Context) (i : Instr) (e : Effect) (history : List Move) (answers : List Item) →
+    FreeZero history d.number d.resources → StoresInside e →
+    AreSound d.number history (effect_moves d c i e answers)
 unfolding effect_moves
-effect_sound d c i (does.Load rd va width signed) inside =
-    load_sound d.number va width _ (own_page d.number d.resources c.space va)
-effect_sound d c i (does.Store va width value) inside =
-    store_sound d.number va width value _ (inside.is va width value refl)
-effect_sound d c i does.System inside = ecall_sound d c i
-effect_sound d c i _ inside = tt
+effect_sound d c i (does.Load rd va width signed) history answers zeros inside =
+    sound_if (both_granted answers) d.number history _
+    (load_sound d.number va width history _ (own_page d.number d.resources c.space va))
+effect_sound d c i (does.Store va width value) history answers zeros inside =
+    sound_if (both_granted answers) d.number history _
+    (store_sound d.number va width value history _ (own_page d.number d.resources c.space va)
+    (inside.is va width value refl))
+effect_sound d c i does.System history answers zeros inside = ecall_sound d c i history answers zeros
+effect_sound d c i _ history answers zeros inside = tt
 
-word_sound : (d : Control) (c : Context) (i : Option Instr) → AreSound d.number (word_moves d c i)
+word_sound : (d : Control) (c : Context) (i : Option Instr) (history : List Move) (answers : List Item) →
+    FreeZero history d.number d.resources → AreSound d.number history (word_moves d c i answers)
 unfolding word_moves
-word_sound d c None = tt
-word_sound d c (Some i) = effect_sound d c i (effect i c.regs c.pc) (effect_inside i c.regs c.pc)
+word_sound d c None history answers zeros = tt
+word_sound d c (Some i) history answers zeros =
+    effect_sound d c i (effect i c.regs c.pc) history answers zeros (effect_inside i c.regs c.pc)
 
-fetched_sound : (history : List Move) (d : Control) (c : Context) (place : Option PageId) →
-    AreSound d.number (fetched_moves history d c place)
+fetched_sound : (history : List Move) (d : Control) (c : Context) (place : Option PageId) (answers : List Item) →
+    FreeZero history d.number d.resources → AreSound d.number history (fetched_moves history d c place answers)
 unfolding fetched_moves
-fetched_sound history d c None = tt
-fetched_sound history d c (Some q) = word_sound d c (instruction (latest_value history q (c.pc % 4096) 4))
+fetched_sound history d c None answers zeros = tt
+fetched_sound history d c (Some q) answers zeros =
+    word_sound d c (instruction (latest_value history q (c.pc % 4096) 4)) history answers zeros
 
-sound_if : (test : Bool) (n : ℕ) (moves : List Move) → AreSound n moves → AreSound n (cond test moves [])
-sound_if true n moves sound = sound
-sound_if false n moves sound = tt
-
-bytes_sound : (n va : ℕ) (place : Option PageId) (answers : List Item) → AreSound n (byte_moves va place answers)
-bytes_sound n va place (item.Word domain byte ∷ item.Ok domain' ∷ []) = store_sound n va 1 byte place (one_place va)
-bytes_sound n va place _ = tt
+bytes_sound : (n va : ℕ) (history : List Move) (place : Option PageId) (answers : List Item) → IsOwn n place →
+    AreSound n history (byte_moves va place answers)
+bytes_sound n va history place (item.Word domain byte ∷ item.Ok domain' ∷ []) own =
+    store_sound n va 1 byte history place own (one_place va)
+bytes_sound n va history place _ own = tt
 
 phase_sound : (p : Phase) (history : List Move) (d : Control) (c : Context) (answers : List Item) →
-    AreSound d.number (phase_moves p history d c answers)
+    FreeZero history d.number d.resources → AreSound d.number history (phase_moves p history d c answers)
 unfolding phase_moves
-phase_sound Plain history d c answers =
-    sound_if (both_granted answers) d.number _ (fetched_sound history d c (page_at d.number d.resources c.space c.pc))
-phase_sound (CopyIn done) history d c answers =
+phase_sound Plain history d c answers zeros =
+    sound_if (first_granted answers) d.number history _
+    (fetched_sound history d c (page_at d.number d.resources c.space c.pc) answers zeros)
+phase_sound (CopyIn done) history d c answers zeros =
     let va = byte_address (buffer c) done in
-    sound_if (both_granted answers) d.number _ (load_sound d.number va 1 _ (own_page d.number d.resources c.space va))
-phase_sound Waiting history d c answers = tt
-phase_sound (CopyOut done total) history d c answers = bytes_sound d.number (byte_address (buffer c) done) _ answers
+    sound_if (both_granted answers) d.number history _
+    (load_sound d.number va 1 history _ (own_page d.number d.resources c.space va))
+phase_sound Waiting history d c answers zeros = tt
+phase_sound (CopyOut done total) history d c answers zeros =
+    let va = byte_address (buffer c) done in
+    bytes_sound d.number va history _ answers (own_page d.number d.resources c.space va)
 
 pub context_sound : (o : Option Context) (history : List Move) (d : Control) (answers : List Item) →
-    AreSound d.number (context_moves o history d answers)
+    FreeZero history d.number d.resources → AreSound d.number history (context_moves o history d answers)
 unfolding context_moves
-context_sound None history d answers = tt
-context_sound (Some c) history d answers = phase_sound c.phase history d c answers
+context_sound None history d answers zeros = tt
+context_sound (Some c) history d answers zeros = phase_sound c.phase history d c answers zeros

@@ -18,7 +18,7 @@ use Rattle.cloak_model.specs.Asking.{Told}
 use Rattle.cloak_model.specs.Cloaking.{CloakedMemory}
 use Rattle.cloak_model.specs.Contexts.{Context, Admitted, context_at, domain_of, slot_of}
 use Rattle.cloak_model.specs.DomainState.{Control, Domain}
-use Rattle.cloak_model.specs.DomainStep.{DomainStepped, domain_step}
+use Rattle.cloak_model.specs.DomainStep.{DomainStepped, domain_step, answer_taken, resume_told, resume_slot, interrupt_if, interrupt}
 use Rattle.cloak_model.specs.Halves.{is_inward, inward_half}
 use Rattle.cloak_model.specs.Hart.{Hart}
 use Rattle.cloak_model.specs.Joint.{Moment, Turn, next_hart, hart_in, cloak_of, memory_of, outside_ended, after_outside, outside_step, domain_ended, after_domain_step, pages_for, interrupt_ended, after_interrupt, by_interrupt, inside_step, turn_of, joint_step}
@@ -33,30 +33,42 @@ use Rattle.store_law.proofs.Settlings.{touched_draws}
 use Rattle.latest_store.specs.Moves.{Move}
 use Rattle.latest_store.specs.Deeds.{phase_moves, context_moves, program_moves, step_moves}
 use Rattle.latest_store.proofs.Moved.{Agrees, moved_by, given_by, AreSound}
+use Rattle.latest_store.proofs.Numbers.{follows_same, follows_equal}
+use Rattle.latest_store.proofs.Fits.{FreeZero, Fits, fits_none}
 use Rattle.latest_store.proofs.Heard.{Heard, Did}
 use Rattle.latest_store.proofs.CopyDeeds.{step_did}
 use Rattle.latest_store.proofs.Sound.{context_sound}
 
 -- Programs.
 
--- program d of a list was there before, with all but these loads
-pub record Grew (domains : List Domain) (d : ℕ) (more : List (ℕ × ℕ)) (now : Domain) : Type 0 where
-  pub was : Domain
-  pub there : slice_get domains d ≡ Some was
-  pub loads : now.loads ≡ was.loads ++ more
+-- Program d of a list was there before, and these moves gave its new loads and fit it.
+pub record Grew (domains : List Domain) (d : ℕ) (moves : List Move) (plain : PageId → List ℕ) (now : Domain) : Type 0
+  where
+    pub was : Domain
+    pub there : slice_get domains d ≡ Some was
+    pub loads : now.loads ≡ was.loads ++ given_by moves plain
+    pub fits : Fits d was.control.resources moves now.control.resources
 
--- each program of the second list has these loads more, if it is this one
-abbrev pub GrowBy : ℕ → List (ℕ × ℕ) → List Domain → List Domain → Type 0
-GrowBy e more domains domains' =
-    (d : ℕ) (now : Domain) → slice_get domains' d ≡ Some now → Grew domains d (cond (e == d) more []) now
+-- each program of the second list was there before, and did these moves if it is this one
+abbrev pub GrowBy : ℕ → List Move → (PageId → List ℕ) → List Domain → List Domain → Type 0
+GrowBy e moves plain domains domains' =
+    (d : ℕ) (now : Domain) → slice_get domains' d ≡ Some now → Grew domains d (cond (e == d) moves []) plain now
 
-grew_none : (b : Bool) (domains : List Domain) (d : ℕ) (now : Domain) → slice_get domains d ≡ Some now →
-    Grew domains d (cond b [] []) now
-grew_none true domains d now there = record { was = now; there = there; loads = sym (append-nil now.loads) }
-grew_none false domains d now there = record { was = now; there = there; loads = sym (append-nil now.loads) }
+stays : (domains : List Domain) (d : ℕ) (moves : List Move) (plain : PageId → List ℕ) (now : Domain) → moves ≡ [] →
+    slice_get domains d ≡ Some now → Grew domains d moves plain now
+stays domains d moves plain now none there = record {
+  was = now;
+  there = there;
+  loads = sym (append-nil now.loads) ∙ ap (λ (ms : List Move). now.loads ++ given_by ms plain) (sym none);
+  fits = fits_none d now.control.resources moves now.control.resources none (follows_same now.control.resources);
+}
 
-same_grow : (e : ℕ) (domains : List Domain) → GrowBy e [] domains domains
-same_grow e domains d now there = grew_none (e == d) domains d now there
+none_either : (b : Bool) → ◌≡◌ {A = List Move} (cond b [] []) []
+none_either true = refl
+none_either false = refl
+
+same_grow : (e : ℕ) (plain : PageId → List ℕ) (domains : List Domain) → GrowBy e [] plain domains domains
+same_grow e plain domains d now there = stays domains d _ plain now (none_either (e == d)) there
 
 set_same : (domains : List Domain) (e : ℕ) (found made now : Domain) → slice_get domains e ≡ Some found →
     slice_get (slice_set domains e made) e ≡ Some now → made ≡ now
@@ -74,83 +86,98 @@ set_other (x ∷ domains) (suc e) zero made now other is = is
 set_other (x ∷ domains) (suc e) (suc d) made now other is =
     set_other domains e d made now (λ same. other (ap (λ (k : ℕ). suc k) same)) is
 
-set_grows : (domains : List Domain) (e : ℕ) (found made : Domain) (more : List (ℕ × ℕ)) →
-    slice_get domains e ≡ Some found → made.loads ≡ found.loads ++ more →
-    GrowBy e more domains (slice_set domains e made)
-set_grows domains e found made more there loads d now is = elim (decided e d) [
+set_grows : (domains : List Domain) (e : ℕ) (found made : Domain) (moves : List Move) (plain : PageId → List ℕ) →
+    slice_get domains e ≡ Some found → made.loads ≡ found.loads ++ given_by moves plain →
+    Fits e found.control.resources moves made.control.resources → GrowBy e moves plain domains (slice_set domains e made)
+set_grows domains e found made moves plain there loads fits d now is = elim (decided e d) [
   | inl same ↦
       let here : made ≡ now = set_same domains e found made now there
       (subst (λ (k : ℕ). slice_get (slice_set domains e made) k ≡ Some now) (sym same) is) in
-      record {
-        was = found;
-        there = subst (λ (k : ℕ). slice_get domains k ≡ Some found) same there;
-        loads = ap (λ (y : Domain). y.loads) (sym here) ∙ loads
-            ∙ ap (λ (b : Bool). found.loads ++ cond b more []) (sym (eq-eqb e d same));
-      }
+      let one : Grew domains e moves plain made =
+      record { was = found; there = there; loads = loads; fits = fits } in
+      let all : cond (e == d) moves [] ≡ moves = ap (λ (b : Bool). cond b moves []) (eq-eqb e d same) in
+      subst (λ (ms : List Move). Grew domains d ms plain now) (sym all)
+      (subst (λ (k : ℕ). Grew domains k moves plain now) same
+      (subst (λ (x : Domain). Grew domains e moves plain x) here one))
   | inr other ↦
-      record {
-        was = now;
-        there = set_other domains e d made now other is;
-        loads = sym (append-nil now.loads)
-            ∙ ap (λ (b : Bool). now.loads ++ cond b more []) (sym (ne_eqb e d other));
-      }
+      stays domains d (cond (e == d) moves []) plain now (ap (λ (b : Bool). cond b moves []) (ne_eqb e d other))
+      (set_other domains e d made now other is)
 ]
 
--- These moves, of one program, were done.
-pub record TurnDid (moves : List Move) (j : Joint) (t : Turn) : Type 0 where
+-- These moves, of one program, were done behind a history.
+pub record TurnDid (history moves : List Move) (j : Joint) (t : Turn) : Type 0 where
   pub program : ℕ
-  pub sound : AreSound program moves
+  pub sound : AreSound program history moves
   pub pages : (q : PageId) → t.joint.memory.plain q ≡ moved_by moves j.memory.plain q
-  pub loads : GrowBy program (given_by moves j.memory.plain) j.domains t.joint.domains
+  pub programs : GrowBy program moves j.memory.plain j.domains t.joint.domains
+
+-- the pages under the free numbers of each program are zeros
+abbrev pub FreeInAll : List Move → Joint → Type 0
+FreeInAll history j =
+    (d : ℕ) (program : Domain) → slice_get j.domains d ≡ Some program → FreeZero history d program.control.resources
 
 -- A hart outside does nothing.
 
 record Keeps (j j' : Joint) : Type 0 where
   pub pages : j'.memory.plain ≡ j.memory.plain
-  pub loads : GrowBy 0 [] j.domains j'.domains
+  pub programs : (plain : PageId → List ℕ) → GrowBy 0 [] plain j.domains j'.domains
 
 kept : (j j' : Joint) → j'.memory.plain ≡ j.memory.plain → j'.domains ≡ j.domains → Keeps j j'
 kept j j' pages domains = record {
   pages = pages;
-  loads = subst (GrowBy 0 [] j.domains) (sym domains) (same_grow 0 j.domains);
+  programs = λ plain. subst (GrowBy 0 [] plain j.domains) (sym domains) (same_grow 0 plain j.domains);
 }
 
-set_none : (domains : List Domain) (e : ℕ) (found made : Domain) → slice_get domains e ≡ Some found →
-    made.loads ≡ found.loads → GrowBy 0 [] domains (slice_set domains e made)
-set_none domains e found made there same d now is =
-    let g = set_grows domains e found made [] there (same ∙ sym (append-nil found.loads)) d now is in
-    let none : g.was.loads ++ cond (e == d) [] [] ≡ g.was.loads ++ cond (0 == d) [] [] =
-    both_none (e == d) (0 == d) g.was.loads in
-    record { was = g.was; there = g.there; loads = g.loads ∙ none }
-  where
-    both_none : (a b : Bool) (l : List (ℕ × ℕ)) → l ++ cond a [] [] ≡ l ++ cond b [] []
-    both_none true true l = refl
-    both_none true false l = refl
-    both_none false true l = refl
-    both_none false false l = refl
+-- a program's contexts are others
+set_none : (plain : PageId → List ℕ) (domains : List Domain) (e : ℕ) (found made : Domain) →
+    slice_get domains e ≡ Some found → made.loads ≡ found.loads →
+    made.control.resources ≡ found.control.resources → GrowBy 0 [] plain domains (slice_set domains e made)
+set_none plain domains e found made there loads same d now is =
+    subst (λ (ms : List Move). Grew domains d ms plain now) (none_either (e == d) ∙ sym (none_either (0 == d)))
+    (set_grows domains e found made [] plain there (loads ∙ sym (append-nil found.loads))
+    (fits_none e _ [] _ refl (follows_equal _ _ same)) d now is)
+
+taken_same : (slot answer : ℕ) (o : Option Context) (d : Control) →
+    (answer_taken slot answer o d).resources ≡ d.resources
+unfolding answer_taken
+taken_same slot answer None d = refl
+taken_same slot answer (Some c) d = refl
+
+told_same : (slot answer : ℕ) (a : Result (Unit {0}) ResumeFault) (d : Control) →
+    (resume_told slot answer a d).control.resources ≡ d.resources
+unfolding resume_told
+told_same slot answer (Err fault) d = refl
+told_same slot answer (Ok done) d = taken_same slot answer _ d
+
+resume_same : (slot hart answer : ℕ) (d : Control) → (resume_slot slot hart answer d).control.resources ≡ d.resources
+unfolding resume_slot
+resume_same slot hart answer d = told_same slot answer _ _
 
 root_keeps : (j : Joint) (satp ctx reply : ℕ) (w : Domain) (control : Control) (a : Admitted)
     (answer : Result (Unit {0}) ResumeFault) → slice_get j.domains (domain_of ctx) ≡ Some w →
-    Keeps j (by_root j satp ctx reply w control a answer).joint
+    control.resources ≡ w.control.resources → Keeps j (by_root j satp ctx reply w control a answer).joint
 unfolding by_root
-root_keeps j satp ctx reply w control a (Err fault) there = kept j j refl refl
-root_keeps j satp ctx reply w control a (Ok done) there = record {
+root_keeps j satp ctx reply w control a (Err fault) there same = kept j j refl refl
+root_keeps j satp ctx reply w control a (Ok done) there same = record {
   pages = refl;
-  loads = set_none j.domains (domain_of ctx) w (record w { control = control }) there refl;
+  programs = λ plain.
+      set_none plain j.domains (domain_of ctx) w (record w { control = control }) there refl same;
 }
 
 context_keeps : (j : Joint) (satp ctx reply : ℕ) (w : Domain) (control : Control)
     (answer : Result (Unit {0}) ResumeFault) → slice_get j.domains (domain_of ctx) ≡ Some w →
-    Keeps j (by_context j satp ctx reply w control answer).joint
+    control.resources ≡ w.control.resources → Keeps j (by_context j satp ctx reply w control answer).joint
 unfolding by_context
-context_keeps j satp ctx reply w control (Err fault) there = kept j j refl refl
-context_keeps j satp ctx reply w control (Ok done) there = root_keeps j satp ctx reply w control _ _ there
+context_keeps j satp ctx reply w control (Err fault) there same = kept j j refl refl
+context_keeps j satp ctx reply w control (Ok done) there same =
+    root_keeps j satp ctx reply w control _ _ there same
 
 domain_keeps : (j : Joint) (hart satp ctx reply : ℕ) (found : Option Domain) →
     slice_get j.domains (domain_of ctx) ≡ found → Keeps j (by_domain j hart satp ctx reply found).joint
 unfolding by_domain
 domain_keeps j hart satp ctx reply None there = kept j j refl refl
-domain_keeps j hart satp ctx reply (Some w) there = context_keeps j satp ctx reply w _ _ there
+domain_keeps j hart satp ctx reply (Some w) there =
+    context_keeps j satp ctx reply w _ _ there (resume_same (slot_of ctx) hart reply w.control)
 
 resume_keeps : (j : Joint) (hart satp ctx reply : ℕ) → Keeps j (resume j hart satp ctx reply).joint
 unfolding resume
@@ -168,7 +195,7 @@ outside_keeps : (j : Joint) (number : ℕ) (h : Hart) → Keeps j (outside_step 
 unfolding outside_step after_outside settled_step made_after
 outside_keeps j number h =
     let ended = ended_keeps _ number _ _ in
-    record { pages = ended.pages ∙ (touched_draws h j.disk j.memory).plain; loads = ended.loads }
+    record { pages = ended.pages ∙ (touched_draws h j.disk j.memory).plain; programs = ended.programs }
 
 -- A hart inside.
 
@@ -209,18 +236,21 @@ built : (history : List Move) (j : Joint) (e slot : ℕ) (found made : Domain) (
     let moves = context_moves (context_at found.control.contexts slot) history found.control answers in
     t.joint.memory.plain ≡ moved_by moves j.memory.plain → t.joint.domains ≡ slice_set j.domains e made →
     made.loads ≡ found.loads ++ given_by moves j.memory.plain →
-    TurnDid (program_moves (Some found) history slot (inward_half e t.items)) j t
+    Fits found.control.number found.control.resources moves made.control.resources →
+    FreeZero history e found.control.resources →
+    TurnDid history (program_moves (Some found) history slot (inward_half e t.items)) j t
 unfolding program_moves
-built history j e slot found made t answers there own told pages domains loads =
+built history j e slot found made t answers there own told pages domains loads fits zeros =
     let of : List Item → List Move = context_moves (context_at found.control.contexts slot) history found.control in
-    let all : List Move → Type 0 = λ moves. TurnDid moves j t in
-    subst (λ (l : List Item). TurnDid (of l) j t) (sym told) (record {
+    subst (λ (l : List Item). TurnDid history (of l) j t) (sym told) (record {
       program = e;
-      sound = subst (λ (n : ℕ). AreSound n (of answers)) own
-          (context_sound (context_at found.control.contexts slot) history found.control answers);
+      sound = subst (λ (n : ℕ). AreSound n history (of answers)) own
+          (context_sound (context_at found.control.contexts slot) history found.control answers
+          (subst (λ (n : ℕ). FreeZero history n found.control.resources) (sym own) zeros));
       pages = λ q. ap (λ (p : PageId → List ℕ). p q) pages;
-      loads = subst (GrowBy e (given_by (of answers) j.memory.plain) j.domains) (sym domains)
-          (set_grows j.domains e found made (given_by (of answers) j.memory.plain) there loads);
+      programs = subst (GrowBy e (of answers) j.memory.plain j.domains) (sym domains)
+          (set_grows j.domains e found made (of answers) j.memory.plain there loads
+          (subst (λ (n : ℕ). Fits n found.control.resources (of answers) made.control.resources) own fits));
     })
 
 -- an interrupt is told of by one item, and nothing is done
@@ -247,15 +277,26 @@ memory_plain (Flat ram) m form = absurd cc
 memory_plain (Cloaked c) m form = refl
 memory_plain (Alone h) m form = absurd cc
 
+interrupt_if_same : (o : Option Context) (slot : ℕ) (d : Control) →
+    (interrupt_if o slot d).control.resources ≡ d.resources
+unfolding interrupt_if
+interrupt_if_same None slot d = refl
+interrupt_if_same (Some c) slot d = refl
+
+interrupt_same : (slot : ℕ) (d : Control) → (interrupt slot d).control.resources ≡ d.resources
+unfolding interrupt
+interrupt_same slot d = interrupt_if_same _ slot d
+
 -- a step of its context
 stepped_did : (history : List Move) (j : Joint) (number : ℕ) (h : Hart) (e slot : ℕ) (found : Domain)
     (t : Told DomainStepped) → slice_get j.domains e ≡ Some found → found.control.number ≡ e →
-    Did found.control.number j.memory.plain found.loads
+    FreeZero history e found.control.resources →
+    Did j.memory.plain found
     (context_moves (context_at found.control.contexts slot) history found.control) t →
-    TurnDid (program_moves (Some found) history slot
+    TurnDid history (program_moves (Some found) history slot
     (inward_half e (after_domain_step j number h e t).items)) j (after_domain_step j number h e t)
 unfolding after_domain_step
-stepped_did history j number h e slot found t there own did =
+stepped_did history j number h e slot found t there own zeros did =
     let j' : Joint = record j {
       domains = slice_set j.domains e t.answer.domain;
       memory = memory_of t.world j.memory;
@@ -264,14 +305,15 @@ stepped_did history j number h e slot found t there own did =
     built history j e slot found t.answer.domain (domain_ended j' number h e t.world t.answer.went) did.answers there own
     (ended.told ∙ subst (λ (n : ℕ). inward_half n (items_of t.world) ≡ did.answers) own did.told)
     (ended.pages ∙ sym (memory_plain t.world j.memory did.form) ∙ did.pages)
-    ended.domains did.loads
+    ended.domains did.loads did.fits zeros
 
 by_did : (due : Bool) (history : List Move) (j : Joint) (number : ℕ) (h : Hart) (e slot : ℕ) (found : Domain) →
-    slice_get j.domains e ≡ Some found → found.control.number ≡ e → Agrees history j.memory.plain →
+    slice_get j.domains e ≡ Some found → found.control.number ≡ e → FreeZero history e found.control.resources →
+    Agrees history j.memory.plain →
     let t = by_interrupt due j number h e slot found in
-    TurnDid (program_moves (Some found) history slot (inward_half e t.items)) j t
+    TurnDid history (program_moves (Some found) history slot (inward_half e t.items)) j t
 unfolding by_interrupt after_interrupt
-by_did true history j number h e slot found there own agrees =
+by_did true history j number h e slot found there own zeros agrees =
     let o = context_at found.control.contexts slot in
     let made : Control → Domain = λ control. record found { control = control } in
     let none = timer_none o history found.control e in
@@ -279,50 +321,53 @@ by_did true history j number h e slot found there own agrees =
     built history j e slot found (made _) _ (item.Timer e ∷ []) there own (ended.told ∙ timer_told e)
     (ended.pages ∙ ap (λ (ms : List Move). moved_by ms j.memory.plain) (sym none)) ended.domains
     (sym (append-nil found.loads) ∙ ap (λ (ms : List Move). found.loads ++ given_by ms j.memory.plain) (sym none))
-by_did false history j number h e slot found there own agrees =
+    (fits_none found.control.number _ _ _ none (follows_equal _ _ (interrupt_same slot found.control))) zeros
+by_did false history j number h e slot found there own zeros agrees =
     let c : Cloak = cloak_of j.memory h e (pages_for found (context_at found.control.contexts slot)) in
     let heard : Heard found.control.number j.memory.plain [] (Cloaked c) =
     record { form = refl; view = sym own; pages = refl; told = refl } in
-    stepped_did history j number h e slot found (domain_step slot found (Cloaked c)) there own
+    stepped_did history j number h e slot found (domain_step slot found (Cloaked c)) there own zeros
     (step_did slot found history j.memory.plain (Cloaked c) agrees heard)
 
-nothing_did : (j : Joint) (t : Turn) → t.joint.memory.plain ≡ j.memory.plain → t.joint.domains ≡ j.domains →
-    TurnDid [] j t
-nothing_did j t pages domains = record {
+nothing_did : (history : List Move) (j : Joint) (t : Turn) → t.joint.memory.plain ≡ j.memory.plain → t.joint.domains ≡ j.domains →
+    TurnDid history [] j t
+nothing_did history j t pages domains = record {
   program = 0;
   sound = tt;
   pages = λ q. ap (λ (p : PageId → List ℕ). p q) pages;
-  loads = subst (GrowBy 0 [] j.domains) (sym domains) (same_grow 0 j.domains);
+  programs = subst (GrowBy 0 [] j.memory.plain j.domains) (sym domains) (same_grow 0 j.memory.plain j.domains);
 }
 
 inside_did : (history : List Move) (j : Joint) (number : ℕ) (h : Hart) (e slot : ℕ) (found : Option Domain) →
-    slice_get j.domains e ≡ found → AreFrom 0 j.domains → Agrees history j.memory.plain →
+    slice_get j.domains e ≡ found → AreFrom 0 j.domains → FreeInAll history j → Agrees history j.memory.plain →
     let t = inside_step j number h e slot found in
-    TurnDid (program_moves found history slot (inward_half e t.items)) j t
+    TurnDid history (program_moves found history slot (inward_half e t.items)) j t
 unfolding inside_step program_moves
-inside_did history j number h e slot None there programs agrees = nothing_did j _ refl refl
-inside_did history j number h e slot (Some found) there programs agrees =
-    by_did _ history j number h e slot found there (number_at e j.domains found programs there) agrees
+inside_did history j number h e slot None there programs zeros agrees = nothing_did history j _ refl refl
+inside_did history j number h e slot (Some found) there programs zeros agrees =
+    by_did _ history j number h e slot found there (number_at e j.domains found programs there) (zeros e found there)
+    agrees
 
 -- Every step.
 
 turn_did : (history : List Move) (j : Joint) (number : ℕ) (h : Hart) (inside : Option ℕ) → AreFrom 0 j.domains →
-    Agrees history j.memory.plain →
-    let t = turn_of j number h inside in TurnDid (step_moves history j.domains inside t.items) j t
+    FreeInAll history j → Agrees history j.memory.plain →
+    let t = turn_of j number h inside in TurnDid history (step_moves history j.domains inside t.items) j t
 unfolding turn_of step_moves
-turn_did history j number h None programs agrees =
+turn_did history j number h None programs zeros agrees =
     let keeps = outside_keeps j number h in
     record {
       program = 0;
       sound = tt;
       pages = λ q. ap (λ (p : PageId → List ℕ). p q) keeps.pages;
-      loads = keeps.loads;
+      programs = keeps.programs j.memory.plain;
     }
-turn_did history j number h (Some ctx) programs agrees =
-    inside_did history j number (ticked h) (domain_of ctx) (slot_of ctx) _ refl programs agrees
+turn_did history j number h (Some ctx) programs zeros agrees =
+    inside_did history j number (ticked h) (domain_of ctx) (slot_of ctx) _ refl programs zeros agrees
 
-pub joint_did : (history : List Move) (m : Moment) → AreFrom 0 m.joint.domains → Agrees history m.joint.memory.plain →
+pub joint_did : (history : List Move) (m : Moment) → AreFrom 0 m.joint.domains → FreeInAll history m.joint →
+    Agrees history m.joint.memory.plain →
     let t = joint_step m in
-    TurnDid (step_moves history m.joint.domains (hart_in m.joint (next_hart m)).inside t.items) m.joint t
+    TurnDid history (step_moves history m.joint.domains (hart_in m.joint (next_hart m)).inside t.items) m.joint t
 unfolding joint_step
-joint_did history m programs agrees = turn_did history m.joint (next_hart m) _ _ programs agrees
+joint_did history m programs zeros agrees = turn_did history m.joint (next_hart m) _ _ programs zeros agrees

@@ -1,7 +1,8 @@
 -- What a step does to cloaked pages. It is told by the contexts and the regions of the program that makes the step, by
 -- what the program is answered in the step, and by the history before it: the instruction is the word that was stored
 -- last where the program counter points. No page, no frame and no page table is looked at.
-use Rattle.std.specs.Prelude.{ℕ, ◌%◌, Bool, true, false, List, [], ◌∷◌, map, slice_get, Option, Some, None, if◌then◌else◌}
+use Rattle.std.specs.Prelude.{ℕ, ◌%◌, Bool, true, false, List, [], ◌∷◌, map, slice_get, Option, Some, None, if◌then◌else◌, position, Result, Ok, Err}
+use Rattle.cloak_base.specs.Registers.{register}
 use Rattle.cloak_base.specs.declared.names.PageId.{PageId}
 use Rattle.rv_isa.specs.Table.{instruction}
 use Rattle.rv_isa.specs.declared.instr.Instr.{Instr}
@@ -12,21 +13,30 @@ use Rattle.cloak_model.specs.declared.item.Item.{Item}
 use Rattle.cloak_model.specs.declared.item.Item.TheVariants as item
 use Rattle.cloak_model.specs.declared.outcome.Effect.{Effect}
 use Rattle.cloak_model.specs.declared.outcome.Effect.TheVariants as does
+use Rattle.cloak_model.specs.declared.resource.MapFault.{MapFault}
+use Rattle.cloak_model.specs.declared.resource.Owner.TheVariants.{Space, File}
 use Rattle.cloak_model.specs.Effect.{effect}
 use Rattle.cloak_model.specs.Halves.{inward_half}
-use Rattle.cloak_model.specs.Resources.{page_at}
+use Rattle.cloak_model.specs.Resources.{page_at, new_resource}
 use Rattle.cloak_model.specs.Contexts.{Context, context_at, domain_of, slot_of}
 use Rattle.cloak_model.specs.DomainState.{Control, Domain}
 use Rattle.cloak_model.specs.Calls.{buffer, byte_address}
 use Rattle.cloak_model.specs.Fork.{copies, private_numbers}
-use Rattle.cloak_model.specs.Hypercalls.{Hypercall, ForkSpace, Exit, hypercall_of}
-use Rattle.latest_store.specs.Moves.{Move, Stores, Copies, Drops, Loads, latest_value}
+use Rattle.cloak_model.specs.Files.{holds_file}
+use Rattle.cloak_model.specs.Hypercalls as hyper
+use Rattle.cloak_model.specs.Hypercalls.{Hypercall, New, ForkSpace, Exit, hypercall_of}
+use Rattle.latest_store.specs.Moves.{Move, Stores, Copies, Zeros, Drops, Loads, latest_value}
 
--- A step of a program asks at most twice: mostly for its instruction, and then for what this is about. It does something
--- to pages only where both were granted.
+-- A step of a program asks at most twice: mostly for its instruction, and then for what this is about. Here is what it
+-- does where the first question, or where both were granted.
+
 abbrev pub is_granted : Item → Bool
 is_granted (item.Ok domain) = true
 is_granted _ = false
+
+abbrev pub first_granted : List Item → Bool
+first_granted [] = false
+first_granted (first ∷ later) = is_granted first
 
 abbrev pub both_granted : List Item → Bool
 both_granted (first ∷ second ∷ []) = if is_granted first then is_granted second else false
@@ -46,33 +56,52 @@ abbrev pub store_at : ℕ → ℕ → ℕ → Option PageId → List Move
 store_at address width value None = []
 store_at address width value (Some q) = Stores q (address % 4096) width value ∷ []
 
--- FORK copies each private resource of the caller's space; EXIT of the last context of a space drops them.
-unfoldable pub hypercall_moves : Hypercall → Control → Context → List Move
-hypercall_moves ForkSpace d c = map (λ (copy : ℕ × ℕ). Copies d.number copy.0 copy.1) (copies c.space d.resources)
-hypercall_moves Exit d c = map (λ (n : ℕ). Drops d.number n) (private_numbers c.space d.resources)
-hypercall_moves _ d c = []
+-- a resource that was made, where one was
+abbrev pub made_moves : ℕ → Result ℕ MapFault → List Move
+made_moves domain (Ok n) = Zeros domain n ∷ []
+made_moves domain (Err fault) = []
+
+-- FILE makes the resource of a file that is not there.
+abbrev pub file_moves : Control → Context → Option ℕ → List Move
+file_moves d c None =
+    made_moves d.number (new_resource (File (register c.regs 10)) (register c.regs 11) d.resources).answer
+file_moves d c (Some n) = []
+
+-- NEW makes a resource. FORK copies each private resource of the caller's space, and EXIT of the last context of a space
+-- drops them.
+unfoldable pub hypercall_moves : Hypercall → Control → Context → List Item → List Move
+hypercall_moves New d c told =
+    made_moves d.number (new_resource (Space c.space) (register c.regs 10) d.resources).answer
+hypercall_moves hyper.File d c told = file_moves d c (position (holds_file (register c.regs 10)) d.resources.held)
+hypercall_moves ForkSpace d c told =
+    if both_granted told then map (λ (copy : ℕ × ℕ). Copies d.number copy.0 copy.1) (copies c.space d.resources) else []
+hypercall_moves Exit d c told =
+    if both_granted told then map (λ (n : ℕ). Drops d.number n) (private_numbers c.space d.resources) else []
+hypercall_moves _ d c told = []
 
 -- an instruction that is an ecall
-unfoldable pub ecall_moves : Control → Context → Instr → List Move
-ecall_moves d c Ecall = hypercall_moves (hypercall_of c) d c
-ecall_moves d c _ = []
+unfoldable pub ecall_moves : Control → Context → Instr → List Item → List Move
+ecall_moves d c Ecall told = hypercall_moves (hypercall_of c) d c told
+ecall_moves d c _ told = []
 
 -- what an instruction does
-unfoldable pub effect_moves : Control → Context → Instr → Effect → List Move
-effect_moves d c i (does.Load rd address width is_signed) = load_at address width (page_for d c address)
-effect_moves d c i (does.Store address width value) = store_at address width value (page_for d c address)
-effect_moves d c i does.System = ecall_moves d c i
-effect_moves d c i _ = []
+unfoldable pub effect_moves : Control → Context → Instr → Effect → List Item → List Move
+effect_moves d c i (does.Load rd address width is_signed) told =
+    if both_granted told then load_at address width (page_for d c address) else []
+effect_moves d c i (does.Store address width value) told =
+    if both_granted told then store_at address width value (page_for d c address) else []
+effect_moves d c i does.System told = ecall_moves d c i told
+effect_moves d c i _ told = []
 
 -- a word, which may be an instruction
-unfoldable pub word_moves : Control → Context → Option Instr → List Move
-word_moves d c None = []
-word_moves d c (Some i) = effect_moves d c i (effect i c.regs c.pc)
+unfoldable pub word_moves : Control → Context → Option Instr → List Item → List Move
+word_moves d c None told = []
+word_moves d c (Some i) told = effect_moves d c i (effect i c.regs c.pc) told
 
 -- the word at the program counter
-unfoldable pub fetched_moves : List Move → Control → Context → Option PageId → List Move
-fetched_moves earlier d c None = []
-fetched_moves earlier d c (Some q) = word_moves d c (instruction (latest_value earlier q (c.pc % 4096) 4))
+unfoldable pub fetched_moves : List Move → Control → Context → Option PageId → List Item → List Move
+fetched_moves earlier d c None told = []
+fetched_moves earlier d c (Some q) told = word_moves d c (instruction (latest_value earlier q (c.pc % 4096) 4)) told
 
 -- READ: the byte that was told is stored at an address of the buffer, where this was granted
 abbrev pub byte_moves : ℕ → Option PageId → List Item → List Move
@@ -82,7 +111,7 @@ byte_moves address place _ = []
 -- A step by the context's phase: an instruction, a byte that is copied to the kernel, or one that is copied from it.
 unfoldable pub phase_moves : Phase → List Move → Control → Context → List Item → List Move
 phase_moves Plain earlier d c told =
-    if both_granted told then fetched_moves earlier d c (page_for d c c.pc) else []
+    if first_granted told then fetched_moves earlier d c (page_for d c c.pc) told else []
 phase_moves (CopyIn done) earlier d c told =
     let address = byte_address (buffer c) done in
     if both_granted told then load_at address 1 (page_for d c address) else []

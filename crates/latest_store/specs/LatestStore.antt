@@ -35,11 +35,11 @@ context_of_step b r n =
     (hart_in (joint_until n r) (slice_index b.kernel.schedule (n % length b.kernel.schedule))).inside
 
 -- the opening and the first n steps
-unfoldable pub history : Bundle → Run → ℕ → List Move
-history b r zero = made_programs 0 b.programs []
-history b r (suc n) =
-    with_moves (step_moves (history b r n) (joint_until n r).domains (context_of_step b r n)
-    (items_of_turn (slice_get r.turns n))) (history b r n)
+unfoldable pub history_until : Bundle → ℕ → Run → List Move
+history_until b zero r = made_programs 0 b.programs []
+history_until b (suc n) r =
+    with_moves (step_moves (history_until b n r) (joint_until n r).domains (context_of_step b r n)
+    (items_of_turn (slice_get r.turns n))) (history_until b n r)
 
 -- The law.
 
@@ -52,13 +52,13 @@ pub record IsLatest (history : List Move) (q : PageId) (bytes : List ℕ) : Type
 pub record GivesLatest (b : Bundle) (r : Run) : Type 0 where
   -- the loads that a program completed are those of the history, each with the value of the bytes stored last
   pub loads : (n : ℕ) → n ≤ length r.turns → (d : ℕ) (program : Domain) →
-      slice_get (joint_until n r).domains d ≡ Some program → program.loads ≡ loads_of d (history b r n)
+      slice_get (joint_until n r).domains d ≡ Some program → program.loads ≡ loads_of d (history_until b n r)
   -- each page has the bytes that were stored last
   pub pages : (n : ℕ) → n ≤ length r.turns → (q : PageId) →
-      IsLatest (history b r n) q ((joint_until n r).memory.plain q)
+      IsLatest (history_until b n r) q ((joint_until n r).memory.plain q)
   -- a step that is not the program's own, whatever it settles, moves or maps, changes nothing of what was stored last
   pub others : (n : ℕ) → suc n ≤ length r.turns → (q : PageId) → program_of_step b r n ≢ Some q.domain → (at : ℕ) →
-      latest (history b r (suc n)) q at ≡ latest (history b r n) q at
+      latest (history_until b (suc n) r) q at ≡ latest (history_until b n r) q at
 
 -- Every run of an image does.
 abbrev pub RunsGiveLatest : Type 0

@@ -11,7 +11,9 @@ pub data Move : Type 0 where
   Stores : PageId → ℕ → ℕ → ℕ → Move
   -- each page of the second resource of a domain is made as the page of the first
   Copies : ℕ → ℕ → ℕ → Move
-  -- the pages of a resource of a domain are dropped: what is made under its number later begins as zeros
+  -- the pages of a resource of a domain are made, as zeros
+  Zeros : ℕ → ℕ → Move
+  -- the pages of a resource of a domain are dropped
   Drops : ℕ → ℕ → Move
   -- a load of 1, 2 or 4 bytes at an address is completed, in the page that lies there
   Loads : PageId → ℕ → ℕ → Move
@@ -23,7 +25,7 @@ abbrev pub covers : ℕ → ℕ → ℕ → Bool
 covers from width at = nat_le from at && nat_lt at (from + width)
 
 -- The byte that was stored last at a place of a page since the page was made; where there was none, the byte with which
--- it was made, which is zero where nothing is told of it.
+-- it was made. Where there is no page there are zeros.
 unfoldable pub latest : List Move → PageId → ℕ → ℕ
 latest [] q at = 0
 latest (Makes p bytes ∷ earlier) q at = if same_page q p then slice_index bytes at else latest earlier q at
@@ -32,6 +34,7 @@ latest (Stores p from width value ∷ earlier) q at =
     latest earlier q at
 latest (Copies domain from to ∷ earlier) q at =
     if is_of domain to q then latest earlier (page_in from q) at else latest earlier q at
+latest (Zeros domain resource ∷ earlier) q at = if is_of domain resource q then 0 else latest earlier q at
 latest (Drops domain resource ∷ earlier) q at = if is_of domain resource q then 0 else latest earlier q at
 latest (Loads p address width ∷ earlier) q at = latest earlier q at
 
@@ -51,6 +54,7 @@ loads_of domain [] = []
 loads_of domain (Makes p bytes ∷ earlier) = loads_of domain earlier
 loads_of domain (Stores p from width value ∷ earlier) = loads_of domain earlier
 loads_of domain (Copies d from to ∷ earlier) = loads_of domain earlier
+loads_of domain (Zeros d resource ∷ earlier) = loads_of domain earlier
 loads_of domain (Drops d resource ∷ earlier) = loads_of domain earlier
 loads_of domain (Loads q address width ∷ earlier) =
     let before = loads_of domain earlier in
