@@ -10,10 +10,13 @@
 #![tactic(auto)]
 
 mod entry;
+mod places;
 mod shadows;
 
 pub use shadow_fold::{Entry, ShadowCounts, ShadowView};
 pub use shadows::Shadows;
 
+#[cfg(test)]
+mod plain;
 #[cfg(test)]
 mod tests;

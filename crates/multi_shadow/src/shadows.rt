@@ -1,34 +1,54 @@
-ghost use Rattle.std.specs.Prelude.{◌≡◌, ◌∷◌, false, length, find, IfOk};
+ghost use Rattle.std.specs.Prelude.{◌≡◌, ◌∷◌, ◌<◌, ◌≤◌, true, false, length, find, IfOk};
 ghost use Rattle.std.specs.List.Sorted.{IsPermutation};
 ghost use Rattle.shadow_fold.specs.Entries.{is_for, is_target, is_table, is_of_space, IsWithin};
 ghost use Rattle.shadow_fold.specs.Table.{empty_table, is_known, looked, ending, emptied, with_room, with_live};
 
-use crate::entry::{is_for, is_of_space, is_table, is_target};
-use cloak_base::{Frame, Kind, NoMemory, SpaceId};
+use crate::places::{place, prune_all, prune_frame, search};
+use chain_arena::{Chain, ChainArena};
+use cloak_base::{Frame, Kind, Mode, NoMemory, SpaceId};
 use shadow_fold::{Entry, ShadowCounts, ShadowView};
 use std::alloc::Global;
 use std::marker::Model;
 
 /// How many entries may be live.
-const ROOM: usize = 1024;
+const ROOM: u32 = 1024;
+
+/// What lies in a slot that is not in use.
+const NO_ENTRY: Entry = Entry {
+    view: ShadowView::Outside {
+        satp: 0,
+        mode: Mode::U,
+        sum: false,
+        mxr: false,
+    },
+    page: 0,
+    kind: Kind::Fetch,
+    frame: Frame(0),
+    pt1: None,
+    pt0: None,
+    cloaked: None,
+};
 
 /// The live entries and their counts.
 #[derive(Drop)]
 pub struct Shadows {
     frames: u32,
-    live: Vec<Entry>,
+    heads: u32,
+    arena: ChainArena<Entry>,
     counts: ShadowCounts,
 }
 
 impl Model for Shadows {
-    ghost use Rattle.std.specs.Prelude.{◌≤◌, length, vec_len, vec_capacity};
     ghost use Rattle.shadow_fold.specs.Table.{Table};
+    ghost use Rattle.multi_shadow.specs.Placed.{live_in};
 
     ghost Value = { Table };
 
-    ghost view = { λ s. record { frames = s.frames; live = s.live.items; counts = s.counts } };
+    ghost view = { λ s. record { frames = s.frames; live = live_in s.arena.payloads; counts = s.counts } };
 
-    ghost invariant = { λ s. (vec_len s.live ≤ 1024) × (1024 ≤ vec_capacity s.live) };
+    ghost use Rattle.multi_shadow.specs.Kept.{AreKept};
+
+    ghost invariant = { AreKept };
 }
 
 impl Shadows {
@@ -36,7 +56,8 @@ impl Shadows {
     pub fn open(alloc: Global, frames: u32) -> Result<Shadows, NoMemory>
         ensures { IfOk result (λ s. s ≡ empty_table frames) }
     {
-        let live = Vec::with_capacity(alloc, ROOM)?;
+        let heads = frames.max(1);
+        let arena = ChainArena::open(alloc, ROOM, heads, NO_ENTRY)?;
         let counts = ShadowCounts {
             accesses: 0,
             misses: 0,
@@ -44,7 +65,8 @@ impl Shadows {
         };
         Ok(Shadows {
             frames,
-            live,
+            heads,
+            arena,
             counts,
         })
     }
@@ -55,7 +77,7 @@ impl Shadows {
         ensures counted { self.new ≡ looked v.now page kind self.old }
     {
         self.counts.accesses = self.counts.accesses.saturating_add(1);
-        let found = self.live.iter().find(|e| is_for(e, v, page, kind)).copied();
+        let found = search(&self.arena, self.heads, v, page, kind);
         if found.is_none() {
             self.counts.misses = self.counts.misses.saturating_add(1);
         }
@@ -69,45 +91,52 @@ impl Shadows {
         ensures live { IsPermutation (e ∷ (with_room self.old).live) self.new.live }
         ensures rest { self.new ≡ with_live self.new.live (with_room self.old) }
     {
-        self.make_room();
-        let _ = self.live.push(e);
+        if !self.put(e) {
+            self.flush();
+            let _ = self.put(e);
+        }
     }
 
-    /// Where 1024 entries are live, ends all.
-    fn make_room(&mut self)
-        ensures { self.new ≡ with_room self.old }
+    /// The entry becomes live where there is room.
+    fn put(&mut self, e: Entry) -> bool
+        requires unknown { is_known e.view e.page e.kind self.old ≡ false }
+        requires within { IsWithin self.old.frames e }
+        ensures full { result ≡ false → 1024 ≤ length self.old.live }
+        ensures unchanged { result ≡ false → self.new ≡ self.old }
+        ensures room { result ≡ true → length self.old.live < 1024 }
+        ensures live { result ≡ true → IsPermutation (e ∷ self.old.live) self.new.live }
+        ensures rest { result ≡ true → self.new ≡ with_live self.new.live self.old }
     {
-        if self.live.len() >= ROOM {
-            self.flush();
-        }
+        place(&mut self.arena, self.heads, e)
     }
 
     /// Ends the entries that lead to this frame.
     pub fn kill_target(&mut self, f: Frame)
         ensures { self.new ≡ ending (is_target f) self.old }
     {
-        self.live.retain(|e| !is_target(f, e));
+        prune_frame(&mut self.arena, self.heads, Chain::Target, f);
     }
 
     /// Ends the entries of which this is a table frame.
     pub fn kill_dependents(&mut self, f: Frame)
         ensures { self.new ≡ ending (is_table f) self.old }
     {
-        self.live.retain(|e| !is_table(f, e));
+        prune_frame(&mut self.arena, self.heads, Chain::First, f);
+        prune_frame(&mut self.arena, self.heads, Chain::Second, f);
     }
 
     /// Ends the entries of the views of this space.
     pub fn kill_space(&mut self, s: SpaceId)
         ensures { self.new ≡ ending (is_of_space s) self.old }
     {
-        self.live.retain(|e| !is_of_space(s, e));
+        prune_all(&mut self.arena, self.heads, Some(s));
     }
 
     /// Ends all entries, and counts it.
     pub fn flush(&mut self)
         ensures { self.new ≡ emptied self.old }
     {
-        self.live.clear();
+        prune_all(&mut self.arena, self.heads, None);
         self.counts.flushes = self.counts.flushes.saturating_add(1);
     }
 

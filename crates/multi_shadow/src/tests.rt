@@ -1,10 +1,12 @@
-ghost use Rattle.std.specs.Prelude.{◌≡◌, false, None};
+ghost use Rattle.std.specs.Prelude.{◌≡◌, ◌<◌, false, None, IfSome};
 ghost use Rattle.cloak_base.specs.declared.names.Kind.TheVariants.{Load};
 ghost use Rattle.cloak_base.specs.declared.names.Mode.TheVariants.{S};
+ghost use Rattle.shadow_fold.specs.Entries.{IsWithin};
 ghost use Rattle.shadow_fold.specs.declared.entry.ShadowView.TheVariants.{Outside};
 
 use super::*;
-use cloak_base::{Frame, Kind, Mode};
+use crate::plain::PlainShadows;
+use cloak_base::{Frame, Kind, Mode, SpaceId};
 use std::test::Fail;
 
 const BARE: ShadowView = ShadowView::Outside {
@@ -47,5 +49,127 @@ fn ends_all_for_the_1025th(rt: HostRuntime) -> Result<(), Fail> {
             flushes: 1
         }
     );
+    Ok(())
+}
+
+fn next_word(word: u32) -> u32 {
+    word.wrapping_mul(1664525).wrapping_add(1013904223)
+}
+
+fn view_of(word: u32) -> ShadowView {
+    let satp = word / 8 % 2;
+    let sum = word % 2 == 1;
+    match word / 2 % 4 {
+        0 => ShadowView::Outside {
+            satp,
+            mode: Mode::S,
+            sum,
+            mxr: false,
+        },
+        1 => ShadowView::Outside {
+            satp,
+            mode: Mode::U,
+            sum,
+            mxr: false,
+        },
+        n => ShadowView::Inside {
+            satp,
+            sum,
+            mxr: false,
+            space: SpaceId {
+                domain: n,
+                number: word / 16 % 2,
+            },
+        },
+    }
+}
+
+fn kind_of(word: u32) -> Kind {
+    match word % 3 {
+        0 => Kind::Fetch,
+        1 => Kind::Load,
+        _ => Kind::Store,
+    }
+}
+
+fn frame_of(word: u32) -> Option<Frame>
+    ensures { IfSome result (λ f. f.0 < 64) }
+{
+    if word % 4 == 0 {
+        None
+    } else {
+        Some(Frame(word / 4 % 64))
+    }
+}
+
+/// Some entry of 64 frames.
+fn entry_of(word: u32) -> Entry
+    ensures { IsWithin 64 result }
+{
+    Entry {
+        view: view_of(word / 1024),
+        page: word / 4096 % 256,
+        kind: kind_of(word / 256),
+        frame: Frame(word / 65536 % 64),
+        pt1: frame_of(word / 128),
+        pt0: frame_of(word / 8192),
+        cloaked: None,
+    }
+}
+
+/// Looks for the entry's page, and makes the entry live where it is not known.
+fn look(shadows: &mut Shadows, e: Entry) -> Option<Entry>
+    requires { IsWithin shadows.old.frames e }
+    ensures { shadows.new.frames ≡ shadows.old.frames }
+{
+    let found = shadows.find(&e.view, e.page, e.kind);
+    if found.is_none() {
+        shadows.insert(e);
+    }
+    found
+}
+
+/// Ends some entries, now and then.
+fn end_some(shadows: &mut Shadows, plain: &mut PlainShadows, i: u32, word: u32)
+    ensures { shadows.new.frames ≡ shadows.old.frames }
+{
+    let f = Frame(word / 512 % 70);
+    let s = SpaceId {
+        domain: 2,
+        number: word / 16 % 2,
+    };
+    if i % 97 == 0 {
+        shadows.kill_target(f);
+        plain.kill_target(f);
+    } else if i % 131 == 0 {
+        shadows.kill_dependents(f);
+        plain.kill_dependents(f);
+    } else if i % 1999 == 0 {
+        shadows.kill_space(s);
+        plain.kill_space(s);
+    } else if i % 4999 == 0 {
+        shadows.flush();
+        plain.flush();
+    }
+}
+
+#[test]
+fn finds_what_a_plain_list_finds(rt: HostRuntime) -> Result<(), Fail> {
+    let mut shadows = Shadows::open(rt.alloc(), 64)?;
+    let mut plain = PlainShadows::open(rt.alloc())?;
+    let mut word = 1;
+    for i in 1..10000 {
+        word = next_word(word);
+        let e = entry_of(word);
+        let expected = plain.find(&e.view, e.page, e.kind);
+        if expected.is_none() {
+            plain.insert(e);
+        }
+        assert_eq!(rt; look(&mut shadows, e), expected);
+        end_some(&mut shadows, &mut plain, i, word);
+    }
+    assert_eq!(rt; shadows.counts(), plain.counts);
+    assert!(rt; plain.counts.flushes > 3);
+    assert!(rt; plain.counts.misses < plain.counts.accesses);
     Ok(())
 }

@@ -89,11 +89,11 @@ filter_twice p q [] = refl
 filter_twice p q (e ∷ xs) = twice (p e) (q e) e (filter (λ x. not (p x)) xs) (filter (λ x. not (p x || q x)) xs) q refl (filter_twice p q xs)
 
 -- entries end by one test and then by another
-ending_twice : (p q : Entry → Bool) (t : Table) → ending q (ending p t) ≡ ending (λ e. p e || q e) t
+pub ending_twice : (p q : Entry → Bool) (t : Table) → ending q (ending p t) ≡ ending (λ e. p e || q e) t
 unfolding ending
 ending_twice p q t = λ i. record t { live = filter_twice p q t.live i }
 
-ending_like : (p q : Entry → Bool) (t : Table) → ((e : Entry) → p e ≡ q e) → ending p t ≡ ending q t
+pub ending_like : (p q : Entry → Bool) (t : Table) → ((e : Entry) → p e ≡ q e) → ending p t ≡ ending q t
 unfolding ending
 ending_like p q t same = λ i. record t { live = filter_like (λ e. not (p e)) (λ e. not (q e)) t.live (λ e. ap not (same e)) i }
 

@@ -1,10 +1,14 @@
-use Rattle.std.proofs.Common.{◌∙◌, ap}
-use Rattle.shadow_fold.specs.Table.{emptied}
-use Rattle.multi_shadow.proofs.Tables.{table}
+use Rattle.std.proofs.Common.{true, ap, ◌∙◌}
+use Rattle.shadow_fold.specs.Table.{ending, emptied}
+use Rattle.multi_shadow.proofs.Ending.{after_ending, filter_none, table_of}
+use Rattle.multi_shadow.specs.Placed.{live_in}
 use Rattle.multi_shadow.proofs.shadows.Shadows.flush.Goals as goal
 
 pub returns : goal.returns
-unfolding emptied
+unfolding emptied ending
 returns c =
-    let s = c.self.inside in
-    (λ i. table s.frames (c.clear.ensures.items i) s.counts.accesses s.counts.misses (c.saturating_add-self-inside.ensures i)) ∙ ap emptied c.self.view_is
+    let s = c.self.inside in let now = c.prune_all.ensures in
+    let none = ap (λ t. t.live) (after_ending s.frames (λ e. true) s.arena c.prune_all.new.arena s.counts now.long now.ended now.kept)
+    ∙ filter_none (live_in s.arena.payloads) in
+    (λ i. table_of s.frames (none i) (record (s.counts) { flushes = c.saturating_add-self-inside.ensures i }))
+    ∙ ap emptied c.self.view_is

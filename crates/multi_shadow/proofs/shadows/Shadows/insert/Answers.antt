@@ -1,21 +1,38 @@
-use Rattle.std.proofs.Common.{◌∙◌, ◌<◌, ◌≡◌, ◌++◌, [], ◌∷◌, length, ap, sym, subst, rules}
-use Rattle.shadow_fold.specs.Table.{with_live}
-use Rattle.multi_shadow.proofs.Tables.{pushed, room}
+use Rattle.std.proofs.Common.{◌≡◌, ◌≤◌, ◌<◌, ◌∷◌, true, false, length, refl, sym, ap, subst, arith, ◌∙◌}
+use Rattle.std.specs.List.Sorted.{IsPermutation}
+use Rattle.shadow_fold.specs.Entries.{IsWithin}
+use Rattle.shadow_fold.specs.Table.{is_known, emptied, with_room, with_live}
+use Rattle.multi_shadow.proofs.Pruning.{not_false}
+use Rattle.multi_shadow.proofs.Tables.{full, roomy, none_known, never_full, none_frames}
 use Rattle.multi_shadow.proofs.shadows.Shadows.insert.Goals as goal
 
--- there is room for the entry
-few : (c : goal.After-push) → length c.self.inside.live.items < 1024
-few c = subst (λ t. length t.live < 1024) (sym (c.self.view_is ∙ c.make_room.ensures)) (room c.args.self.now)
+pub put-requires-then-not-put-clause-unknown : goal.put-requires-then-not-put-clause-unknown
+put-requires-then-not-put-clause-unknown c =
+    let e = c.args.e in ap (is_known e.view e.page e.kind) c.flush.ensures ∙ none_known e.view e.page e.kind c.put.new.self
 
--- so it is put at the end
-at_end : (c : goal.After-push) → c.push.new.self.items ≡ c.self.inside.live.items ++ c.args.e ∷ []
-at_end c = search (rules, few c)
+pub put-requires-then-not-put-clause-within : goal.put-requires-then-not-put-clause-within
+put-requires-then-not-put-clause-within c =
+    subst (λ n. IsWithin n c.args.e)
+    (sym (ap (λ t. t.frames) c.flush.ensures ∙ none_frames c.put.new.self ∙ ap (λ t. t.frames) (c.if-not-put.ensures.unchanged refl)))
+    c.requires.within
 
-pub invariant_of-self : goal.invariant_of-self
-invariant_of-self c = search (rules, few c)
+pub returns-then-not-put-clause-live : goal.returns-then-not-put-clause-live
+returns-then-not-put-clause-live c =
+    let e = c.args.e in
+    let room = c.flush.ensures ∙ ap emptied (c.if-not-put.ensures.unchanged refl) ∙ sym (full c.args.self.now (c.if-not-put.ensures.full refl)) in
+    let done = not_false c.put-then-not-put.result (λ fails. never_full c.put.new.self c.flush.new.self c.flush.ensures (c.put-then-not-put.ensures.full fails)) in
+    subst (λ t. IsPermutation (e ∷ t.live) c.put-then-not-put.new.self.live) room (c.put-then-not-put.ensures.live done)
 
-pub returns-clause-live : goal.returns-clause-live
-returns-clause-live c = pushed c.args.e _ _ (at_end c ∙ ap (λ t. t.live ++ c.args.e ∷ []) (c.self.view_is ∙ c.make_room.ensures))
+pub returns-then-not-put-clause-rest : goal.returns-then-not-put-clause-rest
+returns-then-not-put-clause-rest c =
+    let room = c.flush.ensures ∙ ap emptied (c.if-not-put.ensures.unchanged refl) ∙ sym (full c.args.self.now (c.if-not-put.ensures.full refl)) in
+    let done = not_false c.put-then-not-put.result (λ fails. never_full c.put.new.self c.flush.new.self c.flush.ensures (c.put-then-not-put.ensures.full fails)) in
+    c.put-then-not-put.ensures.rest done ∙ ap (with_live c.put-then-not-put.new.self.live) room
 
-pub returns-clause-rest : goal.returns-clause-rest
-returns-clause-rest c = ap (with_live c.push.new.self.items) (c.self.view_is ∙ c.make_room.ensures)
+pub returns-else-not-put-clause-live : goal.returns-else-not-put-clause-live
+returns-else-not-put-clause-live c =
+    subst (λ t. IsPermutation (c.args.e ∷ t.live) c.put.new.self.live) (sym (roomy c.args.self.now (c.if-not-put.ensures.room refl))) (c.if-not-put.ensures.live refl)
+
+pub returns-else-not-put-clause-rest : goal.returns-else-not-put-clause-rest
+returns-else-not-put-clause-rest c =
+    c.if-not-put.ensures.rest refl ∙ ap (with_live c.put.new.self.live) (sym (roomy c.args.self.now (c.if-not-put.ensures.room refl)))

@@ -1,12 +1,37 @@
-use Rattle.std.proofs.Common.{rules, not, ap, ◌∙◌}
-use Rattle.std.proofs.lemmas.Fn.{filter_same}
-use Rattle.shadow_fold.specs.Entries.{is_table}
+use Rattle.std.proofs.Common.{◌≡◌, ◌||◌, Bool, false, sym, ap, ◌∙◌}
+use Rattle.shadow_fold.specs.declared.entry.Entry.{Entry}
+use Rattle.shadow_fold.specs.Entries.{is_table, is_frame}
 use Rattle.shadow_fold.specs.Table.{ending}
-use Rattle.multi_shadow.proofs.Tables.{table}
+use Rattle.shadow_fold.proofs.Follows.{ending_twice}
+use Rattle.multi_shadow.proofs.Placing.{fewer_apart}
+use Rattle.multi_shadow.proofs.Ending.{after_ending, frame_hangs}
 use Rattle.multi_shadow.proofs.shadows.Shadows.kill_dependents.Goals as goal
 
+pub invariant_of-self : goal.invariant_of-self
+invariant_of-self c =
+    let inv = c.self.invariant in let one = c.prune_frame.ensures in let two = c.prune_frame-2.ensures in
+    record {
+      slots = two.long ∙ one.long ∙ inv.slots;
+      heads = inv.heads ∙ sym one.heads ∙ sym two.heads;
+      some = inv.some;
+      enough = inv.enough;
+      placed = two.placed;
+      apart = fewer_apart c.self.inside.arena c.prune_frame-2.new.arena inv.apart
+          (λ t e l. (one.ended t e (two.ended t e l).0).0);
+    }
+
 pub returns : goal.returns
-unfolding ending
+unfolding is_table
 returns c =
-    let s = c.self.inside in
-    ap (λ l. table s.frames l s.counts.accesses s.counts.misses s.counts.flushes) (filter_same _ (λ e. not (is_table c.args.f e)) _ (λ x b f' k. search rules) _ _ c.retain.ensures.filtered) ∙ ap (ending (is_table c.args.f)) c.self.view_is
+    let s = c.self.inside in let f = c.args.f in
+    let B = c.prune_frame.new.arena in let C = c.prune_frame-2.new.arena in
+    let one = c.prune_frame.ensures in let two = c.prune_frame-2.ensures in
+    let first : Entry → Bool = λ e. is_frame f e.pt1 in
+    let second : Entry → Bool = λ e. is_frame f e.pt0 in
+    after_ending s.frames second B C s.counts two.long
+    (λ t e l. let o = two.ended t e l in (o.0, sym (frame_hangs f e.pt0) ∙ o.1))
+    (λ t e l miss. two.kept t e l (frame_hangs f e.pt0 ∙ miss))
+    ∙ ap (ending second) (after_ending s.frames first s.arena B s.counts one.long
+    (λ t e l. let o = one.ended t e l in (o.0, sym (frame_hangs f e.pt1) ∙ o.1))
+    (λ t e l miss. one.kept t e l (frame_hangs f e.pt1 ∙ miss)) ∙ ap (ending first) c.self.view_is)
+    ∙ ending_twice first second c.args.self.now

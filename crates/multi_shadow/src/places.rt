@@ -1,0 +1,238 @@
+//! Live entries in an arena: each stands in the chains of what it hangs on, so that whatever ends entries finds them by
+//! one chain.
+ghost use Rattle.std.specs.Prelude.{◌≡◌, ◌<◌, ℕ, length, slice_get, slice_set, find, Some, None, IfSome, true, false};
+ghost use Rattle.chain_arena.specs.declared.chain.Chain.{Chain};
+ghost use Rattle.chain_arena.specs.Arena.{IsFree, IsInUse, Stands, chains, chain_at, unhooked, IsTidyArena};
+ghost use Rattle.multi_shadow.specs.Placed as spec;
+ghost use Rattle.multi_shadow.specs.Placed.{ArePlaced, AreApart, LiesAt, live_in, entered, without_if, emptied_if};
+ghost use Rattle.multi_shadow.specs.Placed.{all_entered, hangs_on, is_hit};
+ghost use Rattle.chain_arena.specs.Chains.{without};
+ghost use Rattle.shadow_fold.specs.Agreement.{satp_in};
+ghost use Rattle.shadow_fold.specs.Entries as entries;
+ghost use Rattle.shadow_fold.specs.Entries.{IsWithin};
+ghost use Rattle.shadow_fold.specs.declared.entry.Entry.{Entry};
+
+use crate::entry::{is_for, is_of_space};
+use chain_arena::{Chain, ChainArena, Slot};
+use cloak_base::{Frame, Kind, SpaceId};
+use shadow_fold::{Entry, ShadowView};
+
+fn kind_number(kind: Kind) -> u64
+    ensures { result ≡ spec.kind_number kind }
+{
+    match kind {
+        Kind::Fetch => 0,
+        Kind::Load => 1,
+        Kind::Store => 2,
+    }
+}
+
+fn satp_of(v: &ShadowView) -> u32
+    ensures { result ≡ satp_in v.now }
+{
+    match *v {
+        ShadowView::Outside { satp, .. } => satp,
+        ShadowView::Inside { satp, .. } => satp,
+    }
+}
+
+/// The bucket of a view, page and kind.
+#[tactic(auto, unfolding(crate::specs::Placed::bucket_of))]
+fn bucket_of(heads: u32, v: &ShadowView, page: u32, kind: Kind) -> u32
+    requires { 0 < heads }
+    ensures within { result < heads }
+    ensures bucket { result ≡ spec.bucket_of heads v.now page kind }
+{
+    let number = 4 * u64::from(page) + kind_number(kind) + 37 * u64::from(satp_of(v));
+    (number % u64::from(heads)) as u32
+}
+
+fn number_of(f: Option<Frame>) -> Option<u32>
+    ensures { result ≡ spec.number_of f }
+{
+    match f {
+        Some(g) => Some(g.0),
+        None => None,
+    }
+}
+
+/// Whether an entry is of this space; without a space every entry is wanted.
+fn is_wanted(space: Option<SpaceId>, e: &Entry) -> bool
+    ensures { result ≡ spec.is_wanted space e.now }
+{
+    match space {
+        Some(s) => is_of_space(s, e),
+        None => true,
+    }
+}
+
+/// Puts the slot first in the chain of this head, where there is one.
+fn enter(arena: &mut ChainArena<Entry>, s: Slot, c: Chain, head: Option<u32>)
+    requires tidy { IsTidyArena arena.old }
+    requires in_use { IsInUse arena.old s }
+    requires within { IfSome head (λ h. h < arena.old.heads) }
+    requires apart { Stands arena.old c s → ⊥ }
+    ensures entered { arena.new ≡ entered arena.old c head s }
+    ensures tidy { IsTidyArena arena.new }
+{
+    if let Some(h) = head {
+        arena.hook(s, c, h);
+    }
+}
+
+/// Takes the slot out of its chain of this kind, if it stands in one.
+fn leave(arena: &mut ChainArena<Entry>, s: Slot, c: Chain, stands: bool)
+    requires long { (c : Chain) → length (chains arena.old c) ≡ arena.old.heads }
+    requires in_use { IsInUse arena.old s }
+    requires stands { stands ≡ true → Stands arena.old c s }
+    requires out { stands ≡ false → Stands arena.old c s → ⊥ }
+    ensures { arena.new ≡ unhooked arena.old c s }
+{
+    if stands {
+        arena.unhook(s, c);
+    }
+}
+
+/// Puts the slot of an entry into all its chains.
+fn enter_all(arena: &mut ChainArena<Entry>, heads: u32, s: Slot, e: Entry)
+    requires tidy { IsTidyArena arena.old }
+    requires lies { LiesAt arena.old s e }
+    requires apart { (c : Chain) → Stands arena.old c s → ⊥ }
+    requires heads { heads ≡ arena.old.heads }
+    requires some { 0 < heads }
+    requires within { IsWithin heads e }
+    ensures entered { arena.new ≡ all_entered arena.old s e }
+    ensures tidy { IsTidyArena arena.new }
+{
+    let bucket = bucket_of(heads, &e.view, e.page, e.kind);
+    enter(arena, s, Chain::Bucket, Some(bucket));
+    enter(arena, s, Chain::Target, Some(e.frame.0));
+    enter(arena, s, Chain::First, number_of(e.pt1));
+    enter(arena, s, Chain::Second, number_of(e.pt0));
+}
+
+/// Puts an entry into a free slot and into its chains. False where all slots are in use.
+pub(crate) fn place(arena: &mut ChainArena<Entry>, heads: u32, e: Entry) -> bool
+    requires placed { ArePlaced arena.old }
+    requires heads { heads ≡ arena.old.heads }
+    requires some { 0 < heads }
+    requires within { IsWithin heads e }
+    ensures full { result ≡ false → (s : ℕ) → IsFree arena.old s → ⊥ }
+    ensures unchanged { result ≡ false → arena.new ≡ arena.old }
+    ensures put { result ≡ true → (s : ℕ) × IsFree arena.old s × (arena.new.payloads ≡ slice_set arena.old.payloads s (Some e)) }
+    ensures placed { ArePlaced arena.new }
+    ensures heads { arena.new.heads ≡ arena.old.heads }
+{
+    match arena.take(e) {
+        Some(s) => {
+            enter_all(arena, heads, s, e);
+            true
+        }
+        None => false,
+    }
+}
+
+/// Takes an entry out of all its chains, and gives its slot back.
+fn remove(arena: &mut ChainArena<Entry>, s: Slot)
+    requires placed { ArePlaced arena.old }
+    requires in_use { IsInUse arena.old s }
+    ensures placed { ArePlaced arena.new }
+    ensures heads { arena.new.heads ≡ arena.old.heads }
+    ensures payloads { arena.new.payloads ≡ slice_set arena.old.payloads s None }
+    ensures chains { (c : Chain) (h : ℕ) → chain_at arena.new c h ≡ without s (chain_at arena.old c h) }
+{
+    let e = arena.payload(s);
+    leave(arena, s, Chain::Bucket, true);
+    leave(arena, s, Chain::Target, true);
+    leave(arena, s, Chain::First, e.pt1.is_some());
+    leave(arena, s, Chain::Second, e.pt0.is_some());
+    arena.give_back(s);
+}
+
+/// The same, where that is wanted.
+fn remove_if(arena: &mut ChainArena<Entry>, s: Slot, wanted: bool)
+    requires placed { ArePlaced arena.old }
+    requires in_use { IsInUse arena.old s }
+    ensures placed { ArePlaced arena.new }
+    ensures heads { arena.new.heads ≡ arena.old.heads }
+    ensures payloads { arena.new.payloads ≡ emptied_if wanted s arena.old.payloads }
+    ensures chains { (c : Chain) (h : ℕ) → chain_at arena.new c h ≡ without_if wanted s (chain_at arena.old c h) }
+{
+    if wanted {
+        remove(arena, s);
+    }
+}
+
+/// Ends the entries in the chain of one head: those of a space, or all.
+pub(crate) fn prune(arena: &mut ChainArena<Entry>, c: Chain, head: u32, space: Option<SpaceId>)
+    requires placed { ArePlaced arena.old }
+    requires within { head < arena.old.heads }
+    ensures placed { ArePlaced arena.new }
+    ensures heads { arena.new.heads ≡ arena.old.heads }
+    ensures long { length arena.new.payloads ≡ length arena.old.payloads }
+    ensures ended { (s : ℕ) (e : Entry) → LiesAt arena.new s e → LiesAt arena.old s e × (is_hit arena.old.heads c head space e ≡ false) }
+    ensures kept { (s : ℕ) (e : Entry) → LiesAt arena.old s e → is_hit arena.old.heads c head space e ≡ false → LiesAt arena.new s e }
+{
+    let mut at = arena.first(c, head);
+    while let Some(s) = at {
+        let e = arena.payload(s);
+        at = arena.next(s, c);
+        remove_if(arena, s, is_wanted(space, &e));
+    }
+}
+
+/// Ends the entries that hang on a frame, by one kind of chains.
+pub(crate) fn prune_frame(arena: &mut ChainArena<Entry>, heads: u32, c: Chain, f: Frame)
+    requires placed { ArePlaced arena.old }
+    requires heads { heads ≡ arena.old.heads }
+    ensures placed { ArePlaced arena.new }
+    ensures heads { arena.new.heads ≡ arena.old.heads }
+    ensures long { length arena.new.payloads ≡ length arena.old.payloads }
+    ensures ended { (s : ℕ) (e : Entry) → LiesAt arena.new s e → LiesAt arena.old s e × (hangs_on arena.old.heads c f.0 e ≡ false) }
+    ensures kept { (s : ℕ) (e : Entry) → LiesAt arena.old s e → hangs_on arena.old.heads c f.0 e ≡ false → LiesAt arena.new s e }
+{
+    if f.0 < heads {
+        prune(arena, c, f.0, None);
+    }
+}
+
+/// Ends all entries, or all of a space.
+pub(crate) fn prune_all(arena: &mut ChainArena<Entry>, heads: u32, space: Option<SpaceId>)
+    requires placed { ArePlaced arena.old }
+    requires heads { heads ≡ arena.old.heads }
+    ensures placed { ArePlaced arena.new }
+    ensures heads { arena.new.heads ≡ arena.old.heads }
+    ensures long { length arena.new.payloads ≡ length arena.old.payloads }
+    ensures ended { (s : ℕ) (e : Entry) → LiesAt arena.new s e → LiesAt arena.old s e × (spec.is_wanted space e ≡ false) }
+    ensures kept { (s : ℕ) (e : Entry) → LiesAt arena.old s e → spec.is_wanted space e ≡ false → LiesAt arena.new s e }
+{
+    for head in 0..heads {
+        prune(arena, Chain::Bucket, head, space);
+    }
+}
+
+/// The entry of a view, page and kind, by the chain of its bucket.
+pub(crate) fn search(
+    arena: &ChainArena<Entry>,
+    heads: u32,
+    v: &ShadowView,
+    page: u32,
+    kind: Kind,
+) -> Option<Entry>
+    requires placed { ArePlaced arena.now }
+    requires apart { AreApart arena.now }
+    requires heads { heads ≡ arena.now.heads }
+    requires some { 0 < heads }
+    ensures { result ≡ find (entries.is_for v.now page kind) (live_in arena.now.payloads) }
+{
+    let bucket = bucket_of(heads, v, page, kind);
+    let mut at = arena.first(Chain::Bucket, bucket);
+    while let Some(s) = at {
+        let e = arena.payload(s);
+        if is_for(&e, v, page, kind) {
+            return Some(e);
+        }
+        at = arena.next(s, Chain::Bucket);
+    }
+    None
+}
