@@ -1,7 +1,7 @@
 //! Writes a hostile image: `hostile_images NUMBER FILE` writes the image of this number (0 to 23) to this file.
 //!
-//! The exit status is 0 where it was written, 2 where the words are others, 5 where the file could not be written, and 6
-//! where there is not enough memory.
+//! The exit status is 0 where it was written, 2 where the words are others, 5 where the file could not be written, and
+//! 6 where there is not enough memory.
 #![tactic(auto)]
 
 ghost use Rattle.std.specs.Prelude.{◌≡◌, ◌<◌, IfOk, IfSome};
@@ -20,7 +20,7 @@ const USAGE: &[u8] = b"the words are a number, 0 to 23, and the name of a file\n
 
 /// The bytes of the file of a number's image.
 fn file_bytes(alloc: Global, number: u32) -> Result<Vec<u8>, NoMemory>
-    requires { number < 24 }
+    requires { number < IMAGES }
     ensures { IfOk result (λ bytes. bytes.items ≡ bundle_bytes (hostile_image number)) }
 {
     let image = hostile(alloc, number)?;
@@ -29,7 +29,7 @@ fn file_bytes(alloc: Global, number: u32) -> Result<Vec<u8>, NoMemory>
 
 /// Writes an image, and gives the exit status.
 fn write_image(rt: &HostRuntime, number: u32, file: &str) -> u8
-    requires { number < 24 }
+    requires { number < IMAGES }
 {
     match file_bytes(rt.alloc(), number) {
         Ok(bytes) if fs::write(rt, file, bytes.as_slice()).is_ok() => 0,
@@ -40,7 +40,7 @@ fn write_image(rt: &HostRuntime, number: u32, file: &str) -> u8
 
 /// The number of an image, where the word is one.
 fn image_number(word: &str) -> Option<u32>
-    ensures { IfSome result (λ number. number < 24) }
+    ensures { IfSome result (λ number. number < IMAGES) }
 {
     let number = word.parse::<u32>().ok()?;
     (number < IMAGES).then_some(number)

@@ -1,4 +1,4 @@
--- The hostile images by their numbers: this project's own. Their kernels and programs are the tables of words beside the
+-- The hostile images by their numbers: this project's own. Kernels and programs are the tables of words beside the
 -- texts in `src/images`; here stands what is around them.
 use Rattle.std.specs.Prelude.{ℕ, ◌+◌, List, [], ◌∷◌, slice_index_or}
 use Rattle.cloak_model.specs.declared.image.Segment.{Segment}
@@ -94,15 +94,22 @@ image_6 = small (low resumes_what_never_was.KERNEL.now []) 0 (one_page 8 0x80008
 
 -- 7. Two cloaked pages are mapped to one frame.
 unfoldable pub image_7 : Bundle
-image_7 = large maps_two_pages_to_one_frame.KERNEL.now maps_two_pages_to_one_frame.ROOT.now [] (one_page 8 0x80008000 maps_two_pages_to_one_frame.PROGRAM.now ∷ [])
+image_7 =
+    large maps_two_pages_to_one_frame.KERNEL.now maps_two_pages_to_one_frame.ROOT.now []
+    (one_page 8 0x80008000 maps_two_pages_to_one_frame.PROGRAM.now ∷ [])
 
 -- 8. A page is mapped to the frame of its own page table.
 unfoldable pub image_8 : Bundle
-image_8 = large maps_a_page_over_its_table.KERNEL.now maps_a_page_over_its_table.ROOT.now (words_segment 0x80402000 maps_a_page_over_its_table.TABLE.now ∷ []) (one_page 8 0x80008000 maps_a_page_over_its_table.PROGRAM.now ∷ [])
+image_8 =
+    large maps_a_page_over_its_table.KERNEL.now maps_a_page_over_its_table.ROOT.now
+    (words_segment 0x80402000 maps_a_page_over_its_table.TABLE.now ∷ [])
+    (one_page 8 0x80008000 maps_a_page_over_its_table.PROGRAM.now ∷ [])
 
 -- 9. The page table is changed under a context, without SFENCE.VMA.
 unfoldable pub image_9 : Bundle
-image_9 = large remaps_without_a_fence.KERNEL.now remaps_without_a_fence.ROOT.now [] (one_page 8 0x80008000 CALLS.now ∷ [])
+image_9 =
+    large remaps_without_a_fence.KERNEL.now remaps_without_a_fence.ROOT.now []
+    (one_page 8 0x80008000 CALLS.now ∷ [])
 
 -- 10. A second hart reads a page while its program runs.
 unfoldable pub image_10 : Bundle
@@ -114,56 +121,81 @@ image_11 = image 1280 1 (0 ∷ []) 0x80000000 (low reads_every_frame.KERNEL.now 
 
 -- 12. A forked child is resumed over the frame of its parent.
 unfoldable pub image_12 : Bundle
-image_12 = small (low forks_over_one_frame.KERNEL.now []) 0 (one_page 8 0x80008000 forks_over_one_frame.PROGRAM.now ∷ [])
+image_12 =
+    small (low forks_over_one_frame.KERNEL.now []) 0 (one_page 8 0x80008000 forks_over_one_frame.PROGRAM.now ∷ [])
 
 -- 13. The area of a call is laid over a cloaked page.
 unfoldable pub image_13 : Bundle
-image_13 = small (paged lays_the_area_over_a_page.KERNEL.now lays_the_area_over_a_page.TABLE.now) 0 (one_page 8 0x00400000 lays_the_area_over_a_page.PROGRAM.now ∷ [])
+image_13 =
+    small (paged lays_the_area_over_a_page.KERNEL.now lays_the_area_over_a_page.TABLE.now) 0
+    (one_page 8 0x00400000 lays_the_area_over_a_page.PROGRAM.now ∷ [])
 
 -- 14. READ is answered with more bytes than were asked for.
 unfoldable pub image_14 : Bundle
-image_14 = small (low answers_too_much.KERNEL.now (words_segment 0x80009000 answers_too_much.AREA.now ∷ [])) 0 (one_page 8 0x80008000 answers_too_much.PROGRAM.now ∷ [])
+image_14 =
+    small (low answers_too_much.KERNEL.now (words_segment 0x80009000 answers_too_much.AREA.now ∷ [])) 0
+    (one_page 8 0x80008000 answers_too_much.PROGRAM.now ∷ [])
 
 -- 15. A program is shown the page of another one.
 unfoldable pub image_15 : Bundle
-image_15 = small (paged shows_a_page_to_another.KERNEL.now shows_a_page_to_another.TABLE.now) 0 (one_page 8 0x00400000 CALLS.now ∷ one_page 9 0x00400000 CALLS.now ∷ [])
+image_15 =
+    small (paged shows_a_page_to_another.KERNEL.now shows_a_page_to_another.TABLE.now) 0
+    (one_page 8 0x00400000 CALLS.now ∷ one_page 9 0x00400000 CALLS.now ∷ [])
 
 -- 16. A superpage is laid over all frames, and a second program reads through it.
 unfoldable pub image_16 : Bundle
-image_16 = small (low lays_a_superpage.KERNEL.now (words_segment 0x80001004 lays_a_superpage.SUPERPAGE.now ∷ words_segment 0x80001800 KERNEL_LEAF.now ∷ [])) 0 (one_page 8 0x00408000 CALLS.now ∷ one_page 9 0x00409000 lays_a_superpage.READER.now ∷ [])
+image_16 =
+    small (low lays_a_superpage.KERNEL.now (words_segment 0x80001004 lays_a_superpage.SUPERPAGE.now
+    ∷ words_segment 0x80001800 KERNEL_LEAF.now ∷ [])) 0
+    (one_page 8 0x00408000 CALLS.now ∷ one_page 9 0x00409000 lays_a_superpage.READER.now ∷ [])
 
 -- 17. The timer interrupts a program at each step, also between the bytes of a copy.
 unfoldable pub image_17 : Bundle
-image_17 = small (low interrupts_every_byte.KERNEL.now []) 0 (one_page 8 0x80008000 interrupts_every_byte.PROGRAM.now ∷ [])
+image_17 =
+    small (low interrupts_every_byte.KERNEL.now []) 0 (one_page 8 0x80008000 interrupts_every_byte.PROGRAM.now ∷ [])
 
 -- 18. A context faults on one hart, is interrupted on the other, and goes on on the first.
 unfoldable pub image_18 : Bundle
-image_18 = small_pair (paged passes_a_context_around.KERNEL.now passes_a_context_around.TABLE.now) (two_pages 0x00400000 CALLS.now ∷ [])
+image_18 =
+    small_pair (paged passes_a_context_around.KERNEL.now passes_a_context_around.TABLE.now)
+    (two_pages 0x00400000 CALLS.now ∷ [])
 
 -- 19. One frame is mapped at three addresses of a program.
 unfoldable pub image_19 : Bundle
-image_19 = small (paged maps_one_frame_three_times.KERNEL.now maps_one_frame_three_times.TABLE.now) 0 (one_page 8 0x00400000 maps_one_frame_three_times.PROGRAM.now ∷ [])
+image_19 =
+    small (paged maps_one_frame_three_times.KERNEL.now maps_one_frame_three_times.TABLE.now) 0
+    (one_page 8 0x00400000 maps_one_frame_three_times.PROGRAM.now ∷ [])
 
 -- 20. The pages of two programs are exchanged on the disk.
 unfoldable pub image_20 : Bundle
-image_20 = small (low exchanges_blocks.KERNEL.now []) 2 (one_page 8 0x80008000 CALLS.now ∷ one_page 9 0x80009000 CALLS.now ∷ [])
+image_20 =
+    small (low exchanges_blocks.KERNEL.now []) 2
+    (one_page 8 0x80008000 CALLS.now ∷ one_page 9 0x80009000 CALLS.now ∷ [])
 
 -- 21. The kernel sets SUM and MXR, and reads a page by the program's own address.
 unfoldable pub image_21 : Bundle
-image_21 = small (paged sets_sum_and_mxr.KERNEL.now sets_sum_and_mxr.TABLE.now) 0 (two_pages 0x00400000 sets_sum_and_mxr.PROGRAM.now ∷ [])
+image_21 =
+    small (paged sets_sum_and_mxr.KERNEL.now sets_sum_and_mxr.TABLE.now) 0
+    (two_pages 0x00400000 sets_sum_and_mxr.PROGRAM.now ∷ [])
 
 -- 22. A second hart changes the code of a program while it runs.
 unfoldable pub image_22 : Bundle
-image_22 = small_pair (low changes_running_code.KERNEL.now []) (one_page 8 0x80008000 changes_running_code.PROGRAM.now ∷ [])
+image_22 =
+    small_pair (low changes_running_code.KERNEL.now [])
+    (one_page 8 0x80008000 changes_running_code.PROGRAM.now ∷ [])
 
 -- 23. The frame of a program that ended is read, and given to another one.
 unfoldable pub image_23 : Bundle
-image_23 = small (low gives_a_frame_on.KERNEL.now []) 0 (one_page 8 0x80008000 gives_a_frame_on.LEAVER.now ∷ one_page 9 0x80009000 gives_a_frame_on.HEIR.now ∷ [])
+image_23 =
+    small (low gives_a_frame_on.KERNEL.now []) 0 (one_page 8 0x80008000 gives_a_frame_on.LEAVER.now
+    ∷ one_page 9 0x80009000 gives_a_frame_on.HEIR.now ∷ [])
 
 -- all images, by their numbers
 unfoldable pub hostile_images : List Bundle
 hostile_images =
-    image_0 ∷ image_1 ∷ image_2 ∷ image_3 ∷ image_4 ∷ image_5 ∷ image_6 ∷ image_7 ∷ image_8 ∷ image_9 ∷ image_10 ∷ image_11 ∷ image_12 ∷ image_13 ∷ image_14 ∷ image_15 ∷ image_16 ∷ image_17 ∷ image_18 ∷ image_19 ∷ image_20 ∷ image_21 ∷ image_22 ∷ image_23 ∷ []
+    image_0 ∷ image_1 ∷ image_2 ∷ image_3 ∷ image_4 ∷ image_5 ∷ image_6 ∷ image_7 ∷ image_8 ∷ image_9
+    ∷ image_10 ∷ image_11 ∷ image_12 ∷ image_13 ∷ image_14 ∷ image_15 ∷ image_16 ∷ image_17 ∷ image_18
+    ∷ image_19 ∷ image_20 ∷ image_21 ∷ image_22 ∷ image_23 ∷ []
 
 -- the image of a number, and of one that has none that of 0
 abbrev pub hostile_image : ℕ → Bundle

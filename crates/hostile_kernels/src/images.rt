@@ -35,7 +35,7 @@ pub const IMAGES: u32 = 24;
 
 /// The image of a number.
 pub fn draft(number: u32) -> Draft
-    requires { number < 24 }
+    requires { number < IMAGES }
     ensures { image_of result ≡ hostile_image number }
 {
     match number {

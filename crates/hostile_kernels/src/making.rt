@@ -4,7 +4,7 @@ ghost use Rattle.hostile_kernels.specs.Parts.{segment_of, guest_of, image_of};
 ghost use Rattle.hostile_kernels.specs.Images.{hostile_image};
 
 use crate::draft::{Draft, Guest, Words};
-use crate::images::draft;
+use crate::images::{IMAGES, draft};
 use cloak_base::NoMemory;
 use cloak_model::{Bundle, KernelImage, Program, Segment, Sequence};
 use guest_kernel::put_words;
@@ -64,7 +64,7 @@ fn image(alloc: Global, draft: &Draft) -> Result<Bundle, NoMemory>
 
 /// The hostile image of a number.
 pub fn hostile(alloc: Global, number: u32) -> Result<Bundle, NoMemory>
-    requires { number < 24 }
+    requires { number < IMAGES }
     ensures value { IfOk result (λ b. b ≡ hostile_image number) }
     ensures in_grammar { IfOk result IsInGrammar }
 {

@@ -21,5 +21,6 @@ pub const CALLS: &[u32] = &[
 /// Entry 1 of a root table, for the 4 MiB from 0x00400000 on: a pointer to the table in frame 2.
 pub const POINTER: &[u32] = &[0x2000_0801];
 
-/// Entry 512 of a root table, for the 4 MiB from 0x80000000 on: a leaf that gives RAM its own addresses, for the kernel alone.
+/// Entry 512 of a root table, for the 4 MiB from 0x80000000 on: a leaf that gives RAM its own addresses, for the kernel
+/// alone.
 pub const KERNEL_LEAF: &[u32] = &[0x2000_00cf];

@@ -19,7 +19,7 @@ boot:
     csrrw x0, 0x180, x6             # satp: paging on, the root table is frame 1
     lui   x17, 0x4F560
     ecall                           # resume context 0
-handler:
+handler:                            # nothing: the run stops before
 ";
 
 /// The words of the kernel.

@@ -18,7 +18,7 @@ boot:
     csrrw x0, 0x180, x6             # satp: paging on, the root table is frame 1025
     lui   x17, 0x4F560
     ecall                           # resume context 0
-handler:
+handler:                            # nothing: the run stops before
 ";
 
 /// The words of the kernel.

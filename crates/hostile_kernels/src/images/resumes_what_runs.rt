@@ -15,7 +15,7 @@ boot:
     csrrw x0, 0x105, x6             # stvec: each trap goes to the handler
     lui   x17, 0x4F560
     ecall                           # resume context 0
-handler:
+handler:                            # nothing: the run stops before
 ";
 
 /// The words of the kernel.

@@ -1,4 +1,4 @@
-use Rattle.std.proofs.Common.{◌≡◌, ap, sym, arith}
+use Rattle.std.proofs.Common.{◌≡◌, ◌<◌, ap, sym, arith}
 use Rattle.hostile_kernels.specs.Images.{hostile_images, hostile_image, image_0, image_1, image_2, image_3, image_4, image_5, image_6, image_7, image_8, image_9, image_10, image_11, image_12, image_13, image_14, image_15, image_16, image_17, image_18, image_19, image_20, image_21, image_22, image_23}
 use Rattle.hostile_kernels.proofs.images.draft.Goals as goal
 
@@ -97,6 +97,6 @@ returns-in-22 c = sym (ap hostile_image c.in-22.is)
 pub returns-in_default : goal.returns-in_default
 unfolding hostile_images image_23
 returns-in_default c =
-    let low = c.requires in
+    let low : c.args.number < 24 = c.requires in
     let others = c.in_default in
     let last : c.args.number ≡ 23 = omega (arith, low, others) in sym (ap hostile_image last)
