@@ -1,5 +1,5 @@
 -- A run from its opening on, and the law.
-use Rattle.std.proofs.Common.{◌≡◌, ◌≢◌, ◌∙◌, ℕ, zero, suc, ◌+◌, ◌*◌, ◌%◌, ◌<◌, ◌≤◌, cond, List, [], ◌∷◌, ◌++◌, length, take, drop, slice_get, slice_index, Option, Some, None, Ok, refl, sym, ap, subst, arith, length-drop, All, Bool, true, false}
+use Rattle.std.proofs.Common.{◌≡◌, ◌≢◌, ◌∙◌, ℕ, zero, suc, ◌+◌, ◌*◌, ◌%◌, ◌<◌, ◌≤◌, cond, List, [], ◌∷◌, ◌++◌, length, take, drop, slice_get, slice_index, Option, Some, None, Ok, refl, sym, ap, subst, arith, length-drop, take_all, All, Bool, true, false}
 use Rattle.std.specs.Prelude.{option_and_then, ◌==◌}
 use Rattle.std.proofs.lemmas.List.{length-take}
 use Rattle.std.proofs.lemmas.List.Elements.{All-head, All-tail}
@@ -19,16 +19,16 @@ use Rattle.cloak_model.specs.Opening.{program_page, place_pages, place_programs,
 use Rattle.cloak_model.specs.PageMoves.{place, place_with}
 use Rattle.cloak_model.specs.Parts.{Joint}
 use Rattle.cloak_model.specs.Resources.{Resources, resource_at, started_resources}
-use Rattle.cloak_model.specs.Run.{Run, turns_from, joint_run, joint_after, first_moment, run_of}
+use Rattle.cloak_model.specs.Run.{Run, turns_from, joint_run, joint_after, first_moment, run_of, closing}
 use Rattle.kernel_isolation.specs.Isolation.{joint_until}
 use Rattle.kernel_isolation.proofs.Isolated.{until_read}
 use Rattle.store_law.specs.Ciphers.{items_of_turn}
-use Rattle.store_law.specs.OwnPages.{program_of_step}
+use Rattle.store_law.specs.OwnPages.{context_of_step, program_of_step}
 use Rattle.store_law.proofs.Ciphers.{of_opened}
 use Rattle.store_law.proofs.OwnPages.{moment_behind, step_is, steps_keep_pages}
 use Rattle.latest_store.specs.Moves.{Move, Makes, latest, loads_of, with_moves}
 use Rattle.latest_store.specs.Deeds.{step_moves}
-use Rattle.latest_store.specs.LatestStore.{made_pages, made_programs, context_of_step, history_until, IsLatest, RunsGiveLatest}
+use Rattle.latest_store.specs.LatestStore.{made_pages, made_programs, history_until, IsLatest, RunsGiveLatest}
 use Rattle.latest_store.proofs.Values.{zero_page_at, zero_page_whole}
 use Rattle.latest_store.proofs.Moved.{Agrees, AreSound, given_by, move_agrees, moves_agree, moves_load}
 use Rattle.latest_store.proofs.Numbers.{MapsHeld, started_maps, started_free}
@@ -294,6 +294,14 @@ run_holds b stream budget o opens fits (suc n) low =
 abbrev HoldsAlways : Bundle → Run → Type 0
 HoldsAlways b r = (n : ℕ) → n ≤ length r.turns → Holds (history_until b n r) (joint_until n r)
 
+-- the closing leaves programs as they are
+closed_domains : (b : Bundle) (budget : ℕ) (o : Opened) → let r = run_of b budget o in
+    r.closed.joint.domains ≡ (joint_until (length r.turns) r).domains
+unfolding run_of closing
+closed_domains b budget o =
+    let turns : List Turn = turns_from budget (first_moment b o.joint) in
+    ap (λ (ts : List Turn). (joint_after o.joint ts).domains) (sym (take_all (length turns) turns (omega arith)))
+
 -- a step that is not the program's own
 others_stay : (b : Bundle) (stream : Random) (budget : ℕ) (r : Run) → joint_run b stream budget ≡ Ok r →
     HoldsAlways b r → (n : ℕ) → suc n ≤ length r.turns → (q : PageId) → program_of_step b r n ≢ Some q.domain →
@@ -315,8 +323,14 @@ runs_give_latest b stream budget r fits runs =
     let holds : HoldsAlways b r =
     of_opened b budget (HoldsAlways b) (opening b stream) r runs
     (λ o opens. run_holds b stream budget o opens fits) in
+    let closed : r.closed.joint.domains ≡ (joint_until (length r.turns) r).domains =
+    of_opened b budget (λ (x : Run). x.closed.joint.domains ≡ (joint_until (length x.turns) x).domains) (opening b stream) r
+    runs (λ o opens. closed_domains b budget o) in
     record {
       loads = λ n low. (holds n low).loads;
+      ends = λ d program is.
+          (holds (length r.turns) (omega arith)).loads d program
+          (subst (λ (domains : List Domain). slice_get domains d ≡ Some program) closed is);
       pages = λ n low. (holds n low).agrees;
       others = others_stay b stream budget r runs holds;
     }

@@ -1,18 +1,17 @@
 -- Every completed cloaked load of a run gives what its own program stored last, or the byte with which the page was
 -- made.
-use Rattle.std.specs.Prelude.{ℕ, zero, suc, ◌≡◌, ◌≢◌, ◌≤◌, ◌+◌, ◌%◌, List, [], ◌∷◌, length, slice_get, slice_index, Option, Some, Ok}
+use Rattle.std.specs.Prelude.{ℕ, zero, suc, ◌≡◌, ◌≢◌, ◌≤◌, ◌+◌, List, [], ◌∷◌, length, slice_get, slice_index, Some, Ok}
 use Rattle.cloak_base.specs.Random.{Random}
 use Rattle.cloak_base.specs.declared.names.PageId.{PageId}
 use Rattle.cloak_model.specs.declared.image.Bundle.{Bundle}
 use Rattle.cloak_model.specs.declared.image.Program.{Program}
 use Rattle.cloak_model.specs.Bundle.{IsInGrammar}
 use Rattle.cloak_model.specs.DomainState.{Domain}
-use Rattle.cloak_model.specs.Joint.{hart_in}
 use Rattle.cloak_model.specs.Opening.{program_page}
 use Rattle.cloak_model.specs.Run.{Run, joint_run}
 use Rattle.kernel_isolation.specs.Isolation.{joint_until}
 use Rattle.store_law.specs.Ciphers.{items_of_turn}
-use Rattle.store_law.specs.OwnPages.{program_of_step}
+use Rattle.store_law.specs.OwnPages.{context_of_step, program_of_step}
 use Rattle.latest_store.specs.Moves.{Move, Makes, latest, loads_of, with_moves}
 use Rattle.latest_store.specs.Deeds.{step_moves}
 
@@ -28,11 +27,6 @@ made_pages d p (suc n) history =
 abbrev pub made_programs : ℕ → List Program → List Move → List Move
 made_programs d [] history = history
 made_programs d (p ∷ programs) history = made_programs (d + 1) programs (made_pages d p p.start.pages history)
-
--- the context that the hart of the step behind n steps runs, if it runs one
-abbrev pub context_of_step : Bundle → Run → ℕ → Option ℕ
-context_of_step b r n =
-    (hart_in (joint_until n r) (slice_index b.kernel.schedule (n % length b.kernel.schedule))).inside
 
 -- the opening and the first n steps
 unfoldable pub history_until : Bundle → ℕ → Run → List Move
@@ -53,6 +47,9 @@ pub record GivesLatest (b : Bundle) (r : Run) : Type 0 where
   -- the loads that a program completed are those of the history, each with the value of the bytes stored last
   pub loads : (n : ℕ) → n ≤ length r.turns → (d : ℕ) (program : Domain) →
       slice_get (joint_until n r).domains d ≡ Some program → program.loads ≡ loads_of d (history_until b n r)
+  -- so are those that the report of the run counts
+  pub ends : (d : ℕ) (program : Domain) → slice_get r.closed.joint.domains d ≡ Some program →
+      program.loads ≡ loads_of d (history_until b (length r.turns) r)
   -- each page has the bytes that were stored last
   pub pages : (n : ℕ) → n ≤ length r.turns → (q : PageId) →
       IsLatest (history_until b n r) q ((joint_until n r).memory.plain q)

@@ -9,11 +9,14 @@ use Rattle.cloak_model.specs.Run.{Run, joint_run}
 use Rattle.store_law.specs.Ciphers.{}
 use Rattle.kernel_isolation.specs.Isolation.{joint_until}
 
--- the program that makes the step behind n steps: that of the context which the hart of the step runs, if it runs one
-abbrev pub program_of_step : Bundle → Run → ℕ → Option ℕ
-program_of_step b r n =
-    option_map domain_of
+-- the context that the hart of the step behind n steps runs, if it runs one
+abbrev pub context_of_step : Bundle → Run → ℕ → Option ℕ
+context_of_step b r n =
     (hart_in (joint_until n r) (slice_index b.kernel.schedule (n % length b.kernel.schedule))).inside
+
+-- the program that makes this step
+abbrev pub program_of_step : Bundle → Run → ℕ → Option ℕ
+program_of_step b r n = option_map domain_of (context_of_step b r n)
 
 -- A step of the kernel, or of another program, leaves each page of a program as it is; whatever it settles, moves or
 -- maps.
