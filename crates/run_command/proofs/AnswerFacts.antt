@@ -1,5 +1,5 @@
 -- What the commands answer.
-use Rattle.std.proofs.Common.{◌≡◌, ◌<◌, ◌-◌, ◌^◌, ℕ, Bool, true, false, List, [], refl, sym, ◌∙◌, ap, subst, inl}
+use Rattle.std.proofs.Common.{◌≡◌, ◌<◌, ◌≤◌, ◌-◌, ◌^◌, ℕ, Bool, true, false, List, [], refl, sym, ◌∙◌, ap, subst, inl}
 use Rattle.std.proofs.Common.{inr, Option, Result, Ok, Err, OnOk, OnErr, is_err}
 use Rattle.cloak_base.specs.declared.causes.Failed.{Failed}
 use Rattle.cloak_base.specs.declared.causes.Stop.{Stop}
@@ -10,7 +10,13 @@ use Rattle.command_words.specs.Command as spec
 use Rattle.cloak_model.specs.Exchange.{Piece, recorded, shown, recorded_bytes, shown_bytes}
 use Rattle.std.specs.Result.{result_map_both}
 use Rattle.cloak_model.specs.Opening.{Opened, Lack}
-use Rattle.cloak_model.specs.Run.{Run, run_of, due}
+use Rattle.cloak_model.specs.Bundle.{IsInGrammar}
+use Rattle.cloak_model.specs.Run.{Run, run_of, due, joint_run, exchange, record_bytes, most_steps}
+use Rattle.cloak_model.specs.declared.image.Bundle.{Bundle}
+use Rattle.cloak_base.specs.Random.{Random}
+use Rattle.item_law.specs.Writing.{IsOfBytes, IsStreamOfBytes}
+use Rattle.item_law.proofs.Runs.{writes_a_record}
+use Rattle.record_law.proofs.Judged.{one_record, not_both}
 use Rattle.run_command.specs.declared.prepare.Prepared.{Prepared}
 use Rattle.program_parts.specs.declared.refusal.Refusal.{Refusal}
 use Rattle.program_parts.specs.declared.refusal.Refusal.TheVariants as refusal
@@ -29,6 +35,7 @@ use Rattle.cause_law.proofs.Runs.{violation_has_cause}
 use Rattle.kernel_isolation.proofs.Isolated.{kernel_ends_alone}
 use Rattle.domain_isolation.proofs.Isolated.{domain_ends_alone}
 use Rattle.program_parts.specs.NoRun.{NoRun, IsRefused}
+use Rattle.run_command.specs.ReadingBack.{ComesToEnds, ReadsBack}
 use Rattle.run_command.specs.Answering.{AsksRun, IsLawful, HasRun, RunAnswers, KeepsFiles}
 
 -- A line that refuses.
@@ -216,26 +223,49 @@ asks_run {asked} {held} {record_name} {steps} {ready} prepared = record {
 }
 
 -- what the laws say of it
-lawful_run : {asked : spec.Asked} {held : List ℕ → Option (List ℕ)} {name : List ℕ} {r : Run} (asks : AsksRun asked held name r) →
-    IsLawful asks.bundle r
-lawful_run {asked} {held} {name} {r} asks = record {
-  kernel = kernel_ends_alone asks.bundle asks.stream asks.steps r asks.joint;
-  programs = λ d p there. domain_ends_alone asks.bundle d p r (record {
-    in_grammar = asks.asks.file.in_grammar;
+comes_to_ends : (b : Bundle) (stream : Random) (budget : ℕ) (r : Run) → IsInGrammar b → joint_run b stream budget ≡ Ok r →
+    ComesToEnds b r (exchange r)
+comes_to_ends b stream budget r grammar runs = record {
+  kernel = kernel_ends_alone b stream budget r runs;
+  programs = λ d p there. domain_ends_alone b d p r (record {
+    in_grammar = grammar;
     program = there;
-    stream = asks.stream;
-    budget = asks.steps;
-    runs = asks.joint;
+    stream = stream;
+    budget = budget;
+    runs = runs;
   });
-  cause = violation_has_cause asks.bundle asks.stream asks.steps r asks.joint;
 }
 
+reads_back : (b : Bundle) (stream : Random) (budget : ℕ) (r : Run) → IsInGrammar b → IsOfBytes b →
+    IsStreamOfBytes stream → budget ≤ most_steps → joint_run b stream budget ≡ Ok r → ReadsBack b r
+reads_back b stream budget r grammar bytes all few runs =
+    let is = writes_a_record b stream budget r grammar bytes all few runs in
+    record {
+      is_record = is;
+      no_fault = λ fault has. not_both (record_bytes r) (exchange r) fault is has;
+      ends = λ items read. subst (ComesToEnds b r) (one_record (record_bytes r) (exchange r) items is read)
+          (comes_to_ends b stream budget r grammar runs);
+    }
+
+pub lawful_run : {asked : spec.Asked} {held : List ℕ → Option (List ℕ)} {record_name : List ℕ} {steps : ℕ}
+    {ready : Prepared} (prepared : IsPrepared asked held record_name steps ready) →
+    IsLawful (asks_run prepared).bundle (run_of prepared.bundle steps prepared.opened)
+unfolding asks_run
+lawful_run {asked} {held} {record_name} {steps} {ready} prepared =
+    let r : Run = run_of prepared.bundle steps prepared.opened in
+    let runs = (asks_run prepared).joint in
+    record {
+      reads_back = reads_back prepared.bundle prepared.stream steps r prepared.asks.file.in_grammar prepared.image_bytes
+          prepared.stream_bytes prepared.few_steps runs;
+      cause = violation_has_cause prepared.bundle prepared.stream steps r runs;
+    }
+
 pub answers_recorded : {S O : Type 0} {asked : spec.Asked} {name : List ℕ} {before mid after : Outside S O}
-    {given : Status} {r : Run} → AsksRun asked before.files.held name r →
+    {given : Status} {r : Run} (asks : AsksRun asked before.files.held name r) → IsLawful asks.bundle r →
     OnlyRead before.files mid.files → mid.output ≡ before.output → before.files.writing < 2 ^ 64 - 1 →
     before.output.faults < 2 ^ 64 - 1 → Records name mid after given r →
     RunAnswers asked before after given
-answers_recorded {S} {O} {asked} {name} {before} {mid} {after} {given} {r} asks reads same_output low_writing
+answers_recorded {S} {O} {asked} {name} {before} {mid} {after} {given} {r} asks lawful reads same_output low_writing
     low_faults records =
     let others : OtherFiles name before.files.held after.files.held = λ other apart. records.others other apart ∙
     reads.held other in
@@ -247,7 +277,7 @@ answers_recorded {S} {O} {asked} {name} {before} {mid} {after} {given} {r} asks 
             record_name = name;
             made = r;
             asks = asks;
-            lawful = lawful_run asks;
+            lawful = lawful;
             written = λ none. let w = all.written none in record {
               status = w.status;
               file = w.file;

@@ -1,24 +1,19 @@
 -- What a run answers, each status with its cause.
-use Rattle.std.specs.Prelude.{ℕ, ◌≡◌, ◌⊎◌, List, [], slice_get, Option, Some, Ok}
+use Rattle.std.specs.Prelude.{ℕ, ◌≡◌, ◌⊎◌, List, [], Option, Ok}
 use Rattle.cloak_base.specs.Random.{Random}
 use Rattle.outside_io.specs.Told.{Tells, SameFiles, OtherFiles}
 use Rattle.cloak_model.specs.declared.image.Bundle.{Bundle}
-use Rattle.cloak_model.specs.declared.image.Program.{Program}
-use Rattle.cloak_model.specs.DomainAlone.{domain_alone}
-use Rattle.cloak_model.specs.KernelAlone.{kernel_alone}
-use Rattle.cloak_model.specs.Parts.{kernel_part, domain_part}
-use Rattle.cloak_model.specs.Run.{Run, exchange, joint_run}
+use Rattle.cloak_model.specs.Run.{Run, joint_run}
 use Rattle.cloak_base.specs.declared.causes.Violation.{Violation}
 use Rattle.cloak_base.specs.declared.causes.Stop.TheVariants as stop
 use Rattle.cause_law.specs.Causes.{LastStepPresents}
-use Rattle.kernel_isolation.specs.Isolation.{HasKernel}
-use Rattle.domain_isolation.specs.Isolation.{HasDomain}
 use Rattle.command_words.specs.Command as spec
 use Rattle.program_parts.specs.declared.status.Status.{Status}
 use Rattle.program_parts.specs.declared.status.Status.TheVariants as status
 use Rattle.program_parts.specs.NoRun.{AsksBundle, IsRefused, LineFailed}
 use Rattle.program_parts.specs.Outside.{Outside, Raised, NothingRose}
 use Rattle.run_command.specs.Recording.{IsWritten, IsCutOff, GrowsSome, FailedSome}
+use Rattle.run_command.specs.ReadingBack.{ReadsBack}
 use Rattle.run_command.specs.Running.{NoClash}
 
 -- The words ask for this joint run.
@@ -32,12 +27,10 @@ pub record AsksRun (asked : spec.Asked) (held : List ℕ → Option (List ℕ)) 
 
 -- The run.
 
--- What is so of a run, whatever its kernel does: the kernel by itself and each program by itself, given what the run wrote,
--- have the parts that the run ended with; and where it stopped with a violation, its last step presented what that names.
+-- What is so of a run, whatever its kernel does: its record reads back, and where it stopped with a violation, its last
+-- step presented what that names.
 pub record IsLawful (b : Bundle) (r : Run) : Type 0 where
-  pub kernel : HasKernel (kernel_alone b.kernel (exchange r)) (kernel_part r.closed.joint)
-  pub programs : (d : ℕ) (p : Program) → slice_get b.programs d ≡ Some p →
-      HasDomain (domain_alone d b.kernel.schedule p (exchange r)) (domain_part r.closed.joint d)
+  pub reads_back : ReadsBack b r
   pub cause : (v : Violation) → r.stop ≡ stop.Violation v → LastStepPresents b r v
 
 -- The run was made. Where no pages clashed in it, all that is due of it was written.

@@ -2,4 +2,5 @@ pub mod Outlet
 pub mod Running
 pub mod Recording
 pub mod Preparing
+pub mod ReadingBack
 pub mod Answering

@@ -1,12 +1,13 @@
 -- What opening the machine of a run answers.
-use Rattle.std.specs.Prelude.{ℕ, ◌≡◌, List, Option, Some, IfSome, Result, Ok, Err}
+use Rattle.std.specs.Prelude.{ℕ, ◌≡◌, ◌≤◌, List, Option, Some, IfSome, Result, Ok, Err}
 use Rattle.cloak_base.specs.Random.{Random}
 use Rattle.cloak_model.specs.declared.image.Bundle.{Bundle}
 use Rattle.cloak_model.specs.BundleFault.{bundle_fault}
 use Rattle.command_words.specs.Command as spec
 use Rattle.cloak_model.specs.Opening.{Opened, opening}
-use Rattle.cloak_model.specs.Run.{first_moment}
+use Rattle.cloak_model.specs.Run.{first_moment, most_steps}
 use Rattle.cloak_machine.specs.Standing.{StandsForMoment}
+use Rattle.item_law.specs.Writing.{IsOfBytes, IsStreamOfBytes}
 use Rattle.run_command.specs.declared.prepare.Prepared.{Prepared}
 use Rattle.program_parts.specs.declared.refusal.Refusal.{Refusal}
 use Rattle.program_parts.specs.declared.refusal.Refusal.TheVariants as refusal
@@ -15,12 +16,14 @@ use Rattle.program_parts.specs.Bundles.{IsInFile}
 use Rattle.program_parts.specs.Files.{ReadsFile}
 use Rattle.program_parts.specs.Outside.{FilesOutside, OnlyRead}
 
--- a random stream, or why it was not read
+-- a random stream of bytes, or why it was not read
 abbrev pub ReadsStream : (List ℕ → Option (List ℕ)) → spec.Randomness → ℕ → ℕ → Result Random Refusal → Type 0
-ReadsStream held randomness before now (Ok stream) = (now ≡ before) × IsStream held randomness stream
+ReadsStream held randomness before now (Ok stream) =
+    (now ≡ before) × IsStream held randomness stream × IsStreamOfBytes stream
 ReadsStream held randomness before now (Err other) = ReadsFile {A = Random} before now (Err other)
 
--- The run that is asked for opens so, and the machine is that of its first moment; the programs are the image's.
+-- The run that is asked for opens so, and the machine is that of its first moment; the programs are the image's. Image and
+-- stream are of bytes, and the steps are not more than a run may have.
 pub record IsPrepared (asked : spec.Asked) (held : List ℕ → Option (List ℕ)) (record_name : List ℕ) (steps : ℕ)
     (prepared : Prepared) : Type 0 where
   pub bundle : Bundle
@@ -30,6 +33,9 @@ pub record IsPrepared (asked : spec.Asked) (held : List ℕ → Option (List ℕ
   pub opens : opening bundle stream ≡ Ok opened
   pub stands : StandsForMoment prepared.machine (first_moment bundle opened.joint)
   pub programs : bundle.programs ≡ prepared.programs
+  pub few_steps : steps ≤ most_steps
+  pub image_bytes : IsOfBytes bundle
+  pub stream_bytes : IsStreamOfBytes stream
 
 -- a run that can begin, or why there is none; the files were at most read
 abbrev pub Prepares : {S : Type 0} → spec.Asked → FilesOutside S → FilesOutside S → List ℕ → ℕ → Result Prepared Refusal → Type 0

@@ -5,9 +5,13 @@ ghost use Rattle.outside_io.specs.Told.{SameFiles};
 ghost use Rattle.program_parts.specs.Outside.{files};
 ghost use Rattle.run_command.specs.Preparing.{Prepares, ReadsStream};
 ghost use Rattle.command_words.specs.Request.{asked_of_run, randomness_of};
+ghost use Rattle.std.specs.List.{AllByRecursion};
+ghost use Rattle.cloak_model.specs.declared.image.Program.{Program as ImageProgram};
+ghost use Rattle.cloak_model.specs.declared.image.Segment.{Segment as ImageSegment};
+ghost use Rattle.item_law.specs.Writing.{AreBytes};
 
 use cloak_machine::{Machine, OpenFault};
-use cloak_model::{Program, Sequence};
+use cloak_model::{Program, Segment, Sequence};
 use command_words::{Randomness, RunRequest};
 use outside_io::{Shelf, Stream};
 use program_parts::{Refusal, file_size, read_bundle, read_front};
@@ -22,6 +26,29 @@ pub struct Prepared {
     pub machine: Machine,
     /// The programs of the image, whose pages the kernel is shown first.
     pub programs: Sequence<Program>,
+}
+
+/// Bytes are below 256. It does nothing: its contract is what the type says.
+fn are_bytes(bytes: &[u8])
+    ensures { AreBytes bytes.now }
+{}
+
+/// So are the bytes of these segments.
+fn segments_are_bytes(segments: &[Segment])
+    ensures { AllByRecursion (λ (s : ImageSegment). AreBytes s.bytes) segments.now }
+{
+    for segment in segments {
+        are_bytes(segment.bytes.as_slice());
+    }
+}
+
+/// So are the bytes of these programs.
+fn programs_are_bytes(programs: &[Program])
+    ensures { AllByRecursion (λ (p : ImageProgram). AreBytes p.bytes) programs.now }
+{
+    for program in programs {
+        are_bytes(program.bytes.as_slice());
+    }
 }
 
 /// The random stream of a run.
@@ -41,6 +68,7 @@ fn open_stream<S: Shelf>(
         Randomness::FromFile(name) => {
             let size = file_size(shelf, name)?;
             let bytes = read_front(alloc, shelf, name, size.min(LONGEST_STREAM))?;
+            are_bytes(bytes.as_slice());
             Ok(Stream::bytes(bytes))
         }
     }
@@ -67,6 +95,9 @@ pub fn prepare<S: Shelf>(
         Ok(stream) => stream,
         Err(refusal) => return Err(refusal),
     };
+    segments_are_bytes(bundle.kernel.segments.as_slice());
+    are_bytes(bundle.kernel.disk.as_slice());
+    programs_are_bytes(bundle.programs.as_slice());
     match Machine::open(alloc, &bundle, stream) {
         Ok(machine) => Ok(Prepared {
             machine,

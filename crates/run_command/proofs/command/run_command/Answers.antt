@@ -1,11 +1,11 @@
 use Rattle.std.proofs.Common.{refl}
-use Rattle.run_command.proofs.AnswerFacts.{asks_run, answers_no_run, answers_recorded, keeps_files}
+use Rattle.run_command.proofs.AnswerFacts.{asks_run, lawful_run, answers_no_run, answers_recorded, keeps_files}
 use Rattle.run_command.proofs.command.run_command.Goals as goal
 
 pub returns-in-Ok-clause-answers : goal.returns-in-Ok-clause-answers
 returns-in-Ok-clause-answers g c =
     let prepared = c.in-Ok.ensures.prepares in
-    answers_recorded (asks_run prepared.1) prepared.0 refl c.requires.writing c.requires.output
+    answers_recorded (asks_run prepared.1) (lawful_run prepared.1) prepared.0 refl c.requires.writing c.requires.output
     (c.record_run.ensures prepared.1.bundle prepared.1.stream prepared.1.opened prepared.1.opens prepared.1.programs
     prepared.1.stands)
 

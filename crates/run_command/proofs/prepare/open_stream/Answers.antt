@@ -1,5 +1,6 @@
-use Rattle.std.proofs.Common.{◌∙◌, arith}
-use Rattle.run_command.proofs.PrepareFacts.{front_within}
+use Rattle.std.proofs.Common.{◌∙◌, refl, subst, arith}
+use Rattle.item_law.specs.Writing.{AreBytes}
+use Rattle.run_command.proofs.PrepareFacts.{front_within, numbered_bytes}
 use Rattle.run_command.proofs.prepare.open_stream.Goals as goal
 
 pub returns-in_ok-bytes-in-FromFile-clause-stream : goal.returns-in_ok-bytes-in-FromFile-clause-stream
@@ -17,4 +18,9 @@ returns-in_ok-bytes-in-FromFile-clause-stream g c =
         front = front_within _ _ _ c.in_ok-size-in-FromFile.size c.min.result _ (size.files c.in-FromFile.name.now)
             size.size least front.bytes;
       },
+      rw c.bytes.ensures (subst AreBytes c.as_slice.ensures.value c.are_bytes.ensures),
     )
+
+pub returns-in-Numbered-clause-stream : goal.returns-in-Numbered-clause-stream
+returns-in-Numbered-clause-stream g c =
+    rw c.in-Numbered.is (refl, c.numbered.ensures, rw c.numbered.ensures (numbered_bytes c.in-Numbered.number))

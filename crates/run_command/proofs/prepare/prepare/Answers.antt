@@ -1,4 +1,10 @@
-use Rattle.std.proofs.Common.{◌∙◌, refl}
+use Rattle.std.proofs.Common.{◌∙◌, refl, subst}
+use Rattle.std.specs.List.{AllByRecursion}
+use Rattle.cloak_model.specs.declared.image.Program.{Program}
+use Rattle.cloak_model.specs.declared.image.Segment.{Segment}
+use Rattle.command_words.specs.Request.{randomness_of}
+use Rattle.item_law.specs.Writing.{AreBytes}
+use Rattle.run_command.proofs.PrepareFacts.{stream_before}
 use Rattle.cloak_base.specs.Random.{Random}
 use Rattle.program_parts.proofs.Refused.{no_bundle, no_file}
 use Rattle.run_command.proofs.prepare.prepare.Goals as goal
@@ -14,3 +20,39 @@ returns-in-Err-open_stream-clause-prepares g c =
     let e = c.in-Err-open_stream.ensures in
     no_file Random c.in-Err-open_stream.refusal _ _ _ refl first.bundle.0 e.stream c.requires.reading
     (λ name. e.files name ∙ first.files name) (e.writing ∙ first.writing)
+
+pub returns-in-Ok-open-clause-prepares : goal.returns-in-Ok-open-clause-prepares
+returns-in-Ok-open-clause-prepares g c =
+    let b = c.in-Ok.ensures in
+    let s = c.in-Ok-open_stream.ensures in
+    let o = c.in-Ok-open.ensures.opens in (
+      record {
+        held = λ name. s.files name ∙ b.files name;
+        reading = s.stream.0 ∙ b.bundle.0;
+        writing = s.writing ∙ b.writing;
+      },
+      record {
+        bundle = c.in-Ok.bundle;
+        stream = c.in-Ok-open_stream.stream;
+        asks = record {
+          bundle_name = c.args.run.now.bundle.now;
+          randomness = randomness_of c.args.run.now.randomness;
+          run = refl;
+          file = b.bundle.1;
+          source = stream_before _ _ _ _ b.files s.stream.1;
+        };
+        opened = o.opened;
+        opens = o.opens;
+        stands = o.stands;
+        programs = refl;
+        few_steps = c.args.run.now.few_steps;
+        image_bytes = record {
+          segments = subst (AllByRecursion (λ (x : Segment). AreBytes x.bytes)) c.as_slice.ensures
+              c.segments_are_bytes.ensures;
+          disk = subst AreBytes c.as_slice-2.ensures c.are_bytes.ensures;
+          programs = subst (AllByRecursion (λ (x : Program). AreBytes x.bytes)) c.as_slice-3.ensures
+              c.programs_are_bytes.ensures;
+        };
+        stream_bytes = s.stream.2;
+      },
+    )
