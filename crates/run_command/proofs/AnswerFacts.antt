@@ -31,6 +31,9 @@ use Rattle.run_command.specs.Preparing.{IsPrepared}
 use Rattle.run_command.specs.Recording.{Records, GrowsSome}
 use Rattle.program_parts.specs.Refusing.{Refuses}
 use Rattle.program_parts.proofs.FaultFacts.{raised}
+use Rattle.latest_store.proofs.Histories.{runs_give_latest}
+use Rattle.store_law.proofs.Ciphers.{ciphers_show_pages}
+use Rattle.store_law.proofs.OwnDraws.{ciphers_have_own_draws}
 use Rattle.cause_law.proofs.Runs.{violation_has_cause}
 use Rattle.kernel_isolation.proofs.Isolated.{kernel_ends_alone}
 use Rattle.domain_isolation.proofs.Isolated.{domain_ends_alone}
@@ -249,7 +252,7 @@ reads_back b stream budget r grammar bytes all few runs =
 
 pub lawful_run : {asked : spec.Asked} {held : List ℕ → Option (List ℕ)} {record_name : List ℕ} {steps : ℕ}
     {ready : Prepared} (prepared : IsPrepared asked held record_name steps ready) →
-    IsLawful (asks_run prepared).bundle (run_of prepared.bundle steps prepared.opened)
+    IsLawful (asks_run prepared).bundle (asks_run prepared).stream (run_of prepared.bundle steps prepared.opened)
 unfolding asks_run
 lawful_run {asked} {held} {record_name} {steps} {ready} prepared =
     let r : Run = run_of prepared.bundle steps prepared.opened in
@@ -257,11 +260,14 @@ lawful_run {asked} {held} {record_name} {steps} {ready} prepared =
     record {
       reads_back = reads_back prepared.bundle prepared.stream steps r prepared.asks.file.in_grammar prepared.image_bytes
           prepared.stream_bytes prepared.few_steps runs;
+      latest = runs_give_latest prepared.bundle prepared.stream steps r prepared.asks.file.in_grammar runs;
+      ciphers = ciphers_show_pages prepared.bundle prepared.stream steps r runs;
+      draws = ciphers_have_own_draws prepared.bundle prepared.stream steps r runs;
       cause = violation_has_cause prepared.bundle prepared.stream steps r runs;
     }
 
 pub answers_recorded : {S O : Type 0} {asked : spec.Asked} {name : List ℕ} {before mid after : Outside S O}
-    {given : Status} {r : Run} (asks : AsksRun asked before.files.held name r) → IsLawful asks.bundle r →
+    {given : Status} {r : Run} (asks : AsksRun asked before.files.held name r) → IsLawful asks.bundle asks.stream r →
     OnlyRead before.files mid.files → mid.output ≡ before.output → before.files.writing < 2 ^ 64 - 1 →
     before.output.faults < 2 ^ 64 - 1 → Records name mid after given r →
     RunAnswers asked before after given

@@ -7,6 +7,8 @@ use Rattle.cloak_model.specs.Run.{Run, joint_run}
 use Rattle.cloak_base.specs.declared.causes.Violation.{Violation}
 use Rattle.cloak_base.specs.declared.causes.Stop.TheVariants as stop
 use Rattle.cause_law.specs.Causes.{LastStepPresents}
+use Rattle.latest_store.specs.LatestStore.{GivesLatest}
+use Rattle.store_law.specs.Ciphers.{HaveOwnDraws, ShowsPages}
 use Rattle.command_words.specs.Command as spec
 use Rattle.program_parts.specs.declared.status.Status.{Status}
 use Rattle.program_parts.specs.declared.status.Status.TheVariants as status
@@ -29,8 +31,11 @@ pub record AsksRun (asked : spec.Asked) (held : List ℕ → Option (List ℕ)) 
 
 -- What is so of a run, whatever its kernel does: its record reads back, and where it stopped with a violation, its last
 -- step presented what that names.
-pub record IsLawful (b : Bundle) (r : Run) : Type 0 where
+pub record IsLawful (b : Bundle) (stream : Random) (r : Run) : Type 0 where
   pub reads_back : ReadsBack b r
+  pub latest : GivesLatest b r
+  pub ciphers : ShowsPages b stream r
+  pub draws : HaveOwnDraws b r
   pub cause : (v : Violation) → r.stop ≡ stop.Violation v → LastStepPresents b r v
 
 -- The run was made. Where no pages clashed in it, all that is due of it was written.
@@ -38,7 +43,7 @@ pub record HasRun {S O : Type 0} (asked : spec.Asked) (answer : Status) (before 
   pub record_name : List ℕ
   pub made : Run
   pub asks : AsksRun asked before.files.held record_name made
-  pub lawful : IsLawful asks.bundle made
+  pub lawful : IsLawful asks.bundle asks.stream made
   pub written : NoClash made → IsWritten made record_name answer before after
   pub grows : GrowsSome before.output.taken after.output.taken
   pub others : OtherFiles record_name before.files.held after.files.held

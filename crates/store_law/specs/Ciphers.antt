@@ -111,11 +111,14 @@ draw_number b r (InClosing at) frame = draws_before b r (length r.turns) + ciphe
 -- The laws.
 
 -- Each Cipher of a run shows a page, with the newest bytes that it had then, under its draw.
-abbrev pub CiphersShowPages : Type 0
-CiphersShowPages =
-    (b : Bundle) (stream : Random) (budget : ℕ) (r : Run) → joint_run b stream budget ≡ Ok r →
+abbrev pub ShowsPages : Bundle → Random → Run → Type 0
+ShowsPages b stream r =
     (place : ItemPlace) (frame : ℕ) (bytes : List ℕ) → item_at r place ≡ Some (Cipher frame bytes) →
     ShowsPage stream (plain_at r place) (draw_number b r place frame) bytes
+
+abbrev pub CiphersShowPages : Type 0
+CiphersShowPages =
+    (b : Bundle) (stream : Random) (budget : ℕ) (r : Run) → joint_run b stream budget ≡ Ok r → ShowsPages b stream r
 
 -- Two Ciphers of a run under one draw are one Cipher, and none is under draw 0.
 pub record HaveOwnDraws (b : Bundle) (r : Run) : Type 0 where
