@@ -7,7 +7,7 @@ ghost use Rattle.run_command.specs.Preparing.{Prepares, ReadsStream};
 ghost use Rattle.command_words.specs.Request.{asked_of_run, randomness_of};
 
 use cloak_machine::{Machine, OpenFault};
-use cloak_model::{Program, Sequence};
+use cloak_model::{Bundle, Program, Sequence};
 use command_words::{Randomness, RunRequest};
 use outside_io::{Shelf, Stream};
 use program_parts::{Refusal, file_size, read_bundle, read_front};
@@ -67,11 +67,9 @@ pub fn prepare<S: Shelf>(
         Ok(stream) => stream,
         Err(refusal) => return Err(refusal),
     };
-    match Machine::open(alloc, &bundle, stream) {
-        Ok(machine) => Ok(Prepared {
-            machine,
-            programs: bundle.programs,
-        }),
+    let Bundle { kernel, programs } = bundle;
+    match Machine::open(alloc, kernel, programs.as_slice(), stream) {
+        Ok(machine) => Ok(Prepared { machine, programs }),
         Err(OpenFault::NoKey) => Err(Refusal::NoKey),
         Err(OpenFault::NoRandom) => Err(Refusal::NoPageDraw),
         Err(OpenFault::NoMemory) => Err(Refusal::NoMemory),
