@@ -3,7 +3,7 @@ use Rattle.std.proofs.Common.{◌≡◌, ◌≤◌, ◌<◌, ◌+◌, ◌-◌, �
 use Rattle.std.specs.List.{concat}
 use Rattle.std.proofs.Common.{ap, subst, append_assoc, arith, length-append, Option, Some, None, Result, Ok, Err, IfOk}
 use Rattle.std.proofs.Common.{OnOk, OnErr, is_err}
-use Rattle.std.proofs.lemmas.List.{append-nil, take-append-le}
+use Rattle.std.proofs.lemmas.List.{append-nil, length-take-le, take-append-le, take-take}
 use Rattle.std.proofs.Math.Seq.{take-append-add}
 use Rattle.std.proofs.Math.Dec.{leb}
 use Rattle.std.proofs.lemmas.Bool.Decides.{leb_tells}
@@ -252,6 +252,18 @@ writes_none name before after ps qs w = record {
 
 -- Bytes that wait.
 
+-- the front of a block that was put behind others
+pub front_of_block : (new old piece : List ℕ) (at count size : ℕ) → count ≤ size → at ≤ length old →
+    take (at + size) new ≡ take at old ++ take size piece → take (at + count) new ≡ take at old ++ take count piece
+front_of_block new old piece at count size small room put =
+    let behind : at + count ≤ at + size = omega (arith, small) in
+    let here : length (take at old) ≡ at = length-take-le at old room in
+    sym (take-take (at + count) (at + size) new behind)
+    ∙ ap (λ (l : List ℕ). take (at + count) l) put
+    ∙ ap (λ (n : ℕ). take (n + count) (take at old ++ take size piece)) (sym here)
+    ∙ take-append-add (take at old) (take size piece) count
+    ∙ ap (λ (l : List ℕ). take at old ++ l) (take-take count size piece small)
+
 concat-one : (xs : List (List ℕ)) (bytes : List ℕ) → concat (xs ++ bytes ∷ []) ≡ concat xs ++ bytes
 concat-one [] bytes = append-nil bytes
 concat-one (x ∷ xs) bytes = ap (λ (l : List ℕ). x ++ l) (concat-one xs bytes) ∙ sym (append_assoc x (concat xs) bytes)
@@ -382,7 +394,7 @@ waited (Err e) name before mid after waiting pieces w some call =
 -- The outlet.
 
 -- no bytes wait
-none_waiting : {S O : Type 0} (o : Outlet S O) → o.waiting ≡ 0 → waiting_of o ≡ []
+pub none_waiting : {S O : Type 0} (o : Outlet S O) → o.waiting ≡ 0 → waiting_of o ≡ []
 none_waiting o none = ap (λ (n : ℕ). take n o.gathered) none
 
 -- an outlet that failed takes pieces and does nothing

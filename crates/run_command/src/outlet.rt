@@ -1,5 +1,5 @@
 //! Where a run writes: the record to a shelf, the console and the report to a sink.
-ghost use Rattle.std.specs.Prelude.{◌≡◌, ◌≤◌, ◌+◌, ◌++◌, [], ◌∷◌, take, false, OnOk, OnErr};
+ghost use Rattle.std.specs.Prelude.{◌≡◌, ◌≤◌, ◌+◌, ◌++◌, [], ◌∷◌, length, take, false, OnOk, OnErr};
 ghost use Rattle.outside_io.specs.Told.{Counts, Grows, GrowsByFront, OtherFiles};
 ghost use Rattle.cloak_model.specs.Exchange.{recorded, shown, Emits};
 ghost use Rattle.cloak_machine.specs.Ending.{end_report};
@@ -53,6 +53,15 @@ fn append_bytes<S: Shelf>(
     Ok(())
 }
 
+/// Puts so many bytes behind the first `at` ones that their number is known, which takes no call.
+fn put_block(gathered: &mut [u8; MOST_WAITING], at: usize, block: &[u8])
+    requires room { at + SMALL ≤ MOST_WAITING }
+    requires length { length block.now ≡ SMALL }
+    ensures { take (at + SMALL) gathered.new ≡ take at gathered.old ++ block.now }
+{
+    gathered[at..at + SMALL].copy_from_slice(block);
+}
+
 /// Puts the first `count` bytes of a piece behind the first `at` ones.
 fn put_behind(
     gathered: &mut [u8; MOST_WAITING],
@@ -64,8 +73,7 @@ fn put_behind(
     requires small { count ≤ SMALL }
     ensures { take (at + count) gathered.new ≡ take at gathered.old ++ take count piece.now }
 {
-    // So many bytes that their number is known, which takes no call.
-    gathered[at..at + SMALL].copy_from_slice(&piece[..SMALL]);
+    put_block(gathered, at, &piece[..SMALL]);
 }
 
 impl<'s, 'n, 'o, S: Shelf, O: Sink> Emit for Outlet<'s, 'n, 'o, S, O> {
