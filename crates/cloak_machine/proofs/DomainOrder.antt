@@ -1,5 +1,5 @@
 -- The lines of programs in their order.
-use Rattle.std.proofs.Common.{◌≡◌, ◌∙◌, ℕ, List, [], ◌∷◌, ◌++◌, length, All, refl, sym, ap, subst, append_assoc}
+use Rattle.std.proofs.Common.{◌≡◌, ◌∙◌, ℕ, List, [], ◌∷◌, ◌++◌, length, All, refl, sym, ap, subst}
 use Rattle.std.proofs.Common.{◌+◌, ◌<◌, arith, length-append, get_or, map, take}
 use Rattle.std.proofs.lemmas.List.{get_or_append_left, take_more, map-append}
 use Rattle.std.proofs.Math.Seq.{get_or-append_seam}

@@ -1,12 +1,11 @@
 -- A step of the machine, its opening and its closing, out of what the joint machine says of them.
 use Rattle.std.proofs.Common.{◌≡◌, ◌<◌, ◌∙◌, ℕ, ◌+◌, ◌%◌, ◌^◌, Bool, List, [], ◌∷◌, ◌++◌, length}
-use Rattle.std.proofs.Common.{All, Ok, refl, sym, ap, subst, slice_index, arith, codes, decimal, if◌then◌else◌}
+use Rattle.std.proofs.Common.{All, Ok, refl, sym, ap, subst, slice_index, arith, codes, if◌then◌else◌}
 use Rattle.std.proofs.Common.{Option, map, option_map, slice_get, unwrap_or}
 use Rattle.std.proofs.lemmas.List.Concat.{concat_is}
 use Rattle.std.proofs.lemmas.List.Folds.{flat_map-map}
 use Rattle.std.proofs.lemmas.Option.{slice_get-map}
 use Rattle.std.specs.List.{concat, flat_map}
-use Rattle.sha2.specs.Sha256.{sha256}
 use Rattle.cloak_base.specs.Random.{Random}
 use Rattle.cloak_base.specs.declared.causes.Stop.{Stop}
 use Rattle.cloak_base.specs.declared.causes.Stop.TheVariants as cause
@@ -14,11 +13,10 @@ use Rattle.cloak_model.specs.declared.image.Bundle.{Bundle}
 use Rattle.cloak_model.specs.declared.item.Item.TheVariants as item
 use Rattle.cloak_model.specs.DomainState.{Domain, domain_line}
 use Rattle.cloak_model.specs.Exchange.{Piece, Emits, item_pieces, shown_each}
-use Rattle.cloak_model.specs.Hart.{Hart}
 use Rattle.cloak_model.specs.Joint.{Moment, Turn, joint_step}
 use Rattle.cloak_model.specs.Opening.{Opened, opening}
-use Rattle.cloak_model.specs.Parts.{Joint, KernelPart, kernel_part}
-use Rattle.cloak_model.specs.Report.{stop_line, number_line, kernel_lines, harts_lines, report}
+use Rattle.cloak_model.specs.Parts.{Joint, kernel_part}
+use Rattle.cloak_model.specs.Report.{stop_line, number_line, kernel_lines}
 use Rattle.cloak_model.specs.Run.{closing, first_moment}
 use Rattle.joint_machine.specs.Standing.{StandsForJoint, TakesTurn, ShowsAs, turn_in, shown_byte}
 use Rattle.joint_machine.specs.declared.joint.Joint.{Joint as Machines}
@@ -32,7 +30,6 @@ use Rattle.cloak_machine.specs.Standing.{StandsForMoment, MakesTurn, FinishesAs,
 use Rattle.cloak_machine.specs.Turns.{IsAt}
 use Rattle.kernel_report.specs.declared.console.Console.{Console}
 use Rattle.cloak_machine.specs.declared.end.End.{End}
-use Rattle.kernel_report.specs.declared.kernel.KernelLines.{KernelLines}
 use Rattle.cloak_machine.specs.declared.machine.Machine.{Machine}
 use Rattle.cloak_machine.specs.declared.schedule.Schedule.{Schedule}
 use Rattle.cloak_machine.proofs.Opening.{begun}

@@ -13,7 +13,7 @@ use crate::domains::DomainLines;
 use crate::end::{End, kernel_lines_of};
 use crate::schedule::Schedule;
 use cloak_base::Stop;
-use cloak_model::{Bundle, Emit, Item, Program};
+use cloak_model::{Emit, Item, KernelImage, Program};
 use cloak_pager::Pager;
 use joint_machine::{Joint, JointParts, OpenFault};
 use kernel_report::Console;
@@ -70,17 +70,22 @@ impl Machine {
     ghost use Rattle.cloak_machine.specs.Standing.{StandsForMoment, steps_made};
 
     /// The machine of a guest image, before its first step. Its key is the first draw of the stream, and each page of
-    /// a program takes the next one.
-    pub fn open(alloc: Global, b: &Bundle, s: Stream) -> Result<Machine, OpenFault>
-        requires { IsInGrammar b.now }
-        ensures opens { Opens b.now s result }
+    /// a program takes the next one. The memory of the kernel's image is given back.
+    pub fn open(
+        alloc: Global,
+        kernel: KernelImage,
+        programs: &[Program],
+        s: Stream,
+    ) -> Result<Machine, OpenFault>
+        requires { IsInGrammar (record { kernel = kernel; programs = programs.now }) }
+        ensures opens { Opens (record { kernel = kernel; programs = programs.now }) s result }
         ensures no_step { IfOk result (λ machine. steps_made machine ≡ 0) }
     {
-        let joint = match Joint::open(alloc, b, s) {
+        let schedule = Schedule::open(alloc, kernel.schedule.as_slice())?;
+        let joint = match Joint::open(alloc, kernel, programs, s) {
             Ok(joint) => joint,
             Err(fault) => return Err(fault),
         };
-        let schedule = Schedule::open(alloc, b.kernel.schedule.as_slice())?;
         Ok(Machine {
             joint,
             schedule,

@@ -1,4 +1,8 @@
+ghost use Rattle.std.specs.Prelude.{IfOk};
+ghost use Rattle.cloak_model.specs.Bundle.{IsBundle};
+
 use super::*;
+use cloak_model::Bundle;
 use std::alloc::{AllocError, Global};
 use std::test::*;
 
@@ -17,6 +21,13 @@ fn with_word(at: usize, word: u32) -> [u8; 65] {
         file[at..at + 4].copy_from_slice(&word.to_le_bytes());
     }
     file
+}
+
+/// The bundle of a copy of these bytes.
+fn read(alloc: Global, file: &[u8]) -> Result<Bundle, BundleFault>
+    ensures { IfOk result (λ bundle. IsBundle file.now bundle) }
+{
+    super::read(alloc, Vec::from_slice(alloc, file)?)
 }
 
 /// A file, read and written.

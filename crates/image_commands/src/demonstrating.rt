@@ -2,7 +2,7 @@
 ghost use Rattle.std.specs.Prelude.{◌≡◌, ◌≤◌, ◌<◌, ◌-◌, ◌^◌, ◌++◌, IfOk, Ok};
 ghost use Rattle.cloak_base.specs.Random.{Random, numbered};
 ghost use Rattle.outside_io.specs.Told.{Puts};
-ghost use Rattle.cloak_model.specs.declared.image.Bundle.{Bundle};
+ghost use Rattle.cloak_model.specs.declared.image.Bundle.{Bundle as AnyBundle};
 ghost use Rattle.cloak_model.specs.Joint.{Moment};
 ghost use Rattle.cloak_model.specs.Opening.{Opened, opening};
 ghost use Rattle.cloak_model.specs.Run.{first_moment, joint_after, most_steps, run_of, turns_from};
@@ -17,6 +17,7 @@ ghost use Rattle.run_command.specs.Running.{MadeAll, NoClash, NoClashYet, status
 use crate::unheard::Unheard;
 use cloak_base::{Failed, NoMemory, Stop};
 use cloak_machine::{End, Machine, OpenFault};
+use cloak_model::Bundle;
 use guest_kernel::{generate, put_summary};
 use outside_io::{Sink, Stream};
 use program_parts::{Refusal, Status, refuse};
@@ -27,8 +28,8 @@ fn open_image(alloc: Global, number: u64) -> Result<Machine, NoMemory>
     ensures opens { IfOk result (λ machine. OpensMachine (generated number) (numbered number) machine) }
     ensures no_step { IfOk result (λ machine. steps_made machine ≡ 0) }
 {
-    let bundle = generate(alloc, number)?;
-    match Machine::open(alloc, &bundle, Stream::numbered(number)) {
+    let Bundle { kernel, programs } = generate(alloc, number)?;
+    match Machine::open(alloc, kernel, programs.as_slice(), Stream::numbered(number)) {
         Ok(machine) => Ok(machine),
         Err(OpenFault::NoMemory) => Err(NoMemory),
         Err(OpenFault::NoKey) => unreachable!(),
@@ -57,7 +58,7 @@ fn run_unheard(machine: &mut Machine, steps: u32) -> Option<Stop>
 fn end_of_run(machine: Machine, steps: u32) -> End
     requires fresh { steps_made machine ≡ 0 }
     requires few { steps ≤ most_steps }
-    ensures { (b : Bundle) (stream : Random) (o : Opened) → opening b stream ≡ Ok o →
+    ensures { (b : AnyBundle) (stream : Random) (o : Opened) → opening b stream ≡ Ok o →
         StandsForMoment machine (first_moment b o.joint) → NoClash (run_of b steps o) →
         IsEndOf result (run_of b steps o) }
 {

@@ -1,5 +1,5 @@
 -- Frames that are settled one after another, over plain variables.
-use Rattle.std.proofs.Common.{◌≡◌, ◌<◌, ◌≤◌, ◌+◌, ℕ, zero, suc, List, [], ◌∷◌, ◌++◌, length, slice_index_or, Option, None, Some, refl, ap, sym, ◌∙◌, subst, arith, add-one, inl, inr}
+use Rattle.std.proofs.Common.{◌≡◌, ◌<◌, ◌≤◌, ◌+◌, ℕ, zero, suc, List, length, Option, None, Some, refl, ap, sym, ◌∙◌, subst, arith, add-one, inl, inr}
 use Rattle.std.proofs.lemmas.List.{get_or_past}
 use Rattle.std.proofs.lemmas.Bool.{cases_lt}
 use Rattle.cloak_base.specs.declared.names.PageId.{PageId}
@@ -8,15 +8,14 @@ use Rattle.cloak_base.specs.Random.{Random}
 use Rattle.cloak_model.specs.Hart.{Hart}
 use Rattle.cloak_model.specs.Ledger.{vector_of}
 use Rattle.cloak_model.specs.Cloaking.{CloakedMemory, settle, settle_if, settle_owed, owed_in}
-use Rattle.cloak_model.specs.Exchange.{Piece, Emits, item_pieces}
+use Rattle.cloak_model.specs.Exchange.{Piece}
 use Rattle.cloak_model.specs.Joint.{cloak_outside, hart_in}
 use Rattle.cloak_model.specs.Parts as model
 use Rattle.cloak_model.specs.Run.{closing, settled_below}
 use Rattle.cloak_model.specs.World.{Cloak, cipher_items, settled_in}
 use Rattle.thread_context.specs.Recorded.{root_at}
-use Rattle.cloak_pager.specs.State.{PagerState, IsWholePager, page_of, right_at, held_in}
+use Rattle.cloak_pager.specs.State.{PagerState, IsWholePager, page_of, held_in}
 use Rattle.cloak_pager.specs.Turns.{StaysBut}
-use Rattle.cloak_pager.specs.declared.held.Held.{Held}
 use Rattle.cloak_pager.specs.declared.held.Held.TheVariants.{Spent}
 use Rattle.cloak_pager.proofs.Pages.{same_or_not}
 use Rattle.cloaked_side.specs.Holding.{Holds, Settles}

@@ -1,5 +1,5 @@
 -- What is lent of a machine.
-use Rattle.std.proofs.Common.{◌≡◌, ◌∙◌}
+use Rattle.std.proofs.Common.{◌∙◌}
 use Rattle.cloak_model.specs.Parts as model
 use Rattle.joint_machine.specs.Standing.{StandsForJoint, LendsPager}
 use Rattle.joint_machine.specs.declared.joint.Joint.{Joint}

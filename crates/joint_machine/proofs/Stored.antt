@@ -1,5 +1,5 @@
 -- RAM as a run begins, over plain variables.
-use Rattle.std.proofs.Common.{◌≡◌, ◌<◌, ◌≤◌, ◌+◌, ◌-◌, ◌*◌, ◌/◌, ◌%◌, ℕ, false, List, [], ◌∷◌, ◌++◌, length, drop, take, slice_index_or, slice_set, replicate, All, refl, ap, sym, ◌∙◌, subst, arith, add-one, None, Some, Option, map}
+use Rattle.std.proofs.Common.{◌≡◌, ◌<◌, ◌≤◌, ◌+◌, ◌-◌, ◌*◌, ◌/◌, ◌%◌, ℕ, false, List, [], ◌∷◌, ◌++◌, length, drop, take, slice_index_or, slice_set, All, refl, ap, sym, ◌∙◌, subst, arith, add-one, None, Some, Option, map}
 use Rattle.std.proofs.lemmas.List.{set_split, length-set, length-replicate, at_drop_more, at_drop_all}
 use Rattle.std.proofs.lemmas.List.Elements.{All-set, All-replicate}
 use Rattle.cloak_base.specs.Pages.{zero_page}
@@ -12,8 +12,8 @@ use Rattle.cloak_model.specs.Cloaking.{CloakedMemory}
 use Rattle.cloak_model.specs.Memory.{frame_of, place_of, with_byte, with_bytes, with_value_in, zero_ram}
 use Rattle.cloak_model.specs.Opening.{with_segments, started_kernel, started_ledger, started_memory}
 use Rattle.protect_meta.specs.declared.meta.Meta.{Meta}
-use Rattle.protect_meta.specs.Table.{meta_at, domains_of}
-use Rattle.cloak_pager.specs.State.{PagerState, IsWholePager, page_of, owed_under, right_at, held_in}
+use Rattle.protect_meta.specs.Table.{meta_at}
+use Rattle.cloak_pager.specs.State.{PagerState, IsWholePager, owed_under}
 use Rattle.cloak_pager.specs.Turns.{IsNewPager, HasBytes}
 use Rattle.cloak_pager.specs.Relation.{StandsForMemory, FrameStands, PageStands}
 use Rattle.cloak_pager.specs.AfterCall.{none_wiped, StandsBlank}

@@ -1,7 +1,7 @@
 //! The opening of a joint run.
 ghost use Rattle.std.specs.Prelude.{◌≡◌, ◌<◌, ℕ, [], ◌∷◌, Ok, IfOk};
 ghost use Rattle.cloak_base.specs.Random.{Random};
-ghost use Rattle.cloak_model.specs.declared.image.Bundle.{Bundle as AnyBundle};
+ghost use Rattle.cloak_model.specs.declared.image.Bundle.{Bundle};
 ghost use Rattle.cloak_model.specs.Bundle.{IsInGrammar};
 ghost use Rattle.cloak_model.specs.Exchange.{EmitsSome, Emits, item_pieces};
 ghost use Rattle.cloak_model.specs.Opening as spec;
@@ -15,8 +15,8 @@ use crate::loading::load;
 use crate::opened::OpenFault;
 use crate::placing::place_programs;
 use crate::starting::{start_domains, start_harts};
-use cloak_base::Frame;
-use cloak_model::{Bundle, Emit, Program};
+use cloak_base::{Frame, NoMemory};
+use cloak_model::{Emit, KernelImage, Program, Sequence};
 use cloaked_side::{KeptItems, Memory};
 use host_calls::Disk;
 use outside_io::Stream;
@@ -61,26 +61,45 @@ fn show_placed<E: Emit>(memory: &mut Memory, programs: &[Program], e: &mut E)
     }
 }
 
+/// The bytes of the disk of a kernel's image. All other memory of the image is given back.
+fn disk_bytes(kernel: KernelImage) -> Sequence<u8>
+    ensures { result ≡ kernel.disk }
+{
+    let KernelImage { disk, .. } = kernel;
+    disk
+}
+
+/// The disk of a kernel's image, of which nothing else is needed any more.
+fn disk_of(alloc: Global, kernel: KernelImage) -> Result<Disk, NoMemory>
+    ensures { IfOk result (λ disk. disk ≡ kernel.disk) }
+{
+    let bytes = disk_bytes(kernel);
+    Disk::open(alloc, bytes.as_slice())
+}
+
 impl Joint {
     ghost use Rattle.joint_machine.specs.Standing.{harts_of, AllOutside, OpensAs, ShowsAs, StandsForJoint};
 
     /// The joint machine of a guest image as its run begins. Its key is the first draw of the stream, and each page of
-    /// a program takes the next one.
-    pub fn open(alloc: Global, b: &Bundle, s: Stream) -> Result<Joint, OpenFault>
-        requires { IsInGrammar b.now }
-        ensures opens { OpensAs b.now s result }
-        ensures harts { IfOk result (λ joint. harts_of joint ≡ b.now.kernel.harts) }
+    /// a program takes the next one. The memory of the kernel's image is given back.
+    pub fn open(
+        alloc: Global,
+        kernel: KernelImage,
+        programs: &[Program],
+        s: Stream,
+    ) -> Result<Joint, OpenFault>
+        requires { IsInGrammar (record { kernel = kernel; programs = programs.now }) }
+        ensures opens { OpensAs (record { kernel = kernel; programs = programs.now }) s result }
+        ensures harts { IfOk result (λ joint. harts_of joint ≡ kernel.harts) }
         ensures outside { IfOk result (λ joint. AllOutside joint) }
     {
         let mut stream = s;
         let Some(key) = stream.draw() else {
             return Err(OpenFault::NoKey);
         };
-        let k = &b.kernel;
-        let programs = b.programs.as_slice();
-        let harts = start_harts(alloc, k.entry, k.harts)?;
-        let mut memory = load(alloc, k, programs.len() as u32, key, stream)?;
-        let disk = Disk::open(alloc, k.disk.as_slice())?;
+        let harts = start_harts(alloc, kernel.entry, kernel.harts)?;
+        let mut memory = load(alloc, &kernel, programs.len() as u32, key, stream)?;
+        let disk = disk_of(alloc, kernel)?;
         let domains = start_domains(alloc, programs)?;
         if !place_programs(&mut memory, programs) {
             return Err(OpenFault::NoRandom);
@@ -101,7 +120,7 @@ impl Joint {
         ensures outside { AllOutside self.new }
         ensures harts { harts_of self.new ≡ harts_of self.old }
         ensures emits_some { EmitsSome E.gave e.old e.new }
-        ensures shows { (b : AnyBundle) (s : Random) (o : Opened) → opening b s ≡ Ok o → b.programs ≡ programs.now →
+        ensures shows { (b : Bundle) (s : Random) (o : Opened) → opening b s ≡ Ok o → b.programs ≡ programs.now →
             StandsForJoint self.old o.joint → ShowsAs E.gave e.old e.new self.new o }
     {
         show_placed(&mut self.memory, programs, e);

@@ -74,15 +74,15 @@ fn image(alloc: Global) -> Result<Bundle, NoMemory>
 /// Each frame with a page is shown once. As the machine closes nothing is owed.
 #[test]
 fn shows_each_frame_once(rt: HostRuntime) -> Result<(), Fail> {
-    let b = image(rt.alloc())?;
     let mut e = Shown {
         frames: 0,
         others: 0,
     };
-    let opened = Joint::open(rt.alloc(), &b, Stream::numbered(0));
+    let Bundle { kernel, programs } = image(rt.alloc())?;
+    let opened = Joint::open(rt.alloc(), kernel, programs.as_slice(), Stream::numbered(0));
     assert!(rt; opened.is_ok());
     if let Ok(mut joint) = opened {
-        joint.show_opening(b.programs.as_slice(), &mut e);
+        joint.show_opening(programs.as_slice(), &mut e);
         assert_eq!(rt; (e.frames, e.others), (789, 0));
         joint.close(&mut e);
         assert_eq!(rt; (e.frames, e.others), (789, 0));

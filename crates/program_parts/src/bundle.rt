@@ -27,7 +27,7 @@ pub fn read_bundle<S: Shelf>(alloc: Global, shelf: &mut S, name: &str) -> Result
         return Err(Refusal::BadBundle(BundleFault::TooLarge(0)));
     }
     let bytes = read_front(alloc, shelf, name, size)?;
-    match read(alloc, bytes.as_slice()) {
+    match read(alloc, bytes) {
         Ok(bundle) => Ok(bundle),
         Err(BundleFault::NoMemory) => Err(Refusal::NoMemory),
         Err(fault) => Err(Refusal::BadBundle(fault)),

@@ -11,7 +11,7 @@ ghost use Rattle.cloak_model.specs.declared.image.Segment.{Segment as ImageSegme
 ghost use Rattle.item_law.specs.Writing.{AreBytes};
 
 use cloak_machine::{Machine, OpenFault};
-use cloak_model::{Program, Segment, Sequence};
+use cloak_model::{Bundle, Program, Segment, Sequence};
 use command_words::{Randomness, RunRequest};
 use outside_io::{Shelf, Stream};
 use program_parts::{Refusal, file_size, read_bundle, read_front};
@@ -98,11 +98,9 @@ pub fn prepare<S: Shelf>(
     segments_are_bytes(bundle.kernel.segments.as_slice());
     are_bytes(bundle.kernel.disk.as_slice());
     programs_are_bytes(bundle.programs.as_slice());
-    match Machine::open(alloc, &bundle, stream) {
-        Ok(machine) => Ok(Prepared {
-            machine,
-            programs: bundle.programs,
-        }),
+    let Bundle { kernel, programs } = bundle;
+    match Machine::open(alloc, kernel, programs.as_slice(), stream) {
+        Ok(machine) => Ok(Prepared { machine, programs }),
         Err(OpenFault::NoKey) => Err(Refusal::NoKey),
         Err(OpenFault::NoRandom) => Err(Refusal::NoPageDraw),
         Err(OpenFault::NoMemory) => Err(Refusal::NoMemory),

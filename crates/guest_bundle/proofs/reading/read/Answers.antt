@@ -40,13 +40,13 @@ is_first file (Err e) given = λ other. subst (λ read. Tells read (bundle_fault
     (failed e (bundle_at file) other given) (bundle_tells file)
 
 pub returns-clause-ok : goal.returns-clause-ok
-returns-clause-ok c = is_found c.args.b.now c.bundle.result (λ i. omega (arith, c.type_inv.b i)) c.bundle.ensures
+returns-clause-ok c = is_found c.args.file.items c.bundle.result (subst IsBytes c.as_slice.ensures.value c.are_bytes.ensures) c.bundle.ensures
 
 pub returns-clause-err : goal.returns-clause-err
-returns-clause-err c = is_refused c.args.b.now c.bundle.result c.bundle.ensures
+returns-clause-err c = is_refused c.args.file.items c.bundle.result c.bundle.ensures
 
 pub returns-clause-only : goal.returns-clause-only
-returns-clause-only c = is_only c.args.b.now c.bundle.result c.bundle.ensures
+returns-clause-only c = is_only c.args.file.items c.bundle.result c.bundle.ensures
 
 pub returns-clause-fault : goal.returns-clause-fault
-returns-clause-fault c = is_first c.args.b.now c.bundle.result c.bundle.ensures
+returns-clause-fault c = is_first c.args.file.items c.bundle.result c.bundle.ensures

@@ -1,5 +1,4 @@
-use Rattle.std.proofs.Common.{◌<◌, ◌∙◌, [], arith}
-use Rattle.cloak_model.specs.Cloaking.{CloakedMemory}
+use Rattle.std.proofs.Common.{◌∙◌, [], arith}
 use Rattle.cloak_model.specs.Joint.{cloak_outside}
 use Rattle.cloaked_side.proofs.Emitting.{emits_none, some_then}
 use Rattle.cloaked_side.proofs.Sided.{same_size}

@@ -1,4 +1,4 @@
-use Rattle.std.proofs.Common.{◌<◌, ◌∙◌, get_or, sym, refl, subst}
+use Rattle.std.proofs.Common.{◌<◌, ◌∙◌, sym, refl, subst}
 use Rattle.std.proofs.lemmas.List.{get_or_default}
 use Rattle.joint_machine.proofs.Stored.{stores_more}
 use Rattle.joint_machine.proofs.loading.store.Goals as goal

@@ -1,4 +1,4 @@
-use Rattle.joint_machine.proofs.Started.{started_none, started_next}
+use Rattle.joint_machine.proofs.Started.{started_next}
 use Rattle.joint_machine.proofs.starting.start_domains.Goals as goal
 
 pub loop-number-preserved : goal.loop-number-preserved

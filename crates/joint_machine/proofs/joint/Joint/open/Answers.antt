@@ -1,9 +1,6 @@
-use Rattle.std.proofs.Common.{◌∙◌, ◌≡◌, ◌≤◌, List, All, ap, sym, subst, length, true, false, rules}
-use Rattle.cloak_model.specs.declared.image.Program.{Program}
-use Rattle.cloak_model.specs.Bundle.{IsProgramIn}
-use Rattle.cloak_model.specs.Opening.{started_domains, started_memory, place_programs}
-use Rattle.joint_machine.specs.Standing.{AreDomains}
-use Rattle.joint_machine.specs.Starting.{PlacesTo}
+use Rattle.std.proofs.Common.{◌∙◌, ◌≡◌, ◌≤◌, ap, length, rules}
+use Rattle.cloak_model.specs.declared.image.Bundle.{Bundle}
+use Rattle.cloak_model.specs.Opening.{started_memory}
 use Rattle.joint_machine.proofs.Opens.{no_key, no_page_draw, opens_joint, free_unused, length-started_harts}
 use Rattle.joint_machine.proofs.joint.Joint.open.Goals as goal
 
@@ -11,24 +8,20 @@ pub returns-in_default-clause-opens : goal.returns-in_default-clause-opens
 returns-in_default-clause-opens c = no_key _ _ c.in_default.ensures.0
 
 pub start_domains-requires-clause-fit : goal.start_domains-requires-clause-fit
-start_domains-requires-clause-fit c =
-    let n = c.args.b.now.kernel.frames in
-    (n, subst (λ (x : List Program). All (IsProgramIn n) x) (sym c.as_slice-programs.ensures) c.requires.programs)
+start_domains-requires-clause-fit c = (c.args.kernel.frames, c.requires.programs)
 
 pub returns-then-not-place_programs-clause-opens : goal.returns-then-not-place_programs-clause-opens
 returns-then-not-place_programs-clause-opens c =
-    let b = c.args.b.now in
+    let b : Bundle = record { kernel = c.args.kernel; programs = c.args.programs.now } in
     let m = started_memory b.kernel c.in-Some.key c.draw.new.self in
-    let memory = c.place_programs.new.memory in
-    no_page_draw b c.args.s c.draw.new.self c.in-Some.key memory c.in-Some.ensures
-    (subst (λ (x : List Program). PlacesTo memory false (place_programs 0 x m)) c.as_slice-programs.ensures
-    (c.if-not-place_programs.ensures.places m c.in_ok-memory.ensures.holds))
+    no_page_draw b c.args.s c.draw.new.self c.in-Some.key c.place_programs.new.memory c.in-Some.ensures
+    (c.if-not-place_programs.ensures.places m c.in_ok-memory.ensures.holds)
 
 pub invariant_of-result : goal.invariant_of-result
 invariant_of-result c = record {
   few_harts =
-      (let e : length c.in_ok-harts.harts.items ≡ c.args.b.now.kernel.harts =
-      ap length c.in_ok-harts.ensures ∙ length-started_harts c.args.b.now.kernel.entry c.args.b.now.kernel.harts in
+      (let e : length c.in_ok-harts.harts.items ≡ c.args.kernel.harts =
+      ap length c.in_ok-harts.ensures ∙ length-started_harts c.args.kernel.entry c.args.kernel.harts in
       let few : length c.in_ok-harts.harts.items ≤ 4 = rw e c.requires.kernel.few_harts in few);
   few = search rules;
   served = search rules;
@@ -38,21 +31,16 @@ invariant_of-result c = record {
 
 pub returns-clause-opens : goal.returns-clause-opens
 returns-clause-opens c =
-    let b = c.args.b.now in
+    let b : Bundle = record { kernel = c.args.kernel; programs = c.args.programs.now } in
     let m = started_memory b.kernel c.in-Some.key c.draw.new.self in
-    let memory = c.place_programs.new.memory in
     opens_joint _ b c.args.s c.draw.new.self c.in-Some.key c.in-Some.ensures (record {
       harts = c.in_ok-harts.ensures;
-      disk = c.in_ok-disk.ensures ∙ c.as_slice.ensures;
-      domains =
-          subst (λ (x : List Program). AreDomains c.in_ok-domains.domains.items (started_domains 0 x))
-          c.as_slice-programs.ensures c.in_ok-domains.ensures.stand;
-      roots = c.open-2.ensures;
-      memory =
-          subst (λ (x : List Program). PlacesTo memory true (place_programs 0 x m)) c.as_slice-programs.ensures
-          (c.if-not-place_programs.ensures.places m c.in_ok-memory.ensures.holds);
+      disk = c.in_ok-disk.ensures;
+      domains = c.in_ok-domains.ensures.stand;
+      roots = c.open.ensures;
+      memory = c.if-not-place_programs.ensures.places m c.in_ok-memory.ensures.holds;
     })
 
 pub returns-clause-harts : goal.returns-clause-harts
 returns-clause-harts c =
-    ap length c.in_ok-harts.ensures ∙ length-started_harts c.args.b.now.kernel.entry c.args.b.now.kernel.harts
+    ap length c.in_ok-harts.ensures ∙ length-started_harts c.args.kernel.entry c.args.kernel.harts

@@ -1,4 +1,3 @@
-use Rattle.std.proofs.Common.{refl}
 use Rattle.joint_machine.proofs.Showing.{opening_emits}
 use Rattle.joint_machine.proofs.joint.Joint.show_opening.Goals as goal
 
