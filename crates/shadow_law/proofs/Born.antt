@@ -113,12 +113,12 @@ pub born_agrees : (p : Present) (view : ShadowView) (va : ℕ) (kind : Kind) (w 
 born_agrees p view va kind w cloaked leads inside out target =
     let a = access_in view va kind in
     let to_page : walk p.ram (satp_in view) a ≡ moved (va % 4096) (walk p.ram (satp_in view) (access_in view (4096 * (va / 4096)) kind)) =
-        walk_of_page p.ram (satp_in view) a
-        ∙ (λ i. moved (va_of_access view va kind i % 4096) (walk p.ram (satp_in view) (page_of_access view va kind i))) in
+    walk_of_page p.ram (satp_in view) a
+    ∙ (λ i. moved (va_of_access view va kind i % 4096) (walk p.ram (satp_in view) (page_of_access view va kind i))) in
     let b = before (va % 4096) (walk p.ram (satp_in view) (access_in view (4096 * (va / 4096)) kind)) w (sym to_page ∙ leads) in
     let even : b.from.pa % 4096 ≡ 4096 * (va / 4096) % 4096 =
-        (keeps_walk p.ram (satp_in view) (access_in view (4096 * (va / 4096)) kind)).kept b.from b.leads
-        ∙ ap (λ n. n % 4096) (va_of_access view (4096 * (va / 4096)) kind) in
+    (keeps_walk p.ram (satp_in view) (access_in view (4096 * (va / 4096)) kind)).kept b.from b.leads
+    ∙ ap (λ n. n % 4096) (va_of_access view (4096 * (va / 4096)) kind) in
     let start : b.from.pa ≡ start_of (frame_of w.pa) = start_place b.from.pa w.pa va b.further even (in_ram_from p.ram w.pa inside) in
     record {
       walks = b.leads ∙ (λ i. Ok (record { pa = start i; pt1 = b.pt1 i; pt0 = b.pt0 i }));

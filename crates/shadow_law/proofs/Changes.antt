@@ -1,5 +1,5 @@
 -- What an entry depends on, and what each change of memory leaves of it.
-use Rattle.std.proofs.Common.{◌≡◌, ◌∙◌, ℕ, ◌*◌, ◌<◌, inl, inr, ◌⊎◌, Bool, true, false, ◌&&◌, ◌||◌, cond, List, [], ◌∷◌, ◌++◌, length, Option, Some, None, refl, sym, ap, subst, nat_lt}
+use Rattle.std.proofs.Common.{◌≡◌, ◌≢◌, ◌∙◌, ℕ, ◌*◌, ◌<◌, inl, inr, ◌⊎◌, Bool, true, false, ◌&&◌, ◌||◌, cond, List, [], ◌∷◌, ◌++◌, length, Option, Some, None, refl, sym, ap, subst, nat_lt}
 use Rattle.std.specs.Prelude.{◌==◌, slice_index_or, slice_set, IfSome}
 use Rattle.std.specs.List.{position_or_len}
 use Rattle.std.specs.Str.{bytes_eq}
@@ -21,11 +21,11 @@ use Rattle.cloak_model.specs.Cloaking.{CloakedMemory, AfterSettling, AfterOffer,
 use Rattle.shadow_fold.specs.declared.entry.Entry.{Entry}
 use Rattle.shadow_fold.specs.declared.entry.ShadowView.{ShadowView}
 use Rattle.shadow_fold.specs.declared.entry.ShadowView.TheVariants.{Outside, Inside}
-use Rattle.shadow_fold.specs.Agreement.{Present, EntryAgrees, TargetAgrees, IsMapped, satp_in, access_in}
+use Rattle.shadow_fold.specs.Agreement.{Present, EntryAgrees, TargetAgrees, HasInSpace, IsMapped}
 use Rattle.shadow_fold.specs.Entries.{is_target, is_frame, is_table, sees_space, is_of_space}
 use Rattle.shadow_fold.specs.Fold.{holds, table_holds, part_holds}
 use Rattle.shadow_law.specs.Walks.{IsSame, HaveSameTables}
-use Rattle.shadow_law.specs.Agreeing.{Held, Mapped, present, frame, OwedIsHeld, outside_at, held_after, is_ready}
+use Rattle.shadow_law.specs.Agreeing.{Held, present, frame, OwedIsHeld}
 use Rattle.shadow_law.proofs.Walks.{walk_kept}
 
 -- target and table frames of an entry
@@ -104,14 +104,14 @@ spared_trans : (x : ℕ) (a b c : CloakedMemory) → Spared x a b → Spared x b
 spared_trans x a b c f g = record { ram = g.ram ∙ f.ram; owed = g.owed ∙ f.owed }
 
 -- an entry whose frames are spared, and hold what they held
-pub keeps : (held held' : Held) (mapped : Mapped) (m m' : CloakedMemory) (e : Entry) → length m'.ram ≡ length m.ram
-    → Parts (λ x. Spared x m m' × (held' x ≡ held x)) e → EntryAgrees (present held mapped m) e → EntryAgrees (present held' mapped m') e
-keeps held held' mapped m m' e count parts agrees = record {
+pub keeps : (held held' : Held) (m m' : CloakedMemory) (e : Entry) → length m'.ram ≡ length m.ram
+    → Parts (λ x. Spared x m m' × (held' x ≡ held x)) e → EntryAgrees (present held m) e → EntryAgrees (present held' m') e
+keeps held held' m m' e count parts agrees = record {
   walks = walk_kept m.ram m'.ram _ _ _ (record {
-      count = count;
-      first = map_some (λ f. Spared f.0 m m' × (held' f.0 ≡ held f.0)) (IsSame m.ram m'.ram) e.pt1 (λ f h. h.0.ram) parts.first;
-      second = map_some (λ f. Spared f.0 m m' × (held' f.0 ≡ held f.0)) (IsSame m.ram m'.ram) e.pt0 (λ f h. h.0.ram) parts.second;
-    }) agrees.walks;
+    count = count;
+    first = map_some (λ f. Spared f.0 m m' × (held' f.0 ≡ held f.0)) (IsSame m.ram m'.ram) e.pt1 (λ f h. h.0.ram) parts.first;
+    second = map_some (λ f. Spared f.0 m m' × (held' f.0 ≡ held f.0)) (IsSame m.ram m'.ram) e.pt0 (λ f h. h.0.ram) parts.second;
+  }) agrees.walks;
   first = both_some (λ f. Spared f.0 m m' × (held' f.0 ≡ held f.0)) (λ f. held f.0 ≡ None) (λ f. held' f.0 ≡ None) e.pt1
       (λ f h k. h.1 ∙ k) parts.first agrees.first;
   second = both_some (λ f. Spared f.0 m m' × (held' f.0 ≡ held f.0)) (λ f. held f.0 ≡ None) (λ f. held' f.0 ≡ None) e.pt0
@@ -119,27 +119,23 @@ keeps held held' mapped m m' e count parts agrees = record {
   target = target e.cloaked agrees.target;
 }
   where
-    target : (o : Option PageId) → TargetAgrees (present held mapped m) e o → TargetAgrees (present held' mapped m') e o
+    target : (o : Option PageId) → TargetAgrees (present held m) e o → TargetAgrees (present held' m') e o
     target None h = parts.target.1 ∙ h
-    target (Some q) h = (parts.target.1 ∙ h.0, λ store. parts.target.0.owed ∙ h.1 store, mapped_same e.view h.2)
-      where
-        mapped_same : (view : ShadowView) → IsMapped (present held mapped m) view (4096 * e.page) q → IsMapped (present held' mapped m') view (4096 * e.page) q
-        mapped_same (Outside satp mode sum mxr) k = k
-        mapped_same (Inside satp sum mxr space) k = k
+    target (Some q) h = (parts.target.1 ∙ h.0, λ store. parts.target.0.owed ∙ h.1 store)
 
 -- Writes.
 
-pub write_keeps : (held : Held) (mapped : Mapped) (m : CloakedMemory) (f : ℕ) (bytes : List ℕ) (e : Entry) → is_table (frame f) e ≡ false
-    → EntryAgrees (present held mapped m) e → EntryAgrees (present held mapped (with_shown_frame f bytes m)) e
-write_keeps held mapped m f bytes e out agrees =
+pub write_keeps : (held : Held) (m : CloakedMemory) (f : ℕ) (bytes : List ℕ) (e : Entry) → is_table (frame f) e ≡ false
+    → EntryAgrees (present held m) e → EntryAgrees (present held (with_shown_frame f bytes m)) e
+write_keeps held m f bytes e out agrees =
     let t = not_tables f e out in
     let other : (g : Frame) → (g.0 ≡ f → ⊥) → IsSame m.ram (slice_set m.ram f bytes) g = λ g n. get_or-set_other m.ram f g.0 bytes [] n in
     record {
       walks = walk_kept m.ram (slice_set m.ram f bytes) _ _ _ (record {
-          count = length-set m.ram f bytes;
-          first = map_some (λ g. g.0 ≡ f → ⊥) (IsSame m.ram (slice_set m.ram f bytes)) e.pt1 other t.0;
-          second = map_some (λ g. g.0 ≡ f → ⊥) (IsSame m.ram (slice_set m.ram f bytes)) e.pt0 other t.1;
-        }) agrees.walks;
+        count = length-set m.ram f bytes;
+        first = map_some (λ g. g.0 ≡ f → ⊥) (IsSame m.ram (slice_set m.ram f bytes)) e.pt1 other t.0;
+        second = map_some (λ g. g.0 ≡ f → ⊥) (IsSame m.ram (slice_set m.ram f bytes)) e.pt0 other t.1;
+      }) agrees.walks;
       first = agrees.first;
       second = agrees.second;
       target = target e.cloaked agrees.target;
@@ -147,13 +143,10 @@ write_keeps held mapped m f bytes e out agrees =
   where
     m' : CloakedMemory
     m' = with_shown_frame f bytes m
-    target : (o : Option PageId) → TargetAgrees (present held mapped m) e o → TargetAgrees (present held mapped m') e o
+
+    target : (o : Option PageId) → TargetAgrees (present held m) e o → TargetAgrees (present held m') e o
     target None h = h
-    target (Some q) h = (h.0, h.1, mapped_same e.view h.2)
-      where
-        mapped_same : (view : ShadowView) → IsMapped (present held mapped m) view (4096 * e.page) q → IsMapped (present held mapped m') view (4096 * e.page) q
-        mapped_same (Outside satp mode sum mxr) k = k
-        mapped_same (Inside satp sum mxr space) k = k
+    target (Some q) h = h
 
 -- Settling.
 
@@ -185,15 +178,13 @@ settle_count : (f : ℕ) (m : CloakedMemory) → length (settle f m).memory.ram 
 unfolding settle
 settle_count f m = count_if f (owed_in m f) m
 
-outside_other : (f x : ℕ) (held : Held) → (x ≡ f → ⊥) → outside_at f held x ≡ held x
-outside_other f x held other = ap (λ b. cond b None (held x)) (number_other x f other)
-
-pub touch_keeps : (held : Held) (mapped : Mapped) (m : CloakedMemory) (f : ℕ) (e : Entry) → is_target (frame f) e ≡ false → is_table (frame f) e ≡ false
-    → EntryAgrees (present held mapped m) e → EntryAgrees (present (outside_at f held) mapped (settle f m).memory) e
-touch_keeps held mapped m f e target table agrees =
-    keeps held (outside_at f held) mapped m (settle f m).memory e (settle_count f m)
-    (map_parts (λ x. x ≡ f → ⊥) (λ x. Spared x m (settle f m).memory × (outside_at f held x ≡ held x)) e
-    (λ x other. (settle_spares f x m other, outside_other f x held other)) (not_part f e target table)) agrees
+pub touch_keeps : (held held' : Held) (m : CloakedMemory) (f : ℕ) (e : Entry) → ((x : ℕ) → x ≢ f → held' x ≡ held x)
+    → is_target (frame f) e ≡ false → is_table (frame f) e ≡ false
+    → EntryAgrees (present held m) e → EntryAgrees (present held' (settle f m).memory) e
+touch_keeps held held' m f e same target table agrees =
+    keeps held held' m (settle f m).memory e (settle_count f m)
+    (map_parts (λ x. x ≡ f → ⊥) (λ x. Spared x m (settle f m).memory × (held' x ≡ held x)) e
+    (λ x other. (settle_spares f x m other, same x other)) (not_part f e target table)) agrees
 
 -- Offering.
 
@@ -205,11 +196,12 @@ owes_page q (Some p) is = elim (same_page_tells p q) [
 ]
 
 -- the frame that is found to be owed a page
-owing_at : (m : CloakedMemory) (q : PageId) (f : ℕ) → owing_frame m q ≡ Some f → owed_in m f ≡ Some q
+pub owing_at : (m : CloakedMemory) (q : PageId) (f : ℕ) → owing_frame m q ≡ Some f → owed_in m f ≡ Some q
 owing_at m q f is = by_test (nat_lt at (length m.ledger.owed)) refl is
   where
     at : ℕ
     at = position_or_len (owes q) m.ledger.owed
+
     by_test : (b : Bool) → nat_lt at (length m.ledger.owed) ≡ b → cond b (Some at) None ≡ Some f → owed_in m f ≡ Some q
     by_test true low found =
         let same : at ≡ f = same_Some at f found in
@@ -257,15 +249,19 @@ module _ (q : PageId) (x : ℕ) where
     where
       m1 : CloakedMemory
       m1 = (settle g m).memory
+
       one : Spared x m m1
       one = settle_spares g x m other
+
       -- a frame that is owed the page is not x
       apart : (f : ℕ) → owing_frame m1 q ≡ Some f → x ≡ f → ⊥
       apart f is same =
           let there : owed_in m x ≡ Some q = sym one.owed ∙ ap (owed_in m1) same ∙ owing_at m1 q f is in
           false≢true (sym out ∙ holds_self q (held x) (owed x q there))
+
       last : CloakedMemory → AfterOffer
       last = λ m''. compared q g write (m''.ledger.recorded q) m''
+
       by_test : (b : Bool) → Spared x m (cond b (let o : AfterOffer = record { memory = m; ciphers = []; answer = Ready } in o)
           (unless_missed (settle g m) (λ m'. unless_missed (settle_frame_if (owing_frame m' q) m') last))).memory
       by_test true = spared_refl x m
@@ -290,8 +286,10 @@ count_compared q g write (Some c) m = by_test (bytes_eq there c)
   where
     there : List ℕ
     there = slice_index_or m.ram g []
+
     m' : CloakedMemory
     m' = with_comparison there c m
+
     by_test : (b : Bool) → length (cond b (let o : AfterOffer = record { memory = taken q g write m'; ciphers = []; answer = Ready } in o) (record { memory = m'; ciphers = []; answer = Mismatch })).memory.ram ≡ length m.ram
     by_test true = count_taken q g write m'
     by_test false = refl
@@ -312,43 +310,45 @@ offer_count q g write m = by_test (owes q (owed_in m g))
   where
     m1 : CloakedMemory
     m1 = (settle g m).memory
+
     last : CloakedMemory → AfterOffer
     last = λ m''. compared q g write (m''.ledger.recorded q) m''
+
     second : length (settle_frame_if (owing_frame m1 q) m1).memory.ram ≡ length m.ram
     second = count_frame_if m1 (owing_frame m1 q) ∙ settle_count g m
+
     by_test : (b : Bool) → length (cond b (let o : AfterOffer = record { memory = m; ciphers = []; answer = Ready } in o)
         (unless_missed (settle g m) (λ m'. unless_missed (settle_frame_if (owing_frame m' q) m') last))).memory.ram ≡ length m.ram
     by_test true = refl
     by_test false = count_unless (length m.ram) (settle g m) (λ m'. unless_missed (settle_frame_if (owing_frame m' q) m') last) (settle_count g m)
         (count_unless (length m.ram) (settle_frame_if (owing_frame m1 q) m1) last second (count_compared q g write _ _ ∙ second))
 
-held_other : (q : PageId) (g x : ℕ) (grant : Bool) (held : Held) → (x ≡ g → ⊥) → holds (same_page q) (held x) ≡ false → held_after q g grant held x ≡ held x
-held_other q g x grant held other out =
-    λ i. cond (number_other x g other i) (cond grant (Some q) None) (cond (out i) None (held x))
-
-pub offer_keeps : (held : Held) (mapped : Mapped) (m : CloakedMemory) (q : PageId) (g : ℕ) (write : Bool) (e : Entry) → OwedIsHeld held m
+pub offer_keeps : (held held' : Held) (m : CloakedMemory) (q : PageId) (g : ℕ) (write : Bool) (e : Entry) → OwedIsHeld held m
+    → ((x : ℕ) → x ≢ g → held x ≢ Some q → held' x ≡ held x)
     → is_target (frame g) e ≡ false → is_table (frame g) e ≡ false → part_holds held (same_page q) e ≡ false
-    → EntryAgrees (present held mapped m) e
-    → EntryAgrees (present (held_after q g (is_ready (offer q g write m).answer) held) mapped (offer q g write m).memory) e
-offer_keeps held mapped m q g write e owed target table out agrees =
-    let o = offer q g write m in
-    keeps held (held_after q g (is_ready o.answer) held) mapped m o.memory e (offer_count q g write m)
-    (both_parts (λ x. x ≡ g → ⊥) (λ x. holds (same_page q) (held x) ≡ false) (λ x. Spared x m o.memory × (held_after q g (is_ready o.answer) held x ≡ held x)) e
-    (λ x other none. (offer_spares q x held g write m owed other none, held_other q g x (is_ready o.answer) held other none))
+    → EntryAgrees (present held m) e → EntryAgrees (present held' (offer q g write m).memory) e
+offer_keeps held held' m q g write e owed same target table out agrees =
+    let m' = (offer q g write m).memory in
+    keeps held held' m m' e (offer_count q g write m)
+    (both_parts (λ x. x ≡ g → ⊥) (λ x. holds (same_page q) (held x) ≡ false) (λ x. Spared x m m' × (held' x ≡ held x)) e
+    (λ x other none. (
+      offer_spares q x held g write m owed other none,
+      same x other (λ is. false≢true (sym none ∙ holds_self q (held x) is)),
+    ))
     (not_part g e target table) (not_holding held (same_page q) e out)) agrees
 
 -- Regions.
 
-pub remap_keeps : (held : Held) (mapped mapped' : Mapped) (m : CloakedMemory) (s : SpaceId) (e : Entry) → is_of_space s e ≡ false
-    → ((t : SpaceId) (va : ℕ) → same_space t s ≡ false → mapped' t va ≡ mapped t va)
-    → EntryAgrees (present held mapped m) e → EntryAgrees (present held mapped' m) e
+pub remap_keeps : (mapped mapped' : SpaceId → ℕ → Option PageId) (s : SpaceId) (e : Entry) → is_of_space s e ≡ false
+    → ((t : SpaceId) (va : ℕ) → same_space t s ≡ false → mapped' t va ≡ mapped t va) → IsMapped mapped e → IsMapped mapped' e
 unfolding is_of_space
-remap_keeps held mapped mapped' m s e out same agrees =
-    record { walks = agrees.walks; first = agrees.first; second = agrees.second; target = target e.cloaked agrees.target }
+remap_keeps mapped mapped' s e out same has = by_page e.cloaked has
   where
-    mapped_same : (view : ShadowView) (q : PageId) → sees_space s view ≡ false → IsMapped (present held mapped m) view (4096 * e.page) q → IsMapped (present held mapped' m) view (4096 * e.page) q
-    mapped_same (Outside satp mode sum mxr) q out k = k
-    mapped_same (Inside satp sum mxr space) q out k = same space (4096 * e.page) out ∙ k
-    target : (o : Option PageId) → TargetAgrees (present held mapped m) e o → TargetAgrees (present held mapped' m) e o
-    target None h = h
-    target (Some q) h = (h.0, h.1, mapped_same e.view q out h.2)
+    by_view : (view : ShadowView) (q : PageId) → sees_space s view ≡ false → HasInSpace mapped view (4096 * e.page) q
+        → HasInSpace mapped' view (4096 * e.page) q
+    by_view (Outside satp mode sum mxr) q out k = k
+    by_view (Inside satp sum mxr space) q out k = same space (4096 * e.page) out ∙ k
+
+    by_page : (o : Option PageId) → IfSome o (HasInSpace mapped e.view (4096 * e.page)) → IfSome o (HasInSpace mapped' e.view (4096 * e.page))
+    by_page None k = k
+    by_page (Some q) k = by_view e.view q out k

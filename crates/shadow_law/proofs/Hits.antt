@@ -25,7 +25,7 @@ use Rattle.shadow_fold.specs.declared.entry.Entry.{Entry}
 use Rattle.shadow_fold.specs.declared.entry.ShadowView.{ShadowView}
 use Rattle.shadow_fold.specs.Agreement.{Present, EntryAgrees, TargetAgrees, satp_in, access_in, start_of}
 use Rattle.shadow_law.specs.Walks.{moved, page_access}
-use Rattle.shadow_law.specs.Agreeing.{Held, Mapped, present, OwedIsHeld, CleanIsShown}
+use Rattle.shadow_law.specs.Agreeing.{Held, present, OwedIsHeld, CleanIsShown}
 use Rattle.shadow_law.proofs.Walks.{Leads, Bare, One, Two, walk_leads, walk_of_page}
 use Rattle.shadow_law.proofs.Born.{page_of_access, va_of_access}
 use Rattle.shadow_law.proofs.Changes.{owing_at}
@@ -85,7 +85,7 @@ leads_still satp a c w clean (Two paging h) =
     let at1 = first_entry satp a.va in
     first_still satp a c (GoesOn h.at0) paging h.inside (clean_at c.memory w.pt1 (frame_at at1) clean.first h.pt1) h.word
     ∙ ap (λ (t : Told (Option ℕ)). let u : Told Walk = record { answer = second_word a at1 h.at0 t.answer; world = t.world } in u)
-        (word_still h.at0 c h.inside0 (clean_at c.memory w.pt0 (frame_at h.at0) clean.second h.pt0))
+    (word_still h.at0 c h.inside0 (clean_at c.memory w.pt0 (frame_at h.at0) clean.second h.pt0))
     ∙ ap (λ (v : Walk). let u : Told Walk = record { answer = v; world = Cloaked c } in u) h.word0
 
 -- what is not held is owed nothing
@@ -106,26 +106,26 @@ below_frames n f k low small =
     let there : frame_of (start_of f + k) < n = omega (arith, low, small) in
     λ i. le-leb 0x80000000 (start_of f + k) from i && lt-ltb (frame_of (start_of f + k)) n there i
 
-pub hit_is_walk : (held : Held) (mapped : Mapped) (c : Cloak) (e : Entry) (va : ℕ) → OwedIsHeld held c.memory
-    → EntryAgrees (present held mapped c.memory) e → va / 4096 ≡ e.page → e.frame.0 < length c.memory.ram
+pub hit_is_walk : (held : Held) (c : Cloak) (e : Entry) (va : ℕ) → OwedIsHeld held c.memory
+    → EntryAgrees (present held c.memory) e → va / 4096 ≡ e.page → e.frame.0 < length c.memory.ram
     → ask_translate (satp_in e.view) (access_in e.view va e.kind) (Cloaked c) ≡ record { answer = Ok (start_of e.frame.0 + va % 4096); world = Cloaked c }
 unfolding ask_translate ask_inside
-hit_is_walk held mapped c e va owed agrees page low =
+hit_is_walk held c e va owed agrees page low =
     let a = access_in e.view va e.kind in
     let satp = satp_in e.view in
     let m = c.memory in
     let k = va % 4096 in
     let w : Walked = record { pa = start_of e.frame.0 + k; pt1 = e.pt1; pt0 = e.pt0 } in
     let leads : walk m.ram satp a ≡ Ok w =
-        walk_of_page m.ram satp a
-        ∙ (λ i. moved (va_of_access e.view va e.kind i % 4096) (walk m.ram satp (page_of_access e.view va e.kind i)))
-        ∙ ap (λ n. moved k (walk m.ram satp (access_in e.view (4096 * n) e.kind))) page
-        ∙ ap (moved k) agrees.walks in
+    walk_of_page m.ram satp a
+    ∙ (λ i. moved (va_of_access e.view va e.kind i % 4096) (walk m.ram satp (page_of_access e.view va e.kind i)))
+    ∙ ap (λ n. moved k (walk m.ram satp (access_in e.view (4096 * n) e.kind))) page
+    ∙ ap (moved k) agrees.walks in
     let clean : AreClean m w = record { first = clean_tables held m e.pt1 owed agrees.first; second = clean_tables held m e.pt0 owed agrees.second } in
     let small : k < 4096 = omega arith in
     ap (λ (t : Told Walk). ask_inside a t.answer t.world) (leads_still satp a c w clean (walk_leads m.ram satp a w leads))
     ∙ ap (λ (b : Bool). let t : Told (Result ℕ ℕ) = record { answer = cond b (Ok w.pa) (Err (access_fault a.kind)); world = Cloaked c } in t)
-        (below_frames (length m.ram) e.frame.0 k low small)
+    (below_frames (length m.ram) e.frame.0 k low small)
 
 -- The offer of the page that a frame holds.
 
@@ -169,7 +169,7 @@ clean_compared q g m shown =
     let there : List ℕ = slice_index_or m.ram g [] in
     ap (λ (o : Option (List ℕ)). compared q g false o m) shown
     ∙ ap (λ (b : Bool). cond b (let o : AfterOffer = record { memory = with_comparison there there m; ciphers = []; answer = Ready } in o)
-        (record { memory = with_comparison there there m; ciphers = []; answer = Mismatch })) (self_equal there)
+    (record { memory = with_comparison there there m; ciphers = []; answer = Mismatch })) (self_equal there)
     ∙ ap (λ (n : CloakedMemory). let o : AfterOffer = record { memory = n; ciphers = []; answer = Ready } in o) (same_comparison there m)
 
 clean_offer : (q : PageId) (g : ℕ) (m : CloakedMemory) → owed_in m g ≡ None → ((f : ℕ) → owed_in m f ≢ Some q)
@@ -183,14 +183,15 @@ clean_offer q g m clean newest shown =
     ∙ (ap (λ (o : Option ℕ). unless_missed (record { memory = m; ciphers = []; missed = false }) (λ (m' : CloakedMemory). unless_missed (settle_frame_if o m') last)) (no_owing q m newest)
     ∙ clean_compared q g m shown))
 
-pub hit_is_offer : (held : Held) (mapped : Mapped) (m : CloakedMemory) (e : Entry) (q : PageId) → OwedIsHeld held m → CleanIsShown held m
-    → EntryAgrees (present held mapped m) e → e.cloaked ≡ Some q → offer q e.frame.0 (is_store e.kind) m ≡ record { memory = m; ciphers = []; answer = Ready }
-hit_is_offer held mapped m e q owed clean agrees is =
-    let target : TargetAgrees (present held mapped m) e (Some q) = subst (TargetAgrees (present held mapped m) e) is agrees.target in
+pub hit_is_offer : (held : Held) (m : CloakedMemory) (e : Entry) (q : PageId) → OwedIsHeld held m → CleanIsShown held m
+    → EntryAgrees (present held m) e → e.cloaked ≡ Some q → offer q e.frame.0 (is_store e.kind) m ≡ record { memory = m; ciphers = []; answer = Ready }
+hit_is_offer held m e q owed clean agrees is =
+    let target : TargetAgrees (present held m) e (Some q) = subst (TargetAgrees (present held m) e) is agrees.target in
     by_kind e.kind refl target.0 target.1 (owed_in m e.frame.0) refl
   where
     g : ℕ
     g = e.frame.0
+
     by_kind : (kind : Kind) → e.kind ≡ kind → held g ≡ Some q → (e.kind ≡ Store → owed_in m g ≡ Some q) → (o : Option PageId) → owed_in m g ≡ o
         → offer q g (is_store e.kind) m ≡ record { memory = m; ciphers = []; answer = Ready }
     by_kind kind k here stored (Some p) there =

@@ -62,6 +62,7 @@ word_names a at1 (Some e) w =
   where
     leaf : (e : ℕ) → FirstNames a at1 (Ends (first_leaf a at1 e)) w
     leaf e is = first_named a at1 e w (ends_same _ _ is)
+
     on : (e : ℕ) → FirstNames a at1 (GoesOn (second_entry e a.va)) w
     on e is = absurd cc
 
@@ -143,6 +144,7 @@ walk_leads ram satp a w is = by_test (has_paging satp) refl is
   where
     at1 : ℕ
     at1 = first_entry satp a.va
+
     by_test : (b : Bool) → has_paging satp ≡ b
         → cond b (walk_after ram a at1 (first_word a at1 (word_in_ram ram at1))) (without_paging a) ≡ Ok w → Leads ram satp a w
     by_test true paging is = by_first ram satp a w paging (first_word a at1 (word_in_ram ram at1)) refl is
@@ -289,6 +291,6 @@ walk_of_page ram satp a =
     let k = a.va % 4096 in
     let o = word_in_ram ram at1 in
     let paged : walk_after ram a at1 (first_word a at1 o) ≡ moved k (walk_after ram (page_access a) start (first_word (page_access a) start (word_in_ram ram start))) =
-        ap (walk_after ram a at1) (moved_first a at1 o) ∙ moved_after ram a at1 (first_word (page_access a) at1 o)
-        ∙ ap (λ at. moved k (walk_after ram (page_access a) at (first_word (page_access a) at (word_in_ram ram at)))) (entry_place satp a.va) in
+    ap (walk_after ram a at1) (moved_first a at1 o) ∙ moved_after ram a at1 (first_word (page_access a) at1 o)
+    ∙ ap (λ at. moved k (walk_after ram (page_access a) at (first_word (page_access a) at (word_in_ram ram at)))) (entry_place satp a.va) in
     moved_if k (has_paging satp) _ _ _ _ paged (λ i. Ok (record { pa = bare_place a.va i; pt1 = None; pt0 = None }))

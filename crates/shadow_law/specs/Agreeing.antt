@@ -1,6 +1,6 @@
 -- Live entries go on agreeing with the joint machine's memory through each change of it, and a hit gives what a walk
 -- would.
-use Rattle.std.specs.Prelude.{ℕ, ◌≡◌, ◌≢◌, ◌+◌, ◌/◌, ◌%◌, ◌<◌, ◌==◌, Bool, true, false, List, [], length, slice_index_or, Option, Some, None, Ok, IfSome, if◌then◌else◌}
+use Rattle.std.specs.Prelude.{ℕ, ◌≡◌, ◌≢◌, ◌+◌, ◌/◌, ◌%◌, ◌<◌, Bool, true, false, List, [], length, slice_index_or, Option, Some, None, Ok, IfSome}
 use Rattle.cloak_base.specs.Pages.{same_page}
 use Rattle.cloak_base.specs.declared.names.Frame.{Frame}
 use Rattle.cloak_base.specs.declared.names.Kind.{Kind}
@@ -10,28 +10,25 @@ use Rattle.cloak_model.specs.declared.access.Walked.{Walked}
 use Rattle.cloak_model.specs.Ask.{ask_walk, ask_translate}
 use Rattle.cloak_model.specs.AskPages.{is_store}
 use Rattle.cloak_model.specs.Asking.{Told}
-use Rattle.cloak_model.specs.Cloaking.{CloakedMemory, AfterOffer, Ready, Offer, Mismatch, Missed, owed_in, with_shown_frame, with_owed, settle, offer}
+use Rattle.cloak_model.specs.Cloaking.{CloakedMemory, AfterOffer, Ready, owed_in, with_shown_frame, with_owed, settle, offer}
 use Rattle.cloak_model.specs.Contexts.{same_space}
 use Rattle.cloak_model.specs.Memory.{is_in_ram}
 use Rattle.cloak_model.specs.Walk.{Walk, walk}
 use Rattle.cloak_model.specs.World.{Cloak, Cloaked}
 use Rattle.shadow_fold.specs.declared.entry.Entry.{Entry}
 use Rattle.shadow_fold.specs.declared.entry.ShadowView.{ShadowView}
-use Rattle.shadow_fold.specs.Agreement.{Present, EntryAgrees, TargetAgrees, satp_in, access_in, start_of}
+use Rattle.shadow_fold.specs.Agreement.{Present, EntryAgrees, TargetAgrees, IsMapped, satp_in, access_in, start_of}
 use Rattle.shadow_fold.specs.Entries.{is_target, is_table, is_of_space}
 use Rattle.shadow_fold.specs.Events.{entry_of}
-use Rattle.shadow_fold.specs.Fold.{holds, part_holds}
+use Rattle.shadow_fold.specs.Fold.{part_holds}
 
--- what each frame holds, and what lies at the addresses of each space
+-- what each frame holds
 abbrev pub Held : Type 0
 Held = ℕ → Option PageId
 
-abbrev pub Mapped : Type 0
-Mapped = SpaceId → ℕ → Option PageId
-
 -- the present of the joint machine's memory
-abbrev pub present : Held → Mapped → CloakedMemory → Present
-present held mapped m = record { ram = m.ram; held = held; owed = owed_in m; mapped = mapped }
+abbrev pub present : Held → CloakedMemory → Present
+present held m = record { ram = m.ram; held = held; owed = owed_in m }
 
 abbrev pub frame : ℕ → Frame
 frame f = record { 0 = f }
@@ -42,49 +39,35 @@ OwedIsHeld held m = (f : ℕ) (q : PageId) → owed_in m f ≡ Some q → held f
 
 -- bytes of a frame are written that is no table frame of the entry
 abbrev pub WriteKeeps : Type 0
-WriteKeeps = (held : Held) (mapped : Mapped) (m : CloakedMemory) (f : ℕ) (bytes : List ℕ) (e : Entry)
-    → is_table (frame f) e ≡ false → EntryAgrees (present held mapped m) e
-    → EntryAgrees (present held mapped (with_shown_frame f bytes m)) e
+WriteKeeps = (held : Held) (m : CloakedMemory) (f : ℕ) (bytes : List ℕ) (e : Entry)
+    → is_table (frame f) e ≡ false → EntryAgrees (present held m) e
+    → EntryAgrees (present held (with_shown_frame f bytes m)) e
 
--- the frame is outside
-abbrev pub outside_at : ℕ → Held → Held
-outside_at f held = λ g. if g == f then None else held g
-
--- a frame is made outside to which the entry does not lead, nor through it
+-- A frame is settled, and may hold a page no more: the entry leads neither there nor through it.
 abbrev pub TouchKeeps : Type 0
-TouchKeeps = (held : Held) (mapped : Mapped) (m : CloakedMemory) (f : ℕ) (e : Entry)
-    → is_target (frame f) e ≡ false → is_table (frame f) e ≡ false → EntryAgrees (present held mapped m) e
-    → EntryAgrees (present (outside_at f held) mapped (settle f m).memory) e
+TouchKeeps = (held held' : Held) (m : CloakedMemory) (f : ℕ) (e : Entry)
+    → ((x : ℕ) → x ≢ f → held' x ≡ held x)
+    → is_target (frame f) e ≡ false → is_table (frame f) e ≡ false → EntryAgrees (present held m) e
+    → EntryAgrees (present held' (settle f m).memory) e
 
-abbrev pub is_ready : Offer → Bool
-is_ready Ready = true
-is_ready Mismatch = false
-is_ready Missed = false
-
--- behind an offer of q in a frame g: g holds q where that was granted, and no other frame does
-abbrev pub held_after : PageId → ℕ → Bool → Held → Held
-held_after q g granted held =
-    λ f. if f == g then (if granted then Some q else None) else (if holds (same_page q) (held f) then None else held f)
-
--- a page is offered in a frame: the entry leads neither there nor to a frame that holds the page, nor through them
+-- Page q is offered in frame g, however that ends, which may change what g and the frames hold that held q. The entry
+-- leads to none of them, nor through one.
 abbrev pub OfferKeeps : Type 0
-OfferKeeps = (held : Held) (mapped : Mapped) (m : CloakedMemory) (q : PageId) (g : ℕ) (write : Bool) (e : Entry)
-    → OwedIsHeld held m
+OfferKeeps = (held held' : Held) (m : CloakedMemory) (q : PageId) (g : ℕ) (write : Bool) (e : Entry)
+    → OwedIsHeld held m → ((x : ℕ) → x ≢ g → held x ≢ Some q → held' x ≡ held x)
     → is_target (frame g) e ≡ false → is_table (frame g) e ≡ false → part_holds held (same_page q) e ≡ false
-    → EntryAgrees (present held mapped m) e
-    → let o = offer q g write m in
-    EntryAgrees (present (held_after q g (is_ready o.answer) held) mapped o.memory) e
+    → EntryAgrees (present held m) e → EntryAgrees (present held' (offer q g write m).memory) e
 
 -- the page that a frame holds is changed: every entry goes on
 abbrev pub ChangeKeeps : Type 0
-ChangeKeeps = (held : Held) (mapped : Mapped) (m : CloakedMemory) (q : PageId) (g : ℕ) (e : Entry) → held g ≡ Some q
-    → EntryAgrees (present held mapped m) e → EntryAgrees (present held mapped (with_owed g (Some q) m)) e
+ChangeKeeps = (held : Held) (m : CloakedMemory) (q : PageId) (g : ℕ) (e : Entry) → held g ≡ Some q
+    → EntryAgrees (present held m) e → EntryAgrees (present held (with_owed g (Some q) m)) e
 
--- the regions of a space change of which the entry is not
+-- the regions of a space change of which the entry is not: its page lies at its address still
 abbrev pub RemapKeeps : Type 0
-RemapKeeps = (held : Held) (mapped mapped' : Mapped) (m : CloakedMemory) (s : SpaceId) (e : Entry)
-    → is_of_space s e ≡ false → ((t : SpaceId) (va : ℕ) → same_space t s ≡ false → mapped' t va ≡ mapped t va)
-    → EntryAgrees (present held mapped m) e → EntryAgrees (present held mapped' m) e
+RemapKeeps = (mapped mapped' : SpaceId → ℕ → Option PageId) (s : SpaceId) (e : Entry) → is_of_space s e ≡ false
+    → ((t : SpaceId) (va : ℕ) → same_space t s ≡ false → mapped' t va ≡ mapped t va)
+    → IsMapped mapped e → IsMapped mapped' e
 
 -- the table frames of a walk are outside
 pub record AreOutside (held : Held) (w : Walked) : Type 0 where
@@ -100,8 +83,8 @@ BornAgrees = (p : Present) (view : ShadowView) (va : ℕ) (kind : Kind) (w : Wal
 
 -- At a hit the address is that of the entry, with nothing settled and nothing shown.
 abbrev pub HitIsWalk : Type 0
-HitIsWalk = (held : Held) (mapped : Mapped) (c : Cloak) (e : Entry) (va : ℕ) → OwedIsHeld held c.memory
-    → EntryAgrees (present held mapped c.memory) e → va / 4096 ≡ e.page → e.frame.0 < length c.memory.ram
+HitIsWalk = (held : Held) (c : Cloak) (e : Entry) (va : ℕ) → OwedIsHeld held c.memory
+    → EntryAgrees (present held c.memory) e → va / 4096 ≡ e.page → e.frame.0 < length c.memory.ram
     → ask_translate (satp_in e.view) (access_in e.view va e.kind) (Cloaked c)
     ≡ record { answer = Ok (start_of e.frame.0 + va % 4096); world = Cloaked c }
 
@@ -114,6 +97,6 @@ pub record CleanIsShown (held : Held) (m : CloakedMemory) : Type 0 where
 
 -- At a hit of a cloaked page an offer of it changes nothing.
 abbrev pub HitIsOffer : Type 0
-HitIsOffer = (held : Held) (mapped : Mapped) (m : CloakedMemory) (e : Entry) (q : PageId) → OwedIsHeld held m
-    → CleanIsShown held m → EntryAgrees (present held mapped m) e → e.cloaked ≡ Some q
+HitIsOffer = (held : Held) (m : CloakedMemory) (e : Entry) (q : PageId) → OwedIsHeld held m
+    → CleanIsShown held m → EntryAgrees (present held m) e → e.cloaked ≡ Some q
     → offer q e.frame.0 (is_store e.kind) m ≡ record { memory = m; ciphers = []; answer = Ready }
