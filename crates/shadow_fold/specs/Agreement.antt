@@ -12,13 +12,12 @@ use Rattle.shadow_fold.specs.declared.entry.Entry.{Entry}
 use Rattle.shadow_fold.specs.declared.entry.ShadowView.{ShadowView}
 use Rattle.shadow_fold.specs.declared.entry.ShadowView.TheVariants.{Outside, Inside}
 
--- What agreement speaks of: the frames as the kernel sees them, the page that each frame holds, the page that it is
--- owed, and the page at an address of a space.
+-- What agreement speaks of: the frames as the kernel sees them, the page that each frame holds, and the page that it is
+-- owed.
 pub record Present : Type 0 where
   pub ram : List (List ℕ)
   pub held : ℕ → Option PageId
   pub owed : ℕ → Option PageId
-  pub mapped : SpaceId → ℕ → Option PageId
 
 abbrev pub satp_in : ShadowView → ℕ
 satp_in (Outside satp mode sum mxr) = satp
@@ -33,17 +32,11 @@ access_in (Inside satp sum mxr space) va kind = record { mode = U; sum = sum; mx
 abbrev pub start_of : ℕ → ℕ
 start_of f = ram_start + 4096 * f
 
--- the space of the view has the page at the address
-abbrev pub IsMapped : Present → ShadowView → ℕ → PageId → Type 0
-IsMapped p (Outside satp mode sum mxr) va q = ⊥
-IsMapped p (Inside satp sum mxr space) va q = p.mapped space va ≡ Some q
-
--- An entry without a cloaked page has an outside target. One with a page has a target that holds it, which is owed it
--- where the entry is for stores, and the page lies at the address.
+-- An entry without a cloaked page has an outside target. One with a page has a target that holds it, and that is owed it
+-- where the entry is for stores.
 abbrev pub TargetAgrees : Present → Entry → Option PageId → Type 0
 TargetAgrees p e None = p.held e.frame.0 ≡ None
-TargetAgrees p e (Some q) =
-    (p.held e.frame.0 ≡ Some q) × (e.kind ≡ Store → p.owed e.frame.0 ≡ Some q) × IsMapped p e.view (4096 * e.page) q
+TargetAgrees p e (Some q) = (p.held e.frame.0 ≡ Some q) × (e.kind ≡ Store → p.owed e.frame.0 ≡ Some q)
 
 pub record EntryAgrees (p : Present) (e : Entry) : Type 0 where
   -- the walk of its page gives its frame and its table frames
@@ -53,3 +46,13 @@ pub record EntryAgrees (p : Present) (e : Entry) : Type 0 where
   pub first : IfSome e.pt1 (λ f. p.held f.0 ≡ None)
   pub second : IfSome e.pt0 (λ f. p.held f.0 ≡ None)
   pub target : TargetAgrees p e e.cloaked
+
+-- A program's regions are no part of memory: beside that, the space of a view has the cloaked page of an entry at its
+-- address.
+
+abbrev pub HasInSpace : (SpaceId → ℕ → Option PageId) → ShadowView → ℕ → PageId → Type 0
+HasInSpace mapped (Outside satp mode sum mxr) va q = ⊥
+HasInSpace mapped (Inside satp sum mxr space) va q = mapped space va ≡ Some q
+
+abbrev pub IsMapped : (SpaceId → ℕ → Option PageId) → Entry → Type 0
+IsMapped mapped e = IfSome e.cloaked (HasInSpace mapped e.view (4096 * e.page))

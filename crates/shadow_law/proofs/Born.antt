@@ -1,0 +1,128 @@
+-- The entry of a miss agrees: it is of the page's start.
+use Rattle.std.proofs.Common.{◌≡◌, ◌∙◌, ℕ, ◌+◌, ◌-◌, ◌*◌, ◌/◌, ◌%◌, ◌<◌, ◌≤◌, inl, inr, Bool, true, false, not, ◌&&◌, cond, List, length, Option, Some, None, Ok, Err, refl, sym, ap, subst, arith, nat_le, nat_lt}
+use Rattle.std.specs.Prelude.{◌==◌, IfSome}
+use Rattle.std.proofs.lemmas.Bool.{false≢true, leb-true, ltb-true}
+use Rattle.rv_isa.specs.Fields.{bits}
+use Rattle.cloak_base.specs.declared.names.Kind.{Kind}
+use Rattle.cloak_base.specs.declared.names.PageId.{PageId}
+use Rattle.cloak_model.specs.declared.access.Access.{Access}
+use Rattle.cloak_model.specs.declared.access.Walked.{Walked}
+use Rattle.cloak_model.specs.Memory.{frame_of, is_in_ram}
+use Rattle.cloak_model.specs.Walk.{Walk, FirstWord, Ends, GoesOn, has_paging, without_paging, frame_at, first_entry, second_entry, is_valid, is_pointer, is_plain_pointer, allows, page_fault, first_leaf, second_leaf, first_word, second_word, word_in_ram, walk_after, walk}
+use Rattle.shadow_fold.specs.declared.entry.Entry.{Entry}
+use Rattle.shadow_fold.specs.declared.entry.ShadowView.{ShadowView}
+use Rattle.shadow_fold.specs.declared.entry.ShadowView.TheVariants.{Outside, Inside}
+use Rattle.shadow_fold.specs.Agreement.{Present, EntryAgrees, TargetAgrees, satp_in, access_in, start_of}
+use Rattle.shadow_fold.specs.Events.{entry_of}
+use Rattle.shadow_fold.proofs.Keys.{and_true}
+use Rattle.shadow_law.specs.Walks.{moved, page_access}
+use Rattle.shadow_law.specs.Agreeing.{AreOutside}
+use Rattle.shadow_law.proofs.Walks.{walk_of_page}
+
+-- A walk leads as far into a page as its address stands in one.
+record KeepsPlace (va : ℕ) (walk : Walk) : Type 0 where
+  pub kept : (w : Walked) → walk ≡ Ok w → w.pa % 4096 ≡ va % 4096
+
+kept_ok : (va : ℕ) (v : Walked) → v.pa % 4096 ≡ va % 4096 → KeepsPlace va (Ok v)
+kept_ok va v keeps = record { kept = λ w is. let same : v ≡ w = cc in subst (λ (x : Walked). x.pa % 4096 ≡ va % 4096) same keeps }
+
+kept_err : (va cause : ℕ) → KeepsPlace va (Err cause)
+kept_err va cause = record { kept = λ w is. absurd cc }
+
+either : {A : Type 0} (P : A → Type 0) (b : Bool) (x y : A) → P x → P y → P (cond b x y)
+either P true x y here there = here
+either P false x y here there = there
+
+first_place : (x va : ℕ) → (4194304 * x + bits va 21 0) % 4096 ≡ va % 4096
+first_place x va = omega arith
+
+second_place : (x va : ℕ) → (4096 * x + bits va 11 0) % 4096 ≡ va % 4096
+second_place x va = omega arith
+
+keeps_first_leaf : (a : Access) (at1 e : ℕ) → KeepsPlace a.va (first_leaf a at1 e)
+unfolding first_leaf
+keeps_first_leaf a at1 e = either (KeepsPlace a.va) _ _ _ (kept_ok a.va _ (first_place (bits e 31 20) a.va)) (kept_err a.va _)
+
+keeps_second : (a : Access) (at1 at0 : ℕ) (word : Option ℕ) → KeepsPlace a.va (second_word a at1 at0 word)
+unfolding second_word second_leaf
+keeps_second a at1 at0 None = kept_err a.va _
+keeps_second a at1 at0 (Some e) = either (KeepsPlace a.va) _ _ _ (kept_ok a.va _ (second_place (bits e 31 10) a.va)) (kept_err a.va _)
+
+record KeepsEnd (va : ℕ) (word : FirstWord) : Type 0 where
+  pub kept : (walk : Walk) → word ≡ Ends walk → KeepsPlace va walk
+
+ends_kept : (va : ℕ) (walk : Walk) → KeepsPlace va walk → KeepsEnd va (Ends walk)
+ends_kept va walk keeps = record { kept = λ w is. let same : walk ≡ w = cc in subst (KeepsPlace va) same keeps }
+
+goes_kept : (va at0 : ℕ) → KeepsEnd va (GoesOn at0)
+goes_kept va at0 = record { kept = λ w is. absurd cc }
+
+keeps_word : (a : Access) (at1 : ℕ) (word : Option ℕ) → KeepsEnd a.va (first_word a at1 word)
+unfolding first_word
+keeps_word a at1 None = ends_kept a.va _ (kept_err a.va _)
+keeps_word a at1 (Some e) =
+    either (KeepsEnd a.va) (not (is_valid e)) _ _ (ends_kept a.va _ (kept_err a.va _))
+    (either (KeepsEnd a.va) (not (is_pointer e)) _ _ (ends_kept a.va _ (keeps_first_leaf a at1 e))
+    (either (KeepsEnd a.va) (is_plain_pointer e) _ _ (goes_kept a.va _) (ends_kept a.va _ (kept_err a.va _))))
+
+keeps_after : (ram : List (List ℕ)) (a : Access) (at1 : ℕ) (word : FirstWord) → KeepsEnd a.va word → KeepsPlace a.va (walk_after ram a at1 word)
+keeps_after ram a at1 (Ends walk) keeps = keeps.kept walk refl
+keeps_after ram a at1 (GoesOn at0) keeps = keeps_second a at1 at0 _
+
+keeps_walk : (ram : List (List ℕ)) (satp : ℕ) (a : Access) → KeepsPlace a.va (walk ram satp a)
+unfolding walk
+keeps_walk ram satp a =
+    let at1 = first_entry satp a.va in
+    either (KeepsPlace a.va) (has_paging satp) _ _
+    (keeps_after ram a at1 (first_word a at1 (word_in_ram ram at1)) (keeps_word a at1 (word_in_ram ram at1)))
+    (kept_ok a.va _ refl)
+
+-- The walk of the page's start.
+
+-- what leads so much further, comes from here
+record Before (k : ℕ) (walk : Walk) (w : Walked) : Type 0 where
+  pub from : Walked
+  pub leads : walk ≡ Ok from
+  pub further : from.pa + k ≡ w.pa
+  pub pt1 : from.pt1 ≡ w.pt1
+  pub pt0 : from.pt0 ≡ w.pt0
+
+before : (k : ℕ) (x : Walk) (w : Walked) → moved k x ≡ Ok w → Before k x w
+before k (Ok v) w is =
+    let same : (let u : Walked = record v { pa = v.pa + k } in u) ≡ w = cc in
+    record { from = v; leads = refl; further = ap (λ (u : Walked). u.pa) same; pt1 = ap (λ (u : Walked). u.pt1) same; pt0 = ap (λ (u : Walked). u.pt0) same }
+before k (Err cause) w is = absurd cc
+
+pub page_of_access : (view : ShadowView) (va : ℕ) (kind : Kind) → page_access (access_in view va kind) ≡ access_in view (4096 * (va / 4096)) kind
+page_of_access (Outside satp mode sum mxr) va kind = refl
+page_of_access (Inside satp sum mxr space) va kind = refl
+
+pub va_of_access : (view : ShadowView) (va : ℕ) (kind : Kind) → (access_in view va kind).va ≡ va
+va_of_access (Outside satp mode sum mxr) va kind = refl
+va_of_access (Inside satp sum mxr space) va kind = refl
+
+in_ram_from : (ram : List (List ℕ)) (pa : ℕ) → is_in_ram ram pa ≡ true → 0x80000000 ≤ pa
+in_ram_from ram pa is = leb-true 0x80000000 pa (and_true (nat_le 0x80000000 pa) _ is).0
+
+start_place : (from pa va : ℕ) → from + va % 4096 ≡ pa → from % 4096 ≡ 4096 * (va / 4096) % 4096 → 0x80000000 ≤ pa → from ≡ start_of (frame_of pa)
+start_place from pa va further even low = omega (arith, further, even, low)
+
+pub born_agrees : (p : Present) (view : ShadowView) (va : ℕ) (kind : Kind) (w : Walked) (cloaked : Option PageId)
+    → walk p.ram (satp_in view) (access_in view va kind) ≡ Ok w → is_in_ram p.ram w.pa ≡ true → AreOutside p.held w
+    → TargetAgrees p (entry_of p.ram view va kind w cloaked) cloaked → EntryAgrees p (entry_of p.ram view va kind w cloaked)
+born_agrees p view va kind w cloaked leads inside out target =
+    let a = access_in view va kind in
+    let to_page : walk p.ram (satp_in view) a ≡ moved (va % 4096) (walk p.ram (satp_in view) (access_in view (4096 * (va / 4096)) kind)) =
+    walk_of_page p.ram (satp_in view) a
+    ∙ (λ i. moved (va_of_access view va kind i % 4096) (walk p.ram (satp_in view) (page_of_access view va kind i))) in
+    let b = before (va % 4096) (walk p.ram (satp_in view) (access_in view (4096 * (va / 4096)) kind)) w (sym to_page ∙ leads) in
+    let even : b.from.pa % 4096 ≡ 4096 * (va / 4096) % 4096 =
+    (keeps_walk p.ram (satp_in view) (access_in view (4096 * (va / 4096)) kind)).kept b.from b.leads
+    ∙ ap (λ n. n % 4096) (va_of_access view (4096 * (va / 4096)) kind) in
+    let start : b.from.pa ≡ start_of (frame_of w.pa) = start_place b.from.pa w.pa va b.further even (in_ram_from p.ram w.pa inside) in
+    record {
+      walks = b.leads ∙ (λ i. Ok (record { pa = start i; pt1 = b.pt1 i; pt0 = b.pt0 i }));
+      first = out.first;
+      second = out.second;
+      target = target;
+    }

@@ -1,0 +1,4 @@
+pub mod Born
+pub mod Changes
+pub mod Hits
+pub mod Walks

@@ -1,0 +1,37 @@
+//! Laws on the definitions alone: why a machine may translate by its shadow entries (`shadow_fold`, `specs/Agreement`) in
+//! the place of walks. An entry that agrees with memory gives what a walk would give now, and each change of memory keeps
+//! the agreement of the entries that the event of the change does not end.
+//!
+//! No body turns a law, so there is no wrong body to refuse here.
+#![tactic(auto)]
+
+ghost use Rattle.shadow_law.specs.Agreeing.{BornAgrees, ChangeKeeps, HitIsWalk, HitIsOffer, OfferKeeps, RemapKeeps};
+ghost use Rattle.shadow_law.specs.Agreeing.{TouchKeeps, WriteKeeps};
+ghost use Rattle.shadow_law.specs.Walks.{WalkKept, WalkOfPage, WalkReaches};
+
+/// What the walk of an access depends on. It does nothing: its contract is the law.
+pub fn law_of_walks()
+    ensures reaches { WalkReaches }
+    ensures kept { WalkKept }
+    ensures of_page { WalkOfPage }
+{}
+
+/// An entry that no event ends goes on agreeing. It does nothing: its contract is the law.
+pub fn law_of_changes()
+    ensures write { WriteKeeps }
+    ensures touch { TouchKeeps }
+    ensures offer { OfferKeeps }
+    ensures change { ChangeKeeps }
+    ensures remap { RemapKeeps }
+{}
+
+/// A miss makes an entry that agrees. It does nothing: its contract is the law.
+pub fn law_of_misses()
+    ensures { BornAgrees }
+{}
+
+/// An entry that agrees gives what a walk and an offer would. It does nothing: its contract is the law.
+pub fn law_of_hits()
+    ensures walk { HitIsWalk }
+    ensures offer { HitIsOffer }
+{}
