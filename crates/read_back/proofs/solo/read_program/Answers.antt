@@ -1,9 +1,9 @@
-use Rattle.std.proofs.Common.{◌≡◌, ◌<◌, ◌∙◌, Ok, Err, Some, None, refl, ap, sym, arith}
-use Rattle.exchange_log.specs.Place.{reader_offset}
-use Rattle.exchange_log.specs.declared.fault.NextFault.TheVariants.{Read, Record}
+use Rattle.std.proofs.Common.{◌≡◌, ◌<◌, ◌∙◌, Ok, Err, true, false, refl, ap, sym, arith}
+use Rattle.record_reader.specs.Reading.{reader_offset}
+use Rattle.record_reader.specs.declared.fault.NextFault.TheVariants.{Read, Record}
 use Rattle.read_back.specs.declared.ending.Ending.TheVariants as ending
 use Rattle.read_back.proofs.ProgramReads.{program_opens, program_takes_next, program_goes_on, program_unfits, program_ends}
-use Rattle.read_back.proofs.NextItem.{next_item, next_none, next_fault, told_begins, counted, counted_fault, risen, moves_on}
+use Rattle.read_back.proofs.NextItem.{next_item, next_none, next_fault, told_begins, counted, counted_fault, risen}
 use Rattle.read_back.proofs.solo.read_program.Goals as goal
 
 pub loop-item-init : goal.loop-item-init
@@ -20,36 +20,33 @@ loop-item-init g c = record {
 pub returns-in-Err-clause-solos : goal.returns-in-Err-clause-solos
 returns-in-Err-clause-solos g c = λ d k p stands.
     let was = c.loop-item.invariant in
-    let is : c.next.result ≡ Ok (Some c.in-Ok-Some.item) =
-    c.in-Ok-Some.is ∙ ap (λ x. Ok x) c.in-Ok-Some.field-0-is in
+    let is : c.next.result ≡ Ok true = c.in-Ok-true.is ∙ ap (λ x. Ok x) c.in-Ok-true.field-0-is in
     let same = ap (λ n. g.S.Shelf.held c.loop-item.shelf n) was.named ∙ was.files c.args.name.now in
-    let moved = moves_on c.next.result c.in-Ok-Some.item _ is c.next.ensures.moves in
+    let moved = c.next.ensures.moves is in
     program_unfits c.take.result c.in-Err.unfit
-    (program_takes_next {was = c.loop-item.reader} {now = c.next.new.self} c.take.result c.in-Ok-Some.item (was.solos d k p stands) c.take.ensures.takes
-    (next_item _ _ c.loop-item.reader c.next.new.self c.next.result c.in-Ok-Some.item same is c.next.ensures.next) moved) c.in-Err.is
+    (program_takes_next {was = c.loop-item.reader} {now = c.next.new.self} c.take.result c.next.new.item (was.solos d k p stands) c.take.ensures.takes
+    (next_item _ _ c.loop-item.reader c.next.new.self c.next.result c.next.new.item same is c.next.ensures.next) moved) c.in-Err.is
     c.next.ensures.within
     (counted _ _ _ c.next.result _ was.reading is (c.next.ensures.reading was.settled))
 
 pub loop-item-smaller : goal.loop-item-smaller
 loop-item-smaller g c =
-    let is : c.next.result ≡ Ok (Some c.in-Ok-Some.item) =
-    c.in-Ok-Some.is ∙ ap (λ x. Ok x) c.in-Ok-Some.field-0-is in
+    let is : c.next.result ≡ Ok true = c.in-Ok-true.is ∙ ap (λ x. Ok x) c.in-Ok-true.field-0-is in
     let moved : reader_offset c.loop-item.reader < reader_offset c.next.new.self =
-    moves_on c.next.result c.in-Ok-Some.item _ is c.next.ensures.moves in
+    c.next.ensures.moves is in
     let low = c.next.ensures.within in omega (arith, moved, low)
 
 pub loop-item-preserved : goal.loop-item-preserved
 loop-item-preserved g c =
     let was = c.loop-item.invariant in
-    let is : c.next.result ≡ Ok (Some c.in-Ok-Some.item) =
-    c.in-Ok-Some.is ∙ ap (λ x. Ok x) c.in-Ok-Some.field-0-is in
+    let is : c.next.result ≡ Ok true = c.in-Ok-true.is ∙ ap (λ x. Ok x) c.in-Ok-true.field-0-is in
     let same = ap (λ n. g.S.Shelf.held c.loop-item.shelf n) was.named ∙ was.files c.args.name.now in
-    let moved = moves_on c.next.result c.in-Ok-Some.item _ is c.next.ensures.moves in
+    let moved = c.next.ensures.moves is in
     record {
       solos = λ d k p stands.
           program_goes_on c.take.result
-          (program_takes_next {was = c.loop-item.reader} {now = c.next.new.self} c.take.result c.in-Ok-Some.item (was.solos d k p stands) c.take.ensures.takes
-          (next_item _ _ c.loop-item.reader c.next.new.self c.next.result c.in-Ok-Some.item same is c.next.ensures.next) moved) c.in_default.is;
+          (program_takes_next {was = c.loop-item.reader} {now = c.next.new.self} c.take.result c.next.new.item (was.solos d k p stands) c.take.ensures.takes
+          (next_item _ _ c.loop-item.reader c.next.new.self c.next.result c.next.new.item same is c.next.ensures.next) moved) c.in_default.is;
       named = ap (λ n. n.now) c.next.ensures.same ∙ was.named;
       files = λ name. c.next.ensures.files name ∙ was.files name;
       reading = counted _ _ _ c.next.result _ was.reading is (c.next.ensures.reading was.settled);
@@ -58,15 +55,15 @@ loop-item-preserved g c =
       low = c.next.ensures.within;
     }
 
-pub returns-in-Ok-None-clause-solos : goal.returns-in-Ok-None-clause-solos
-returns-in-Ok-None-clause-solos g c = λ d k p stands.
+pub returns-in-Ok-false-clause-solos : goal.returns-in-Ok-false-clause-solos
+returns-in-Ok-false-clause-solos g c = λ d k p stands.
     let was = c.loop-item.invariant in
     let reads = was.solos d k p stands in
-    let is : c.next.result ≡ Ok None = c.in-Ok-None.is ∙ ap (λ x. Ok x) c.in-Ok-None.field-0-is in
+    let is : c.next.result ≡ Ok false = c.in-Ok-false.is ∙ ap (λ x. Ok x) c.in-Ok-false.field-0-is in
     let same = ap (λ n. g.S.Shelf.held c.loop-item.shelf n) was.named ∙ was.files c.args.name.now in
     program_ends reads (record {
       fits = reads.fits;
-      file = next_none _ _ c.loop-item.reader c.next.new.self c.next.result same is c.next.ensures.next reads.items reads.behind;
+      file = next_none _ _ c.loop-item.reader c.next.new.self c.next.result c.next.new.item same is c.next.ensures.next reads.items reads.behind;
       counts = counted _ _ _ c.next.result _ was.reading is (c.next.ensures.reading was.settled);
     }) was.low
 
@@ -90,6 +87,6 @@ returns-in-Err-Record-clause-solos g c = λ d k p stands.
     let same = ap (λ n. g.S.Shelf.held c.loop-item.shelf n) was.named ∙ was.files c.args.name.now in
     rw c.in-Err-Record.fault-is (program_ends reads (record {
       fits = reads.fits;
-      file = next_fault _ _ c.loop-item.reader c.next.new.self c.next.result c.in-Err-Record.fault same is c.next.ensures.next reads.items reads.behind;
+      file = next_fault _ _ c.loop-item.reader c.next.new.self c.next.result c.next.new.item c.in-Err-Record.fault same is c.next.ensures.next reads.items reads.behind;
       counts = counted_fault _ _ _ c.next.result _ was.reading is (c.next.ensures.reading was.settled);
     }) was.low)

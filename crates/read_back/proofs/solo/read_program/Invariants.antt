@@ -4,7 +4,7 @@ use Rattle.cloak_model.specs.declared.image.KernelImage.{KernelImage}
 use Rattle.cloak_model.specs.declared.image.Program.{Program}
 use Rattle.cloak_model.specs.DomainAlone.{opened_domain}
 use Rattle.alone_views.specs.DomainStanding.{StandsForDomain}
-use Rattle.exchange_log.specs.Place.{reader_offset}
+use Rattle.record_reader.specs.Reading.{reader_offset}
 use Rattle.read_back.proofs.ProgramReads.{ProgramReads}
 use Rattle.read_back.proofs.solo.read_program.Given as goal
 
