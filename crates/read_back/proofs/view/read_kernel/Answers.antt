@@ -20,7 +20,7 @@ loop-screen-init g c = record {
 pub returns-in-Err-clause-views : goal.returns-in-Err-clause-views
 returns-in-Err-clause-views g c = λ k stands.
     let was = c.loop-screen.invariant in
-    let is : c.next.result ≡ Ok true = c.in-Ok-true.is ∙ ap (λ x. Ok x) c.in-Ok-true.field-0-is in
+    let is : c.next.result ≡ Ok true = c.in-Ok-true.is ∙ ap (λ x. Ok x) c.in-Ok-true.field-0-test in
     let same = ap (λ n. g.S.Shelf.held c.loop-screen.shelf n) was.named ∙ was.files c.args.name.now in
     let moved = c.next.ensures.moves is in
     kernel_unfits c.take.result c.in-Err.unfit
@@ -32,7 +32,7 @@ returns-in-Err-clause-views g c = λ k stands.
 
 pub loop-screen-smaller : goal.loop-screen-smaller
 loop-screen-smaller g c =
-    let is : c.next.result ≡ Ok true = c.in-Ok-true.is ∙ ap (λ x. Ok x) c.in-Ok-true.field-0-is in
+    let is : c.next.result ≡ Ok true = c.in-Ok-true.is ∙ ap (λ x. Ok x) c.in-Ok-true.field-0-test in
     let moved : reader_offset c.loop-screen.reader < reader_offset c.next.new.self =
     c.next.ensures.moves is in
     let low = c.next.ensures.within in omega (arith, moved, low)
@@ -40,7 +40,7 @@ loop-screen-smaller g c =
 pub loop-screen-preserved : goal.loop-screen-preserved
 loop-screen-preserved g c =
     let was = c.loop-screen.invariant in
-    let is : c.next.result ≡ Ok true = c.in-Ok-true.is ∙ ap (λ x. Ok x) c.in-Ok-true.field-0-is in
+    let is : c.next.result ≡ Ok true = c.in-Ok-true.is ∙ ap (λ x. Ok x) c.in-Ok-true.field-0-test in
     let same = ap (λ n. g.S.Shelf.held c.loop-screen.shelf n) was.named ∙ was.files c.args.name.now in
     let moved = c.next.ensures.moves is in
     record {
@@ -67,7 +67,7 @@ pub returns-in-Ok-false-clause-views : goal.returns-in-Ok-false-clause-views
 returns-in-Ok-false-clause-views g c = λ k stands.
     let was = c.loop-screen.invariant in
     let reads = was.views k stands in
-    let is : c.next.result ≡ Ok false = c.in-Ok-false.is ∙ ap (λ x. Ok x) c.in-Ok-false.field-0-is in
+    let is : c.next.result ≡ Ok false = c.in-Ok-false.is ∙ ap (λ x. Ok x) c.in-Ok-false.field-0-test in
     let same = ap (λ n. g.S.Shelf.held c.loop-screen.shelf n) was.named ∙ was.files c.args.name.now in
     kernel_ends reads (record {
       fits = reads.fits;
