@@ -11,9 +11,9 @@ use Rattle.cloak_model.specs.Opening.{started_kernel}
 use Rattle.alone_views.specs.declared.kernel.KernelAlone.{KernelAlone}
 use Rattle.alone_views.specs.declared.unfit.Unfit.{Unfit}
 use Rattle.alone_views.specs.KernelStanding.{StandsForKernel, TakesItem, answer_for}
-use Rattle.exchange_log.specs.Place.{IsBehind, reader_offset}
-use Rattle.exchange_log.specs.Reading.{readable}
-use Rattle.exchange_log.specs.declared.reader.Reader.{Reader}
+use Rattle.record_reader.specs.Ahead.{readable}
+use Rattle.record_reader.specs.Reading.{IsBehind, reader_offset}
+use Rattle.record_reader.specs.declared.reader.Reader.{Reader}
 use Rattle.outside_io.proofs.ToldFacts.{Grows-none}
 use Rattle.read_back.specs.Answering.{viewed_unfit}
 use Rattle.read_back.specs.Reading.{IsReadTo}

@@ -1,22 +1,22 @@
 -- What the next item of a file says of it.
-use Rattle.std.proofs.Common.{◌≡◌, ℕ, ◌⊎◌, inl, inr, List, [], ◌∷◌, ◌++◌, drop, Option, Some, None, IfSome, IfOk, Result, Ok, Err, refl, sym, ap, subst, ◌∙◌}
+use Rattle.std.proofs.Common.{◌≡◌, ℕ, ◌⊎◌, inl, inr, List, [], ◌∷◌, ◌++◌, drop, Option, Some, None, IfSome, Bool, true, false, Result, Ok, Err, refl, sym, ap, subst, ◌∙◌}
 use Rattle.outside_io.specs.Told.{Rose}
 use Rattle.outside_io.proofs.ToldFacts.{Rose-after}
 use Rattle.cloak_model.specs.declared.item.Item.{Item}
 use Rattle.cloak_model.specs.declared.fault.RecordFault.{RecordFault}
-use Rattle.cloak_model.specs.Record.{IsItem, IsRecord}
-use Rattle.exchange_log.specs.Place.{IsBehind}
-use Rattle.exchange_log.specs.Reading.{StandsBehind, ReadsNext, ReadsCount, HasFaultAt, readable}
-use Rattle.exchange_log.specs.declared.fault.NextFault.{NextFault}
-use Rattle.exchange_log.specs.declared.fault.NextFault.TheVariants.{Read, Record}
-use Rattle.exchange_log.specs.declared.reader.Reader.{Reader}
+use Rattle.cloak_model.specs.Record.{IsRecord}
+use Rattle.record_reader.specs.Ahead.{readable}
+use Rattle.record_reader.specs.Reading.{IsBehind, ReadsNext, ReadsCount, HasFaultAt, item_read}
+use Rattle.record_reader.specs.declared.fault.NextFault.{NextFault}
+use Rattle.record_reader.specs.declared.fault.NextFault.TheVariants.{Read, Record}
+use Rattle.record_reader.specs.declared.reader.Reader.{Reader}
 use Rattle.read_back.specs.Reading.{BeginsWith}
 
--- what a call of `next` says of a file
-abbrev pub Tells_next : Option (List ℕ) → Reader → Reader → Result (Option Item) NextFault → Type 0
-Tells_next told was now result =
-    IfSome told (λ bytes. (front : List Item) → StandsBehind was.at was.stage (readable bytes) front →
-    ReadsNext (readable bytes) front now.at now.stage result)
+-- what a call of `next` says of a file, with the item that its caller keeps
+abbrev pub TellsNext : Option (List ℕ) → Reader → Reader → Result Bool NextFault → Item → Type 0
+TellsNext told was now result i =
+    IfSome told (λ bytes. (front : List Item) → IsBehind was (readable bytes) front →
+    ReadsNext (readable bytes) front now (item_read result i))
 
 -- a file that is told, and not told
 told_by : (told told' : Option (List ℕ)) (P Q : List ℕ → Type 0) → told' ≡ told → IfSome told P →
@@ -29,46 +29,51 @@ told_map : (told : Option (List ℕ)) (P Q : List ℕ → Type 0) → ((b : List
 told_map (Some bytes) P Q f fact = f bytes fact
 told_map None P Q f fact = tt
 
--- what a result that is this one says
-next_is : (now : Option (List ℕ)) (was next : Reader) (r s : Result (Option Item) NextFault) → r ≡ s →
-    Tells_next now was next r → Tells_next now was next s
-next_is now was next r s is tells = subst (λ (x : Result (Option Item) NextFault). Tells_next now was next x) is tells
+-- what a result that is this one says behind these items
+at_front : (now : Option (List ℕ)) (was next : Reader) (r : Result Bool NextFault) (i : Item)
+    (s : Result (Option Item) NextFault) (items : List Item) → item_read r i ≡ s → TellsNext now was next r i →
+    IfSome now (λ bytes. IsBehind was (readable bytes) items → ReadsNext (readable bytes) items next s)
+at_front (Some bytes) was next r i s items is tells = λ behind.
+    subst (λ (x : Result (Option Item) NextFault). ReadsNext (readable bytes) items next x) is (tells items behind)
+at_front None was next r i s items is tells = tt
 
-at_front : (now : Option (List ℕ)) (was next : Reader) (r : Result (Option Item) NextFault) (items : List Item) →
-    Tells_next now was next r → IfSome now (λ bytes. IsBehind was (readable bytes) items →
-    ReadsNext (readable bytes) items next.at next.stage r)
-at_front (Some bytes) was next r items tells = tells items
-at_front None was next r items tells = tt
+next_read : (told now : Option (List ℕ)) (was next : Reader) (r : Result Bool NextFault) (i : Item)
+    (s : Result (Option Item) NextFault) → now ≡ told → item_read r i ≡ s → TellsNext now was next r i →
+    (items : List Item) → IfSome told (λ bytes. IsBehind was (readable bytes) items) →
+    IfSome told (λ bytes. ReadsNext (readable bytes) items next s)
+next_read told now was next r i s same is tells items behind =
+    told_by told now (λ bytes. IsBehind was (readable bytes) items) (λ bytes. ReadsNext (readable bytes) items next s) same
+    behind (at_front now was next r i s items is tells)
 
-pub next_item : (told now : Option (List ℕ)) (was next : Reader) (r : Result (Option Item) NextFault) (i : Item) →
-    now ≡ told → r ≡ Ok (Some i) → Tells_next now was next r → (items : List Item) →
+pub next_item : (told now : Option (List ℕ)) (was next : Reader) (r : Result Bool NextFault) (i : Item) →
+    now ≡ told → r ≡ Ok true → TellsNext now was next r i → (items : List Item) →
     IfSome told (λ bytes. IsBehind was (readable bytes) items) →
     IfSome told (λ bytes. IsBehind next (readable bytes) (items ++ i ∷ []))
 next_item told now was next r i same is tells items behind =
-    told_by told now (λ bytes. IsBehind was (readable bytes) items)
-    (λ bytes. IsBehind next (readable bytes) (items ++ i ∷ [])) same behind
-    (at_front now was next (Ok (Some i)) items (next_is now was next r (Ok (Some i)) is tells))
+    told_map told (λ bytes. ReadsNext (readable bytes) items next (Ok (Some i)))
+    (λ bytes. IsBehind next (readable bytes) (items ++ i ∷ [])) (λ bytes read. read.behind)
+    (next_read told now was next r i (Ok (Some i)) same (ap (λ x. item_read x i) is) tells items behind)
 
-pub next_none : (told now : Option (List ℕ)) (was next : Reader) (r : Result (Option Item) NextFault) →
-    now ≡ told → r ≡ Ok None → Tells_next now was next r → (items : List Item) →
+pub next_none : (told now : Option (List ℕ)) (was next : Reader) (r : Result Bool NextFault) (i : Item) →
+    now ≡ told → r ≡ Ok false → TellsNext now was next r i → (items : List Item) →
     IfSome told (λ bytes. IsBehind was (readable bytes) items) →
     IfSome told (λ bytes. IsRecord (readable bytes) items)
-next_none told now was next r same is tells items behind =
-    told_by told now (λ bytes. IsBehind was (readable bytes) items) (λ bytes. IsRecord (readable bytes) items) same behind
-    (at_front now was next (Ok None) items (next_is now was next r (Ok None) is tells))
+next_none told now was next r i same is tells items behind =
+    told_map told (λ bytes. ReadsNext (readable bytes) items next (Ok None)) (λ bytes. IsRecord (readable bytes) items)
+    (λ bytes read. read.answer) (next_read told now was next r i (Ok None) same (ap (λ x. item_read x i) is) tells items behind)
 
-pub next_fault : (told now : Option (List ℕ)) (was next : Reader) (r : Result (Option Item) NextFault)
-    (fault : RecordFault) → now ≡ told → r ≡ Err (Record fault) → Tells_next now was next r → (items : List Item) →
+pub next_fault : (told now : Option (List ℕ)) (was next : Reader) (r : Result Bool NextFault) (i : Item)
+    (fault : RecordFault) → now ≡ told → r ≡ Err (Record fault) → TellsNext now was next r i → (items : List Item) →
     IfSome told (λ bytes. IsBehind was (readable bytes) items) →
     IfSome told (λ bytes. HasFaultAt (readable bytes) items fault)
-next_fault told now was next r fault same is tells items behind =
-    told_by told now (λ bytes. IsBehind was (readable bytes) items)
-    (λ bytes. HasFaultAt (readable bytes) items fault) same behind
-    (at_front now was next (Err (Record fault)) items (next_is now was next r (Err (Record fault)) is tells))
+next_fault told now was next r i fault same is tells items behind =
+    told_map told (λ bytes. ReadsNext (readable bytes) items next (Err (Record fault)))
+    (λ bytes. HasFaultAt (readable bytes) items fault) (λ bytes read. read.answer)
+    (next_read told now was next r i (Err (Record fault)) same (ap (λ x. item_read x i) is) tells items behind)
 
 -- the file begins with the items behind which a reader stands
 begins : (reader : Reader) (items : List Item) (bytes : List ℕ) → IsBehind reader bytes items → BeginsWith bytes items
-begins reader items bytes behind = elim behind.place [ inl start ↦ inl start.1 | inr there ↦ inr (_, there.1) ]
+begins reader items bytes behind = elim behind.0.place [ inl start ↦ inl start.1 | inr there ↦ inr (_, there.1) ]
 
 pub told_begins : (told : Option (List ℕ)) (reader : Reader) (items : List Item) →
     IfSome told (λ bytes. IsBehind reader (readable bytes) items) →
@@ -92,14 +97,3 @@ pub risen : {A : Type 0} (m n k : ℕ) (r : Result A NextFault) → n ≡ m → 
 risen {A} m n k r same is counts =
     let here : ReadsCount {A = A} n k (Err Read) =
     subst (λ (x : Result A NextFault). ReadsCount n k x) is counts in Rose-after m n k same here
-
--- a reader moves on with an item
-pub moves_on : (r : Result (Option Item) NextFault) (i : Item) (P : Type 0) → r ≡ Ok (Some i) →
-    IfOk r (λ found. IfSome found (λ j. P)) → P
-moves_on r i P is moves =
-    subst (λ (x : Result (Option Item) NextFault). IfOk x (λ found. IfSome found (λ j. P))) is moves
-
-pub item_there : (r : Result (Option Item) NextFault) (i : Item) → r ≡ Ok (Some i) →
-    IfOk r (λ found. IfSome found IsItem) → IsItem i
-item_there r i is there =
-    subst (λ (x : Result (Option Item) NextFault). IfOk x (λ found. IfSome found IsItem)) is there

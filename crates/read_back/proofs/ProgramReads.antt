@@ -10,9 +10,9 @@ use Rattle.alone_views.specs.declared.domain.DomainAlone.{DomainAlone}
 use Rattle.alone_views.specs.declared.unfit.Unfit.{Unfit}
 use Rattle.alone_views.specs.DomainStanding.{StandsForDomain, TakesDomainItem, answer_by}
 use Rattle.alone_views.proofs.DomainLoads.{few_taken}
-use Rattle.exchange_log.specs.Place.{IsBehind, reader_offset}
-use Rattle.exchange_log.specs.Reading.{readable}
-use Rattle.exchange_log.specs.declared.reader.Reader.{Reader}
+use Rattle.record_reader.specs.Ahead.{readable}
+use Rattle.record_reader.specs.Reading.{IsBehind, reader_offset}
+use Rattle.record_reader.specs.declared.reader.Reader.{Reader}
 use Rattle.read_back.specs.Answering.{program_unfit}
 use Rattle.read_back.specs.Reading.{IsReadTo}
 use Rattle.read_back.specs.Viewing.{SolosTo}

@@ -5,7 +5,8 @@ use Rattle.outside_io.specs.Told.{Grows, GrowsByFront, Rose}
 use Rattle.cloak_model.specs.declared.item.Item.{Item}
 use Rattle.cloak_model.specs.Record.{IsRecord}
 use Rattle.cloak_model.specs.RecordFault.{Begins}
-use Rattle.exchange_log.specs.Reading.{HasFaultAt, readable}
+use Rattle.record_reader.specs.Ahead.{readable}
+use Rattle.record_reader.specs.Reading.{HasFaultAt}
 use Rattle.program_parts.specs.Outside.{Outside}
 use Rattle.program_parts.specs.declared.status.Status.{Status}
 use Rattle.program_parts.specs.declared.status.Status.TheVariants as status

@@ -16,10 +16,11 @@ ghost use Rattle.read_back.specs.Viewing.{SolosTo};
 use crate::ending::{Ending, show_fault, status};
 use alone_views::DomainAlone;
 use cloak_base::Failed;
+use cloak_model::Item;
 use command_words::SoloRequest;
-use exchange_log::{NextFault, Reader};
 use outside_io::{Shelf, Sink};
 use program_parts::{Refusal, Status, read_bundle, refuse};
+use record_reader::{NextFault, Reader};
 use std::alloc::Global;
 
 /// Gives the items of a record to a program that runs alone, up to the first that does not fit or the first fault, and
@@ -34,14 +35,15 @@ fn read_program<S: Shelf>(program: &mut DomainAlone, name: &str, shelf: &mut S) 
     ensures writing { S.writing_faults shelf.new ≡ S.writing_faults shelf.old }
 {
     let mut reader = Reader::open(name);
+    let mut item = Item::End;
     loop {
-        match reader.next(shelf) {
-            Ok(Some(item)) => {
+        match reader.next(shelf, &mut item) {
+            Ok(true) => {
                 if let Err(unfit) = program.take(&item) {
                     return Ending::Unfit(unfit.step);
                 }
             }
-            Ok(None) => return Ending::Whole,
+            Ok(false) => return Ending::Whole,
             Err(NextFault::Read) => return Ending::Unread,
             Err(NextFault::Record(fault)) => return Ending::Fault(fault),
         }

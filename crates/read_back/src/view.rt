@@ -17,10 +17,11 @@ use crate::ending::{Ending, show_fault, status};
 use crate::screen::Screen;
 use alone_views::KernelAlone;
 use cloak_base::Failed;
+use cloak_model::Item;
 use command_words::RecordRequest;
-use exchange_log::{NextFault, Reader};
 use outside_io::{Shelf, Sink, put_all};
 use program_parts::{Refusal, Status, read_bundle, refuse};
+use record_reader::{NextFault, Reader};
 use std::alloc::Global;
 
 /// Gives the items of a record to a kernel that runs alone, up to the first that does not fit or the first fault, and
@@ -41,14 +42,15 @@ fn read_kernel<S: Shelf, O: Sink>(
     ensures writing { S.writing_faults shelf.new ≡ S.writing_faults shelf.old }
 {
     let mut reader = Reader::open(name);
+    let mut item = Item::End;
     while !screen.failed {
-        match reader.next(shelf) {
-            Ok(Some(item)) => {
+        match reader.next(shelf, &mut item) {
+            Ok(true) => {
                 if let Err(unfit) = kernel.take(&item, screen) {
                     return Some(Ending::Unfit(unfit.step));
                 }
             }
-            Ok(None) => return Some(Ending::Whole),
+            Ok(false) => return Some(Ending::Whole),
             Err(NextFault::Read) => return Some(Ending::Unread),
             Err(NextFault::Record(fault)) => return Some(Ending::Fault(fault)),
         }

@@ -3,7 +3,7 @@ use Rattle.outside_io.specs.Told.{SameFiles}
 use Rattle.cloak_model.specs.declared.image.KernelImage.{KernelImage}
 use Rattle.cloak_model.specs.KernelAlone.{opened_kernel}
 use Rattle.alone_views.specs.KernelStanding.{StandsForKernel}
-use Rattle.exchange_log.specs.Place.{reader_offset}
+use Rattle.record_reader.specs.Reading.{reader_offset}
 use Rattle.read_back.specs.Screen.{GaveScreen}
 use Rattle.read_back.proofs.KernelReads.{KernelReads}
 use Rattle.read_back.proofs.view.read_kernel.Given as goal

@@ -1,0 +1,22 @@
+//! A file's items read back: the record of a run, or what is wrong with the file.
+//!
+//! The layer above may rely on this: a `Reader` gives the items of a record (`cloak_model`, `specs/Record`) one after
+//! another and then none; of any other file the items before its first fault, and then that fault (`specs/RecordFault`),
+//! as often as it is asked. It fills the item that its caller keeps. It reads the file ahead, into a window of its own, and
+//! takes no memory.
+#![tactic(auto)]
+
+mod ahead;
+mod fault;
+mod fields;
+mod judging;
+mod law;
+mod reader;
+mod reading;
+mod tags;
+#[cfg(test)]
+mod tests;
+
+pub use fault::NextFault;
+pub use law::law_of_reading;
+pub use reader::Reader;

@@ -1,0 +1,85 @@
+//! The reader of a record.
+ghost use Rattle.std.specs.Prelude.{◌≡◌, ◌<◌, ◌^◌, ℕ, List, [], true, Ok, IfOk, IfSome, OnErr};
+ghost use Rattle.outside_io.specs.Told.{SameFiles};
+ghost use Rattle.cloak_model.specs.declared.item.Item.{Item};
+ghost use Rattle.cloak_model.specs.Record.{IsItem};
+
+use crate::NextFault;
+use crate::ahead::Ahead;
+use crate::fields::set_item;
+use crate::judging::{fault_of, judge, stage_after};
+use crate::reading::items_from;
+use crate::tags::size_of;
+use cloak_model::{Item, Stage};
+use outside_io::Shelf;
+
+/// Reads the items of a record, one after another, from a file that stays as it is meanwhile.
+#[derive(Drop)]
+pub struct Reader<'a> {
+    name: &'a str,
+    /// Where the next item stands. At 0 the magic is not yet read.
+    at: u64,
+    stage: Stage,
+    ahead: Ahead,
+}
+
+impl<'a> Reader<'a> {
+    ghost use Rattle.record_reader.specs.Ahead.{readable};
+    ghost use Rattle.record_reader.specs.Reading.{IsBehind, ReadsNext, ReadsCount, ReadsCounts, SamePlace};
+    ghost use Rattle.record_reader.specs.Reading.{item_read, reader_offset};
+
+    /// At the front of the file of this name.
+    pub fn open(name: &'a str) -> Reader<'a>
+        ensures front { (file : List ℕ) → IsBehind result file [] }
+        ensures name { result.name.now ≡ name.now }
+        ensures start { reader_offset result ≡ 0 }
+    {
+        Reader {
+            name,
+            at: 0,
+            stage: Stage::Opening,
+            ahead: Ahead::none(),
+        }
+    }
+
+    /// Makes `item` the next item, and says so; none is left behind End, where the file ends there, and `item` then
+    /// stays. A fault leaves `item` as it is, and the reader where it stands.
+    pub fn next<S: Shelf>(&mut self, shelf: &mut S, item: &mut Item) -> Result<bool, NextFault>
+        ensures next { IfSome (S.held shelf.old self.old.name.now) (λ bytes. (front : List Item) →
+            IsBehind self.old (readable bytes) front →
+            ReadsNext (readable bytes) front self.new (item_read result item.new)) }
+        ensures item { result ≡ Ok true → IsItem item.new }
+        ensures moves { result ≡ Ok true → reader_offset self.old < reader_offset self.new }
+        ensures within { reader_offset self.new < 2 ^ 64 }
+        ensures same { self.new.name ≡ self.old.name }
+        ensures unchanged { OnErr result (SamePlace self.old self.new) }
+        ensures item_stays { ¬ (result ≡ Ok true) → item.new ≡ item.old }
+        ensures files { SameFiles (S.held shelf.old) (S.held shelf.new) }
+        ensures counts { ReadsCounts (S.reading_faults shelf.old) (S.reading_faults shelf.new)
+            (S.writing_faults shelf.old) (S.writing_faults shelf.new) result }
+        ensures reading { S.is_settled shelf.old →
+            ReadsCount (S.reading_faults shelf.old) (S.reading_faults shelf.new) result }
+        ensures writing { S.is_settled shelf.old → S.writing_faults shelf.new ≡ S.writing_faults shelf.old }
+        ensures settled { S.is_settled shelf.old → S.is_settled shelf.new }
+    {
+        let from = match items_from(&mut self.ahead, self.name, self.at, shelf) {
+            Ok(from) => from,
+            Err(fault) => return Err(fault),
+        };
+        match self.ahead.reach(self.name, shelf, from) {
+            Ok(()) => {}
+            Err(_) => return Err(NextFault::Read),
+        }
+        let bytes = self.ahead.from(from);
+        match judge(self.stage, bytes) {
+            Err(wrong) => Err(NextFault::Record(fault_of(from + bytes.len() as u64, from, wrong))),
+            Ok(None) => Ok(false),
+            Ok(Some(tag)) => {
+                set_item(tag, &bytes[1..], item);
+                self.at = from.saturating_add(1 + size_of(tag) as u64);
+                self.stage = stage_after(self.stage, item);
+                Ok(true)
+            }
+        }
+    }
+}
