@@ -1,5 +1,5 @@
 -- What the commands answer.
-use Rattle.std.proofs.Common.{◌≡◌, ◌<◌, ◌≤◌, ◌-◌, ◌^◌, ℕ, Bool, true, false, List, [], refl, sym, ◌∙◌, ap, subst, inl}
+use Rattle.std.proofs.Common.{◌≡◌, ◌<◌, ◌≤◌, ◌-◌, ◌^◌, ℕ, Bool, true, false, List, [], ◌++◌, refl, sym, ◌∙◌, ap, subst, inl}
 use Rattle.std.proofs.Common.{inr, Option, Result, Ok, Err, OnOk, OnErr, is_err}
 use Rattle.cloak_base.specs.declared.causes.Failed.{Failed}
 use Rattle.cloak_base.specs.declared.causes.Stop.{Stop}
@@ -16,6 +16,10 @@ use Rattle.cloak_model.specs.declared.image.Bundle.{Bundle}
 use Rattle.cloak_base.specs.Random.{Random}
 use Rattle.item_law.specs.Writing.{IsOfBytes, IsStreamOfBytes}
 use Rattle.item_law.proofs.Runs.{writes_a_record}
+use Rattle.cloak_model.specs.declared.item.Item.{Item}
+use Rattle.cloak_model.specs.DomainAlone.{domain_alone}
+use Rattle.cloak_model.specs.KernelAlone.{kernel_alone}
+use Rattle.run_command.proofs.FrontFacts.{kernel_front_fits, domain_front_fits}
 use Rattle.record_law.proofs.Judged.{one_record, not_both}
 use Rattle.run_command.specs.declared.prepare.Prepared.{Prepared}
 use Rattle.program_parts.specs.declared.refusal.Refusal.{Refusal}
@@ -39,7 +43,7 @@ use Rattle.cause_law.proofs.Runs.{violation_has_cause}
 use Rattle.kernel_isolation.proofs.Isolated.{kernel_ends_alone}
 use Rattle.domain_isolation.proofs.Isolated.{domain_ends_alone}
 use Rattle.program_parts.specs.NoRun.{NoRun, IsRefused}
-use Rattle.run_command.specs.ReadingBack.{ComesToEnds, ReadsBack}
+use Rattle.run_command.specs.ReadingBack.{ComesToEnds, FitsAlone, ReadsBack}
 use Rattle.run_command.specs.Answering.{AsksRun, IsLawful, HasRun, RunAnswers, KeepsFiles}
 
 -- A line that refuses.
@@ -232,7 +236,7 @@ asks_run {asked} {held} {record_name} {steps} {ready} prepared = record {
 
 -- what the laws say of it
 comes_to_ends : (b : Bundle) (stream : Random) (budget : ℕ) (r : Run) → IsInGrammar b → joint_run b stream budget ≡ Ok r →
-    ComesToEnds b r (exchange r)
+    ComesToEnds b r
 comes_to_ends b stream budget r grammar runs = record {
   kernel = kernel_ends_alone b stream budget r runs;
   programs = λ d p there. domain_ends_alone b d p r (record {
@@ -244,15 +248,26 @@ comes_to_ends b stream budget r grammar runs = record {
   });
 }
 
+front_fits : (b : Bundle) (r : Run) (front more : List Item) → front ++ more ≡ exchange r → ComesToEnds b r →
+    FitsAlone b front
+front_fits b r front more whole ends = record {
+  kernel = kernel_front_fits b.kernel front more
+      (ap (λ (l : List Item). (kernel_alone b.kernel l).unfit) whole ∙ ends.kernel.fits);
+  programs = λ d p there. domain_front_fits d b.kernel.schedule p front more
+      (ap (λ (l : List Item). (domain_alone d b.kernel.schedule p l).unfit) whole ∙ (ends.programs d p there).fits);
+}
+
 reads_back : (b : Bundle) (stream : Random) (budget : ℕ) (r : Run) → IsInGrammar b → IsOfBytes b →
     IsStreamOfBytes stream → budget ≤ most_steps → joint_run b stream budget ≡ Ok r → ReadsBack b r
 reads_back b stream budget r grammar bytes all few runs =
     let is = writes_a_record b stream budget r grammar bytes all few runs in
+    let ends = comes_to_ends b stream budget r grammar runs in
     record {
       is_record = is;
+      no_other = λ items other. one_record (record_bytes r) items (exchange r) other is;
       no_fault = λ fault has. not_both (record_bytes r) (exchange r) fault is has;
-      ends = λ items read. subst (ComesToEnds b r) (one_record (record_bytes r) (exchange r) items is read)
-          (comes_to_ends b stream budget r grammar runs);
+      fits = λ front more whole. front_fits b r front more whole ends;
+      ends = ends;
     }
 
 pub lawful_run : {asked : spec.Asked} {held : List ℕ → Option (List ℕ)} {record_name : List ℕ} {steps : ℕ}

@@ -1,5 +1,6 @@
 pub mod AnswerFacts
 pub mod ClashFacts
+pub mod FrontFacts
 pub mod OutletFacts
 pub mod PrepareFacts
 pub mod RunFacts
