@@ -13,7 +13,7 @@ use Rattle.shadow_fold.specs.declared.entry.Entry.{Entry}
 use Rattle.shadow_fold.specs.declared.entry.ShadowCounts.{ShadowCounts}
 use Rattle.shadow_fold.specs.Entries.{is_for, is_frame, IsWithin}
 use Rattle.shadow_fold.specs.Table.{Table, ending}
-use Rattle.multi_shadow.specs.Placed.{ArePlaced, AreApart, LiesAt, live_in, number_of, is_head}
+use Rattle.multi_shadow.specs.Placed.{ArePlaced, AreApart, LiesAt, IsPut, live_in, number_of, is_head}
 use Rattle.multi_shadow.proofs.Placing.{still_apart}
 use Rattle.multi_shadow.proofs.Slots.{ended_from}
 
@@ -79,15 +79,12 @@ empty_apart n m A is view page kind s t e x le lx pe px =
 
 -- An entry was put in, or nothing changed.
 
-abbrev Put : Arena Entry → Arena Entry → Entry → Type 0
-Put A B e = (s : ℕ) × IsFree A s × (B.payloads ≡ slice_set A.payloads s (Some e))
-
-pub put_long : (A B : Arena Entry) (e : Entry) (b : Bool) → (b ≡ false → B ≡ A) → (b ≡ true → Put A B e)
+pub put_long : (A B : Arena Entry) (e : Entry) (b : Bool) → (b ≡ false → B ≡ A) → (b ≡ true → IsPut e A B)
     → length B.payloads ≡ length A.payloads
 put_long A B e true same put = let p = put refl in ap length p.2 ∙ length-set A.payloads p.0 (Some e)
 put_long A B e false same put = ap (λ (D : Arena Entry). length D.payloads) (same refl)
 
-pub put_apart : (A B : Arena Entry) (e : Entry) (b : Bool) → (b ≡ false → B ≡ A) → (b ≡ true → Put A B e) → AreApart A
+pub put_apart : (A B : Arena Entry) (e : Entry) (b : Bool) → (b ≡ false → B ≡ A) → (b ≡ true → IsPut e A B) → AreApart A
     → list_any (is_for e.view e.page e.kind) (live_in A.payloads) ≡ false → AreApart B
 put_apart A B e true same put apart none = let p = put refl in still_apart A B p.0 e apart p.1 p.2 none
 put_apart A B e false same put apart none = subst AreApart (sym (same refl)) apart

@@ -1,10 +1,10 @@
 -- Live entries in the slots of an arena. The slot of an entry stands in a chain of each kind: by view, page and kind in
 -- that of its bucket, and in those of its target and of its table frames.
-use Rattle.std.specs.Prelude.{◌≡◌, ℕ, ◌+◌, ◌*◌, ◌%◌, ◌<◌, ◌==◌, Bool, true, false, ◌&&◌, List, slice_get, slice_set, Option, Some, None}
+use Rattle.std.specs.Prelude.{◌≡◌, ℕ, ◌+◌, ◌*◌, ◌%◌, ◌<◌, ◌==◌, Bool, true, false, ◌&&◌, List, length, slice_get, slice_set, Option, Some, None}
 use Rattle.std.specs.List.{filter_map}
 use Rattle.chain_arena.specs.declared.chain.Chain.{Chain}
 use Rattle.chain_arena.specs.declared.chain.Chain.TheVariants as chain
-use Rattle.chain_arena.specs.Arena.{Arena, chain_at, hooked, IsTidyArena}
+use Rattle.chain_arena.specs.Arena.{Arena, chain_at, hooked, IsFree, IsTidyArena}
 use Rattle.chain_arena.specs.Chains.{IsMemberOf, without}
 use Rattle.cloak_base.specs.declared.names.Frame.{Frame}
 use Rattle.cloak_base.specs.declared.names.Kind.{Kind}
@@ -67,6 +67,16 @@ pub record ArePlaced (A : Arena Entry) : Type 0 where
       → (h < A.heads) × IsMemberOf s (chain_at A c h)
   pub only : (c : Chain) (s h : ℕ) (e : Entry) → h < A.heads → IsMemberOf s (chain_at A c h) → LiesAt A s e
       → head_of A.heads c e ≡ Some h
+
+-- the entries ended that pass the test, and every other one lies where it lay
+pub record EndsJust (ends : Entry → Bool) (A B : Arena Entry) : Type 0 where
+  pub long : length B.payloads ≡ length A.payloads
+  pub ended : (s : ℕ) (e : Entry) → LiesAt B s e → LiesAt A s e × (ends e ≡ false)
+  pub kept : (s : ℕ) (e : Entry) → LiesAt A s e → ends e ≡ false → LiesAt B s e
+
+-- the entry lies in a slot that was free, and nothing else has changed in the slots
+abbrev pub IsPut : Entry → Arena Entry → Arena Entry → Type 0
+IsPut e A B = (s : ℕ) × IsFree A s × (B.payloads ≡ slice_set A.payloads s (Some e))
 
 -- no two entries are of one view, page and kind
 abbrev pub AreApart : Arena Entry → Type 0

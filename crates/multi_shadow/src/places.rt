@@ -5,7 +5,7 @@ ghost use Rattle.chain_arena.specs.declared.chain.Chain.{Chain};
 ghost use Rattle.chain_arena.specs.Arena.{IsFree, IsInUse, Stands, chains, chain_at, unhooked, IsTidyArena};
 ghost use Rattle.multi_shadow.specs.Placed as spec;
 ghost use Rattle.multi_shadow.specs.Placed.{ArePlaced, AreApart, LiesAt, live_in, entered, without_if, emptied_if};
-ghost use Rattle.multi_shadow.specs.Placed.{all_entered, hangs_on, is_hit};
+ghost use Rattle.multi_shadow.specs.Placed.{all_entered, hangs_on, is_hit, EndsJust, IsPut};
 ghost use Rattle.chain_arena.specs.Chains.{without};
 ghost use Rattle.shadow_fold.specs.Agreement.{satp_in};
 ghost use Rattle.shadow_fold.specs.Entries as entries;
@@ -119,7 +119,7 @@ pub(crate) fn place(arena: &mut ChainArena<Entry>, heads: u32, e: Entry) -> bool
     requires within { IsWithin heads e }
     ensures full { result ≡ false → (s : ℕ) → IsFree arena.old s → ⊥ }
     ensures unchanged { result ≡ false → arena.new ≡ arena.old }
-    ensures put { result ≡ true → (s : ℕ) × IsFree arena.old s × (arena.new.payloads ≡ slice_set arena.old.payloads s (Some e)) }
+    ensures put { result ≡ true → IsPut e arena.old arena.new }
     ensures placed { ArePlaced arena.new }
     ensures heads { arena.new.heads ≡ arena.old.heads }
 {
@@ -169,9 +169,7 @@ pub(crate) fn prune(arena: &mut ChainArena<Entry>, c: Chain, head: u32, space: O
     requires within { head < arena.old.heads }
     ensures placed { ArePlaced arena.new }
     ensures heads { arena.new.heads ≡ arena.old.heads }
-    ensures long { length arena.new.payloads ≡ length arena.old.payloads }
-    ensures ended { (s : ℕ) (e : Entry) → LiesAt arena.new s e → LiesAt arena.old s e × (is_hit arena.old.heads c head space e ≡ false) }
-    ensures kept { (s : ℕ) (e : Entry) → LiesAt arena.old s e → is_hit arena.old.heads c head space e ≡ false → LiesAt arena.new s e }
+    ensures ends { EndsJust (is_hit arena.old.heads c head space) arena.old arena.new }
 {
     let mut at = arena.first(c, head);
     while let Some(s) = at {
@@ -187,9 +185,7 @@ pub(crate) fn prune_frame(arena: &mut ChainArena<Entry>, heads: u32, c: Chain, f
     requires heads { heads ≡ arena.old.heads }
     ensures placed { ArePlaced arena.new }
     ensures heads { arena.new.heads ≡ arena.old.heads }
-    ensures long { length arena.new.payloads ≡ length arena.old.payloads }
-    ensures ended { (s : ℕ) (e : Entry) → LiesAt arena.new s e → LiesAt arena.old s e × (hangs_on arena.old.heads c f.0 e ≡ false) }
-    ensures kept { (s : ℕ) (e : Entry) → LiesAt arena.old s e → hangs_on arena.old.heads c f.0 e ≡ false → LiesAt arena.new s e }
+    ensures ends { EndsJust (hangs_on arena.old.heads c f.0) arena.old arena.new }
 {
     if f.0 < heads {
         prune(arena, c, f.0, None);
@@ -202,9 +198,7 @@ pub(crate) fn prune_all(arena: &mut ChainArena<Entry>, heads: u32, space: Option
     requires heads { heads ≡ arena.old.heads }
     ensures placed { ArePlaced arena.new }
     ensures heads { arena.new.heads ≡ arena.old.heads }
-    ensures long { length arena.new.payloads ≡ length arena.old.payloads }
-    ensures ended { (s : ℕ) (e : Entry) → LiesAt arena.new s e → LiesAt arena.old s e × (spec.is_wanted space e ≡ false) }
-    ensures kept { (s : ℕ) (e : Entry) → LiesAt arena.old s e → spec.is_wanted space e ≡ false → LiesAt arena.new s e }
+    ensures ends { EndsJust (spec.is_wanted space) arena.old arena.new }
 {
     for head in 0..heads {
         prune(arena, Chain::Bucket, head, space);

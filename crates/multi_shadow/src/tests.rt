@@ -17,7 +17,15 @@ const BARE: ShadowView = ShadowView::Outside {
 };
 
 fn load_of(page: u32) -> Entry
-    ensures { result ≡ record { view = Outside 0 S false false; page = page; kind = Load; frame = record { 0 = 3 }; pt1 = None; pt0 = None; cloaked = None } }
+    ensures { result ≡ record {
+      view = Outside 0 S false false;
+      page = page;
+      kind = Load;
+      frame = record { 0 = 3 };
+      pt1 = None;
+      pt0 = None;
+      cloaked = None;
+    } }
 {
     Entry {
         view: BARE,

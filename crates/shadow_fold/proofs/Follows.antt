@@ -101,7 +101,7 @@ filter_all : (xs : List Entry) → filter (λ e. true) xs ≡ xs
 filter_all [] = refl
 filter_all (e ∷ xs) = ap (λ l. e ∷ l) (filter_all xs)
 
-ending_none : (t : Table) → ending (λ e. false) t ≡ t
+pub ending_none : (t : Table) → ending (λ e. false) t ≡ t
 unfolding ending
 ending_none t = λ i. record t { live = filter_all t.live i }
 

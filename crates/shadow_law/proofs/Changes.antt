@@ -3,9 +3,9 @@ use Rattle.std.proofs.Common.{◌≡◌, ◌≢◌, ◌∙◌, ℕ, ◌*◌, ◌
 use Rattle.std.specs.Prelude.{◌==◌, slice_index_or, slice_set, IfSome}
 use Rattle.std.specs.List.{position_or_len}
 use Rattle.std.specs.Str.{bytes_eq}
-use Rattle.std.proofs.lemmas.Bool.{false≢true, ltb-true}
+use Rattle.std.proofs.lemmas.Bool.{false≢true, ltb-true, cases_eq, cases_lt}
 use Rattle.std.proofs.lemmas.Bool.Decides.{eqb_tells}
-use Rattle.std.proofs.lemmas.List.{get_or-set_other, length-set}
+use Rattle.std.proofs.lemmas.List.{get_or-set_same, get_or-set_other, get_or_past, length-set}
 use Rattle.std.proofs.lemmas.List.Sums.{passes_at_first}
 use Rattle.std.proofs.lemmas.Option.{none-some, same_Some}
 use Rattle.cloak_base.specs.Random.{Random}
@@ -42,12 +42,19 @@ both_some : (P Q R : Frame → Type 0) (o : Option Frame) → ((f : Frame) → P
 both_some P Q R None step h k = h
 both_some P Q R (Some f) step h k = step f h k
 
-map_parts : (P Q : ℕ → Type 0) (e : Entry) → ((x : ℕ) → P x → Q x) → Parts P e → Parts Q e
+pub map_parts : (P Q : ℕ → Type 0) (e : Entry) → ((x : ℕ) → P x → Q x) → Parts P e → Parts Q e
 map_parts P Q e step h = record {
   target = step e.frame.0 h.target;
   first = map_some (λ f. P f.0) (λ f. Q f.0) e.pt1 (λ f. step f.0) h.first;
   second = map_some (λ f. P f.0) (λ f. Q f.0) e.pt0 (λ f. step f.0) h.second;
 }
+
+pub all_parts : (P : ℕ → Type 0) (e : Entry) → ((x : ℕ) → P x) → Parts P e
+all_parts P e every = record { target = every e.frame.0; first = all_some e.pt1; second = all_some e.pt0 }
+  where
+    all_some : (o : Option Frame) → IfSome o (λ f. P f.0)
+    all_some None = tt
+    all_some (Some f) = every f.0
 
 both_parts : (P Q R : ℕ → Type 0) (e : Entry) → ((x : ℕ) → P x → Q x → R x) → Parts P e → Parts Q e → Parts R e
 both_parts P Q R e step h k = record {
@@ -58,7 +65,7 @@ both_parts P Q R e step h k = record {
 
 -- tests that fail
 
-or_false : (a b : Bool) → (a || b) ≡ false → (a ≡ false) × (b ≡ false)
+pub or_false : (a b : Bool) → (a || b) ≡ false → (a ≡ false) × (b ≡ false)
 or_false true b e = absurd (false≢true (sym e))
 or_false false b e = (refl, e)
 
@@ -97,10 +104,10 @@ pub record Spared (x : ℕ) (m m' : CloakedMemory) : Type 0 where
   pub ram : slice_index_or m'.ram x [] ≡ slice_index_or m.ram x []
   pub owed : owed_in m' x ≡ owed_in m x
 
-spared_refl : (x : ℕ) (m : CloakedMemory) → Spared x m m
+pub spared_refl : (x : ℕ) (m : CloakedMemory) → Spared x m m
 spared_refl x m = record { ram = refl; owed = refl }
 
-spared_trans : (x : ℕ) (a b c : CloakedMemory) → Spared x a b → Spared x b c → Spared x a c
+pub spared_trans : (x : ℕ) (a b c : CloakedMemory) → Spared x a b → Spared x b c → Spared x a c
 spared_trans x a b c f g = record { ram = g.ram ∙ f.ram; owed = g.owed ∙ f.owed }
 
 -- an entry whose frames are spared, and hold what they held
@@ -160,7 +167,7 @@ unfolding settle_if
 spares_if f x None m other = spared_refl x m
 spares_if f x (Some q) m other = spares_owed f x q (vector_of m.ledger q) m other
 
-settle_spares : (f x : ℕ) (m : CloakedMemory) → (x ≡ f → ⊥) → Spared x m (settle f m).memory
+pub settle_spares : (f x : ℕ) (m : CloakedMemory) → (x ≡ f → ⊥) → Spared x m (settle f m).memory
 unfolding settle
 settle_spares f x m other = spares_if f x (owed_in m f) m other
 
@@ -208,7 +215,7 @@ owing_at m q f is = by_test (nat_lt at (length m.ledger.owed)) refl is
         ap (owed_in m) (sym same) ∙ owes_page q _ (passes_at_first (owes q) m.ledger.owed None (ltb-true at (length m.ledger.owed) low))
     by_test false low found = absurd (none-some f found)
 
-holds_self : (q : PageId) (o : Option PageId) → o ≡ Some q → holds (same_page q) o ≡ true
+pub holds_self : (q : PageId) (o : Option PageId) → o ≡ Some q → holds (same_page q) o ≡ true
 holds_self q o is = ap (holds (same_page q)) is ∙ same_page-self q
 
 module _ (q : PageId) (x : ℕ) where
@@ -242,7 +249,7 @@ module _ (q : PageId) (x : ℕ) where
       by_test true = one
       by_test false = spared_trans x m s.memory (next s.memory).memory one two
 
-  offer_spares : (held : Held) (g : ℕ) (write : Bool) (m : CloakedMemory) → OwedIsHeld held m → (x ≡ g → ⊥) → holds (same_page q) (held x) ≡ false
+  pub offer_spares : (held : Held) (g : ℕ) (write : Bool) (m : CloakedMemory) → OwedIsHeld held m → (x ≡ g → ⊥) → holds (same_page q) (held x) ≡ false
       → Spared x m (offer q g write m).memory
   unfolding offer
   offer_spares held g write m owed other out = by_test (owes q (owed_in m g))
@@ -304,7 +311,7 @@ count_unless n s next one two = by_test s.missed
     by_test true = one
     by_test false = two
 
-offer_count : (q : PageId) (g : ℕ) (write : Bool) (m : CloakedMemory) → length (offer q g write m).memory.ram ≡ length m.ram
+pub offer_count : (q : PageId) (g : ℕ) (write : Bool) (m : CloakedMemory) → length (offer q g write m).memory.ram ≡ length m.ram
 unfolding offer
 offer_count q g write m = by_test (owes q (owed_in m g))
   where
@@ -352,3 +359,27 @@ remap_keeps mapped mapped' s e out same has = by_page e.cloaked has
     by_page : (o : Option PageId) → IfSome o (HasInSpace mapped e.view (4096 * e.page)) → IfSome o (HasInSpace mapped' e.view (4096 * e.page))
     by_page None k = k
     by_page (Some q) k = by_view e.view q out k
+
+-- A page that a frame holds is changed.
+
+owed_there : (m : CloakedMemory) (f : ℕ) (q : PageId) → owed_in m f ≡ Some q → f < length m.ledger.owed
+owed_there m f q is = elim (cases_lt f (length m.ledger.owed)) [
+  | inl h ↦ h
+  | inr h ↦ absurd (none-some q (sym (get_or_past m.ledger.owed f None h) ∙ is))
+]
+
+pub change_keeps : (held : Held) (m : CloakedMemory) (q : PageId) (g : ℕ) (e : Entry) → held g ≡ Some q
+    → EntryAgrees (present held m) e → EntryAgrees (present held (with_owed g (Some q) m)) e
+change_keeps held m q g e here agrees =
+    record { walks = agrees.walks; first = agrees.first; second = agrees.second; target = target e.cloaked agrees.target }
+  where
+    m' : CloakedMemory
+    m' = with_owed g (Some q) m
+    target : (o : Option PageId) → TargetAgrees (present held m) e o → TargetAgrees (present held m') e o
+    target None h = h
+    target (Some p) h = (h.0, λ store. elim (cases_eq e.frame.0 g) [
+      | inl same ↦
+          let low = subst (λ x. x < length m.ledger.owed) same (owed_there m e.frame.0 p (h.1 store)) in
+          ap (owed_in m') same ∙ get_or-set_same m.ledger.owed g (Some q) None low ∙ sym here ∙ ap held (sym same) ∙ h.0
+      | inr other ↦ get_or-set_other m.ledger.owed g e.frame.0 (Some q) None other ∙ h.1 store
+    ])

@@ -32,7 +32,7 @@ use Rattle.shadow_law.proofs.Changes.{owing_at}
 
 -- A frame that is owed nothing is settled by doing nothing.
 
-untouched : (f : ℕ) (m : CloakedMemory) → owed_in m f ≡ None → settle f m ≡ record { memory = m; ciphers = []; missed = false }
+pub untouched : (f : ℕ) (m : CloakedMemory) → owed_in m f ≡ None → settle f m ≡ record { memory = m; ciphers = []; missed = false }
 unfolding settle settle_if
 untouched f m clean = ap (λ (o : Option PageId). settle_if f o m) clean
 
@@ -129,7 +129,7 @@ hit_is_walk held c e va owed agrees page low =
 
 -- The offer of the page that a frame holds.
 
-owed_offer : (q : PageId) (g : ℕ) (write : Bool) (m : CloakedMemory) → owed_in m g ≡ Some q → offer q g write m ≡ record { memory = m; ciphers = []; answer = Ready }
+pub owed_offer : (q : PageId) (g : ℕ) (write : Bool) (m : CloakedMemory) → owed_in m g ≡ Some q → offer q g write m ≡ record { memory = m; ciphers = []; answer = Ready }
 unfolding offer
 owed_offer q g write m is =
     ap (λ (b : Bool). cond b (let o : AfterOffer = record { memory = m; ciphers = []; answer = Ready } in o)
@@ -137,7 +137,7 @@ owed_offer q g write m is =
     (ap (owes q) is ∙ same_page-self q)
 
 -- no frame is owed the page
-no_owing : (q : PageId) (m : CloakedMemory) → ((g : ℕ) → owed_in m g ≢ Some q) → owing_frame m q ≡ None
+pub no_owing : (q : PageId) (m : CloakedMemory) → ((g : ℕ) → owed_in m g ≢ Some q) → owing_frame m q ≡ None
 no_owing q m none = by_found (owing_frame m q) refl
   where
     by_found : (o : Option ℕ) → owing_frame m q ≡ o → o ≡ None
@@ -162,26 +162,28 @@ same_comparison : (c : List ℕ) (m : CloakedMemory) → with_comparison c c m �
 same_comparison c m =
     ap (λ (b : Bool). let n : CloakedMemory = record m { ledger = record m.ledger { clashed = b } } in n) (ap (λ b. m.ledger.clashed || b) (no_clash c) ∙ or_none m.ledger.clashed)
 
-clean_compared : (q : PageId) (g : ℕ) (m : CloakedMemory) → m.ledger.recorded q ≡ Some (slice_index_or m.ram g [])
-    → compared q g false (m.ledger.recorded q) m ≡ record { memory = m; ciphers = []; answer = Ready }
+clean_compared : (q : PageId) (g : ℕ) (write : Bool) (m : CloakedMemory) → m.ledger.recorded q ≡ Some (slice_index_or m.ram g [])
+    → compared q g write (m.ledger.recorded q) m ≡ record { memory = taken q g write m; ciphers = []; answer = Ready }
 unfolding compared
-clean_compared q g m shown =
+clean_compared q g write m shown =
     let there : List ℕ = slice_index_or m.ram g [] in
-    ap (λ (o : Option (List ℕ)). compared q g false o m) shown
-    ∙ ap (λ (b : Bool). cond b (let o : AfterOffer = record { memory = with_comparison there there m; ciphers = []; answer = Ready } in o)
-    (record { memory = with_comparison there there m; ciphers = []; answer = Mismatch })) (self_equal there)
-    ∙ ap (λ (n : CloakedMemory). let o : AfterOffer = record { memory = n; ciphers = []; answer = Ready } in o) (same_comparison there m)
+    let m' : CloakedMemory = with_comparison there there m in
+    ap (λ (o : Option (List ℕ)). compared q g write o m) shown
+    ∙ ap (λ (b : Bool). cond b (let o : AfterOffer = record { memory = taken q g write m'; ciphers = []; answer = Ready } in o)
+        (record { memory = m'; ciphers = []; answer = Mismatch })) (self_equal there)
+    ∙ ap (λ (n : CloakedMemory). let o : AfterOffer = record { memory = taken q g write n; ciphers = []; answer = Ready } in o) (same_comparison there m)
 
-clean_offer : (q : PageId) (g : ℕ) (m : CloakedMemory) → owed_in m g ≡ None → ((f : ℕ) → owed_in m f ≢ Some q)
-    → m.ledger.recorded q ≡ Some (slice_index_or m.ram g []) → offer q g false m ≡ record { memory = m; ciphers = []; answer = Ready }
+pub clean_offer : (q : PageId) (g : ℕ) (write : Bool) (m : CloakedMemory) → owed_in m g ≡ None → ((f : ℕ) → owed_in m f ≢ Some q)
+    → m.ledger.recorded q ≡ Some (slice_index_or m.ram g [])
+    → offer q g write m ≡ record { memory = taken q g write m; ciphers = []; answer = Ready }
 unfolding offer unless_missed
-clean_offer q g m clean newest shown =
-    let last : CloakedMemory → AfterOffer = λ m''. compared q g false (m''.ledger.recorded q) m'' in
+clean_offer q g write m clean newest shown =
+    let last : CloakedMemory → AfterOffer = λ m''. compared q g write (m''.ledger.recorded q) m'' in
     let second : CloakedMemory → AfterOffer = λ m'. unless_missed (settle_frame_if (owing_frame m' q) m') last in
     ap (λ (o : Option PageId). cond (owes q o) (let o' : AfterOffer = record { memory = m; ciphers = []; answer = Ready } in o') (unless_missed (settle g m) second)) clean
     ∙ (ap (λ (s : AfterSettling). unless_missed s second) (untouched g m clean)
     ∙ (ap (λ (o : Option ℕ). unless_missed (record { memory = m; ciphers = []; missed = false }) (λ (m' : CloakedMemory). unless_missed (settle_frame_if o m') last)) (no_owing q m newest)
-    ∙ clean_compared q g m shown))
+    ∙ clean_compared q g write m shown))
 
 pub hit_is_offer : (held : Held) (m : CloakedMemory) (e : Entry) (q : PageId) → OwedIsHeld held m → CleanIsShown held m
     → EntryAgrees (present held m) e → e.cloaked ≡ Some q → offer q e.frame.0 (is_store e.kind) m ≡ record { memory = m; ciphers = []; answer = Ready }
@@ -197,5 +199,5 @@ hit_is_offer held m e q owed clean agrees is =
     by_kind kind k here stored (Some p) there =
         owed_offer q g (is_store e.kind) m (there ∙ sym (owed g p there) ∙ here)
     by_kind Store k here stored None there = owed_offer q g (is_store e.kind) m (stored k)
-    by_kind Fetch k here stored None there = ap (λ x. offer q g (is_store x) m) k ∙ clean_offer q g m there (λ f. clean.newest g f q here there) (clean.shown g q here there)
-    by_kind Load k here stored None there = ap (λ x. offer q g (is_store x) m) k ∙ clean_offer q g m there (λ f. clean.newest g f q here there) (clean.shown g q here there)
+    by_kind Fetch k here stored None there = ap (λ x. offer q g (is_store x) m) k ∙ clean_offer q g false m there (λ f. clean.newest g f q here there) (clean.shown g q here there)
+    by_kind Load k here stored None there = ap (λ x. offer q g (is_store x) m) k ∙ clean_offer q g false m there (λ f. clean.newest g f q here there) (clean.shown g q here there)

@@ -1,4 +1,5 @@
 pub mod Born
 pub mod Changes
 pub mod Hits
+pub mod Tables
 pub mod Walks

@@ -7,6 +7,7 @@
 
 ghost use Rattle.shadow_law.specs.Agreeing.{BornAgrees, ChangeKeeps, HitIsWalk, HitIsOffer, OfferKeeps, RemapKeeps};
 ghost use Rattle.shadow_law.specs.Agreeing.{TouchKeeps, WriteKeeps};
+ghost use Rattle.shadow_law.specs.Tables.{GrantAgrees, HeldAgrees, RefuseAgrees, RemapAgrees, TouchAgrees, WriteAgrees};
 ghost use Rattle.shadow_law.specs.Walks.{WalkKept, WalkOfPage, WalkReaches};
 
 /// What the walk of an access depends on. It does nothing: its contract is the law.
@@ -23,6 +24,17 @@ pub fn law_of_changes()
     ensures offer { OfferKeeps }
     ensures change { ChangeKeeps }
     ensures remap { RemapKeeps }
+{}
+
+/// All live entries of a table go on agreeing, where the entries of a change's event end. It does nothing: its contract is
+/// the law.
+pub fn law_of_tables()
+    ensures write { WriteAgrees }
+    ensures touch { TouchAgrees }
+    ensures held { HeldAgrees }
+    ensures grant { GrantAgrees }
+    ensures refuse { RefuseAgrees }
+    ensures remap { RemapAgrees }
 {}
 
 /// A miss makes an entry that agrees. It does nothing: its contract is the law.

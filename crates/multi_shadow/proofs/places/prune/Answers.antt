@@ -61,10 +61,15 @@ loop-at-preserved c =
           head c.payload-e.ensures stands c.in-Some.is next paid chain t x (inv.kept t x l miss) miss;
     }
 
-pub returns-clause-ended : goal.returns-clause-ended
-returns-clause-ended c s e l =
-    let inv = c.loop-at.invariant in (
-      inv.fewer s e l,
-      not_true _ (λ hit.
-          subst (λ o. IsMemberOf s (chain_rest o (chain_at c.loop-at.arena c.args.c c.args.head))) c.in_default.is (inv.left s e l hit)),
-    )
+pub returns-clause-ends : goal.returns-clause-ends
+returns-clause-ends c =
+    let inv = c.loop-at.invariant in
+    record {
+      long = inv.long;
+      ended = λ s e l. (
+        inv.fewer s e l,
+        not_true _ (λ hit.
+            subst (λ o. IsMemberOf s (chain_rest o (chain_at c.loop-at.arena c.args.c c.args.head))) c.in_default.is (inv.left s e l hit)),
+      );
+      kept = inv.kept;
+    }

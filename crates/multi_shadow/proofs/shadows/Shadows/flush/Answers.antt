@@ -8,7 +8,7 @@ pub returns : goal.returns
 unfolding emptied ending
 returns c =
     let s = c.self.inside in let now = c.prune_all.ensures in
-    let none = ap (λ t. t.live) (after_ending s.frames (λ e. true) s.arena c.prune_all.new.arena s.counts now.long now.ended now.kept)
+    let none = ap (λ t. t.live) (after_ending s.frames (λ e. true) s.arena c.prune_all.new.arena s.counts now.ends.long now.ends.ended now.ends.kept)
     ∙ filter_none (live_in s.arena.payloads) in
     (λ i. table_of s.frames (none i) (record (s.counts) { flushes = c.saturating_add-self-inside.ensures i }))
     ∙ ap emptied c.self.view_is
