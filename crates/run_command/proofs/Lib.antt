@@ -1,5 +1,4 @@
 pub mod AnswerFacts
 pub mod ClashFacts
 pub mod OutletFacts
-pub mod PrepareFacts
 pub mod RunFacts
