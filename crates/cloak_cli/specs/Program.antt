@@ -1,5 +1,5 @@
 -- What the program answers as it ends.
-use Rattle.std.specs.Prelude.{◌≡◌, ◌⊎◌, map, string_bytes}
+use Rattle.std.specs.Prelude.{◌≡◌, ◌⊎◌, map, string_bytes, Option, Some, None}
 use Rattle.outside_io.specs.Told.{Rose, SameFiles}
 use Rattle.command_words.specs.declared.usage_fault.UsageFault.TheVariants.{WrongWords}
 use Rattle.command_words.specs.Command as spec
@@ -11,12 +11,26 @@ use Rattle.cloak_cli.specs.declared.words.Words.TheVariants as words
 use Rattle.cloak_cli.specs.Answering.{Answers, KeepsOthers}
 use Rattle.program_parts.specs.Outside.{Outside, NothingRose}
 use Rattle.program_parts.specs.Refusing.{Refuses}
+use Rattle.status_sentence.specs.declared.Sentence.{Sentence}
+use Rattle.status_sentence.specs.Sentence.{sentence}
+use Rattle.status_sentence.specs.Showing.{sentence_text}
 
 -- the status comes by its cause, and no file is changed that the words do not name to be written
 pub record AnswersAsked {S O : Type 0} (asked : spec.Asked) (before after : Outside S O) (answer : Status) : Type 0
   where
     pub answers : Answers asked before after answer
     pub kept : KeepsOthers asked answer before.files.held after.files.held
+
+-- what these words ask for, where there was memory to take them
+abbrev pub asked_by : Words → Option spec.Asked
+asked_by (words.Taken texts) = Some (spec.words_of (map string_bytes texts.items))
+asked_by words.NotText = Some (spec.Faulty WrongWords)
+asked_by words.NoMemory = None
+
+-- The sentence of a status, by what the words ask for; or, where there was no memory to read them again, without names.
+abbrev pub TellsWhy : Words → Status → Sentence → Type 0
+TellsWhy given_words given told =
+    (sentence_text told ≡ sentence (asked_by given_words) given) ⊎ (sentence_text told ≡ sentence None given)
 
 -- the line of want of memory was shown, and no file was asked for anything
 pub record WantsMemory {S O : Type 0} (before after : Outside S O) (answer : Status) : Type 0 where

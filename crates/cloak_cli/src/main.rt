@@ -3,7 +3,7 @@
 //! `command::cloak` reads the words and hands them to the command that they name: `run` (`run_command`), `view` and `solo`
 //! (`read_back`), `gen` and `demo` (`image_commands`). The program exits with the number of the command's status.
 //! `program::run_program` is all of it over any words, files and output; its clause `exits` gives each status its cause
-//! and each command what it writes.
+//! and each command what it writes. `program::sentence` says why a status came, and `main` shows that on standard error.
 #![tactic(auto)]
 
 mod command;
@@ -16,7 +16,7 @@ mod program_tests;
 mod tests;
 mod words;
 
-use crate::program::run_program;
+use crate::program::{run_program, sentence};
 use crate::words::Words;
 use cloak_base::NoMemory;
 use outside_io::{FileShelf, StdSink};
@@ -52,11 +52,10 @@ fn command_words(rt: &HostRuntime) -> Words {
 }
 
 /// Runs the program with the files and the output of the system.
-fn run_here(rt: &HostRuntime) -> Result<Status, NoMemory> {
+fn run_here(rt: &HostRuntime, words: &Words) -> Result<Status, NoMemory> {
     let mut shelf = FileShelf::open(rt.clone()?)?;
     let mut out = StdSink::open(rt.clone()?)?;
-    let words = command_words(rt);
-    Ok(run_program(rt.alloc(), &words, &mut shelf, &mut out))
+    Ok(run_program(rt.alloc(), words, &mut shelf, &mut out))
 }
 
 /// There is no memory to gather in, so the line is shown as it is.
@@ -67,9 +66,18 @@ fn refuse_for_memory(rt: &HostRuntime) -> Status {
     }
 }
 
+/// Runs the program, and says on standard error why a status other than 0 came. Where that cannot be said, nothing else
+/// changes.
+fn run_and_say_why(rt: &HostRuntime) -> Status {
+    let words = command_words(rt);
+    let status = run_here(rt, &words).unwrap_or_else(|_| refuse_for_memory(rt));
+    let _ = rt.eprint(sentence(rt.alloc(), &words, status));
+    status
+}
+
 fn main(rt: HostRuntime) -> ExitCode {
     let status = match hold_streams(&rt) {
-        Ok(_held) => run_here(&rt).unwrap_or_else(|_| refuse_for_memory(&rt)),
+        Ok(_held) => run_and_say_why(&rt),
         Err(_) => Status::WriteFault,
     };
     ExitCode::from(status.number())

@@ -1,13 +1,14 @@
 //! All that the program does, over any files and any output.
 ghost use Rattle.std.specs.Prelude.{◌≡◌, ◌≢◌, ◌<◌, ◌-◌, ◌^◌};
 ghost use Rattle.program_parts.specs.Outside.{outside};
-ghost use Rattle.cloak_cli.specs.Program.{AnswersWords, Exits};
+ghost use Rattle.cloak_cli.specs.Program.{AnswersWords, Exits, TellsWhy};
 
 use crate::command::cloak;
 use crate::words::Words;
-use command_words::UsageFault;
+use command_words::{Request, UsageFault, read_words};
 use outside_io::{Shelf, Sink};
 use program_parts::{Refusal, Status, refuse};
+use status_sentence::Sentence;
 use std::alloc::Global;
 
 /// Does what the words ask for.
@@ -51,4 +52,16 @@ pub fn run_program<S: Shelf, O: Sink>(
         return Status::WriteFault;
     }
     status
+}
+
+/// The sentence that says why this status came. The words are read again for it.
+pub fn sentence(alloc: Global, words: &Words, status: Status) -> Sentence<'_>
+    ensures { TellsWhy words.now status result }
+{
+    let request = match words {
+        Words::Taken(words) => read_words(alloc, words.as_slice()).ok(),
+        Words::NotText => Some(Request::Faulty(UsageFault::WrongWords)),
+        Words::NoMemory => None,
+    };
+    Sentence { request, status }
 }

@@ -1,6 +1,6 @@
 //! Runs of a guest image with one program, of one page in frame 8.
 
-use crate::program::run_program;
+use crate::program::{run_program, sentence};
 use crate::tests::Left;
 use crate::words::Words;
 use outside_io::{MemoryShelf, MemorySink};
@@ -199,6 +199,48 @@ fn violations(rt: HostRuntime) -> Result<(), Fail> {
             left.sink.taken().starts_with(begins.as_bytes()),
             "{begins}"
         );
+    }
+    Ok(())
+}
+
+/// What is said of a status, with the names of the files that these words name.
+#[test]
+fn sentences(rt: HostRuntime) -> Result<(), Fail> {
+    for (line, status, said) in [
+        ("demo 9 --steps 10", Status::Done, ""),
+        (
+            "run a.b a.r --steps 10 --number 7",
+            Status::ReadFault,
+            "cloak: the bundle `a.b` cannot be read\n",
+        ),
+        (
+            "run a.b a.r --steps 10 --stream s",
+            Status::NoRandom,
+            "cloak: the stream `s` has too few bytes for this run\n",
+        ),
+        (
+            "solo 3 a.b a.r",
+            Status::Usage,
+            "cloak: program 3 is not in the bundle `a.b`\n",
+        ),
+        (
+            "view a.b a.r",
+            Status::BadRecord,
+            "cloak: the record `a.r` is damaged, or is none of the bundle `a.b`, and the line `record` says where\n",
+        ),
+        (
+            "gen 9 a.b",
+            Status::WriteFault,
+            "cloak: the bundle `a.b` or the output cannot be written, and what was written before stands\n",
+        ),
+    ] {
+        let mut words = Vec::new(rt.alloc());
+        for word in line.split_whitespace() {
+            words.push(String::from_str(rt.alloc(), word)?)?;
+        }
+        let words = Words::Taken(words);
+        let told = sentence(rt.alloc(), &words, status).to_string(rt.alloc())?;
+        assert_eq!(rt; told.as_str(), said, "{line}");
     }
     Ok(())
 }

@@ -1,9 +1,9 @@
 //! The bundle that a file is.
-ghost use Rattle.std.specs.Prelude.{◌≡◌};
+ghost use Rattle.std.specs.Prelude.{◌≡◌, IfOk, IfSome};
 ghost use Rattle.outside_io.specs.Told.{SameFiles};
-ghost use Rattle.program_parts.specs.Bundles.{ReadsBundle};
+ghost use Rattle.program_parts.specs.Bundles.{ReadsBundle, ReadsJudging};
 
-use crate::files::{file_size, read_front};
+use crate::files::read_front;
 use crate::refusal::Refusal;
 use cloak_model::Bundle;
 use guest_bundle::{BundleFault, read};
@@ -12,6 +12,24 @@ use std::alloc::Global;
 
 /// The largest file of a bundle, in bytes.
 const LARGEST_BUNDLE: u64 = 67_108_864;
+
+/// The bytes of a file that is not too large for a bundle.
+#[tactic(auto, using(crate::proofs::BundleFacts::whole))]
+fn read_whole<S: Shelf>(alloc: Global, shelf: &mut S, name: &str) -> Result<Vec<u8>, Refusal>
+    requires { S.is_settled shelf.old }
+    ensures bytes { IfOk result (λ v. IfSome (S.held shelf.old name.now) (λ bytes. v.items ≡ bytes)) }
+    ensures judged { ReadsJudging (S.held shelf.old name.now)
+        (S.reading_faults shelf.old) (S.reading_faults shelf.new) result }
+    ensures files { SameFiles (S.held shelf.old) (S.held shelf.new) }
+    ensures writing { S.writing_faults shelf.new ≡ S.writing_faults shelf.old }
+    ensures settled { S.is_settled shelf.new }
+{
+    let bytes = read_front(alloc, shelf, name, LARGEST_BUNDLE + 1)?;
+    if bytes.len() as u64 > LARGEST_BUNDLE {
+        return Err(Refusal::BadBundle(BundleFault::TooLarge(0)));
+    }
+    Ok(bytes)
+}
 
 /// The bundle that a file is.
 pub fn read_bundle<S: Shelf>(alloc: Global, shelf: &mut S, name: &str) -> Result<Bundle, Refusal>
@@ -22,11 +40,7 @@ pub fn read_bundle<S: Shelf>(alloc: Global, shelf: &mut S, name: &str) -> Result
     ensures writing { S.writing_faults shelf.new ≡ S.writing_faults shelf.old }
     ensures settled { S.is_settled shelf.new }
 {
-    let size = file_size(shelf, name)?;
-    if size > LARGEST_BUNDLE {
-        return Err(Refusal::BadBundle(BundleFault::TooLarge(0)));
-    }
-    let bytes = read_front(alloc, shelf, name, size)?;
+    let bytes = read_whole(alloc, shelf, name)?;
     match read(alloc, bytes) {
         Ok(bundle) => Ok(bundle),
         Err(BundleFault::NoMemory) => Err(Refusal::NoMemory),

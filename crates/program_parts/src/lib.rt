@@ -11,6 +11,6 @@ mod refusal;
 mod status;
 
 pub use bundle::read_bundle;
-pub use files::{file_size, read_front};
+pub use files::read_front;
 pub use refusal::{Refusal, refuse, show_decimal, show_numbered};
 pub use status::Status;

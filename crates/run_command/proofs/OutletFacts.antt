@@ -354,7 +354,7 @@ waited_front {S} {O} name before mid after waiting pieces e w some call =
     let front = shorter_front _ _ waiting call.err in
     let same = sym w.waits in
     let cut = cut_at w.last front.0 (subst (λ (l : List ℕ). 0 < length l) same some)
-        (subst (λ (l : List ℕ). front.0 ≤ length l) same front.1) in
+    (subst (λ (l : List ℕ). front.0 ≤ length l) same front.1) in
     record {
       cut = record {
         whole = w.written ++ map recorded cut.whole;
@@ -504,8 +504,8 @@ emits_waiting {S} {O} held reading_faults writing_faults taken faults old new by
       more = λ first before gave.
           let at = λ (x : Outlet S O). outside held reading_faults writing_faults taken faults x.shelf.now x.out.now in
           let same : at new ≡ at old =
-              ap (λ (s : _). outside held reading_faults writing_faults taken faults s.now new.out.now) shelf
-              ∙ ap (λ (o : _). outside held reading_faults writing_faults taken faults old.shelf.now o.now) out in
+          ap (λ (s : _). outside held reading_faults writing_faults taken faults s.now new.out.now) shelf
+          ∙ ap (λ (o : _). outside held reading_faults writing_faults taken faults old.shelf.now o.now) out in
           record {
             shelf = ap (λ (s : _). s.ghost_name) shelf ∙ gave.shelf;
             output = ap (λ (o : _). o.ghost_name) out ∙ gave.output;

@@ -63,12 +63,7 @@ fn put_block(gathered: &mut [u8; MOST_WAITING], at: usize, block: &[u8])
 }
 
 /// Puts the first `count` bytes of a piece behind the first `at` ones.
-fn put_behind(
-    gathered: &mut [u8; MOST_WAITING],
-    at: usize,
-    piece: &[u8; LONGEST],
-    count: usize,
-)
+fn put_behind(gathered: &mut [u8; MOST_WAITING], at: usize, piece: &[u8; LONGEST], count: usize)
     requires room { at + SMALL ≤ MOST_WAITING }
     requires small { count ≤ SMALL }
     ensures { take (at + count) gathered.new ≡ take at gathered.old ++ take count piece.now }
@@ -151,10 +146,7 @@ impl<'s, 'n, 'o, S: Shelf, O: Sink> Outlet<'s, 'n, 'o, S, O> {
         if self.failed {
             return;
         }
-        self.failed = self
-            .shelf
-            .append(self.name, &self.piece[..count])
-            .is_err();
+        self.failed = self.shelf.append(self.name, &self.piece[..count]).is_err();
     }
 
     /// Takes the first `count` bytes of the piece for the record.

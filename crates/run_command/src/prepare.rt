@@ -14,7 +14,7 @@ use cloak_machine::{Machine, OpenFault};
 use cloak_model::{Bundle, Program, Segment, Sequence};
 use command_words::{Randomness, RunRequest};
 use outside_io::{Shelf, Stream};
-use program_parts::{Refusal, file_size, read_bundle, read_front};
+use program_parts::{Refusal, read_bundle, read_front};
 use std::alloc::Global;
 
 /// The most bytes of a file that a run takes for its randomness.
@@ -66,8 +66,7 @@ fn open_stream<S: Shelf>(
     match *randomness {
         Randomness::Numbered(number) => Ok(Stream::numbered(number)),
         Randomness::FromFile(name) => {
-            let size = file_size(shelf, name)?;
-            let bytes = read_front(alloc, shelf, name, size.min(LONGEST_STREAM))?;
+            let bytes = read_front(alloc, shelf, name, LONGEST_STREAM)?;
             are_bytes(bytes.as_slice());
             Ok(Stream::bytes(bytes))
         }

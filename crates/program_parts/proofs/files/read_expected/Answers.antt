@@ -1,6 +1,6 @@
 use Rattle.std.proofs.Common.{◌∙◌, ap, arith, rules, List, length}
 use Rattle.program_parts.proofs.FileFacts.{front_more, few_more}
-use Rattle.program_parts.proofs.files.read_front.Goals as goal
+use Rattle.program_parts.proofs.files.read_expected.Goals as goal
 
 pub loop-piece-preserved : goal.loop-piece-preserved
 loop-piece-preserved g c =
@@ -11,11 +11,11 @@ loop-piece-preserved g c =
     let before = c.loop-piece.invariant in
     record {
       front = front_more _ _ c.loop-piece.bytes.items c.extend_from_slice.new.self.items c.read_at.new.into
-          c.loop-piece.piece c.len-in-loop-piece.result c.in-Ok-read_at.count c.min.result
+          c.loop-piece.piece c.len-in-loop-piece.result c.in-Ok-read_at.n c.min.result
           (before.files c.args.name.now) (search rules) c.in-Ok-read_at.ensures.copied (omega (arith, least))
           before.front grown;
       few = few_more c.loop-piece.bytes.items c.extend_from_slice.new.self.items c.read_at.new.into c.min.result
-          c.args.size grown (search rules);
+          c.args.count grown (search rules);
       files = λ name. c.in-Ok-read_at.ensures.files name ∙ before.files name;
       reading = c.in-Ok-read_at.ensures.reading before.settled ∙ before.reading;
       settled = c.in-Ok-read_at.ensures.settled before.settled;

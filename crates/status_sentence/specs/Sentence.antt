@@ -1,0 +1,88 @@
+-- What a person is told of a status other than 0, beside what the program shows: one sentence, with the names of the files
+-- where the words name them. What the words ask for is not known where there was no memory to read them.
+use Rattle.std.specs.Prelude.{ℕ, List, [], ◌++◌, codes, decimal, Option, Some, None}
+use Rattle.command_words.specs.Command as spec
+use Rattle.command_words.specs.declared.usage_fault.UsageFault.{UsageFault}
+use Rattle.command_words.specs.declared.usage_fault.UsageFault.TheVariants as usage
+use Rattle.program_parts.specs.declared.status.Status.{Status}
+use Rattle.program_parts.specs.declared.status.Status.TheVariants as status
+
+-- a file, by what it is and its name
+abbrev pub bundle_named : List ℕ → List ℕ
+bundle_named name = codes "the bundle `" ++ name ++ codes "`"
+
+abbrev pub record_named : List ℕ → List ℕ
+record_named name = codes "the record `" ++ name ++ codes "`"
+
+abbrev pub files_named : (bundle record_name : List ℕ) → List ℕ
+files_named bundle record_name = codes "the bundle `" ++ bundle ++ codes "` or the record `" ++ record_name ++ codes "`"
+
+-- the bundle that is read
+abbrev pub bundle_of : Option spec.Asked → List ℕ
+bundle_of (Some (spec.Run bundle record_name steps randomness)) = bundle_named bundle
+bundle_of (Some (spec.View bundle record_name)) = bundle_named bundle
+bundle_of (Some (spec.Solo domain bundle record_name)) = bundle_named bundle
+bundle_of _ = codes "the bundle"
+
+-- the record that is read
+abbrev pub record_of : Option spec.Asked → List ℕ
+record_of (Some (spec.View bundle record_name)) = record_named record_name
+record_of (Some (spec.Solo domain bundle record_name)) = record_named record_name
+record_of _ = codes "the record"
+
+-- the random bytes of a run
+abbrev pub stream_of : Option spec.Asked → List ℕ
+stream_of (Some (spec.Run bundle record_name steps (spec.FromFile name))) = codes "the stream `" ++ name ++ codes "`"
+stream_of _ = codes "the random stream"
+
+-- the files that are read
+abbrev pub read_of : Option spec.Asked → List ℕ
+read_of (Some (spec.Run bundle record_name steps (spec.Numbered number))) = bundle_named bundle
+read_of (Some (spec.Run bundle record_name steps (spec.FromFile name))) =
+    codes "the bundle `" ++ bundle ++ codes "` or the stream `" ++ name ++ codes "`"
+read_of (Some (spec.View bundle record_name)) = files_named bundle record_name
+read_of (Some (spec.Solo domain bundle record_name)) = files_named bundle record_name
+read_of _ = codes "a file"
+
+-- what is written
+abbrev pub written_of : Option spec.Asked → List ℕ
+written_of (Some (spec.Run bundle record_name steps randomness)) =
+    codes "the record `" ++ record_name ++ codes "` or the output"
+written_of (Some (spec.Gen number bundle_name)) = codes "the bundle `" ++ bundle_name ++ codes "` or the output"
+written_of (Some _) = codes "the output"
+written_of None = codes "a file or the output"
+
+-- what is wrong with the words
+abbrev pub usage_of : UsageFault → List ℕ
+usage_of usage.NoCommand = codes "there is no command: it is one of run, view, solo, gen and demo"
+usage_of usage.UnknownCommand = codes "the first word is no command: it is one of run, view, solo, gen and demo"
+usage_of usage.WrongWords = codes "these are not the words that the command takes"
+usage_of usage.NoRandomness = codes "a run takes its random bytes from exactly one of --number and --stream"
+usage_of usage.WrongNumber = codes "a number is not written in decimal digits, or is out of its range"
+
+abbrev pub words_fault_of : Option spec.Asked → List ℕ
+words_fault_of (Some (spec.Faulty fault)) = usage_of fault
+words_fault_of (Some (spec.Solo domain bundle record_name)) =
+    codes "program " ++ decimal domain ++ codes " is not in the bundle `" ++ bundle ++ codes "`"
+words_fault_of _ = codes "the words are faulty"
+
+-- what is said between the program's name and the line feed
+abbrev pub cause_of : Option spec.Asked → Status → List ℕ
+cause_of asked status.Done = []
+cause_of asked status.Violation =
+    codes "the kernel broke a rule of cloaking, and the line `stop violation` says what it presented"
+cause_of asked status.Usage = words_fault_of asked
+cause_of asked status.BadBundle = bundle_of asked
+    ++ codes " is no guest image, and the line `bundle` says why (a file that is not there is read as an empty one)"
+cause_of asked status.ReadFault = read_of asked ++ codes " cannot be read"
+cause_of asked status.WriteFault = written_of asked ++ codes " cannot be written, and what was written before stands"
+cause_of asked status.NoMemory = codes "there is not enough memory"
+cause_of asked status.NoRandom = stream_of asked ++ codes " has too few bytes for this run"
+cause_of asked status.BadRecord = record_of asked ++ codes " is damaged, or is none of "
+    ++ bundle_of asked ++ codes ", and the line `record` says where"
+cause_of asked status.Unbuilt = codes "this command is not built"
+
+-- The sentence. The status 0 has none.
+abbrev pub sentence : Option spec.Asked → Status → List ℕ
+sentence asked status.Done = []
+sentence asked other = codes "cloak: " ++ cause_of asked other ++ codes "\n"

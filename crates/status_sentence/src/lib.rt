@@ -1,0 +1,212 @@
+//! The sentence that tells a person why a status other than 0 came.
+//!
+//! `specs/Sentence` has it for each status, by what the words ask for. The layer above may rely on this: a `Sentence` shows
+//! exactly that, and takes no memory.
+#![tactic(auto)]
+
+ghost use Rattle.std.specs.Prelude.{Some, option_map};
+ghost use Rattle.std.specs.Fmt.{DisplaysOnOk};
+ghost use Rattle.command_words.specs.Request.{asked_of};
+ghost use Rattle.status_sentence.specs.Sentence as spec;
+ghost use Rattle.status_sentence.specs.Showing.{sentence_text};
+
+use command_words::{Randomness, Request, UsageFault};
+use program_parts::Status;
+use std::fmt;
+
+/// Why a status came.
+#[derive(Drop)]
+pub struct Sentence<'a> {
+    /// What the words ask for, where it is known.
+    pub request: Option<Request<'a>>,
+    pub status: Status,
+}
+
+impl fmt::Display for Sentence<'_> {
+    ghost output = { λ s. Some (sentence_text s) };
+
+    fn fmt<W: fmt::Write>(&self, f: &mut fmt::Formatter<W>) -> fmt::Result {
+        if self.status == Status::Done {
+            return Ok(());
+        }
+        f.write_str("cloak: ")?;
+        write_cause(&self.request, self.status, f)?;
+        f.write_str("\n")
+    }
+}
+
+/// Writes the sentence without the program's name and the line feed.
+fn write_cause<W: fmt::Write>(
+    request: &Option<Request<'_>>,
+    status: Status,
+    f: &mut fmt::Formatter<W>,
+) -> fmt::Result
+    ensures { DisplaysOnOk W.write_str_gives f.old result
+        (Some (spec.cause_of (option_map asked_of request.now) status)) f.new }
+{
+    match status {
+        Status::Done => Ok(()),
+        Status::Violation => f.write_str(
+            "the kernel broke a rule of cloaking, and the line `stop violation` says what it presented",
+        ),
+        Status::Usage => write_words_fault(request, f),
+        Status::BadBundle => {
+            write_bundle(request, f)?;
+            f.write_str(
+                " is no guest image, and the line `bundle` says why (a file that is not there is read as an empty one)",
+            )
+        }
+        Status::ReadFault => {
+            write_read(request, f)?;
+            f.write_str(" cannot be read")
+        }
+        Status::WriteFault => {
+            write_written(request, f)?;
+            f.write_str(" cannot be written, and what was written before stands")
+        }
+        Status::NoMemory => f.write_str("there is not enough memory"),
+        Status::NoRandom => {
+            write_stream(request, f)?;
+            f.write_str(" has too few bytes for this run")
+        }
+        Status::BadRecord => {
+            write_record(request, f)?;
+            f.write_str(" is damaged, or is none of ")?;
+            write_bundle(request, f)?;
+            f.write_str(", and the line `record` says where")
+        }
+        Status::Unbuilt => f.write_str("this command is not built"),
+    }
+}
+
+/// Writes which bundle is read.
+fn write_bundle<W: fmt::Write>(
+    request: &Option<Request<'_>>,
+    f: &mut fmt::Formatter<W>,
+) -> fmt::Result
+    ensures { DisplaysOnOk W.write_str_gives f.old result
+        (Some (spec.bundle_of (option_map asked_of request.now))) f.new }
+{
+    match request {
+        Some(Request::Run(run)) => write!(f, "the bundle `{}`", run.bundle),
+        Some(Request::View(files)) => write!(f, "the bundle `{}`", files.bundle),
+        Some(Request::Solo(solo)) => write!(f, "the bundle `{}`", solo.files.bundle),
+        _ => f.write_str("the bundle"),
+    }
+}
+
+/// Writes which record is read.
+fn write_record<W: fmt::Write>(
+    request: &Option<Request<'_>>,
+    f: &mut fmt::Formatter<W>,
+) -> fmt::Result
+    ensures { DisplaysOnOk W.write_str_gives f.old result
+        (Some (spec.record_of (option_map asked_of request.now))) f.new }
+{
+    match request {
+        Some(Request::View(files)) => write!(f, "the record `{}`", files.record_name),
+        Some(Request::Solo(solo)) => write!(f, "the record `{}`", solo.files.record_name),
+        _ => f.write_str("the record"),
+    }
+}
+
+/// Writes where the random bytes come from.
+fn write_stream<W: fmt::Write>(
+    request: &Option<Request<'_>>,
+    f: &mut fmt::Formatter<W>,
+) -> fmt::Result
+    ensures { DisplaysOnOk W.write_str_gives f.old result
+        (Some (spec.stream_of (option_map asked_of request.now))) f.new }
+{
+    match request {
+        Some(Request::Run(run)) => match run.randomness {
+            Randomness::FromFile(name) => write!(f, "the stream `{name}`"),
+            Randomness::Numbered(_) => f.write_str("the random stream"),
+        },
+        _ => f.write_str("the random stream"),
+    }
+}
+
+/// Writes which files are read.
+fn write_read<W: fmt::Write>(
+    request: &Option<Request<'_>>,
+    f: &mut fmt::Formatter<W>,
+) -> fmt::Result
+    ensures { DisplaysOnOk W.write_str_gives f.old result
+        (Some (spec.read_of (option_map asked_of request.now))) f.new }
+{
+    match request {
+        Some(Request::Run(run)) => match run.randomness {
+            Randomness::FromFile(name) => {
+                write!(f, "the bundle `{}` or the stream `{name}`", run.bundle)
+            }
+            Randomness::Numbered(_) => write!(f, "the bundle `{}`", run.bundle),
+        },
+        Some(Request::View(files)) => write_files(files.bundle, files.record_name, f),
+        Some(Request::Solo(solo)) => write_files(solo.files.bundle, solo.files.record_name, f),
+        _ => f.write_str("a file"),
+    }
+}
+
+/// Writes the names of a bundle and a record that are read.
+fn write_files<W: fmt::Write>(
+    bundle: &str,
+    record_name: &str,
+    f: &mut fmt::Formatter<W>,
+) -> fmt::Result
+    ensures { DisplaysOnOk W.write_str_gives f.old result
+        (Some (spec.files_named bundle.now record_name.now)) f.new }
+{
+    write!(f, "the bundle `{bundle}` or the record `{record_name}`")
+}
+
+/// Writes what is written.
+fn write_written<W: fmt::Write>(
+    request: &Option<Request<'_>>,
+    f: &mut fmt::Formatter<W>,
+) -> fmt::Result
+    ensures { DisplaysOnOk W.write_str_gives f.old result
+        (Some (spec.written_of (option_map asked_of request.now))) f.new }
+{
+    match request {
+        Some(Request::Run(run)) => write!(f, "the record `{}` or the output", run.record_name),
+        Some(Request::Gen(image)) => write!(f, "the bundle `{}` or the output", image.bundle),
+        Some(_) => f.write_str("the output"),
+        None => f.write_str("a file or the output"),
+    }
+}
+
+/// Writes what is wrong with the words.
+fn write_words_fault<W: fmt::Write>(
+    request: &Option<Request<'_>>,
+    f: &mut fmt::Formatter<W>,
+) -> fmt::Result
+    ensures { DisplaysOnOk W.write_str_gives f.old result
+        (Some (spec.words_fault_of (option_map asked_of request.now))) f.new }
+{
+    match request {
+        Some(Request::Faulty(fault)) => write_usage(*fault, f),
+        Some(Request::Solo(solo)) => {
+            let (bundle, domain) = (solo.files.bundle, solo.domain);
+            write!(f, "program {domain} is not in the bundle `{bundle}`")
+        }
+        _ => f.write_str("the words are faulty"),
+    }
+}
+
+fn write_usage<W: fmt::Write>(fault: UsageFault, f: &mut fmt::Formatter<W>) -> fmt::Result
+    ensures { DisplaysOnOk W.write_str_gives f.old result (Some (spec.usage_of fault)) f.new }
+{
+    f.write_str(match fault {
+        UsageFault::NoCommand => "there is no command: it is one of run, view, solo, gen and demo",
+        UsageFault::UnknownCommand => {
+            "the first word is no command: it is one of run, view, solo, gen and demo"
+        }
+        UsageFault::WrongWords => "these are not the words that the command takes",
+        UsageFault::NoRandomness => {
+            "a run takes its random bytes from exactly one of --number and --stream"
+        }
+        UsageFault::WrongNumber =>
+            "a number is not written in decimal digits, or is out of its range",
+    })
+}
