@@ -279,8 +279,7 @@ fn damaged_files(rt: HostRuntime) -> Result<(), Fail> {
 
 /// Runs of the smallest image whose Nth call on the files or the output fails: the status, the output and
 /// how much of the record stands. Call 1 asks for the size, 2 reads, 3 begins the record, 4 appends its
-/// first bytes, 5 the steps up to the byte that is shown, 6 the others and its end, 7 writes it out, and 8 writes out
-/// what is left.
+/// first bytes, 5 to 8 the steps, 9 and 10 its end, 11 writes it out, and 12 writes out what is left.
 #[test]
 fn failing_calls(rt: HostRuntime) -> Result<(), Fail> {
     let rows: [(u64, u64, Status, &str, &[u8]); 11] = [
@@ -288,10 +287,10 @@ fn failing_calls(rt: HostRuntime) -> Result<(), Fail> {
         (2, 0, Status::ReadFault, "read fault\n", &RECORD[..0]),
         (3, 0, Status::WriteFault, "", &RECORD[..0]),
         (4, 0, Status::WriteFault, "", &RECORD[..0]),
-        (5, 0, Status::WriteFault, "", &RECORD[..8]),
-        (6, 0, Status::WriteFault, "A", &RECORD[..18]),
-        (7, 0, Status::WriteFault, "A", &RECORD[..34]),
-        (8, 0, Status::WriteFault, WHOLE_RUN, &RECORD[..34]),
+        (6, 0, Status::WriteFault, "", &RECORD[..13]),
+        (10, 0, Status::WriteFault, "A", &RECORD[..33]),
+        (11, 0, Status::WriteFault, "A", &RECORD[..34]),
+        (12, 0, Status::WriteFault, WHOLE_RUN, &RECORD[..34]),
         (0, 1, Status::WriteFault, "", &RECORD[..18]),
         (0, 2, Status::WriteFault, "A", &RECORD[..34]),
         (0, 3, Status::WriteFault, "A\n", &RECORD[..34]),

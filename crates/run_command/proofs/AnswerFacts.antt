@@ -28,8 +28,7 @@ use Rattle.program_parts.specs.declared.status.Status.{Status}
 use Rattle.program_parts.specs.declared.status.Status.TheVariants as status
 use Rattle.run_command.specs.declared.outlet.Outlet.{Outlet}
 use Rattle.program_parts.specs.Outside.{Raised, Output, Outside, OnlyRead, outside}
-use Rattle.run_command.specs.Outlet.{pieces_left, FailedAt, WroteAll, WroteFront, Writes, Gave, waiting_of}
-use Rattle.run_command.proofs.OutletFacts.{none_waiting, whole_of}
+use Rattle.run_command.specs.Outlet.{pieces_left, FailedAt, WroteAll, WroteFront, Writes, Gave}
 use Rattle.program_parts.specs.Refusal.{status_of_refusal}
 use Rattle.run_command.specs.Running.{NoClash, IsStatusOfStop, status_of}
 use Rattle.run_command.specs.Preparing.{IsPrepared}
@@ -157,46 +156,42 @@ records_all {S} {O} name before mid after given r pieces w all some answer empty
 pub recorded_front : {S O : Type 0} {held : S → List ℕ → Option (List ℕ)} {reading writing : S → ℕ}
     {taken : O → Option (List ℕ)} {faults : O → ℕ} {first now : Outlet S O} {pieces : List Piece} (old s' : S) (o' : O)
     (r : Run) → Gave held reading writing taken faults first now pieces →
-    (NoClash r → Gave held reading writing taken faults first now (due r)) → first.failed ≡ false →
-    first.waiting ≡ 0 → now.failed ≡ true →
+    (NoClash r → Gave held reading writing taken faults first now (due r)) → first.failed ≡ false → now.failed ≡ true →
     s' ≡ now.shelf.now → o' ≡ now.out.now →
     Tells (held first.shelf.now first.name.now) [] → OtherFiles first.name.now (held old) (held first.shelf.now) →
     reading first.shelf.now ≡ reading old → writing first.shelf.now ≡ writing old →
     Records first.name.now (outside held reading writing taken faults old first.out.now)
     (outside held reading writing taken faults s' o') status.WriteFault r
 recorded_front {S} {O} {held} {reading} {writing} {taken} {faults} {first} {now} {pieces} old s' o' r gave all fresh
-    empty_first broken same_shelf same_out empty others same_reading same_writing =
+    broken same_shelf same_out empty others same_reading same_writing =
     let before = outside held reading writing taken faults old first.out.now in
     let mid = at held reading writing taken faults first in
     let after = at held reading writing taken faults now in
     records_at held reading writing taken faults first.name.now before now s' o' status.WriteFault r same_shelf same_out
     (records_front first.name.now before mid after r pieces
-    (subst (λ (b : Bool). Writes b first.name.now mid after (waiting_of now) pieces) broken (gave.wrote fresh empty_first))
-    (λ none. let g = all none in
-    subst (λ (b : Bool). Writes b first.name.now mid after (waiting_of now) (due r)) broken (g.wrote fresh empty_first))
+    (subst (λ (b : Bool). Writes b first.name.now mid after pieces) broken (gave.wrote fresh))
+    (λ none. let g = all none in subst (λ (b : Bool). Writes b first.name.now mid after (due r)) broken (g.wrote fresh))
     empty others same_reading same_writing refl)
 
 pub recorded_all : {S O : Type 0} {held : S → List ℕ → Option (List ℕ)} {reading writing : S → ℕ}
     {taken : O → Option (List ℕ)} {faults : O → ℕ} {first now : Outlet S O} {pieces : List Piece} (old s' : S) (o' : O)
     (given : Status) (r : Run) → Gave held reading writing taken faults first now pieces →
     (NoClash r → Gave held reading writing taken faults first now (due r)) → first.failed ≡ false →
-    first.waiting ≡ 0 → now.failed ≡ false → now.waiting ≡ 0 → s' ≡ now.shelf.now → o' ≡ now.out.now → IsStatusOfStop given →
+    now.failed ≡ false → s' ≡ now.shelf.now → o' ≡ now.out.now → IsStatusOfStop given →
     (NoClash r → given ≡ status_of r.stop) →
     Tells (held first.shelf.now first.name.now) [] → OtherFiles first.name.now (held old) (held first.shelf.now) →
     reading first.shelf.now ≡ reading old → writing first.shelf.now ≡ writing old →
     Records first.name.now (outside held reading writing taken faults old first.out.now)
     (outside held reading writing taken faults s' o') given r
 recorded_all {S} {O} {held} {reading} {writing} {taken} {faults} {first} {now} {pieces} old s' o' given r gave all fresh
-    empty_first well empty_now same_shelf same_out some answer empty others same_reading same_writing =
+    well same_shelf same_out some answer empty others same_reading same_writing =
     let before = outside held reading writing taken faults old first.out.now in
     let mid = at held reading writing taken faults first in
     let after = at held reading writing taken faults now in
     records_at held reading writing taken faults first.name.now before now s' o' given r same_shelf same_out
     (records_all first.name.now before mid after given r pieces
-    (whole_of first.name.now mid after (waiting_of now) pieces (none_waiting now empty_now)
-    (subst (λ (b : Bool). Writes b first.name.now mid after (waiting_of now) pieces) well (gave.wrote fresh empty_first)))
-    (λ none. let g = all none in whole_of first.name.now mid after (waiting_of now) (due r) (none_waiting now empty_now)
-    (subst (λ (b : Bool). Writes b first.name.now mid after (waiting_of now) (due r)) well (g.wrote fresh empty_first)))
+    (subst (λ (b : Bool). Writes b first.name.now mid after pieces) well (gave.wrote fresh))
+    (λ none. let g = all none in subst (λ (b : Bool). Writes b first.name.now mid after (due r)) well (g.wrote fresh))
     some answer empty others same_reading same_writing refl)
 
 -- A run over a machine that was prepared.

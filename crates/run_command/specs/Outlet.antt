@@ -1,6 +1,5 @@
 -- What an outlet wrote.
-use Rattle.std.specs.Prelude.{ℕ, ◌≡◌, Bool, true, false, List, [], ◌∷◌, ◌++◌, map, take, Option}
-use Rattle.std.specs.List.{concat}
+use Rattle.std.specs.Prelude.{ℕ, ◌≡◌, Bool, true, false, List, [], ◌∷◌, ◌++◌, take, Option}
 use Rattle.outside_io.specs.Told.{Grows, Rose, OtherFiles}
 use Rattle.cloak_model.specs.Exchange.{Piece, recorded, shown, recorded_bytes, shown_bytes}
 use Rattle.program_parts.specs.Outside.{Outside, NothingRose, outside}
@@ -50,31 +49,18 @@ pub record WroteFront {S O : Type 0} (name : List ℕ) (before after : Outside S
   pub wrote : Wrote name before after (pieces_left cut)
   pub fault : FailedAt Rose cut.piece before after
 
--- Of these pieces all were written but the last ones, which are for the record, and whose bytes wait.
-pub record WroteBut {S O : Type 0} (name : List ℕ) (before after : Outside S O) (waiting : List ℕ) (pieces : List Piece) : Type 0
-  where
-    pub written : List Piece
-    pub last : List (List ℕ)
-    pub parts : pieces ≡ written ++ map recorded last
-    pub waits : concat last ≡ waiting
-    pub wrote : WroteAll name before after written
-
 -- what was written, by whether the outlet failed
-abbrev pub Writes : {S O : Type 0} → Bool → List ℕ → Outside S O → Outside S O → List ℕ → List Piece → Type 0
-Writes false name before after waiting pieces = WroteBut name before after waiting pieces
-Writes true name before after waiting pieces = WroteFront name before after pieces
-
--- the bytes that an outlet has not appended yet
-abbrev pub waiting_of : {S O : Type 0} → Outlet S O → List ℕ
-waiting_of o = take o.waiting o.gathered
+abbrev pub Writes : {S O : Type 0} → Bool → List ℕ → Outside S O → Outside S O → List Piece → Type 0
+Writes false name before after pieces = WroteAll name before after pieces
+Writes true name before after pieces = WroteFront name before after pieces
 
 -- From an earlier state of an outlet to a later one these pieces were given to it: it writes to the same
--- places, and wrote them, but for the bytes that wait.
+-- places, and wrote them.
 pub record Gave {S O : Type 0} (held : S → List ℕ → Option (List ℕ)) (reading_faults writing_faults : S → ℕ)
     (taken : O → Option (List ℕ)) (faults : O → ℕ) (first now : Outlet S O) (pieces : List Piece) : Type 0 where
   pub shelf : now.shelf.ghost_name ≡ first.shelf.ghost_name
   pub output : now.out.ghost_name ≡ first.out.ghost_name
   pub name : now.name ≡ first.name
-  pub wrote : first.failed ≡ false → first.waiting ≡ 0 → Writes now.failed first.name.now
+  pub wrote : first.failed ≡ false → Writes now.failed first.name.now
       (outside held reading_faults writing_faults taken faults first.shelf.now first.out.now)
-      (outside held reading_faults writing_faults taken faults now.shelf.now now.out.now) (waiting_of now) pieces
+      (outside held reading_faults writing_faults taken faults now.shelf.now now.out.now) pieces

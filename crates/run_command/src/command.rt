@@ -10,7 +10,7 @@ ghost use Rattle.program_parts.specs.Outside.{outside};
 ghost use Rattle.run_command.specs.Answering.{KeepsFiles, RunAnswers};
 ghost use Rattle.run_command.specs.Recording.{Records};
 
-use crate::outlet::{MOST_WAITING, Outlet};
+use crate::outlet::Outlet;
 use crate::prepare::{Prepared, prepare};
 use crate::run::write_run;
 use command_words::RunRequest;
@@ -43,8 +43,6 @@ fn record_run<S: Shelf, O: Sink>(
         out,
         failed: false,
         piece: [0; LONGEST],
-        gathered: [0; MOST_WAITING],
-        waiting: 0,
     };
     let Prepared { machine, programs } = prepared;
     let status = write_run(machine, programs.as_slice(), run.steps, &mut outlet);

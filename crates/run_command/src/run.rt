@@ -72,7 +72,6 @@ fn write_end<S: Shelf, O: Sink>(
     ensures emits_some { EmitsSome (Gave S.held S.reading_faults S.writing_faults O.taken O.faults)
         outlet.old outlet.new }
     ensures some_stop { IsStatusOfStop result }
-    ensures none_waits { outlet.new.failed ≡ false → outlet.new.waiting ≡ 0 }
     ensures ends { (m : Moment) → StandsForMoment machine m →
         EndsRun (Gave S.held S.reading_faults S.writing_faults O.taken O.faults)
         outlet.old outlet.new result stop m.steps (closing m.joint) }
@@ -97,7 +96,6 @@ pub fn write_run<S: Shelf, O: Sink>(
     ensures emits_some { EmitsSome (Gave S.held S.reading_faults S.writing_faults O.taken O.faults)
         outlet.old outlet.new }
     ensures some_stop { outlet.new.failed ≡ false → IsStatusOfStop result }
-    ensures none_waits { outlet.new.failed ≡ false → outlet.new.waiting ≡ 0 }
     ensures runs { (b : Bundle) (stream : Random) (o : Opened) → opening b stream ≡ Ok o → b.programs ≡ programs.now →
         StandsForMoment machine (first_moment b o.joint) → NoClash (run_of b steps o) →
         WritesRun (Gave S.held S.reading_faults S.writing_faults O.taken O.faults) outlet.new.failed

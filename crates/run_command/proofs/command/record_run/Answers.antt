@@ -25,7 +25,7 @@ returns-then-outlet g c = λ b stream o opens same stands.
     let well = sym c.is_err.ensures.value ∙ c.if-is_err.false in
     let due = c.write_run-status.ensures.runs b stream o opens (same ∙ sym c.as_slice.ensures) stands in
     recorded_front _ _ _ _ (gave_all c.write_run-status.ensures.emits_some.1)
-    (λ none. gave_all (due none).emits) refl refl c.if-outlet.true
+    (λ none. gave_all (due none).emits) refl c.if-outlet.true
     (c.shelf-1.given.1 (sym c.write_run-status.ensures.same_shelf))
     (c.out-1.given.1 (sym c.write_run-status.ensures.same_out))
     (succeeded c.begin.result _ well c.begin.ensures.emptied) c.begin.ensures.others c.begin.ensures.reading
@@ -36,8 +36,7 @@ returns g c = λ b stream o opens same stands.
     let well = sym c.is_err.ensures.value ∙ c.if-is_err.false in
     let due = c.write_run-status.ensures.runs b stream o opens (same ∙ sym c.as_slice.ensures) stands in
     recorded_all _ _ _ _ _ (gave_all c.write_run-status.ensures.emits_some.1)
-    (λ none. gave_all (due none).emits) refl refl c.if-outlet.false
-    (c.write_run-status.ensures.none_waits c.if-outlet.false)
+    (λ none. gave_all (due none).emits) refl c.if-outlet.false
     (c.shelf-1.given.1 (sym c.write_run-status.ensures.same_shelf))
     (c.out-1.given.1 (sym c.write_run-status.ensures.same_out))
     (c.write_run-status.ensures.some_stop c.if-outlet.false)

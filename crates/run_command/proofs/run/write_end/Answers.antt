@@ -23,6 +23,3 @@ returns-clause-emits_some g c =
 
 pub returns-clause-some_stop : goal.returns-clause-some_stop
 returns-clause-some_stop g c = (c.finish-end.result.stop, c.status.ensures)
-
-pub returns-clause-none_waits : goal.returns-clause-none_waits
-returns-clause-none_waits g c = c.report.ensures.none_waits

@@ -50,10 +50,3 @@ returns-clause-same_shelf g c = let given = gave_all (returns-clause-emits_some 
 
 pub returns-clause-same_out : goal.returns-clause-same_out
 returns-clause-same_out g c = let given = gave_all (returns-clause-emits_some g c).1 in given.output
-
-pub returns-then-outlet-clause-none_waits : goal.returns-then-outlet-clause-none_waits
-returns-then-outlet-clause-none_waits g c = λ unfailed.
-    absurd (let clash : true ≡ false = sym c.if-outlet.true ∙ unfailed in cc)
-
-pub returns-clause-none_waits : goal.returns-clause-none_waits
-returns-clause-none_waits g c = c.write_end.ensures.none_waits

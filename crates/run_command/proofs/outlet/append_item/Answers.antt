@@ -1,9 +1,9 @@
 use Rattle.std.proofs.Common.{◌∙◌}
 use Rattle.run_command.proofs.OutletFacts.{Counts-since, flushed_front, flushed_whole}
-use Rattle.run_command.proofs.outlet.append_bytes.Goals as goal
+use Rattle.run_command.proofs.outlet.append_item.Goals as goal
 
-pub returns-then-are_last : goal.returns-then-are_last
-returns-then-are_last g c =
+pub returns-then-is_last : goal.returns-then-is_last
+returns-then-is_last g c =
     let same = c.flush.ensures.files c.args.name.now in
     record {
       ok = flushed_whole c.flush.result _ _ _ c.args.bytes.now c.in_ok-append.ensures.ok same;
