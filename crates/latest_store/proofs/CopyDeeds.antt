@@ -52,8 +52,10 @@ in_put_did slot d plain c q done byte told.Ok w same heard = record {
   loads = ap (λ (x : ℕ). d.loads ++ (byte_address (buffer c) done, x) ∷ []) same;
   fits = fits_load d.control.number d.control.resources q (byte_address (buffer c) done) 1;
 }
-in_put_did slot d plain c q done byte (told.Absent cause) w same heard = quiet _ _ _ _ _ w heard refl refl (follows_same _)
-in_put_did slot d plain c q done byte (told.Word value) w same heard = quiet _ _ _ _ _ w heard refl refl (follows_same _)
+in_put_did slot d plain c q done byte (told.Absent cause) w same heard =
+    quiet _ _ _ _ _ w heard refl refl (follows_same _)
+in_put_did slot d plain c q done byte (told.Word value) w same heard =
+    quiet _ _ _ _ _ w heard refl refl (follows_same _)
 in_put_did slot d plain c q done byte told.Stopped w same heard = quiet _ _ _ _ _ w heard refl refl (follows_same _)
 
 in_reached_did : (slot : ℕ) (d : Domain) (plain : PageId → List ℕ) (c : Context) (q : PageId) (done : ℕ) (a : Answer)
@@ -114,9 +116,12 @@ out_reached_did slot d plain c q done total byte told.Ok w held heard =
       loads = sym (append-nil d.loads);
       fits = fits_store d.control.number d.control.resources q at 1 byte held;
     }
-out_reached_did slot d plain c q done total byte (told.Absent cause) w held heard = quiet _ _ _ _ _ w heard refl refl (follows_same _)
-out_reached_did slot d plain c q done total byte (told.Word value) w held heard = quiet _ _ _ _ _ w heard refl refl (follows_same _)
-out_reached_did slot d plain c q done total byte told.Stopped w held heard = quiet _ _ _ _ _ w heard refl refl (follows_same _)
+out_reached_did slot d plain c q done total byte (told.Absent cause) w held heard =
+    quiet _ _ _ _ _ w heard refl refl (follows_same _)
+out_reached_did slot d plain c q done total byte (told.Word value) w held heard =
+    quiet _ _ _ _ _ w heard refl refl (follows_same _)
+out_reached_did slot d plain c q done total byte told.Stopped w held heard =
+    quiet _ _ _ _ _ w heard refl refl (follows_same _)
 
 out_got_did : (slot : ℕ) (d : Domain) (plain : PageId → List ℕ) (c : Context) (q : PageId) →
     q.domain ≡ d.control.number → (MapsHeld d.control.resources → HeldPlace d.control.resources (Some q)) →
@@ -125,20 +130,24 @@ out_got_did : (slot : ℕ) (d : Domain) (plain : PageId → List ℕ) (c : Conte
     Does slot d plain (byte_moves (byte_address (buffer c) done) (Some q)) (out_got c q done total a) w
 unfolding out_got copy_ended
 out_got_did slot d plain c q own held done total told.Ok w heard = quiet _ _ _ _ _ w heard refl refl (follows_same _)
-out_got_did slot d plain c q own held done total (told.Absent cause) w heard = quiet _ _ _ _ _ w heard refl refl (follows_same _)
+out_got_did slot d plain c q own held done total (told.Absent cause) w heard =
+    quiet _ _ _ _ _ w heard refl refl (follows_same _)
 out_got_did slot d plain c q own held done total (told.Word byte) w heard =
     let question = Reach q own (byte_address (buffer c) done) Store in
     out_reached_did slot d plain c q done total byte (asked question w).answer (asked question w).world held
     (heard_asked d.control.number plain (item.Word d.control.number byte ∷ []) question w heard)
-out_got_did slot d plain c q own held done total told.Stopped w heard = quiet _ _ _ _ _ w heard refl refl (follows_same _)
+out_got_did slot d plain c q own held done total told.Stopped w heard =
+    quiet _ _ _ _ _ w heard refl refl (follows_same _)
 
 out_placed_did : (slot : ℕ) (d : Domain) (plain : PageId → List ℕ) (c : Context) (done total : ℕ)
     (place : Option PageId) (cloaked : Bool) (w : World) → IsOwn d.control.number place →
     (MapsHeld d.control.resources → HeldPlace d.control.resources place) → Heard d.control.number plain [] w →
     Does slot d plain (byte_moves (byte_address (buffer c) done) place) (out_placed c done total place cloaked) w
 unfolding out_placed copy_ended
-out_placed_did slot d plain c done total None cloaked w own held heard = quiet _ _ _ _ _ w heard refl refl (follows_same _)
-out_placed_did slot d plain c done total (Some q) true w own held heard = quiet _ _ _ _ _ w heard refl refl (follows_same _)
+out_placed_did slot d plain c done total None cloaked w own held heard =
+    quiet _ _ _ _ _ w heard refl refl (follows_same _)
+out_placed_did slot d plain c done total (Some q) true w own held heard =
+    quiet _ _ _ _ _ w heard refl refl (follows_same _)
 out_placed_did slot d plain c done total (Some q) false w own held heard =
     let question = Get (byte_address (area c) done) 1 in
     out_got_did slot d plain c q own held done total (asked question w).answer (asked question w).world

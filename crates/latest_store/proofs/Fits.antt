@@ -143,8 +143,8 @@ other_latest d (Drops domain resource) history q at sound other =
     (is_of-other domain resource q (λ is. other (is.0 ∙ sound)))
 other_latest d (Loads p address width) history q at sound other = refl
 
-pub others_latest : (d : ℕ) (moves history : List Move) (q : PageId) (at : ℕ) → AreSound d history moves → q.domain ≢ d →
-    latest (with_moves moves history) q at ≡ latest history q at
+pub others_latest : (d : ℕ) (moves history : List Move) (q : PageId) (at : ℕ) → AreSound d history moves →
+    q.domain ≢ d → latest (with_moves moves history) q at ≡ latest history q at
 others_latest d [] history q at sound other = refl
 others_latest d (m ∷ moves) history q at sound other =
     others_latest d moves (m ∷ history) q at sound.1 other ∙ other_latest d m history q at sound.0 other

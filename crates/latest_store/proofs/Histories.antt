@@ -279,7 +279,8 @@ run_holds b stream budget o opens fits (suc n) low =
     (hart_in m.joint (slice_index b.kernel.schedule (m.steps % length b.kernel.schedule))).inside t.items) m.joint t =
     subst (λ (x : Turn). TurnDid earlier (step_moves earlier m.joint.domains
     (hart_in m.joint (slice_index b.kernel.schedule (m.steps % length b.kernel.schedule))).inside x.items) m.joint x)
-    (step_is budget n (first_moment b o.joint) t step.is) (joint_did earlier m steady.programs holds.free holds.agrees) in
+    (step_is budget n (first_moment b o.joint) t step.is)
+    (joint_did earlier m steady.programs holds.free holds.agrees) in
     let number : m.steps ≡ n = omega arith in
     let did' = subst (λ (k : ℕ). TurnDid earlier (step_moves earlier m.joint.domains
     (hart_in m.joint (slice_index b.kernel.schedule (k % length b.kernel.schedule))).inside t.items) m.joint t)
@@ -324,8 +325,8 @@ runs_give_latest b stream budget r fits runs =
     of_opened b budget (HoldsAlways b) (opening b stream) r runs
     (λ o opens. run_holds b stream budget o opens fits) in
     let closed : r.closed.joint.domains ≡ (joint_until (length r.turns) r).domains =
-    of_opened b budget (λ (x : Run). x.closed.joint.domains ≡ (joint_until (length x.turns) x).domains) (opening b stream) r
-    runs (λ o opens. closed_domains b budget o) in
+    of_opened b budget (λ (x : Run). x.closed.joint.domains ≡ (joint_until (length x.turns) x).domains)
+    (opening b stream) r runs (λ o opens. closed_domains b budget o) in
     record {
       loads = λ n low. (holds n low).loads;
       ends = λ d program is.

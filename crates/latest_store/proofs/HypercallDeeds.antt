@@ -112,9 +112,12 @@ fork_cleared_did slot d plain c free new told.Ok w enough heard =
     made_so d plain (copy_moves d.control.number list) _ w _ heard (copies_made d.control.number list w heard.form)
     (copies_give d.control.number list plain) refl
     (fits_fork d.control.number c.space new d.control.resources enough)
-fork_cleared_did slot d plain c free new (told.Absent cause) w enough heard = quiet _ _ _ _ _ w heard refl refl (follows_same _)
-fork_cleared_did slot d plain c free new (told.Word value) w enough heard = quiet _ _ _ _ _ w heard refl refl (follows_same _)
-fork_cleared_did slot d plain c free new told.Stopped w enough heard = quiet _ _ _ _ _ w heard refl refl (follows_same _)
+fork_cleared_did slot d plain c free new (told.Absent cause) w enough heard =
+    quiet _ _ _ _ _ w heard refl refl (follows_same _)
+fork_cleared_did slot d plain c free new (told.Word value) w enough heard =
+    quiet _ _ _ _ _ w heard refl refl (follows_same _)
+fork_cleared_did slot d plain c free new told.Stopped w enough heard =
+    quiet _ _ _ _ _ w heard refl refl (follows_same _)
 
 room_there : (b : Bool) (done : Unit {0}) →
     ◌≡◌ {A = Result (Unit {0}) MapFault} (cond b (Ok tt) (Err Full)) (Ok done) → b ≡ true
@@ -133,7 +136,8 @@ enough_there space new r contexts done is =
     ltb-false (length (free_numbers r)) (length (private_numbers space r)) (not-true _ enough.0)
 
 fork_if_did : (fits : Result (Unit {0}) MapFault) (slot : ℕ) (d : Domain) (plain : PageId → List ℕ) (c : Context)
-    (w : World) → fork_fits c.space d.control.resources d.control.contexts ≡ fits → Heard d.control.number plain (item.Ok d.control.number ∷ []) w →
+    (w : World) → fork_fits c.space d.control.resources d.control.contexts ≡ fits →
+    Heard d.control.number plain (item.Ok d.control.number ∷ []) w →
     DoesIf d plain (copy_moves d.control.number (copies c.space d.control.resources))
     (fork_end slot c d.control (fork_if fits d.control.number c d.control.resources d.control.contexts)) w
 unfolding fork_if fork_told

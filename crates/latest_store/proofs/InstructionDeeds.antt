@@ -63,17 +63,22 @@ load_reached_did slot d plain c q rd va width signed told.Ok w heard = record {
   loads = ap (λ (p : PageId → List ℕ). d.loads ++ (va, value_in (p q) (va % 4096) width) ∷ []) heard.pages;
   fits = fits_load d.control.number d.control.resources q va width;
 }
-load_reached_did slot d plain c q rd va width signed (told.Absent cause) w heard = quiet _ _ _ _ _ w heard refl refl (follows_same _)
-load_reached_did slot d plain c q rd va width signed (told.Word value) w heard = quiet _ _ _ _ _ w heard refl refl (follows_same _)
-load_reached_did slot d plain c q rd va width signed told.Stopped w heard = quiet _ _ _ _ _ w heard refl refl (follows_same _)
+load_reached_did slot d plain c q rd va width signed (told.Absent cause) w heard =
+    quiet _ _ _ _ _ w heard refl refl (follows_same _)
+load_reached_did slot d plain c q rd va width signed (told.Word value) w heard =
+    quiet _ _ _ _ _ w heard refl refl (follows_same _)
+load_reached_did slot d plain c q rd va width signed told.Stopped w heard =
+    quiet _ _ _ _ _ w heard refl refl (follows_same _)
 
 load_got_did : (slot : ℕ) (d : Domain) (plain : PageId → List ℕ) (c : Context) (rd va width : ℕ) (signed : Bool)
     (a : Answer) (w : World) → Heard d.control.number plain (second_answer d.control.number a) w →
     DoesIf slot d plain (if_granted []) (load_got c rd va width signed a) w
 unfolding load_got instruction_ended
 load_got_did slot d plain c rd va width signed told.Ok w heard = quiet _ _ _ _ _ w heard refl refl (follows_same _)
-load_got_did slot d plain c rd va width signed (told.Absent cause) w heard = quiet _ _ _ _ _ w heard refl refl (follows_same _)
-load_got_did slot d plain c rd va width signed (told.Word value) w heard = quiet _ _ _ _ _ w heard refl refl (follows_same _)
+load_got_did slot d plain c rd va width signed (told.Absent cause) w heard =
+    quiet _ _ _ _ _ w heard refl refl (follows_same _)
+load_got_did slot d plain c rd va width signed (told.Word value) w heard =
+    quiet _ _ _ _ _ w heard refl refl (follows_same _)
 load_got_did slot d plain c rd va width signed told.Stopped w heard = quiet _ _ _ _ _ w heard refl refl (follows_same _)
 
 load_did : (slot : ℕ) (d : Domain) (plain : PageId → List ℕ) (c : Context) (rd va width : ℕ) (signed : Bool)
@@ -91,7 +96,8 @@ load_did slot d plain c rd va width signed (Some q) w own heard =
     (heard_asked d.control.number plain (item.Ok d.control.number ∷ []) question w heard)
 
 store_reached_did : (slot : ℕ) (d : Domain) (plain : PageId → List ℕ) (c : Context) (q : PageId) (va width value : ℕ)
-    (a : Answer) (w : World) → (MapsHeld d.control.resources → HeldPlace d.control.resources (Some q)) → Heard d.control.number plain (second_answer d.control.number a) w →
+    (a : Answer) (w : World) → (MapsHeld d.control.resources → HeldPlace d.control.resources (Some q)) →
+    Heard d.control.number plain (second_answer d.control.number a) w →
     DoesIf slot d plain (if_granted (Stores q (va % 4096) width value ∷ [])) (store_reached c q va width value a) w
 unfolding store_reached ask_write instruction_ended
 store_reached_did slot d plain c q va width value told.Ok w held heard =
@@ -105,12 +111,16 @@ store_reached_did slot d plain c q va width value told.Ok w held heard =
       loads = sym (append-nil d.loads);
       fits = fits_store d.control.number d.control.resources q (va % 4096) width value held;
     }
-store_reached_did slot d plain c q va width value (told.Absent cause) w held heard = quiet _ _ _ _ _ w heard refl refl (follows_same _)
-store_reached_did slot d plain c q va width value (told.Word other) w held heard = quiet _ _ _ _ _ w heard refl refl (follows_same _)
-store_reached_did slot d plain c q va width value told.Stopped w held heard = quiet _ _ _ _ _ w heard refl refl (follows_same _)
+store_reached_did slot d plain c q va width value (told.Absent cause) w held heard =
+    quiet _ _ _ _ _ w heard refl refl (follows_same _)
+store_reached_did slot d plain c q va width value (told.Word other) w held heard =
+    quiet _ _ _ _ _ w heard refl refl (follows_same _)
+store_reached_did slot d plain c q va width value told.Stopped w held heard =
+    quiet _ _ _ _ _ w heard refl refl (follows_same _)
 
 store_put_did : (slot : ℕ) (d : Domain) (plain : PageId → List ℕ) (c : Context) (va : ℕ) (a : Answer) (w : World) →
-    Heard d.control.number plain (second_answer d.control.number a) w → DoesIf slot d plain (if_granted []) (store_put c va a) w
+    Heard d.control.number plain (second_answer d.control.number a) w →
+    DoesIf slot d plain (if_granted []) (store_put c va a) w
 unfolding store_put instruction_ended
 store_put_did slot d plain c va told.Ok w heard = quiet _ _ _ _ _ w heard refl refl (follows_same _)
 store_put_did slot d plain c va (told.Absent cause) w heard = quiet _ _ _ _ _ w heard refl refl (follows_same _)
@@ -186,8 +196,10 @@ fetched_did slot d history plain c q told.Ok w agrees heard =
     ∙ read_value history q (plain q) (c.pc % 4096) 4 (agrees q) in
     subst (λ (x : ℕ). DoesIf slot d plain (word_moves d.control c (instruction x))
     (executed_inside n d.control.resources c word) w) same (executed_did slot d plain c word w heard)
-fetched_did slot d history plain c q (told.Absent cause) w agrees heard = quiet _ _ _ _ _ w heard refl refl (follows_same _)
-fetched_did slot d history plain c q (told.Word value) w agrees heard = quiet _ _ _ _ _ w heard refl refl (follows_same _)
+fetched_did slot d history plain c q (told.Absent cause) w agrees heard =
+    quiet _ _ _ _ _ w heard refl refl (follows_same _)
+fetched_did slot d history plain c q (told.Word value) w agrees heard =
+    quiet _ _ _ _ _ w heard refl refl (follows_same _)
 fetched_did slot d history plain c q told.Stopped w agrees heard = quiet _ _ _ _ _ w heard refl refl (follows_same _)
 
 fetch_did : (slot : ℕ) (d : Domain) (history : List Move) (plain : PageId → List ℕ) (c : Context)

@@ -422,8 +422,8 @@ module _ (space new : ℕ) (r : Resources) where
       (unwrap_or (option_map (λ (copy : ℕ × ℕ). copy.1) found) g.resource) None) ≡ true
   region_copied g (Some copy) enough is may =
       map_owned (get_or copied_held copy.1 None)
-      (All-find (λ (one : ℕ × ℕ). IsOwned new (get_or copied_held one.1 None)) (λ (one : ℕ × ℕ). nat_eq one.0 g.resource)
-      (copies space r) copy owned is)
+      (All-find (λ (one : ℕ × ℕ). IsOwned new (get_or copied_held one.1 None))
+      (λ (one : ℕ × ℕ). nat_eq one.0 g.resource) (copies space r) copy owned is)
   region_copied g None enough is may =
       ap (may_map new) (stays_at g.resource (held_from_map space (resource_at r g.resource) may))
       ∙ map_file g.resource (resource_at r g.resource) enough refl may is
@@ -434,7 +434,8 @@ module _ (space new : ℕ) (r : Resources) where
       set_regions (IsOf (forked_resources space new r)) r.spaces new s
       (Some (map (copied_region (copies space r)) (regions_in r space)))
       (All-map (IsOf (forked_resources space new r) new) (copied_region (copies space r)) (regions_in r space)
-      (All-weaker (IsOf r space) (λ (g : Region). IsOf (forked_resources space new r) new (copied_region (copies space r) g))
+      (All-weaker (IsOf r space)
+      (λ (g : Region). IsOf (forked_resources space new r) new (copied_region (copies space r) g))
       (λ g may. region_copied g (find (λ (copy : ℕ × ℕ). nat_eq copy.0 g.resource) (copies space r)) enough refl may)
       (regions_in r space) (maps space)))
       (λ k. All-weaker (IsOf r k) (IsOf (forked_resources space new r) k)

@@ -88,7 +88,8 @@ set_other (x ∷ domains) (suc e) (suc d) made now other is =
 
 set_grows : (domains : List Domain) (e : ℕ) (found made : Domain) (moves : List Move) (plain : PageId → List ℕ) →
     slice_get domains e ≡ Some found → made.loads ≡ found.loads ++ given_by moves plain →
-    Fits e found.control.resources moves made.control.resources → GrowBy e moves plain domains (slice_set domains e made)
+    Fits e found.control.resources moves made.control.resources →
+    GrowBy e moves plain domains (slice_set domains e made)
 set_grows domains e found made moves plain there loads fits d now is = elim (decided e d) [
   | inl same ↦
       let here : made ≡ now = set_same domains e found made now there
@@ -302,8 +303,8 @@ stepped_did history j number h e slot found t there own zeros did =
       memory = memory_of t.world j.memory;
     } in
     let ended = domain_ended_so e j' number h e t.world t.answer.went in
-    built history j e slot found t.answer.domain (domain_ended j' number h e t.world t.answer.went) did.answers there own
-    (ended.told ∙ subst (λ (n : ℕ). inward_half n (items_of t.world) ≡ did.answers) own did.told)
+    built history j e slot found t.answer.domain (domain_ended j' number h e t.world t.answer.went) did.answers there
+    own (ended.told ∙ subst (λ (n : ℕ). inward_half n (items_of t.world) ≡ did.answers) own did.told)
     (ended.pages ∙ sym (memory_plain t.world j.memory did.form) ∙ did.pages)
     ended.domains did.loads did.fits zeros
 
@@ -329,8 +330,8 @@ by_did false history j number h e slot found there own zeros agrees =
     stepped_did history j number h e slot found (domain_step slot found (Cloaked c)) there own zeros
     (step_did slot found history j.memory.plain (Cloaked c) agrees heard)
 
-nothing_did : (history : List Move) (j : Joint) (t : Turn) → t.joint.memory.plain ≡ j.memory.plain → t.joint.domains ≡ j.domains →
-    TurnDid history [] j t
+nothing_did : (history : List Move) (j : Joint) (t : Turn) → t.joint.memory.plain ≡ j.memory.plain →
+    t.joint.domains ≡ j.domains → TurnDid history [] j t
 nothing_did history j t pages domains = record {
   program = 0;
   sound = tt;

@@ -67,7 +67,7 @@ file_moves d c None =
     made_moves d.number (new_resource (File (register c.regs 10)) (register c.regs 11) d.resources).answer
 file_moves d c (Some n) = []
 
--- NEW makes a resource. FORK copies each private resource of the caller's space, and EXIT of the last context of a space
+-- NEW makes a resource. FORK copies each private resource of the caller's space, and EXIT of a space's last context
 -- drops them.
 unfoldable pub hypercall_moves : Hypercall → Control → Context → List Item → List Move
 hypercall_moves New d c told =

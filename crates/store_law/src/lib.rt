@@ -7,7 +7,7 @@
 //! No body turns a law, so there is no wrong body to refuse here. These changed definitions were tried on a copy, and
 //! with none of them did the proofs of the law of Ciphers go through: a draw is not taken off the stream; without a
 //! draw the page's bytes are shown; a page is placed with the bytes that it had before; a store writes its page
-//! before it reaches it.
+//! before it reaches it. With this one the law of loads did not: a load is told of with its value extended by its sign.
 #![tactic(auto)]
 
 ghost use Rattle.store_law.specs.Ciphers.{CiphersHaveOwnDraws, CiphersShowPages};
