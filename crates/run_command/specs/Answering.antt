@@ -29,7 +29,8 @@ pub record AsksRun (asked : spec.Asked) (held : List ℕ → Option (List ℕ)) 
 
 -- The run.
 
--- What is so of a run, whatever its kernel does: its record reads back, and where it stopped with a violation, its last
+-- What is so of a run, whatever its kernel does: its record reads back; its programs' loads give what was stored last; the
+-- kernel is shown pages as ciphertexts alone, each under a draw of its own; and where it stopped with a violation, its last
 -- step presented what that names.
 pub record IsLawful (b : Bundle) (stream : Random) (r : Run) : Type 0 where
   pub reads_back : ReadsBack b r
