@@ -3,3 +3,4 @@ pub mod Runs
 pub mod Views
 pub mod Images
 pub mod Complete
+pub mod ReadingBack

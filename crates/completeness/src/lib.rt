@@ -7,6 +7,7 @@
 
 ghost use Rattle.completeness.specs.Runs.{RunsAreComplete};
 ghost use Rattle.completeness.specs.Views.{SolosAreComplete, ViewsAreComplete};
+ghost use Rattle.completeness.specs.ReadingBack.{RunsAreSoloed, RunsAreViewed};
 ghost use Rattle.completeness.specs.Images.{DemosAreComplete, GensAreComplete};
 
 use outside_io::{Shelf, Sink};
@@ -27,4 +28,10 @@ pub fn law_of_complete_views<S: Shelf, O: Sink>()
 pub fn law_of_complete_images<S: Shelf, O: Sink>()
     ensures gens { GensAreComplete S O }
     ensures demos { DemosAreComplete O }
+{}
+
+/// `view` and `solo` of the record that a run wrote show the lines of that run. It does nothing: its contract is the law.
+pub fn law_of_reading_back<S: Shelf, O: Sink>()
+    ensures views { RunsAreViewed S O }
+    ensures solos { RunsAreSoloed S O }
 {}
