@@ -11,13 +11,14 @@
 ghost use Rattle.shadow_law.specs.Agreeing.{BornAgrees, ChangeKeeps, HitIsWalk, HitIsOffer, OfferKeeps, RemapKeeps};
 ghost use Rattle.shadow_law.specs.Agreeing.{TouchKeeps, WriteKeeps};
 ghost use Rattle.shadow_law.specs.Tables.{GrantAgrees, HeldAgrees, RefuseAgrees, RemapAgrees, TouchAgrees, WriteAgrees};
-ghost use Rattle.shadow_law.specs.Walks.{WalkKept, WalkOfPage, WalkReaches};
+ghost use Rattle.shadow_law.specs.Walks.{WalkKept, WalkOfPage, WalkReaches, WalkWithin};
 
 /// What the walk of an access depends on. It does nothing: its contract is the law.
 pub fn law_of_walks()
     ensures reaches { WalkReaches }
     ensures kept { WalkKept }
     ensures of_page { WalkOfPage }
+    ensures within { WalkWithin }
 {}
 
 /// An entry that no event ends goes on agreeing. It does nothing: its contract is the law.
