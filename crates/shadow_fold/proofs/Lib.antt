@@ -2,3 +2,4 @@ pub mod Agreeing
 pub mod Counting
 pub mod Follows
 pub mod Keys
+pub mod Rows

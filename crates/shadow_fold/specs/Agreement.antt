@@ -32,8 +32,8 @@ access_in (Inside satp sum mxr space) va kind = record { mode = U; sum = sum; mx
 abbrev pub start_of : ℕ → ℕ
 start_of f = ram_start + 4096 * f
 
--- An entry without a cloaked page has an outside target. One with a page has a target that holds it, and that is owed it
--- where the entry is for stores.
+-- An entry without a cloaked page has an outside target. One with a page has a target that holds it, and that is owed
+-- it where the entry is for stores.
 abbrev pub TargetAgrees : Present → Entry → Option PageId → Type 0
 TargetAgrees p e None = p.held e.frame.0 ≡ None
 TargetAgrees p e (Some q) = (p.held e.frame.0 ≡ Some q) × (e.kind ≡ Store → p.owed e.frame.0 ≡ Some q)

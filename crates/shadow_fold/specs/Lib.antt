@@ -4,4 +4,5 @@ pub mod Events
 pub mod Fold
 pub mod Following
 pub mod Keeping
+pub mod Rows
 pub mod Table

@@ -6,4 +6,4 @@ mod entry;
 mod laws;
 
 pub use entry::{Entry, ShadowCounts, ShadowView};
-pub use laws::{law_of_agreement, law_of_following};
+pub use laws::{law_of_agreement, law_of_following, rows_of_counts};

@@ -375,11 +375,15 @@ change_keeps held m q g e here agrees =
   where
     m' : CloakedMemory
     m' = with_owed g (Some q) m
+
     target : (o : Option PageId) → TargetAgrees (present held m) e o → TargetAgrees (present held m') e o
     target None h = h
-    target (Some p) h = (h.0, λ store. elim (cases_eq e.frame.0 g) [
-      | inl same ↦
-          let low = subst (λ x. x < length m.ledger.owed) same (owed_there m e.frame.0 p (h.1 store)) in
-          ap (owed_in m') same ∙ get_or-set_same m.ledger.owed g (Some q) None low ∙ sym here ∙ ap held (sym same) ∙ h.0
-      | inr other ↦ get_or-set_other m.ledger.owed g e.frame.0 (Some q) None other ∙ h.1 store
-    ])
+    target (Some p) h = (
+      h.0,
+      λ store. elim (cases_eq e.frame.0 g) [
+        | inl same ↦
+            let low = subst (λ x. x < length m.ledger.owed) same (owed_there m e.frame.0 p (h.1 store)) in
+            ap (owed_in m') same ∙ get_or-set_same m.ledger.owed g (Some q) None low ∙ sym here ∙ ap held (sym same) ∙ h.0
+        | inr other ↦ get_or-set_other m.ledger.owed g e.frame.0 (Some q) None other ∙ h.1 store
+      ],
+    )

@@ -170,7 +170,7 @@ clean_compared q g write m shown =
     let m' : CloakedMemory = with_comparison there there m in
     ap (λ (o : Option (List ℕ)). compared q g write o m) shown
     ∙ ap (λ (b : Bool). cond b (let o : AfterOffer = record { memory = taken q g write m'; ciphers = []; answer = Ready } in o)
-        (record { memory = m'; ciphers = []; answer = Mismatch })) (self_equal there)
+    (record { memory = m'; ciphers = []; answer = Mismatch })) (self_equal there)
     ∙ ap (λ (n : CloakedMemory). let o : AfterOffer = record { memory = taken q g write n; ciphers = []; answer = Ready } in o) (same_comparison there m)
 
 pub clean_offer : (q : PageId) (g : ℕ) (write : Bool) (m : CloakedMemory) → owed_in m g ≡ None → ((f : ℕ) → owed_in m f ≢ Some q)

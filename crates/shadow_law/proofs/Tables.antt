@@ -67,11 +67,11 @@ pub grant_agrees : (held held' : Held) (m : CloakedMemory) (q : PageId) (g : ℕ
 grant_agrees held held' m q g write t owed alone same =
     keeps_killed (EntryAgrees (present held m)) (EntryAgrees (present held' (offer q g write m).memory)) g t
     (λ e target table. keeps held held' m (offer q g write m).memory e (offer_count q g write m)
-        (map_parts (λ x. x ≡ g → ⊥) (λ x. Spared x m (offer q g write m).memory × (held' x ≡ held x)) e
-        (λ x other. (
-          offer_spares q x held g write m owed other (not_holding_page q (held x) (λ is. other (alone x is))),
-          same x other,
-        )) (not_part g e target table)))
+    (map_parts (λ x. x ≡ g → ⊥) (λ x. Spared x m (offer q g write m).memory × (held' x ≡ held x)) e
+    (λ x other. (
+      offer_spares q x held g write m owed other (not_holding_page q (held x) (λ is. other (alone x is))),
+      same x other,
+    )) (not_part g e target table)))
 
 -- what is compared and not granted changes nothing of a frame
 refused_spares : (q : PageId) (x g : ℕ) (write : Bool) (o : Option (List ℕ)) (m : CloakedMemory) → (compared q g write o m).answer ≢ Ready
@@ -82,10 +82,13 @@ refused_spares q x g write (Some c) m fails = by_test (bytes_eq there c) fails
   where
     there : List ℕ
     there = slice_index_or m.ram g []
+
     m' : CloakedMemory
     m' = with_comparison there c m
+
     compared_by : Bool → AfterOffer
     compared_by b = cond b (let o : AfterOffer = record { memory = taken q g write m'; ciphers = []; answer = Ready } in o) (record { memory = m'; ciphers = []; answer = Mismatch })
+
     by_test : (b : Bool) → (compared_by b).answer ≢ Ready → Spared x m (compared_by b).memory
     by_test true fails = absurd (fails refl)
     by_test false fails = record { ram = refl; owed = refl }
@@ -111,11 +114,14 @@ refuse_agrees held m q g write t owed none out fails =
     clean : (o : Option PageId) → owed_in m g ≡ o → o ≡ None
     clean None is = refl
     clean (Some p) is = absurd (none-some p (sym out ∙ owed g p is))
+
     is_plain : (let o = compared q g write (m.ledger.recorded q) m in offer q g write m ≡ record { memory = o.memory; ciphers = o.ciphers; answer = o.answer })
     is_plain = plain_offer q g write m (clean (owed_in m g) refl) (λ f is. none f (owed f q is))
+
     spares : (x : ℕ) → Spared x m (offer q g write m).memory
     spares x = subst (λ (o : AfterOffer). Spared x m o.memory) (sym is_plain)
         (refused_spares q x g write (m.ledger.recorded q) m (λ is. fails (ap (λ (o : AfterOffer). o.answer) is_plain ∙ is)))
+
     every : (e : Entry) → Parts (λ x. Spared x m (offer q g write m).memory × (held x ≡ held x)) e
     every e = all_parts (λ x. Spared x m (offer q g write m).memory × (held x ≡ held x)) e (λ x. (spares x, refl))
 

@@ -1,14 +1,15 @@
 -- A walk by its words.
-use Rattle.std.proofs.Common.{◌≡◌, ◌∙◌, ℕ, ◌+◌, ◌*◌, ◌/◌, ◌%◌, ◌^◌, inl, inr, ◌⊎◌, Bool, true, false, not, ◌&&◌, cond, List, [], ◌∷◌, ◌++◌, length, Option, Some, None, Ok, Err, refl, sym, ap, subst, arith}
+use Rattle.std.proofs.Common.{◌≡◌, ◌∙◌, ℕ, ◌+◌, ◌*◌, ◌/◌, ◌%◌, ◌^◌, ◌<◌, inl, inr, ◌⊎◌, Bool, true, false, not, ◌&&◌, cond, List, [], ◌∷◌, ◌++◌, length, Option, Some, None, Ok, Err, refl, sym, ap, subst, arith}
 use Rattle.std.specs.Prelude.{◌==◌, slice_index_or, IfSome}
-use Rattle.std.proofs.lemmas.Bool.{false≢true}
+use Rattle.std.proofs.lemmas.Bool.{false≢true, ltb-true}
 use Rattle.cloak_base.specs.declared.names.Frame.{Frame}
 use Rattle.cloak_model.specs.declared.access.Access.{Access}
 use Rattle.cloak_model.specs.declared.access.Walked.{Walked}
 use Rattle.cloak_model.specs.Memory.{frame_of, place_of, is_in_frames, is_in_ram, value_in, value_at}
 use Rattle.cloak_model.specs.Walk.{Walk, FirstWord, Ends, GoesOn, has_paging, without_paging, frame_at, first_entry, second_entry, is_valid, is_pointer, is_plain_pointer, allows, page_fault, first_leaf, second_leaf, first_word, second_word, word_in_ram, walk_after, walk, table_at, tables_after, walk_tables}
 use Rattle.rv_isa.specs.Fields.{bits}
-use Rattle.shadow_law.specs.Walks.{listed, tables_of, IsSame, HaveSameTables, moved, page_access}
+use Rattle.shadow_fold.proofs.Keys.{and_true}
+use Rattle.shadow_law.specs.Walks.{listed, tables_of, IsBelow, IsSame, HaveSameTables, moved, page_access}
 
 -- a test, with its value
 pub decided : (b : Bool) → (b ≡ true) ⊎ (b ≡ false)
@@ -294,3 +295,27 @@ walk_of_page ram satp a =
     ap (walk_after ram a at1) (moved_first a at1 o) ∙ moved_after ram a at1 (first_word (page_access a) at1 o)
     ∙ ap (λ at. moved k (walk_after ram (page_access a) at (first_word (page_access a) at (word_in_ram ram at)))) (entry_place satp a.va) in
     moved_if k (has_paging satp) _ _ _ _ paged (λ i. Ok (record { pa = bare_place a.va i; pt1 = None; pt0 = None }))
+
+-- Frames of RAM.
+
+low_frame : (ram : List (List ℕ)) (at : ℕ) → is_in_ram ram at ≡ true → frame_of at < length ram
+low_frame ram at is = ltb-true (frame_of at) (length ram) (and_true _ _ is).1
+
+below_none : (n : ℕ) (o : Option Frame) → o ≡ None → IsBelow n o
+below_none n o is = subst (IsBelow n) (sym is) tt
+
+below_some : (n : ℕ) (o : Option Frame) (f : Frame) → o ≡ Some f → f.0 < n → IsBelow n o
+below_some n o f is low = subst (IsBelow n) (sym is) low
+
+within_by : (ram : List (List ℕ)) (satp : ℕ) (a : Access) (w : Walked) → Leads ram satp a w → IsBelow (length ram) w.pt1 × IsBelow (length ram) w.pt0
+within_by ram satp a w (Bare paging is) = (
+  below_none (length ram) w.pt1 (ap (λ (v : Walked). v.pt1) is),
+  below_none (length ram) w.pt0 (ap (λ (v : Walked). v.pt0) is),
+)
+within_by ram satp a w (One paging h) =
+    (below_some (length ram) w.pt1 _ h.pt1 (low_frame ram _ h.inside), below_none (length ram) w.pt0 h.pt0)
+within_by ram satp a w (Two paging h) =
+    (below_some (length ram) w.pt1 _ h.pt1 (low_frame ram _ h.inside), below_some (length ram) w.pt0 _ h.pt0 (low_frame ram _ h.inside0))
+
+pub walk_within : (ram : List (List ℕ)) (satp : ℕ) (a : Access) (w : Walked) → walk ram satp a ≡ Ok w → IsBelow (length ram) w.pt1 × IsBelow (length ram) w.pt0
+walk_within ram satp a w is = within_by ram satp a w (walk_leads ram satp a w is)

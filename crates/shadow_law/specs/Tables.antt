@@ -30,8 +30,8 @@ HeldAgrees = (held : Held) (m : CloakedMemory) (q : PageId) (g : ℕ) (write : B
 
 -- a page is offered in a frame, and no other frame holds it
 abbrev pub GrantAgrees : Type 0
-GrantAgrees = (held held' : Held) (m : CloakedMemory) (q : PageId) (g : ℕ) (write : Bool) (t : Table) → OwedIsHeld held m
-    → ((x : ℕ) → held x ≡ Some q → x ≡ g) → ((x : ℕ) → x ≢ g → held' x ≡ held x)
+GrantAgrees = (held held' : Held) (m : CloakedMemory) (q : PageId) (g : ℕ) (write : Bool) (t : Table)
+    → OwedIsHeld held m → ((x : ℕ) → held x ≡ Some q → x ≡ g) → ((x : ℕ) → x ≢ g → held' x ≡ held x)
     → Agrees (present held m) t → Agrees (present held' (offer q g write m).memory) (killed (frame g) t)
 
 -- a page that no frame holds is offered in an outside frame, and is not granted: no entry ends

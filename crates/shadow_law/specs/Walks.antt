@@ -1,5 +1,5 @@
 -- What the walk of an access depends on.
-use Rattle.std.specs.Prelude.{ℕ, ◌≡◌, ◌+◌, ◌*◌, ◌/◌, ◌%◌, List, [], ◌∷◌, ◌++◌, length, slice_index_or, Option, Some, None, Ok, Err, IfSome}
+use Rattle.std.specs.Prelude.{ℕ, ◌≡◌, ◌+◌, ◌*◌, ◌/◌, ◌%◌, ◌<◌, List, [], ◌∷◌, ◌++◌, length, slice_index_or, Option, Some, None, Ok, Err, IfSome}
 use Rattle.cloak_base.specs.declared.names.Frame.{Frame}
 use Rattle.cloak_model.specs.declared.access.Access.{Access}
 use Rattle.cloak_model.specs.declared.access.Walked.{Walked}
@@ -46,3 +46,12 @@ page_access a = record a { va = 4096 * (a.va / 4096) }
 abbrev pub WalkOfPage : Type 0
 WalkOfPage = (ram : List (List ℕ)) (satp : ℕ) (a : Access)
     → walk ram satp a ≡ moved (a.va % 4096) (walk ram satp (page_access a))
+
+-- the frame is one of n
+abbrev pub IsBelow : ℕ → Option Frame → Type 0
+IsBelow n o = IfSome o (λ f. f.0 < n)
+
+-- the frames that led somewhere are frames of RAM
+abbrev pub WalkWithin : Type 0
+WalkWithin = (ram : List (List ℕ)) (satp : ℕ) (a : Access) (w : Walked) → walk ram satp a ≡ Ok w
+    → IsBelow (length ram) w.pt1 × IsBelow (length ram) w.pt0

@@ -1,6 +1,9 @@
-//! Laws on the definitions alone: why a machine may translate by its shadow entries (`shadow_fold`, `specs/Agreement`) in
-//! the place of walks. An entry that agrees with memory gives what a walk would give now, and each change of memory keeps
-//! the agreement of the entries that the event of the change does not end.
+//! Laws on the definitions alone: why a machine may translate by its shadow entries (`shadow_fold`, `specs/Agreement`)
+//! in the place of walks. An entry that agrees with memory gives what a walk would give now, and each change of memory
+//! keeps the agreement of the entries that the event of the change does not end.
+//!
+//! What a frame holds is no part of the ledger: the laws speak of any `held`, as far as a frame that is owed a page holds
+//! it. A machine takes what its pager holds.
 //!
 //! No body turns a law, so there is no wrong body to refuse here.
 #![tactic(auto)]
@@ -8,13 +11,14 @@
 ghost use Rattle.shadow_law.specs.Agreeing.{BornAgrees, ChangeKeeps, HitIsWalk, HitIsOffer, OfferKeeps, RemapKeeps};
 ghost use Rattle.shadow_law.specs.Agreeing.{TouchKeeps, WriteKeeps};
 ghost use Rattle.shadow_law.specs.Tables.{GrantAgrees, HeldAgrees, RefuseAgrees, RemapAgrees, TouchAgrees, WriteAgrees};
-ghost use Rattle.shadow_law.specs.Walks.{WalkKept, WalkOfPage, WalkReaches};
+ghost use Rattle.shadow_law.specs.Walks.{WalkKept, WalkOfPage, WalkReaches, WalkWithin};
 
 /// What the walk of an access depends on. It does nothing: its contract is the law.
 pub fn law_of_walks()
     ensures reaches { WalkReaches }
     ensures kept { WalkKept }
     ensures of_page { WalkOfPage }
+    ensures within { WalkWithin }
 {}
 
 /// An entry that no event ends goes on agreeing. It does nothing: its contract is the law.
@@ -26,8 +30,8 @@ pub fn law_of_changes()
     ensures remap { RemapKeeps }
 {}
 
-/// All live entries of a table go on agreeing, where the entries of a change's event end. It does nothing: its contract is
-/// the law.
+/// All live entries of a table go on agreeing, where the entries of a change's event end. It does nothing: its contract
+/// is the law.
 pub fn law_of_tables()
     ensures write { WriteAgrees }
     ensures touch { TouchAgrees }
