@@ -38,6 +38,7 @@ use Rattle.program_parts.proofs.FaultFacts.{raised}
 use Rattle.latest_store.proofs.Histories.{runs_give_latest}
 use Rattle.store_law.proofs.Ciphers.{ciphers_show_pages}
 use Rattle.store_law.proofs.OwnDraws.{ciphers_have_own_draws}
+use Rattle.cause_law.proofs.Closed.{closing_owes_nothing}
 use Rattle.cause_law.proofs.Runs.{violation_has_cause}
 use Rattle.kernel_isolation.proofs.Isolated.{kernel_ends_alone}
 use Rattle.domain_isolation.proofs.Isolated.{domain_ends_alone}
@@ -279,6 +280,7 @@ lawful_run {asked} {held} {record_name} {steps} {ready} prepared =
       ciphers = ciphers_show_pages prepared.bundle prepared.stream steps r runs;
       draws = ciphers_have_own_draws prepared.bundle prepared.stream steps r runs;
       cause = violation_has_cause prepared.bundle prepared.stream steps r runs;
+      closed = closing_owes_nothing prepared.bundle prepared.stream steps r runs;
     }
 
 pub answers_recorded : {S O : Type 0} {asked : spec.Asked} {name : List ℕ} {before mid after : Outside S O}

@@ -1,12 +1,14 @@
 -- What a run answers, each status with its cause.
-use Rattle.std.specs.Prelude.{ℕ, ◌≡◌, ◌⊎◌, List, [], Option, Ok}
+use Rattle.std.specs.Prelude.{ℕ, ◌≡◌, ◌⊎◌, List, [], Option, None, Ok}
 use Rattle.cloak_base.specs.Random.{Random}
 use Rattle.outside_io.specs.Told.{Tells, SameFiles, OtherFiles}
 use Rattle.cloak_model.specs.declared.image.Bundle.{Bundle}
+use Rattle.cloak_model.specs.Cloaking.{owed_in}
 use Rattle.cloak_model.specs.Run.{Run, joint_run}
 use Rattle.cloak_base.specs.declared.causes.Violation.{Violation}
 use Rattle.cloak_base.specs.declared.causes.Stop.TheVariants as stop
 use Rattle.cause_law.specs.Causes.{LastStepPresents}
+use Rattle.cause_law.specs.Closing.{closed_memory}
 use Rattle.latest_store.specs.LatestStore.{GivesLatest}
 use Rattle.store_law.specs.Ciphers.{HaveOwnDraws, ShowsPages}
 use Rattle.command_words.specs.Command as spec
@@ -30,14 +32,15 @@ pub record AsksRun (asked : spec.Asked) (held : List ℕ → Option (List ℕ)) 
 -- The run.
 
 -- What is so of a run, whatever its kernel does: its record reads back; its programs' loads give what was stored last; the
--- kernel is shown pages as ciphertexts alone, each under a draw of its own; and where it stopped with a violation, its last
--- step presented what that names.
+-- kernel is shown pages as ciphertexts alone, each under a draw of its own; where it stopped with a violation, its last
+-- step presented what that names; and as it was closed, no frame was owed a page any more.
 pub record IsLawful (b : Bundle) (stream : Random) (r : Run) : Type 0 where
   pub reads_back : ReadsBack b r
   pub latest : GivesLatest b r
   pub ciphers : ShowsPages b stream r
   pub draws : HaveOwnDraws b r
   pub cause : (v : Violation) → r.stop ≡ stop.Violation v → LastStepPresents b r v
+  pub closed : (frame : ℕ) → owed_in (closed_memory r) frame ≡ None
 
 -- The run was made. Where no pages clashed in it, all that is due of it was written.
 pub record HasRun {S O : Type 0} (asked : spec.Asked) (answer : Status) (before after : Outside S O) : Type 0 where
