@@ -3,8 +3,8 @@
 //! which it was made. What was stored is read off the steps: the instructions of the program's contexts, the bytes that
 //! READ copied in, forks and ends of spaces, and the bytes of the image (`specs/Deeds`).
 //!
-//! No body turns the law, so there is no wrong body to refuse here. With these changed definitions, tried on a copy, its
-//! proof did not go through: a fork makes pages of zeros; a load is told of with its value extended by its sign.
+//! No body turns the law, so there is no wrong body to refuse here. With this changed definition, tried on a copy, its
+//! proof did not go through: a fork makes pages of zeros.
 #![tactic(auto)]
 
 ghost use Rattle.latest_store.specs.LatestStore.{RunsGiveLatest};

@@ -7,7 +7,8 @@
 //! No body turns a law, so there is no wrong body to refuse here. These changed definitions were tried on a copy, and
 //! with none of them did the proofs of the law of Ciphers go through: a draw is not taken off the stream; without a
 //! draw the page's bytes are shown; a page is placed with the bytes that it had before; a store writes its page
-//! before it reaches it. With this one the law of loads did not: a load is told of with its value extended by its sign.
+//! before it reaches it. The law of loads was not proved where a load is told of with its value extended by its sign,
+//! and that of own pages not where a step is said to be of the hart whose turn is next.
 #![tactic(auto)]
 
 ghost use Rattle.store_law.specs.Ciphers.{CiphersHaveOwnDraws, CiphersShowPages};
