@@ -77,8 +77,10 @@ fn what_was_written_is_read(rt: HostRuntime) -> Result<(), Fail> {
     let mut reader = Reader::open("r");
     let mut kept = KeptItems::new();
     for item in items {
-        let tag = reader.next(&mut shelf, &mut kept).unwrap().unwrap();
-        assert_eq!(rt; *kept.item(tag), item);
+        match reader.next(&mut shelf, &mut kept) {
+            Ok(Some(tag)) => assert_eq!(rt; *kept.item(tag), item),
+            _ => assert!(rt; false, "no item"),
+        }
     }
     for _ in 0..2 {
         assert!(rt; matches!(reader.next(&mut shelf, &mut kept), Ok(None)));
