@@ -1,5 +1,5 @@
 -- What `view` and `solo` answer.
-use Rattle.std.proofs.Common.{◌≡◌, ◌<◌, ◌≤◌, ◌-◌, ◌^◌, ℕ, List, Option, Some, None, IfSome, Result, Ok, Err, refl, sym, ap, subst, ◌∙◌, inl, inr, length}
+use Rattle.std.proofs.Common.{◌≡◌, ◌<◌, ◌-◌, ◌^◌, ℕ, List, Option, Some, Err, refl, sym, ap, subst, ◌∙◌, inl, inr}
 use Rattle.outside_io.specs.Told.{SameFiles, Grows, GrowsByFront, Rose}
 use Rattle.cloak_model.specs.declared.image.Bundle.{Bundle}
 use Rattle.cloak_model.specs.declared.image.Program.{Program}
@@ -8,10 +8,9 @@ use Rattle.command_words.specs.Command as spec
 use Rattle.program_parts.specs.declared.refusal.Refusal.{Refusal}
 use Rattle.program_parts.specs.declared.refusal.Refusal.TheVariants as refusal
 use Rattle.program_parts.specs.declared.status.Status.{Status}
-use Rattle.program_parts.specs.declared.status.Status.TheVariants as status
 use Rattle.program_parts.specs.Bundles.{ReadsBundle}
-use Rattle.program_parts.specs.NoRun.{AsksFile, NoRun, IsRefused}
-use Rattle.program_parts.specs.Outside.{Outside, Output, FilesOutside, Raised}
+use Rattle.program_parts.specs.NoRun.{NoRun, IsRefused}
+use Rattle.program_parts.specs.Outside.{Outside, Output, Raised}
 use Rattle.program_parts.specs.Refusal.{status_of_refusal}
 use Rattle.program_parts.specs.Refusing.{Refuses}
 use Rattle.program_parts.proofs.FaultFacts.{raised}

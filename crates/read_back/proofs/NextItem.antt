@@ -1,22 +1,24 @@
 -- What the next item of a file says of it.
-use Rattle.std.proofs.Common.{◌≡◌, ℕ, ◌⊎◌, inl, inr, List, [], ◌∷◌, ◌++◌, drop, Option, Some, None, IfSome, Bool, true, false, Result, Ok, Err, refl, sym, ap, subst, ◌∙◌}
+use Rattle.std.proofs.Common.{◌≡◌, ℕ, inl, inr, List, [], ◌∷◌, ◌++◌, Option, Some, None, IfSome, Result, Ok, Err, ap, subst, ◌∙◌}
 use Rattle.outside_io.specs.Told.{Rose}
 use Rattle.outside_io.proofs.ToldFacts.{Rose-after}
 use Rattle.cloak_model.specs.declared.item.Item.{Item}
+use Rattle.cloak_model.specs.declared.record.Tag.{Tag}
 use Rattle.cloak_model.specs.declared.fault.RecordFault.{RecordFault}
 use Rattle.cloak_model.specs.Record.{IsRecord}
 use Rattle.record_reader.specs.Ahead.{readable}
 use Rattle.record_reader.specs.Reading.{IsBehind, ReadsNext, ReadsCount, HasFaultAt, item_read}
 use Rattle.record_reader.specs.declared.fault.NextFault.{NextFault}
 use Rattle.record_reader.specs.declared.fault.NextFault.TheVariants.{Read, Record}
+use Rattle.record_reader.specs.declared.kept.KeptItems.{KeptItems}
 use Rattle.record_reader.specs.declared.reader.Reader.{Reader}
 use Rattle.read_back.specs.Reading.{BeginsWith}
 
--- what a call of `next` says of a file, with the item that its caller keeps
-abbrev pub TellsNext : Option (List ℕ) → Reader → Reader → Result Bool NextFault → Item → Type 0
-TellsNext told was now result i =
+-- what a call of `next` says of a file, with the items that its caller keeps
+abbrev pub TellsNext : Option (List ℕ) → Reader → Reader → Result (Option Tag) NextFault → KeptItems → Type 0
+TellsNext told was now result kept =
     IfSome told (λ bytes. (front : List Item) → IsBehind was (readable bytes) front →
-    ReadsNext (readable bytes) front now (item_read result i))
+    ReadsNext (readable bytes) front now (item_read result kept))
 
 -- a file that is told, and not told
 told_by : (told told' : Option (List ℕ)) (P Q : List ℕ → Type 0) → told' ≡ told → IfSome told P →
@@ -30,46 +32,47 @@ told_map (Some bytes) P Q f fact = f bytes fact
 told_map None P Q f fact = tt
 
 -- what a result that is this one says behind these items
-at_front : (now : Option (List ℕ)) (was next : Reader) (r : Result Bool NextFault) (i : Item)
-    (s : Result (Option Item) NextFault) (items : List Item) → item_read r i ≡ s → TellsNext now was next r i →
+at_front : (now : Option (List ℕ)) (was next : Reader) (r : Result (Option Tag) NextFault) (kept : KeptItems)
+    (s : Result (Option Item) NextFault) (items : List Item) → item_read r kept ≡ s → TellsNext now was next r kept →
     IfSome now (λ bytes. IsBehind was (readable bytes) items → ReadsNext (readable bytes) items next s)
-at_front (Some bytes) was next r i s items is tells = λ behind.
+at_front (Some bytes) was next r kept s items is tells = λ behind.
     subst (λ (x : Result (Option Item) NextFault). ReadsNext (readable bytes) items next x) is (tells items behind)
-at_front None was next r i s items is tells = tt
+at_front None was next r kept s items is tells = tt
 
-next_read : (told now : Option (List ℕ)) (was next : Reader) (r : Result Bool NextFault) (i : Item)
-    (s : Result (Option Item) NextFault) → now ≡ told → item_read r i ≡ s → TellsNext now was next r i →
+next_read : (told now : Option (List ℕ)) (was next : Reader) (r : Result (Option Tag) NextFault) (kept : KeptItems)
+    (s : Result (Option Item) NextFault) → now ≡ told → item_read r kept ≡ s → TellsNext now was next r kept →
     (items : List Item) → IfSome told (λ bytes. IsBehind was (readable bytes) items) →
     IfSome told (λ bytes. ReadsNext (readable bytes) items next s)
-next_read told now was next r i s same is tells items behind =
+next_read told now was next r kept s same is tells items behind =
     told_by told now (λ bytes. IsBehind was (readable bytes) items) (λ bytes. ReadsNext (readable bytes) items next s) same
-    behind (at_front now was next r i s items is tells)
+    behind (at_front now was next r kept s items is tells)
 
-pub next_item : (told now : Option (List ℕ)) (was next : Reader) (r : Result Bool NextFault) (i : Item) →
-    now ≡ told → r ≡ Ok true → TellsNext now was next r i → (items : List Item) →
+pub next_item : (told now : Option (List ℕ)) (was next : Reader) (r : Result (Option Tag) NextFault) (kept : KeptItems)
+    (i : Item) → now ≡ told → item_read r kept ≡ Ok (Some i) → TellsNext now was next r kept → (items : List Item) →
     IfSome told (λ bytes. IsBehind was (readable bytes) items) →
     IfSome told (λ bytes. IsBehind next (readable bytes) (items ++ i ∷ []))
-next_item told now was next r i same is tells items behind =
+next_item told now was next r kept i same is tells items behind =
     told_map told (λ bytes. ReadsNext (readable bytes) items next (Ok (Some i)))
     (λ bytes. IsBehind next (readable bytes) (items ++ i ∷ [])) (λ bytes read. read.behind)
-    (next_read told now was next r i (Ok (Some i)) same (ap (λ x. item_read x i) is) tells items behind)
+    (next_read told now was next r kept (Ok (Some i)) same is tells items behind)
 
-pub next_none : (told now : Option (List ℕ)) (was next : Reader) (r : Result Bool NextFault) (i : Item) →
-    now ≡ told → r ≡ Ok false → TellsNext now was next r i → (items : List Item) →
+pub next_none : (told now : Option (List ℕ)) (was next : Reader) (r : Result (Option Tag) NextFault)
+    (kept : KeptItems) → now ≡ told → r ≡ Ok None → TellsNext now was next r kept → (items : List Item) →
     IfSome told (λ bytes. IsBehind was (readable bytes) items) →
     IfSome told (λ bytes. IsRecord (readable bytes) items)
-next_none told now was next r i same is tells items behind =
+next_none told now was next r kept same is tells items behind =
     told_map told (λ bytes. ReadsNext (readable bytes) items next (Ok None)) (λ bytes. IsRecord (readable bytes) items)
-    (λ bytes read. read.answer) (next_read told now was next r i (Ok None) same (ap (λ x. item_read x i) is) tells items behind)
+    (λ bytes read. read.answer) (next_read told now was next r kept (Ok None) same
+    (ap (λ x. item_read x kept) is) tells items behind)
 
-pub next_fault : (told now : Option (List ℕ)) (was next : Reader) (r : Result Bool NextFault) (i : Item)
-    (fault : RecordFault) → now ≡ told → r ≡ Err (Record fault) → TellsNext now was next r i → (items : List Item) →
+pub next_fault : (told now : Option (List ℕ)) (was next : Reader) (r : Result (Option Tag) NextFault)
+    (kept : KeptItems) (fault : RecordFault) → now ≡ told → r ≡ Err (Record fault) → TellsNext now was next r kept → (items : List Item) →
     IfSome told (λ bytes. IsBehind was (readable bytes) items) →
     IfSome told (λ bytes. HasFaultAt (readable bytes) items fault)
-next_fault told now was next r i fault same is tells items behind =
+next_fault told now was next r kept fault same is tells items behind =
     told_map told (λ bytes. ReadsNext (readable bytes) items next (Err (Record fault)))
     (λ bytes. HasFaultAt (readable bytes) items fault) (λ bytes read. read.answer)
-    (next_read told now was next r i (Err (Record fault)) same (ap (λ x. item_read x i) is) tells items behind)
+    (next_read told now was next r kept (Err (Record fault)) same (ap (λ x. item_read x kept) is) tells items behind)
 
 -- the file begins with the items behind which a reader stands
 begins : (reader : Reader) (items : List Item) (bytes : List ℕ) → IsBehind reader bytes items → BeginsWith bytes items

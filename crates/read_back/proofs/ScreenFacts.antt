@@ -2,7 +2,7 @@
 use Rattle.std.proofs.Common.{◌≡◌, ℕ, Bool, true, false, List, [], ◌∷◌, ◌++◌, Option, Result, Ok, Err, OnOk, OnErr, is_err, refl, sym, ap, subst, ◌∙◌}
 use Rattle.std.proofs.Common.{append-nil, append_assoc}
 use Rattle.cloak_base.specs.declared.causes.Failed.{Failed}
-use Rattle.outside_io.specs.Told.{Grows, GrowsByFront, Rose, Counts}
+use Rattle.outside_io.specs.Told.{Grows, GrowsByFront, Counts}
 use Rattle.outside_io.proofs.ToldFacts.{Grows-append, GrowsByFront-append, GrowsByFront-first, Rose-after}
 use Rattle.cloak_model.specs.Exchange.{Piece, recorded, shown, shown_bytes, Emits}
 use Rattle.read_back.specs.declared.screen.Screen.{Screen}

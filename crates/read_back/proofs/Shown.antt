@@ -1,12 +1,11 @@
 -- What was shown of a record that was read back.
-use Rattle.std.proofs.Common.{◌≡◌, ◌<◌, ◌-◌, ◌^◌, ℕ, Bool, true, false, List, [], ◌∷◌, ◌++◌, codes, Option, Some, None, Result, Ok, Err, refl, sym, ap, subst, ◌∙◌, inl, inr}
+use Rattle.std.proofs.Common.{◌≡◌, ℕ, Bool, true, false, List, [], ◌∷◌, ◌++◌, codes, Option, Some, None, Ok, Err, refl, sym, ap, subst, ◌∙◌, inl, inr}
 use Rattle.cloak_base.specs.declared.causes.Failed.{Failed}
 use Rattle.outside_io.specs.Told.{Grows, GrowsByFront, Rose, Puts}
 use Rattle.outside_io.proofs.ToldFacts.{Grows-none, Grows-append, GrowsByFront-append, GrowsByFront-first, Rose-after}
 use Rattle.cloak_model.specs.declared.image.KernelImage.{KernelImage}
 use Rattle.cloak_model.specs.declared.image.Program.{Program}
-use Rattle.cloak_model.specs.declared.item.Item.{Item}
-use Rattle.cloak_model.specs.Exchange.{Piece, shown, shown_each, shown_bytes, Emits}
+use Rattle.cloak_model.specs.Exchange.{shown_each, shown_bytes, Emits}
 use Rattle.cloak_model.specs.DomainAlone.{domain_alone}
 use Rattle.cloak_model.specs.DomainState.{domain_line}
 use Rattle.cloak_model.specs.KernelAlone.{kernel_alone}
@@ -16,9 +15,9 @@ use Rattle.alone_views.specs.declared.domain.DomainAlone.{DomainAlone}
 use Rattle.alone_views.specs.declared.kernel.KernelAlone.{KernelAlone}
 use Rattle.program_parts.specs.declared.status.Status.{Status}
 use Rattle.program_parts.specs.declared.status.Status.TheVariants as status
-use Rattle.program_parts.specs.Outside.{Outside, outside}
+use Rattle.program_parts.specs.Outside.{outside}
 use Rattle.read_back.specs.Answering.{viewed_unfit, viewed_text, program_unfit, program_text}
-use Rattle.read_back.specs.Reading.{status_of_ending, IsReadTo, ShowsRecord}
+use Rattle.read_back.specs.Reading.{status_of_ending, ShowsRecord}
 use Rattle.read_back.specs.Screen.{ShowsText, GaveScreen}
 use Rattle.read_back.specs.Text.{lines_or_fault, view_text}
 use Rattle.read_back.specs.Viewing.{ViewsTo, SolosTo}

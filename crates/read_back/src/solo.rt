@@ -16,11 +16,10 @@ ghost use Rattle.read_back.specs.Viewing.{SolosTo};
 use crate::ending::{Ending, show_fault, status};
 use alone_views::DomainAlone;
 use cloak_base::Failed;
-use cloak_model::Item;
 use command_words::SoloRequest;
 use outside_io::{Shelf, Sink};
 use program_parts::{Refusal, Status, read_bundle, refuse};
-use record_reader::{NextFault, Reader};
+use record_reader::{KeptItems, NextFault, Reader};
 use std::alloc::Global;
 
 /// Gives the items of a record to a program that runs alone, up to the first that does not fit or the first fault, and
@@ -35,15 +34,15 @@ fn read_program<S: Shelf>(program: &mut DomainAlone, name: &str, shelf: &mut S) 
     ensures writing { S.writing_faults shelf.new ≡ S.writing_faults shelf.old }
 {
     let mut reader = Reader::open(name);
-    let mut item = Item::End;
+    let mut kept = KeptItems::new();
     loop {
-        match reader.next(shelf, &mut item) {
-            Ok(true) => {
-                if let Err(unfit) = program.take(&item) {
+        match reader.next(shelf, &mut kept) {
+            Ok(Some(tag)) => {
+                if let Err(unfit) = program.take(kept.item(tag)) {
                     return Ending::Unfit(unfit.step);
                 }
             }
-            Ok(false) => return Ending::Whole,
+            Ok(None) => return Ending::Whole,
             Err(NextFault::Read) => return Ending::Unread,
             Err(NextFault::Record(fault)) => return Ending::Fault(fault),
         }

@@ -17,11 +17,10 @@ use crate::ending::{Ending, show_fault, status};
 use crate::screen::Screen;
 use alone_views::KernelAlone;
 use cloak_base::Failed;
-use cloak_model::Item;
 use command_words::RecordRequest;
 use outside_io::{Shelf, Sink, put_all};
 use program_parts::{Refusal, Status, read_bundle, refuse};
-use record_reader::{NextFault, Reader};
+use record_reader::{KeptItems, NextFault, Reader};
 use std::alloc::Global;
 
 /// Gives the items of a record to a kernel that runs alone, up to the first that does not fit or the first fault, and
@@ -42,15 +41,15 @@ fn read_kernel<S: Shelf, O: Sink>(
     ensures writing { S.writing_faults shelf.new ≡ S.writing_faults shelf.old }
 {
     let mut reader = Reader::open(name);
-    let mut item = Item::End;
+    let mut kept = KeptItems::new();
     while !screen.failed {
-        match reader.next(shelf, &mut item) {
-            Ok(true) => {
-                if let Err(unfit) = kernel.take(&item, screen) {
+        match reader.next(shelf, &mut kept) {
+            Ok(Some(tag)) => {
+                if let Err(unfit) = kernel.take(kept.item(tag), screen) {
                     return Some(Ending::Unfit(unfit.step));
                 }
             }
-            Ok(false) => return Some(Ending::Whole),
+            Ok(None) => return Some(Ending::Whole),
             Err(NextFault::Read) => return Some(Ending::Unread),
             Err(NextFault::Record(fault)) => return Some(Ending::Fault(fault)),
         }

@@ -1,5 +1,5 @@
 -- A window that has the whole item, or all that there is, is enough.
-use Rattle.std.proofs.Common.{◌≡◌, ℕ, zero, suc, ◌+◌, ◌-◌, ◌<◌, ◌≤◌, ◌⊎◌, Bool, true, false, not, ◌||◌, cond, ltb, List, [], ◌∷◌, length, get_or, take, drop, Option, Some, None, Ok, Err, refl, sym, ap, ◌∙◌, inl, inr, arith}
+use Rattle.std.proofs.Common.{◌≡◌, ℕ, zero, suc, ◌+◌, ◌-◌, ◌<◌, ◌≤◌, ◌⊎◌, Bool, true, false, not, ◌||◌, cond, ltb, List, [], ◌∷◌, length, get_or, take, drop, Option, Some, None, Ok, Err, refl, sym, ap, ◌∙◌, inl, inr, length-drop, arith}
 use Rattle.std.specs.Int.{w32, from_le_bytes}
 use Rattle.std.proofs.lemmas.Bool.{cases_lt, lt-ltb, le-ltb, ltb-true}
 use Rattle.std.proofs.lemmas.List.{drop-take, length-take, get_or-take, take_all}
@@ -8,7 +8,7 @@ use Rattle.cloak_model.specs.declared.record.Stage.TheVariants.{Opening, Steps, 
 use Rattle.cloak_model.specs.declared.record.Tag.{Tag}
 use Rattle.cloak_model.specs.declared.record.Tag.TheVariants as tag
 use Rattle.cloak_model.specs.declared.record.Wrong.{Wrong}
-use Rattle.cloak_model.specs.declared.record.Wrong.TheVariants.{Cut, NoTag, NoNumber}
+use Rattle.cloak_model.specs.declared.record.Wrong.TheVariants.{Cut, NoTag, NoNumber, More}
 use Rattle.cloak_model.specs.Fields.{number}
 use Rattle.cloak_model.specs.RecordFault.{tag_of, is_over, may_stand, wrong_item, wrong_behind}
 use Rattle.record_law.specs.Items.{size_of, has_bad_width, is_numbered}
@@ -204,22 +204,55 @@ numbered_by s o t fields numbered is may width whole right =
     let long : ltb (length fields) (size_of t) ≡ false = le-ltb _ _ whole in
     sym (ap (λ o. wrong_item s o fields) is ∙ wrong_item-tests s t fields ∙ rw (may, width, long, right) refl)
 
-pub tag_first : (bytes : List ℕ) → (length bytes ≡ 0 → ⊥) → front_tag bytes ≡ tag_of (get_or bytes 0 0)
+tag_first : (bytes : List ℕ) → (length bytes ≡ 0 → ⊥) → front_tag bytes ≡ tag_of (get_or bytes 0 0)
 tag_first [] some = absurd (some refl)
 tag_first (b ∷ fields) some = refl
 
-pub tag_none : (bytes : List ℕ) → length bytes ≡ 0 → front_tag bytes ≡ None
-tag_none [] none = refl
-tag_none (b ∷ fields) none = absurd (omega (arith, none))
-
-pub wrong_first : (s : Stage) (bytes : List ℕ) → is_over s ≡ false → (length bytes ≡ 0 → ⊥) → wrong_item s (tag_of (get_or bytes 0 0)) (drop 1 bytes) ≡ wrong_behind s bytes
+wrong_first : (s : Stage) (bytes : List ℕ) → is_over s ≡ false → (length bytes ≡ 0 → ⊥) → wrong_item s (tag_of (get_or bytes 0 0)) (drop 1 bytes) ≡ wrong_behind s bytes
 wrong_first s [] over some = absurd (some refl)
 wrong_first s (b ∷ fields) over some = sym (wrong_cons s b fields over)
 
-pub judged_wrong : (s : Stage) (w : List ℕ) (e : Wrong) → wrong_behind s w ≡ Some e → Err e ≡ judged s w
+judged_wrong : (s : Stage) (w : List ℕ) (e : Wrong) → wrong_behind s w ≡ Some e → Err e ≡ judged s w
 unfolding judged_by
 judged_wrong s w e is = sym (ap (λ o. judged_by o (front_tag w)) is)
 
-pub judged_right : (s : Stage) (w : List ℕ) (f : Option Tag) → wrong_behind s w ≡ None → front_tag w ≡ f → Ok f ≡ judged s w
+judged_right : (s : Stage) (w : List ℕ) (f : Option Tag) → wrong_behind s w ≡ None → front_tag w ≡ f → Ok f ≡ judged s w
 unfolding judged_by
 judged_right s w f is found = sym (ap (λ o. judged_by o (front_tag w)) is ∙ ap (λ o. judged_by None o) found)
+
+-- behind the first byte stands the rest
+pub rest : (bytes : List ℕ) → take (length bytes - 1) (drop 1 bytes) ≡ drop 1 bytes
+rest bytes = take_all (length bytes - 1) (drop 1 bytes) (omega (arith, length-drop 1 bytes))
+
+-- behind End
+pub over_none : (s : Stage) (bytes : List ℕ) → is_over s ≡ true → length bytes ≡ 0 → Ok None ≡ judged s bytes
+unfolding wrong_behind judged_by
+over_none Opening bytes over none = absurd cc
+over_none (Steps n) bytes over none = absurd cc
+over_none Closing bytes over none = absurd cc
+over_none Over [] over none = refl
+over_none Over (b ∷ fields) over none = absurd (omega (arith, none))
+
+pub over_more : (s : Stage) (bytes : List ℕ) → is_over s ≡ true → (length bytes ≡ 0 → ⊥) → Err More ≡ judged s bytes
+unfolding wrong_behind judged_by
+over_more Opening bytes over some = absurd cc
+over_more (Steps n) bytes over some = absurd cc
+over_more Closing bytes over some = absurd cc
+over_more Over [] over some = absurd (some refl)
+over_more Over (b ∷ fields) over some = refl
+
+-- an item is missing
+pub none_cut : (s : Stage) (bytes : List ℕ) → is_over s ≡ false → length bytes ≡ 0 → Err Cut ≡ judged s bytes
+unfolding wrong_behind judged_by
+none_cut Opening [] over none = refl
+none_cut (Steps n) [] over none = refl
+none_cut Closing [] over none = refl
+none_cut Over [] over none = absurd cc
+none_cut s (b ∷ fields) over none = absurd (omega (arith, none))
+
+-- the item at the front
+pub item_wrong : (s : Stage) (bytes : List ℕ) (e : Wrong) → is_over s ≡ false → (length bytes ≡ 0 → ⊥) → Some e ≡ wrong_item s (tag_of (get_or bytes 0 0)) (drop 1 bytes) → Err e ≡ judged s bytes
+item_wrong s bytes e over some is = judged_wrong s bytes e (sym (is ∙ wrong_first s bytes over some))
+
+pub item_right : (s : Stage) (bytes : List ℕ) → is_over s ≡ false → (length bytes ≡ 0 → ⊥) → None ≡ wrong_item s (tag_of (get_or bytes 0 0)) (drop 1 bytes) → Ok (tag_of (get_or bytes 0 0)) ≡ judged s bytes
+item_right s bytes over some is = judged_right s bytes (tag_of (get_or bytes 0 0)) (sym (is ∙ wrong_first s bytes over some)) (tag_first bytes some)

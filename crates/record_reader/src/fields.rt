@@ -1,6 +1,7 @@
 //! The fields of an item, behind its tag.
 ghost use Rattle.std.specs.Prelude.{◌≡◌, ◌+◌, ◌≤◌, length, take, drop};
 ghost use Rattle.cloak_model.specs.Fields as spec;
+ghost use Rattle.cloak_model.specs.declared.record.Tag.TheVariants as tag;
 ghost use Rattle.record_law.specs.Items as items;
 
 use cloak_base::Shown;
@@ -43,6 +44,54 @@ fn shown(fields: &[u8]) -> Shown
     }
 }
 
+/// Makes an item the Step of its fields.
+#[tactic(auto, unfolding(record_law::specs::Items::item_in))]
+pub fn set_step(fields: &[u8], item: &mut Item)
+    requires { 4 ≤ length fields.now }
+    ensures { item.new ≡ items.item_in tag.Step fields.now }
+{
+    match item {
+        Item::Step { number: n } => *n = number(fields, 0),
+        _ => {
+            *item = Item::Step {
+                number: number(fields, 0),
+            }
+        }
+    }
+}
+
+/// Makes an item the Ok of its fields.
+#[tactic(auto, unfolding(record_law::specs::Items::item_in))]
+pub fn set_ok(fields: &[u8], item: &mut Item)
+    requires { 1 ≤ length fields.now }
+    ensures { item.new ≡ items.item_in tag.Ok fields.now }
+{
+    match item {
+        Item::Ok { domain } => *domain = fields[0],
+        _ => *item = Item::Ok { domain: fields[0] },
+    }
+}
+
+/// Makes an item the Word of its fields.
+#[tactic(auto, unfolding(record_law::specs::Items::item_in))]
+pub fn set_word(fields: &[u8], item: &mut Item)
+    requires { 5 ≤ length fields.now }
+    ensures { item.new ≡ items.item_in tag.Word fields.now }
+{
+    match item {
+        Item::Word { domain, value } => {
+            *domain = fields[0];
+            *value = number(fields, 1);
+        }
+        _ => {
+            *item = Item::Word {
+                domain: fields[0],
+                value: number(fields, 1),
+            }
+        }
+    }
+}
+
 /// Makes an item the one of a tag and its fields.
 #[tactic(auto, unfolding(record_law::specs::Items::item_in))]
 pub fn set_item(tag: Tag, fields: &[u8], item: &mut Item)
@@ -64,30 +113,21 @@ pub fn set_item(tag: Tag, fields: &[u8], item: &mut Item)
             }
         }
         Tag::Leave => *item = Item::Leave(shown(fields)),
-        Tag::Step => {
-            *item = Item::Step {
-                number: number(fields, 0),
-            }
-        }
+        Tag::Step => set_step(fields, item),
         Tag::Close => {
             *item = Item::Close {
                 steps: number(fields, 0),
             }
         }
         Tag::End => *item = Item::End,
-        Tag::Ok => *item = Item::Ok { domain: fields[0] },
+        Tag::Ok => set_ok(fields, item),
         Tag::Absent => {
             *item = Item::Absent {
                 domain: fields[0],
                 cause: number(fields, 1),
             }
         }
-        Tag::Word => {
-            *item = Item::Word {
-                domain: fields[0],
-                value: number(fields, 1),
-            }
-        }
+        Tag::Word => set_word(fields, item),
         Tag::Timer => *item = Item::Timer { domain: fields[0] },
         Tag::Resume => {
             *item = Item::Resume {

@@ -62,37 +62,27 @@ fn is_over(stage: Stage) -> bool
     matches!(stage, Stage::Over)
 }
 
-/// What is wrong behind a stage with the bytes that there are.
-#[tactic(auto, unfolding(cloak_model::specs::RecordFault::wrong_behind))]
-fn wrong_behind(stage: Stage, bytes: &[u8]) -> Option<Wrong>
-    ensures { result ≡ spec.wrong_behind stage bytes.now }
-{
-    if is_over(stage) {
-        return if bytes.is_empty() {
-            None
-        } else {
-            Some(Wrong::More)
-        };
-    }
-    if bytes.is_empty() {
-        return Some(Wrong::Cut);
-    }
-    wrong_item(stage, tag_of(bytes[0]), &bytes[1..])
-}
-
 /// The tag of the item at the front of the bytes that there are; none at the end of a record.
 pub fn judge(stage: Stage, bytes: &[u8]) -> Result<Option<Tag>, Wrong>
     ensures judged { result ≡ judged stage bytes.now }
     ensures whole { IfOk result (λ found. IfSome found (λ t. items.size_of t < length bytes.now)) }
     ensures each { (i : ℕ) → slice_index bytes.now i < 256 }
 {
-    if let Some(wrong) = wrong_behind(stage, bytes) {
-        return Err(wrong);
+    if is_over(stage) {
+        return if bytes.is_empty() {
+            Ok(None)
+        } else {
+            Err(Wrong::More)
+        };
     }
     if bytes.is_empty() {
-        return Ok(None);
+        return Err(Wrong::Cut);
     }
-    Ok(tag_of(bytes[0]))
+    let tag = tag_of(bytes[0]);
+    match wrong_item(stage, tag, &bytes[1..]) {
+        None => Ok(tag),
+        Some(wrong) => Err(wrong),
+    }
 }
 
 /// The fault at the offset of an item, in a file of this size.

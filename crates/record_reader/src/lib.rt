@@ -2,14 +2,15 @@
 //!
 //! The layer above may rely on this: a `Reader` gives the items of a record (`cloak_model`, `specs/Record`) one after
 //! another and then none; of any other file the items before its first fault, and then that fault (`specs/RecordFault`),
-//! as often as it is asked. It fills the item that its caller keeps. It reads the file ahead, into a window of its own, and
-//! takes no memory.
+//! as often as it is asked. It makes the item in the place of its kind among those that its caller keeps. It reads the file
+//! ahead, into a window of its own, and takes no memory.
 #![tactic(auto)]
 
 mod ahead;
 mod fault;
 mod fields;
 mod judging;
+mod kept;
 mod law;
 mod reader;
 mod reading;
@@ -18,5 +19,6 @@ mod tags;
 mod tests;
 
 pub use fault::NextFault;
+pub use kept::KeptItems;
 pub use law::law_of_reading;
 pub use reader::Reader;

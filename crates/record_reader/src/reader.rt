@@ -1,16 +1,16 @@
 //! The reader of a record.
-ghost use Rattle.std.specs.Prelude.{◌≡◌, ◌<◌, ◌^◌, ℕ, List, [], true, Ok, IfOk, IfSome, OnErr};
+ghost use Rattle.std.specs.Prelude.{◌≡◌, ◌<◌, ◌^◌, ℕ, List, [], Some, None, Ok, IfSome, OnErr};
 ghost use Rattle.outside_io.specs.Told.{SameFiles};
 ghost use Rattle.cloak_model.specs.declared.item.Item.{Item};
+ghost use Rattle.cloak_model.specs.declared.record.Tag.{Tag};
 ghost use Rattle.cloak_model.specs.Record.{IsItem};
 
-use crate::NextFault;
 use crate::ahead::Ahead;
-use crate::fields::set_item;
 use crate::judging::{fault_of, judge, stage_after};
 use crate::reading::items_from;
 use crate::tags::size_of;
-use cloak_model::{Item, Stage};
+use crate::{KeptItems, NextFault};
+use cloak_model::{Stage, Tag};
 use outside_io::Shelf;
 
 /// Reads the items of a record, one after another, from a file that stays as it is meanwhile.
@@ -27,6 +27,7 @@ impl<'a> Reader<'a> {
     ghost use Rattle.record_reader.specs.Ahead.{readable};
     ghost use Rattle.record_reader.specs.Reading.{IsBehind, ReadsNext, ReadsCount, ReadsCounts, SamePlace};
     ghost use Rattle.record_reader.specs.Reading.{item_read, reader_offset};
+    ghost use Rattle.record_reader.specs.Kept.{kept_item};
 
     /// At the front of the file of this name.
     pub fn open(name: &'a str) -> Reader<'a>
@@ -42,18 +43,23 @@ impl<'a> Reader<'a> {
         }
     }
 
-    /// Makes `item` the next item, and says so; none is left behind End, where the file ends there, and `item` then
-    /// stays. A fault leaves `item` as it is, and the reader where it stands.
-    pub fn next<S: Shelf>(&mut self, shelf: &mut S, item: &mut Item) -> Result<bool, NextFault>
+    /// Reads the next item into its place among those that are kept, and tells its kind; none behind End, where the file
+    /// ends there. A fault leaves the reader where it stands.
+    pub fn next<S: Shelf>(
+        &mut self,
+        shelf: &mut S,
+        kept: &mut KeptItems,
+    ) -> Result<Option<Tag>, NextFault>
         ensures next { IfSome (S.held shelf.old self.old.name.now) (λ bytes. (front : List Item) →
             IsBehind self.old (readable bytes) front →
-            ReadsNext (readable bytes) front self.new (item_read result item.new)) }
-        ensures item { result ≡ Ok true → IsItem item.new }
-        ensures moves { result ≡ Ok true → reader_offset self.old < reader_offset self.new }
+            ReadsNext (readable bytes) front self.new (item_read result kept.new)) }
+        ensures item { (t : Tag) → result ≡ Ok (Some t) → IsItem (kept_item t kept.new) }
+        ensures moves { (t : Tag) → result ≡ Ok (Some t) → reader_offset self.old < reader_offset self.new }
         ensures within { reader_offset self.new < 2 ^ 64 }
         ensures same { self.new.name ≡ self.old.name }
         ensures unchanged { OnErr result (SamePlace self.old self.new) }
-        ensures item_stays { ¬ (result ≡ Ok true) → item.new ≡ item.old }
+        ensures kept_at_fault { OnErr result (kept.new ≡ kept.old) }
+        ensures kept_at_end { result ≡ Ok None → kept.new ≡ kept.old }
         ensures files { SameFiles (S.held shelf.old) (S.held shelf.new) }
         ensures counts { ReadsCounts (S.reading_faults shelf.old) (S.reading_faults shelf.new)
             (S.writing_faults shelf.old) (S.writing_faults shelf.new) result }
@@ -73,12 +79,12 @@ impl<'a> Reader<'a> {
         let bytes = self.ahead.from(from);
         match judge(self.stage, bytes) {
             Err(wrong) => Err(NextFault::Record(fault_of(from + bytes.len() as u64, from, wrong))),
-            Ok(None) => Ok(false),
+            Ok(None) => Ok(None),
             Ok(Some(tag)) => {
-                set_item(tag, &bytes[1..], item);
+                kept.set(tag, &bytes[1..]);
                 self.at = from.saturating_add(1 + size_of(tag) as u64);
-                self.stage = stage_after(self.stage, item);
-                Ok(true)
+                self.stage = stage_after(self.stage, kept.item(tag));
+                Ok(Some(tag))
             }
         }
     }

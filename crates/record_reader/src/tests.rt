@@ -7,11 +7,11 @@ use std::test::*;
 
 /// How many items are read, and what comes behind them.
 fn read_on(shelf: &mut MemoryShelf, reader: &mut Reader<'_>) -> (usize, Result<(), NextFault>) {
-    let mut item = Item::End;
+    let mut kept = KeptItems::new();
     for count in 0..100 {
-        match reader.next(shelf, &mut item) {
-            Ok(true) => {}
-            Ok(false) => return (count, Ok(())),
+        match reader.next(shelf, &mut kept) {
+            Ok(Some(_)) => {}
+            Ok(None) => return (count, Ok(())),
             Err(fault) => return (count, Err(fault)),
         }
     }
@@ -75,13 +75,15 @@ fn what_was_written_is_read(rt: HostRuntime) -> Result<(), Fail> {
         shelf.append("r", &buffer[..count])?;
     }
     let mut reader = Reader::open("r");
-    let mut read = Item::End;
+    let mut kept = KeptItems::new();
     for item in items {
-        assert_eq!(rt; reader.next(&mut shelf, &mut read), Ok(true));
-        assert_eq!(rt; read, item);
+        match reader.next(&mut shelf, &mut kept) {
+            Ok(Some(tag)) => assert_eq!(rt; *kept.item(tag), item),
+            _ => assert!(rt; false, "no item"),
+        }
     }
     for _ in 0..2 {
-        assert_eq!(rt; reader.next(&mut shelf, &mut read), Ok(false));
+        assert!(rt; matches!(reader.next(&mut shelf, &mut kept), Ok(None)));
     }
     Ok(())
 }

@@ -9,8 +9,8 @@ use Rattle.read_back.proofs.ProgramReads.{ProgramReads}
 use Rattle.read_back.proofs.solo.read_program.Given as goal
 
 -- the items so far fitted
-abbrev pub invariant-loop-program : goal.invariant-loop-program
-invariant-loop-program g l = record {
+abbrev pub invariant-loop-tag : goal.invariant-loop-tag
+invariant-loop-tag g l = record {
   solos : (d : ℕ) (k : KernelImage) (p : Program) → StandsForDomain d k.schedule l.fn.program (opened_domain d p) →
       ProgramReads d k p l.program (g.S.Shelf.held l.fn.shelf l.name) l.reader;
   named : l.reader.name.now ≡ l.name;
@@ -21,5 +21,5 @@ invariant-loop-program g l = record {
   low : reader_offset l.reader < 2 ^ 64;
 }
 
-abbrev pub decreases-loop-program : goal.decreases-loop-program
-decreases-loop-program g l = 2 ^ 64 - reader_offset l.reader
+abbrev pub decreases-loop-tag : goal.decreases-loop-tag
+decreases-loop-tag g l = 2 ^ 64 - reader_offset l.reader

@@ -1,6 +1,4 @@
-use Rattle.std.proofs.Common.{◌≡◌, None, refl}
 use Rattle.cloak_model.specs.DomainAlone.{domain_alone}
-use Rattle.read_back.specs.declared.ending.Ending.TheVariants as ending
 use Rattle.read_back.specs.Answering.{program_unfit}
 use Rattle.read_back.proofs.Lines.{fits_whole}
 use Rattle.read_back.proofs.Shown.{solo_whole, solo_cut}

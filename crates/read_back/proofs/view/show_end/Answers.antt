@@ -1,4 +1,4 @@
-use Rattle.std.proofs.Common.{◌≡◌, List, ℕ, codes, Ok, Err, refl, subst}
+use Rattle.std.proofs.Common.{codes, Ok, Err}
 use Rattle.cloak_model.specs.Report.{kernel_lines}
 use Rattle.program_parts.proofs.RefusalFacts.{puts, puts-first, puts-then, puts-failed}
 use Rattle.read_back.specs.Text.{lines_or_fault}
