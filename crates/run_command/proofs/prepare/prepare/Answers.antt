@@ -1,7 +1,8 @@
-use Rattle.std.proofs.Common.{◌∙◌, refl, subst}
+use Rattle.std.proofs.Common.{◌≡◌, ◌∙◌, List, Ok, refl, subst}
 use Rattle.std.specs.List.{AllByRecursion}
 use Rattle.cloak_model.specs.declared.image.Program.{Program}
 use Rattle.cloak_model.specs.declared.image.Segment.{Segment}
+use Rattle.cloak_model.specs.Opening.{opening}
 use Rattle.command_words.specs.Request.{randomness_of}
 use Rattle.item_law.specs.Writing.{AreBytes}
 use Rattle.run_command.proofs.PrepareFacts.{stream_before}
@@ -42,7 +43,10 @@ returns-in-Ok-open-clause-prepares g c =
           source = stream_before _ _ _ _ b.files s.stream.1;
         };
         opened = o.opened;
-        opens = o.opens;
+        opens = subst (λ (programs : List Program). opening (record {
+          kernel = c.in-Ok.bundle.kernel;
+          programs = programs;
+        }) c.in-Ok-open_stream.stream ≡ Ok o.opened) c.as_slice-4.ensures o.opens;
         stands = o.stands;
         programs = refl;
         few_steps = c.args.run.now.few_steps;
