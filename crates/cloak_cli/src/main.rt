@@ -22,6 +22,7 @@ use cloak_base::NoMemory;
 use outside_io::{FileShelf, StdSink};
 use program_parts::Status;
 use std::fs::{File, OpenOptions};
+use std::io::ErrorKind;
 use std::process::ExitCode;
 use std::{env, io};
 
@@ -41,8 +42,14 @@ fn hold_streams(rt: &HostRuntime) -> io::Result<Held> {
 
 /// The words after the program's name.
 fn command_words(rt: &HostRuntime) -> Words {
-    let Ok(mut words) = env::args(rt) else {
-        return Words::NotText;
+    let mut words = match env::args(rt) {
+        Ok(words) => words,
+        Err(fault) => {
+            return match fault.kind() {
+                ErrorKind::OutOfMemory => Words::NoMemory,
+                _ => Words::NotText,
+            };
+        }
     };
     words.next();
     match words.collect(rt.alloc()) {
