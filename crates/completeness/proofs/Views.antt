@@ -22,7 +22,7 @@ use Rattle.cloak_model.specs.RecordFault.{Begins, byte_of}
 use Rattle.record_law.proofs.Spelling.{fields_of, item_bytes-parts, tag_at}
 use Rattle.record_law.proofs.Judged.{not_both, one_record, same_item}
 use Rattle.domain_isolation.proofs.Ignoring.{taken_append}
-use Rattle.record_reader.specs.Reading.{readable}
+use Rattle.record_reader.specs.Ahead.{readable}
 use Rattle.outside_io.specs.Told.{Grows, SameFiles}
 use Rattle.command_words.specs.declared.usage_fault.UsageFault.{UsageFault}
 use Rattle.command_words.specs.Command as spec

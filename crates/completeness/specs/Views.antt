@@ -4,7 +4,7 @@ use Rattle.cloak_model.specs.declared.image.Bundle.{Bundle}
 use Rattle.cloak_model.specs.declared.image.Program.{Program}
 use Rattle.cloak_model.specs.declared.item.Item.{Item}
 use Rattle.cloak_model.specs.Record.{IsRecord}
-use Rattle.record_reader.specs.Reading.{readable}
+use Rattle.record_reader.specs.Ahead.{readable}
 use Rattle.command_words.specs.Command as spec
 use Rattle.program_parts.specs.declared.status.Status.{Status}
 use Rattle.program_parts.specs.declared.status.Status.TheVariants as status
