@@ -9,7 +9,7 @@ ghost use Rattle.cloak_model.specs.DomainState.{domain_line};
 ghost use Rattle.cloak_model.specs.DomainStep.{domain_step, resume_slot};
 ghost use Rattle.cloak_model.specs.World.{Alone, Handed};
 ghost use Rattle.hypercalls.specs.Standing.{StandsFor, control_of, number_of};
-ghost use Rattle.outside_io.specs.Told.{Puts};
+ghost use Rattle.outside_io.specs.Told.{Counts, Puts};
 ghost use Rattle.alone_views.specs.Side.{answers_in, one_answer};
 
 use crate::side::{HandedSide, Handing};
@@ -109,10 +109,11 @@ impl DomainAlone {
 
     /// Ends the program, and writes its line of the report. One that failed has written a front of it.
     pub fn report<O: Sink>(self, out: &mut O) -> Result<(), Failed>
-        ensures { (number : ℕ) (schedule : List ℕ) (s : spec.DomainAlone) →
+        ensures puts { (number : ℕ) (schedule : List ℕ) (s : spec.DomainAlone) →
             StandsForDomain number schedule self s → s.unfit ≡ None → length s.part.domain.loads < 2 ^ 64 →
             Puts (O.taken out.old) (O.taken out.new) (O.faults out.old) (O.faults out.new)
             (domain_line s.part.domain) result }
+        ensures faults { Counts (O.faults out.old) (O.faults out.new) result }
     {
         let DomainAlone { domain, .. } = self;
         let mut line = [0; 256];

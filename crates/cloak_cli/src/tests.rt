@@ -317,3 +317,26 @@ fn failing_calls(rt: HostRuntime) -> Result<(), Fail> {
     }
     Ok(())
 }
+
+/// `view` of the smallest run, whose Nth call on the files fails. Calls 1 and 2 read the image; call 3 begins to read the
+/// record, and later ones find its end.
+#[test]
+fn failing_calls_of_view(rt: HostRuntime) -> Result<(), Fail> {
+    for (call, before) in [(1, ""), (2, ""), (3, "\n"), (4, "\n")] {
+        let mut shelf = MemoryShelf::open(rt.alloc(), vec![in rt.alloc(); call]?);
+        shelf.add("a.b", &SMALLEST)?;
+        shelf.add("a.r", &RECORD)?;
+        let mut sink = MemorySink::open(rt.alloc(), Vec::new(rt.alloc()));
+        let mut words = Vec::new(rt.alloc());
+        for word in ["view", "a.b", "a.r"] {
+            words.push(String::from_str(rt.alloc(), word)?)?;
+        }
+        let status = run_program(rt.alloc(), &Words::Taken(words), &mut shelf, &mut sink);
+        assert_eq!(rt; status, Status::ReadFault, "{call}");
+        let shown = sink.taken();
+        let shown = shown.strip_prefix(b"A").unwrap_or(shown);
+        let shown = shown.strip_prefix(before.as_bytes()).unwrap_or(b"");
+        assert_eq!(rt; shown, b"read fault\n".as_slice(), "{call}");
+    }
+    Ok(())
+}

@@ -4,7 +4,7 @@ use Rattle.read_back.proofs.solo.show_end.Goals as goal
 
 pub returns-in-Whole : goal.returns-in-Whole
 returns-in-Whole g c = λ number turns s stands few fits.
-    rw c.in-Whole.is (c.report.ensures number turns s stands (fits c.in-Whole.is) few)
+    rw c.in-Whole.is (c.report.ensures.puts number turns s stands (fits c.in-Whole.is) few)
 
 pub returns-in_default : goal.returns-in_default
 returns-in_default g c = λ number turns s stands few fits.
