@@ -12,6 +12,7 @@ ghost use Rattle.hypercalls.specs.Standing.{StandsFor, control_of, number_of};
 ghost use Rattle.outside_io.specs.Told.{Puts};
 ghost use Rattle.alone_views.specs.Side.{answers_in, one_answer};
 
+use crate::asked::Asked;
 use crate::side::{HandedSide, Handing};
 use crate::unfit::Unfit;
 use cloak_base::{Failed, HartId, NoMemory};
@@ -95,6 +96,11 @@ impl DomainAlone {
             }
             Some(unfit) => Err(unfit),
         }
+    }
+
+    /// What the step asked to which the last answer belongs: its first two questions, in order.
+    pub fn asked(&self) -> [Asked; 2] {
+        self.side.asked
     }
 
     /// What an item is answered.

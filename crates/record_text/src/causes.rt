@@ -1,0 +1,45 @@
+//! The names of causes, as the privileged manual has them, and of calls.
+
+use kernel_report::lines::{SoFar, hexadecimal, text};
+use outside_io::Sink;
+
+/// The name of the cause of a trap (RISC-V privileged manual, scause).
+pub fn cause_name(cause: u32) -> &'static str {
+    match cause {
+        0 => "instruction address misaligned",
+        1 => "instruction access fault",
+        2 => "illegal instruction",
+        3 => "breakpoint",
+        4 => "load address misaligned",
+        5 => "load access fault",
+        6 => "store address misaligned",
+        7 => "store access fault",
+        8 => "environment call from U-mode",
+        12 => "instruction page fault",
+        13 => "load page fault",
+        15 => "store page fault",
+        0x8000_0005 => "supervisor timer interrupt",
+        _ => "unknown cause",
+    }
+}
+
+/// The name of a call to the kernel or of an end that a context leaves with.
+pub fn call_name(number: u32) -> &'static str {
+    match number {
+        1 => "WRITE",
+        2 => "OPEN",
+        3 => "READ",
+        0x4f56_0007 => "EXIT",
+        _ => "call",
+    }
+}
+
+/// A word in eight hexadecimal digits.
+pub fn put_word<O: Sink>(out: &mut O, so_far: SoFar, word: u32) -> SoFar {
+    hexadecimal(out, so_far, word)
+}
+
+/// A name.
+pub fn put_name<O: Sink>(out: &mut O, so_far: SoFar, name: &str) -> SoFar {
+    text(out, so_far, name.as_bytes())
+}

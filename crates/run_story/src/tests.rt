@@ -1,0 +1,1 @@
+//! Records of runs that were stopped, as they are told.
