@@ -14,5 +14,7 @@ pub enum Asked {
         kind: Kind,
     },
     /// An access to an address that is not cloaked.
-    Uncloaked { address: u32 },
+    Uncloaked {
+        address: u32,
+    },
 }

@@ -26,7 +26,11 @@ fn place_file<S: Shelf>(
     let start = 4096 * block as usize;
     if start > disk.len() || bytes.len() > disk.len() - start {
         let room = disk.len().saturating_sub(start);
-        return Err(at_key(part, Key::Block, Wrong::NoRoom(room.min(u32::MAX as usize) as u32)));
+        return Err(at_key(
+            part,
+            Key::Block,
+            Wrong::NoRoom(room.min(u32::MAX as usize) as u32),
+        ));
     }
     disk[start..start + bytes.len()].copy_from_slice(bytes.as_slice());
     Ok(())

@@ -48,9 +48,16 @@ pub enum PackFault {
     /// The manifest has more bytes than 1,048,576.
     LongManifest,
     /// What stands at a key is wrong.
-    AtKey { part: Part, key: Key, wrong: Wrong },
+    AtKey {
+        part: Part,
+        key: Key,
+        wrong: Wrong,
+    },
     /// There is no key of this name in this table.
-    UnknownKey { part: Part, name: String },
+    UnknownKey {
+        part: Part,
+        name: String,
+    },
     /// The assembler text of this file is faulty.
     FaultyText {
         part: Part,

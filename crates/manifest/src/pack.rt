@@ -28,11 +28,7 @@ fn document(alloc: Global, bytes: &[u8]) -> Result<Value, PackFault> {
 }
 
 /// The bundle that the manifest of a file means.
-fn packed<S: Shelf>(
-    alloc: Global,
-    shelf: &mut S,
-    manifest: &str,
-) -> Result<Bundle, PackFault>
+fn packed<S: Shelf>(alloc: Global, shelf: &mut S, manifest: &str) -> Result<Bundle, PackFault>
     requires { S.is_settled shelf.old }
     ensures settled { S.is_settled shelf.new }
 {

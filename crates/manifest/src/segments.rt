@@ -31,7 +31,10 @@ fn segment<S: Shelf>(
     let address = needed_number(table, part, Key::Address, RAM_START, u32::MAX)?;
     let bytes = source(alloc, shelf, folder, table, part)?;
     let end = u64::from(RAM_START) + 4096 * u64::from(frames);
-    if address < RAM_START || u64::from(address) > end || bytes.len() as u64 > end - u64::from(address) {
+    if address < RAM_START
+        || u64::from(address) > end
+        || bytes.len() as u64 > end - u64::from(address)
+    {
         return Err(at_key(part, Key::Address, Wrong::PastRam));
     }
     Ok(Segment {

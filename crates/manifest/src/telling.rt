@@ -58,7 +58,12 @@ fn put_wrong<O: Sink>(out: &mut O, wrong: Wrong) -> Result<(), Failed> {
         Wrong::TwoSources => put_all(out, b"it stands beside `text`; one of both is to go"),
         Wrong::NoFile => put_all(out, b"the file is empty, or not there"),
         Wrong::NoRoom(room) => {
-            put_between(out, b"there is room for ", room, b" bytes, and there are more")
+            put_between(
+                out,
+                b"there is room for ",
+                room,
+                b" bytes, and there are more",
+            )
         }
         Wrong::PastRam => put_all(out, b"what begins here goes past the end of RAM"),
         Wrong::PastAddresses => put_all(out, b"the pages that begin here go past the last address"),
