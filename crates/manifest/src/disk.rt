@@ -1,4 +1,5 @@
 //! The disk of an image.
+ghost use Rattle.std.specs.Prelude.{◌≡◌, ◌≤◌, ◌*◌, ◌%◌, IfOk, length};
 
 use crate::fault::{PackFault, Wrong, at_key};
 use crate::fields::{list, needed_number, only_keys};
@@ -18,6 +19,7 @@ fn place_file<S: Shelf>(
     disk: &mut [u8],
 ) -> Result<(), PackFault>
     requires { S.is_settled shelf.old }
+    ensures same_length { length disk.new ≡ length disk.old }
     ensures settled { S.is_settled shelf.new }
 {
     only_keys(alloc, table, part, &[Key::Block, Key::Text, Key::Bytes])?;
@@ -44,6 +46,8 @@ pub fn disk<S: Shelf>(
     document: &Value,
 ) -> Result<Vec<u8>, PackFault>
     requires { S.is_settled shelf.old }
+    ensures blocks { IfOk result (λ v. length v.items % 4096 ≡ 0) }
+    ensures few { IfOk result (λ v. length v.items ≤ 4096 * 4096) }
     ensures settled { S.is_settled shelf.new }
 {
     let Some(table) = document.get(Key::Disk.name()) else {
@@ -57,7 +61,7 @@ pub fn disk<S: Shelf>(
     let mut bytes = vec![in alloc; 0; blocks.min(4096) as usize * 4096]?;
     let mut count = 0;
     for file in list(table, Part::Disk, Key::File)? {
-        count += 1;
+        count = u32::saturating_add(count, 1);
         place_file(alloc, shelf, folder, file, Part::File(count), &mut bytes)?;
     }
     Ok(bytes)

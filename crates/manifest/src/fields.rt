@@ -1,4 +1,5 @@
 //! What stands at the keys of a table.
+ghost use Rattle.std.specs.Prelude.{◌≤◌, IfOk, IfSome};
 
 use crate::fault::{PackFault, Wrong, at_key};
 use crate::key::{Key, Part};
@@ -12,7 +13,9 @@ pub fn number(
     key: Key,
     least: u32,
     most: u32,
-) -> Result<Option<u32>, PackFault> {
+) -> Result<Option<u32>, PackFault>
+    ensures { IfOk result (λ found. IfSome found (λ n. (least ≤ n) × (n ≤ most))) }
+{
     let Some(value) = table.get(key.name()) else {
         return Ok(None);
     };
@@ -23,7 +26,9 @@ pub fn number(
 }
 
 /// The number from `least` to `most` that a value is.
-pub fn in_range(value: &Value, least: u32, most: u32) -> Option<u32> {
+pub fn in_range(value: &Value, least: u32, most: u32) -> Option<u32>
+    ensures { IfSome result (λ n. (least ≤ n) × (n ≤ most)) }
+{
     let Some(number) = value.as_integer() else {
         return None;
     };
@@ -40,7 +45,9 @@ pub fn needed_number(
     key: Key,
     least: u32,
     most: u32,
-) -> Result<u32, PackFault> {
+) -> Result<u32, PackFault>
+    ensures { IfOk result (λ n. (least ≤ n) × (n ≤ most)) }
+{
     match number(table, part, key, least, most)? {
         Some(number) => Ok(number),
         None => Err(at_key(part, key, Wrong::Missing)),

@@ -1,8 +1,8 @@
 //! The bundle that a manifest means.
-ghost use Rattle.std.specs.Prelude.{◌≡◌, IfOk};
-ghost use Rattle.cloak_model.specs.Bundle.{IsInGrammar};
+ghost use Rattle.std.specs.Prelude.{◌≡◌, ◌≤◌, ◌%◌, IfOk, length};
+ghost use Rattle.cloak_model.specs.Bundle.{IsInGrammar, IsKernelImage};
 
-use crate::check::file_length;
+use crate::check::room_behind;
 use crate::disk::disk;
 use crate::fault::{PackFault, Wrong, at_key};
 use crate::fields::{list, number, only_keys};
@@ -27,7 +27,9 @@ const KEYS: [Key; 7] = [
 ];
 
 /// The list of tables at a key, of at most so many.
-fn few(document: &Value, key: Key, most: u32) -> Result<&[Value], PackFault> {
+fn few(document: &Value, key: Key, most: u32) -> Result<&[Value], PackFault>
+    ensures { IfOk result (λ tables. length tables.now ≤ most) }
+{
     let tables = list(document, Part::Image, key)?;
     if tables.len() > most as usize {
         return Err(at_key(Part::Image, key, Wrong::TooMany(most)));
@@ -36,7 +38,9 @@ fn few(document: &Value, key: Key, most: u32) -> Result<&[Value], PackFault> {
 }
 
 /// The program counter at which the harts begin.
-fn entry(document: &Value) -> Result<u32, PackFault> {
+fn entry(document: &Value) -> Result<u32, PackFault>
+    ensures { IfOk result (λ n. n % 4 ≡ 0) }
+{
     let entry = number(document, Part::Image, Key::Entry, 0, u32::MAX)?.unwrap_or(RAM_START);
     if entry % 4 != 0 {
         return Err(at_key(Part::Image, Key::Entry, Wrong::NoMultiple(4)));
@@ -52,6 +56,7 @@ fn kernel<S: Shelf>(
     document: &Value,
 ) -> Result<KernelImage, PackFault>
     requires { S.is_settled shelf.old }
+    ensures in_image { IfOk result IsKernelImage }
     ensures settled { S.is_settled shelf.new }
 {
     let frames = number(document, Part::Image, Key::Frames, 64, 4096)?.unwrap_or(64);
@@ -79,6 +84,7 @@ pub fn bundle_of<S: Shelf>(
     document: &Value,
 ) -> Result<Bundle, PackFault>
     requires { S.is_settled shelf.old }
+    ensures in_grammar { IfOk result IsInGrammar }
     ensures settled { S.is_settled shelf.new }
 {
     only_keys(alloc, document, Part::Image, &KEYS)?;
@@ -89,7 +95,7 @@ pub fn bundle_of<S: Shelf>(
         kernel,
         programs: Sequence::new(programs),
     };
-    if file_length(&bundle) > 67_108_864 {
+    if room_behind(&bundle).is_none() {
         return Err(at_key(Part::Image, Key::Segment, Wrong::TooLarge));
     }
     Ok(bundle)

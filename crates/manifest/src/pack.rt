@@ -1,4 +1,6 @@
 //! The command `pack`.
+ghost use Rattle.std.specs.Prelude.{◌≡◌, IfOk};
+ghost use Rattle.cloak_model.specs.Bundle.{IsInGrammar};
 
 use crate::fault::PackFault;
 use crate::image::bundle_of;
@@ -30,6 +32,7 @@ fn document(alloc: Global, bytes: &[u8]) -> Result<Value, PackFault> {
 /// The bundle that the manifest of a file means.
 fn packed<S: Shelf>(alloc: Global, shelf: &mut S, manifest: &str) -> Result<Bundle, PackFault>
     requires { S.is_settled shelf.old }
+    ensures in_grammar { IfOk result IsInGrammar }
     ensures settled { S.is_settled shelf.new }
 {
     let bytes = match read_whole(alloc, shelf, manifest, LARGEST_MANIFEST) {

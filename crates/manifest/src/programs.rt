@@ -1,5 +1,5 @@
 //! The programs of an image.
-ghost use Rattle.std.specs.Prelude.{◌≡◌, ◌*◌, ◌≤◌, length, All, IfOk};
+ghost use Rattle.std.specs.Prelude.{◌≡◌, ◌+◌, ◌*◌, ◌%◌, ◌^◌, ◌≤◌, ◌<◌, length, All, IfOk};
 ghost use Rattle.cloak_model.specs.Bundle.{IsProgramIn};
 
 use crate::fault::{PackFault, Wrong, at_key};
@@ -24,13 +24,19 @@ const KEYS: [Key; 7] = [
 ];
 
 /// How many pages so many bytes take, one at least.
-fn pages_for(length: usize) -> u32 {
+fn pages_for(length: usize) -> u32
+    ensures { 1 ≤ result }
+{
     length.div_ceil(4096).clamp(1, 4096) as u32
 }
 
 /// A multiple of a number, at a key.
-fn multiple(part: Part, key: Key, of: u32, value: u32) -> Result<u32, PackFault> {
-    if value.checked_rem(of) == Some(0) {
+fn multiple(part: Part, key: Key, of: u32, value: u32) -> Result<u32, PackFault>
+    requires { 0 < of }
+    ensures same { IfOk result (λ n. n ≡ value) }
+    ensures multiple { IfOk result (λ n. n % of ≡ 0) }
+{
+    if value % of == 0 {
         Ok(value)
     } else {
         Err(at_key(part, key, Wrong::NoMultiple(of)))
@@ -38,7 +44,10 @@ fn multiple(part: Part, key: Key, of: u32, value: u32) -> Result<u32, PackFault>
 }
 
 /// These bytes with zeros behind them, in so many pages.
-fn padded(bytes: Vec<u8>, pages: u32) -> Result<Vec<u8>, AllocError> {
+fn padded(bytes: Vec<u8>, pages: u32) -> Result<Vec<u8>, AllocError>
+    requires { pages ≤ 1024 }
+    ensures { IfOk result (λ v. length v.items ≡ 4096 * pages) }
+{
     let mut bytes = bytes;
     let length = 4096 * pages as usize;
     bytes.resize(length, 0)?;
@@ -46,7 +55,14 @@ fn padded(bytes: Vec<u8>, pages: u32) -> Result<Vec<u8>, AllocError> {
 }
 
 /// Where a program begins, of so many pages.
-fn start(table: &Value, part: Part, pages: u32) -> Result<Start, PackFault> {
+fn start(table: &Value, part: Part, pages: u32) -> Result<Start, PackFault>
+    ensures pages { IfOk result (λ s. s.pages ≡ pages) }
+    ensures base { IfOk result (λ s. s.base % 4096 ≡ 0) }
+    ensures top { IfOk result (λ s. s.base + 4096 * s.pages ≤ 2 ^ 32) }
+    ensures entry { IfOk result (λ s. s.entry % 4 ≡ 0) }
+    ensures entry_fits { IfOk result (λ s. s.entry < 2 ^ 32) }
+    ensures stack_fits { IfOk result (λ s. s.sp < 2 ^ 32) }
+{
     let base = needed_number(table, part, Key::Base, 0, u32::MAX)?;
     let base = multiple(part, Key::Base, 4096, base)?;
     let top = u64::from(base) + 4096 * u64::from(pages);
@@ -65,6 +81,36 @@ fn start(table: &Value, part: Part, pages: u32) -> Result<Start, PackFault> {
     })
 }
 
+/// How many pages a program has, which its bytes fit in.
+fn pages_of(table: &Value, part: Part, length: usize) -> Result<u32, PackFault>
+    ensures some { IfOk result (λ n. 1 ≤ n) }
+    ensures few { IfOk result (λ n. n ≤ 1024) }
+    ensures room { IfOk result (λ n. length ≤ 4096 * n) }
+{
+    let pages = match number(table, part, Key::Pages, 1, 1024)? {
+        Some(pages) => pages,
+        None => pages_for(length),
+    };
+    if pages > 1024 {
+        return Err(at_key(part, Key::Bytes, Wrong::NoRoom(4096 * 1024)));
+    }
+    if length > 4096 * pages as usize {
+        return Err(at_key(part, Key::Pages, Wrong::NoRoom(4096 * pages)));
+    }
+    Ok(pages)
+}
+
+/// The frame of the first of some pages.
+fn place_of(table: &Value, part: Part, frames: u32, pages: u32) -> Result<u32, PackFault>
+    ensures { IfOk result (λ place. place + pages ≤ frames) }
+{
+    let place = needed_number(table, part, Key::Place, 0, 4095)?;
+    if u64::from(place) + u64::from(pages) > u64::from(frames) {
+        return Err(at_key(part, Key::Place, Wrong::PastRam));
+    }
+    Ok(place)
+}
+
 /// A program of a manifest.
 fn program<S: Shelf>(
     alloc: Global,
@@ -75,21 +121,13 @@ fn program<S: Shelf>(
     frames: u32,
 ) -> Result<Program, PackFault>
     requires { S.is_settled shelf.old }
+    ensures in_image { IfOk result (IsProgramIn frames) }
     ensures settled { S.is_settled shelf.new }
 {
     only_keys(alloc, table, part, &KEYS)?;
     let bytes = source(alloc, shelf, folder, table, part)?;
-    let pages = number(table, part, Key::Pages, 1, 1024)?.unwrap_or(pages_for(bytes.len()));
-    if pages > 1024 {
-        return Err(at_key(part, Key::Bytes, Wrong::NoRoom(4096 * 1024)));
-    }
-    if bytes.len() > 4096 * pages as usize {
-        return Err(at_key(part, Key::Pages, Wrong::NoRoom(4096 * pages)));
-    }
-    let place = needed_number(table, part, Key::Place, 0, 4095)?;
-    if u64::from(place) + u64::from(pages) > u64::from(frames) {
-        return Err(at_key(part, Key::Place, Wrong::PastRam));
-    }
+    let pages = pages_of(table, part, bytes.len())?;
+    let place = place_of(table, part, frames, pages)?;
     let start = start(table, part, pages)?;
     Ok(Program {
         place,
@@ -107,12 +145,14 @@ pub fn programs<S: Shelf>(
     frames: u32,
 ) -> Result<Vec<Program>, PackFault>
     requires { S.is_settled shelf.old }
+    ensures count { IfOk result (λ v. length v.items ≡ length tables.now) }
+    ensures in_image { IfOk result (λ v. All (IsProgramIn frames) v.items) }
     ensures settled { S.is_settled shelf.new }
 {
     let mut programs = Vec::new(alloc);
     let mut count = 0;
     for table in tables {
-        count += 1;
+        count = u32::saturating_add(count, 1);
         let program = program(alloc, shelf, folder, table, Part::Program(count), frames)?;
         programs.push(program)?;
     }

@@ -1,5 +1,5 @@
 //! The segments of an image.
-ghost use Rattle.std.specs.Prelude.{◌≡◌, All, IfOk};
+ghost use Rattle.std.specs.Prelude.{◌≡◌, ◌≤◌, All, IfOk, length};
 ghost use Rattle.cloak_model.specs.Bundle.{IsSegmentIn};
 
 use crate::fault::{PackFault, Wrong, at_key};
@@ -23,8 +23,9 @@ fn segment<S: Shelf>(
     part: Part,
     frames: u32,
 ) -> Result<Segment, PackFault>
-    requires { S.is_settled shelf.old }
-    ensures { IfOk result (IsSegmentIn frames) }
+    requires settled { S.is_settled shelf.old }
+    requires frames { frames ≤ 4096 }
+    ensures in_ram { IfOk result (IsSegmentIn frames) }
     ensures settled { S.is_settled shelf.new }
 {
     only_keys(alloc, table, part, &[Key::Address, Key::Text, Key::Bytes])?;
@@ -51,14 +52,16 @@ pub fn segments<S: Shelf>(
     tables: &[Value],
     frames: u32,
 ) -> Result<Vec<Segment>, PackFault>
-    requires { S.is_settled shelf.old }
-    ensures { IfOk result (λ v. All (IsSegmentIn frames) v.items) }
+    requires settled { S.is_settled shelf.old }
+    requires frames { frames ≤ 4096 }
+    ensures count { IfOk result (λ v. length v.items ≡ length tables.now) }
+    ensures in_ram { IfOk result (λ v. All (IsSegmentIn frames) v.items) }
     ensures settled { S.is_settled shelf.new }
 {
     let mut segments = Vec::new(alloc);
     let mut count = 0;
     for table in tables {
-        count += 1;
+        count = u32::saturating_add(count, 1);
         let segment = segment(alloc, shelf, folder, table, Part::Segment(count), frames)?;
         segments.push(segment)?;
     }

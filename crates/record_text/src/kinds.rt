@@ -66,15 +66,33 @@ impl Kinds {
     fn named(name: &str) -> Option<Kinds> {
         let none = Kinds::none();
         match name {
-            "cipher" => Some(Kinds { cipher: true, ..none }),
+            "cipher" => Some(Kinds {
+                cipher: true,
+                ..none
+            }),
             "put" => Some(Kinds { put: true, ..none }),
-            "leave" => Some(Kinds { leave: true, ..none }),
+            "leave" => Some(Kinds {
+                leave: true,
+                ..none
+            }),
             "ok" => Some(Kinds { ok: true, ..none }),
-            "absent" => Some(Kinds { absent: true, ..none }),
+            "absent" => Some(Kinds {
+                absent: true,
+                ..none
+            }),
             "word" => Some(Kinds { word: true, ..none }),
-            "timer" => Some(Kinds { timer: true, ..none }),
-            "resume" => Some(Kinds { resume: true, ..none }),
-            "stopped" => Some(Kinds { stopped: true, ..none }),
+            "timer" => Some(Kinds {
+                timer: true,
+                ..none
+            }),
+            "resume" => Some(Kinds {
+                resume: true,
+                ..none
+            }),
+            "stopped" => Some(Kinds {
+                stopped: true,
+                ..none
+            }),
             "outward" => Some(Kinds::halves(true, false)),
             "inward" => Some(Kinds::halves(false, true)),
             _ => None,

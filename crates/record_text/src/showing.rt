@@ -48,11 +48,7 @@ fn ended<O: Sink>(out: &mut O, so_far: SoFar, line: Line, ending: Ending) -> Opt
 }
 
 /// Counts the items of a record that are chosen, and answers how reading ended.
-pub fn count_items<S: Shelf>(
-    name: &str,
-    selection: &Selection,
-    shelf: &mut S,
-) -> (Counts, Ending)
+pub fn count_items<S: Shelf>(name: &str, selection: &Selection, shelf: &mut S) -> (Counts, Ending)
     requires { S.is_settled shelf.old }
 {
     let mut counts = Counts::new();

@@ -3,17 +3,19 @@
 use crate::frames::{ECALL, instruction_of};
 use crate::stop::Presented;
 use crate::watch::Watch;
-use cloak_base::NoMemory;
+use cloak_base::{NoMemory, PageId};
 use cloak_model::Item;
 use std::alloc::Global;
 
 /// What was done.
 #[derive(Clone, Copy, Debug, PartialEq, Eq)]
 pub enum Deed {
-    /// A frame was shown with the page's newest bytes.
+    /// The page was shown in a frame, and not again.
+    LastShown { frame: u32 },
+    /// The page was shown in a frame.
     Shown { frame: u32 },
-    /// A frame was shown with other bytes than this page's.
-    ShownOther { frame: u32 },
+    /// Another page was shown in a frame of interest.
+    ShownOther { frame: u32, page: PageId },
     /// A hart wrote a frame to a block of the disk.
     Written { hart: u32, frame: u32, block: u32 },
     /// A hart read a block of the disk into a frame.
@@ -38,7 +40,7 @@ pub struct Event {
     pub deed: Deed,
 }
 
-/// The last events of a page, up to so many.
+/// The last events of a page, up to so many, and of the frames that it was shown and presented in.
 #[derive(Drop)]
 pub struct Deeds {
     target: Presented,
@@ -105,21 +107,10 @@ impl Deeds {
         }
     }
 
-    /// The step from which on deeds count.
-    fn since(&self) -> u32 {
-        match self.target.showing {
-            Some(showing) => showing.step,
-            None => 0,
-        }
-    }
-
     /// Keeps a deed.
     fn keep(&mut self, step: u32, deed: Deed) -> Result<(), NoMemory> {
-        if step < self.since() {
-            return Ok(());
-        }
         if self.events.len() >= MOST {
-            self.events.remove(1);
+            self.events.remove(0);
             self.left_out = self.left_out.saturating_add(1);
         }
         self.events.push(Event { step, deed })?;
@@ -131,17 +122,23 @@ impl Deeds {
         let Item::Cipher { frame, .. } = item else {
             return Ok(());
         };
-        let is_last = match self.target.showing {
-            Some(showing) => watch.step == showing.step && *frame == showing.frame,
-            None => false,
+        let Some(page) = watch.page_in(*frame) else {
+            return Ok(());
         };
-        if is_last {
-            return self.keep(watch.step, Deed::Shown { frame: *frame });
+        let frame = *frame;
+        let step = watch.step;
+        if page != self.target.page {
+            if frame == self.target.frame || frame == self.shown_frame() {
+                return self.keep(step, Deed::ShownOther { frame, page });
+            }
+            return Ok(());
         }
-        if *frame == self.target.frame || *frame == self.shown_frame() {
-            return self.keep(watch.step, Deed::ShownOther { frame: *frame });
+        match self.target.showing {
+            Some(last) if last.step == step && last.frame == frame => {
+                self.keep(step, Deed::LastShown { frame })
+            }
+            _ => self.keep(step, Deed::Shown { frame }),
         }
-        Ok(())
     }
 
     /// Where the address leads.

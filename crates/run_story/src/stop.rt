@@ -19,6 +19,8 @@ pub struct Presented {
     pub frame: u32,
     pub digest: [u8; 32],
     pub showing: Option<Showing>,
+    /// Where the bytes that were found had been shown, if they were.
+    pub origin: Option<Showing>,
 }
 
 /// A context that a hart was asked to resume.
@@ -85,6 +87,7 @@ pub fn question_target(watch: &Watch, domain: u8) -> Target {
         frame,
         digest,
         showing,
+        origin: watch.shown_as(&digest),
     })
 }
 

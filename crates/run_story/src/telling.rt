@@ -56,6 +56,10 @@ fn put_deed<O: Sink>(out: &mut O, so_far: SoFar, presented: &Presented, deed: De
     match deed {
         Deed::Shown { frame } => {
             let so_far = put_page(out, so_far, presented.page);
+            put_number(out, so_far, b" was shown, in frame ", frame)
+        }
+        Deed::LastShown { frame } => {
+            let so_far = put_page(out, so_far, presented.page);
             let so_far = put_number(out, so_far, b" was last shown, in frame ", frame);
             let so_far = text(out, so_far, b", as ciphertext with the digest ");
             match presented.showing {
@@ -63,9 +67,9 @@ fn put_deed<O: Sink>(out: &mut O, so_far: SoFar, presented: &Presented, deed: De
                 None => so_far,
             }
         }
-        Deed::ShownOther { frame } => {
-            let so_far = put_number(out, so_far, b"frame ", frame);
-            text(out, so_far, b" was shown with the bytes of another page")
+        Deed::ShownOther { frame, page } => {
+            let so_far = put_page(out, so_far, page);
+            put_number(out, so_far, b" was shown, in frame ", frame)
         }
         Deed::Written { hart, frame, block } => {
             let so_far = put_number(out, so_far, b"the kernel, on hart ", hart);
@@ -149,6 +153,21 @@ fn put_access<O: Sink>(out: &mut O, so_far: SoFar, presented: &Presented) -> SoF
     text(out, so_far, b", and what that frame has is not what was last shown of the page.\n")
 }
 
+/// Where the bytes come from that were found.
+fn put_origin<O: Sink>(out: &mut O, so_far: SoFar, presented: &Presented) -> SoFar {
+    match presented.origin {
+        None => text(out, so_far, b", which were never shown"),
+        Some(origin) => {
+            let so_far = text(out, so_far, b", which were shown of ");
+            let so_far = put_page(out, so_far, origin.page);
+            if origin.step == 0 {
+                return text(out, so_far, b" at the opening");
+            }
+            put_number(out, so_far, b" at step ", origin.step)
+        }
+    }
+}
+
 /// The deeds, and the rule that was broken.
 pub fn put_presented<O: Sink>(out: &mut O, presented: &Presented, deeds: &Deeds) -> SoFar {
     let mut so_far = put_access(out, Ok(()), presented);
@@ -159,20 +178,19 @@ pub fn put_presented<O: Sink>(out: &mut O, presented: &Presented, deeds: &Deeds)
             b"The page has what was shown of the one that it was copied from by a fork.\n",
         );
     }
-    let mut is_first = true;
+    if deeds.left_out > 0 {
+        so_far = put_number(out, so_far, b"  (earlier events are left out: ", deeds.left_out);
+        so_far = text(out, so_far, b")\n");
+    }
     for event in deeds.events.as_slice() {
         so_far = put_event(out, so_far, presented, *event);
-        if is_first && deeds.left_out > 0 {
-            so_far = put_number(out, so_far, b"  (", deeds.left_out);
-            so_far = text(out, so_far, b" more are left out here)\n");
-        }
-        is_first = false;
     }
     let so_far = text(out, so_far, b"  ");
     let so_far = put_step(out, so_far, presented.step);
     let so_far = put_number(out, so_far, b"the program asked for the page, and found in frame ", presented.frame);
     let so_far = text(out, so_far, b" bytes with the digest ");
     let so_far = digest(out, so_far, &presented.digest);
+    let so_far = put_origin(out, so_far, presented);
     text(
         out,
         so_far,

@@ -54,7 +54,10 @@ pub struct Watch {
     opened: usize,
     /// The page that was last reached in each frame, until the frame is shown.
     reached: Vec<Option<PageId>>,
-    pub showings: Vec<Showing>,
+    /// What was last shown of each page.
+    showings: Vec<Showing>,
+    /// All that was shown, in order.
+    history: Vec<Showing>,
     pub known: Vec<Known>,
 }
 
@@ -109,6 +112,7 @@ impl Watch {
             opened: 0,
             reached,
             showings: Vec::new(alloc),
+            history: Vec::new(alloc),
             known: Vec::new(alloc),
         })
     }
@@ -156,6 +160,17 @@ impl Watch {
             .copied()
     }
 
+    /// The last time that bytes of this digest were shown.
+    pub fn shown_as(&self, digest: &[u8; 32]) -> Option<Showing> {
+        let mut found = None;
+        for showing in self.history.as_slice() {
+            if showing.digest == *digest {
+                found = Some(*showing);
+            }
+        }
+        found
+    }
+
     /// What is known of a context.
     pub fn context(&self, ctx: u32) -> Option<Known> {
         self.known.iter().find(|known| known.ctx == ctx).copied()
@@ -175,7 +190,7 @@ impl Watch {
     }
 
     /// The page whose bytes a frame is about to show.
-    fn page_in(&self, frame: u32) -> Option<PageId> {
+    pub fn page_in(&self, frame: u32) -> Option<PageId> {
         if self.step == 0 {
             return self.opening.get(self.opened).copied();
         }
@@ -207,6 +222,7 @@ impl Watch {
 
     /// This was last shown of its page.
     fn put_showing(&mut self, showing: Showing) -> Result<(), NoMemory> {
+        self.history.push(showing)?;
         for known in self.showings.iter_mut() {
             if known.page == showing.page {
                 *known = showing;

@@ -1,0 +1,10 @@
+use Rattle.std.proofs.Common.{◌≡◌, ◌<◌, length}
+use Rattle.std.specs.Prelude.{All}
+use Rattle.manifest.proofs.kernel.plain_schedule.Given as goal
+
+-- the turns so far
+abbrev pub invariant-loop-hart : goal.invariant-loop-hart
+invariant-loop-hart l = record {
+  count : length l.turns.items ≡ l.hart;
+  turns : All (λ h. h < l.fn.harts) l.turns.items;
+}
