@@ -10,12 +10,14 @@ mod counts;
 mod items;
 mod kinds;
 mod lines;
+mod reading;
 mod selection;
 mod showing;
 
 pub use causes::{cause_name, put_word};
 pub use command::show_command;
 pub use kinds::Kinds;
+pub use reading::next_item;
 pub use selection::Selection;
 
 #[cfg(test)]

@@ -2,10 +2,11 @@
 ghost use Rattle.std.specs.Prelude.{◌≡◌};
 
 use crate::counts::Counts;
-use crate::lines::{Line, end_line, place_at, put_first, put_next};
+use crate::lines::{Line, Place, end_line, place_at, put_first, put_next};
+use crate::reading::next_item;
 use crate::selection::Selection;
 use cloak_model::Item;
-use exchange_log::{NextFault, Reader};
+use exchange_log::Reader;
 use kernel_report::lines::SoFar;
 use outside_io::{Shelf, Sink};
 use read_back::Ending;
@@ -23,17 +24,13 @@ pub fn show_items<S: Shelf, O: Sink>(
     let (mut so_far, mut line) = put_first(out, Ok(()), selection);
     let mut reader = Reader::open(name);
     while so_far.is_ok() {
-        match reader.next(shelf) {
-            Ok(Some(item)) => {
+        match next_item(&mut reader, shelf) {
+            Ok(item) => {
                 let (put, next) = put_next(out, so_far, line, &item, selection);
                 so_far = put;
                 line = next;
             }
-            Ok(None) => return ended(out, so_far, line, Ending::Whole),
-            Err(NextFault::Read) => return ended(out, so_far, line, Ending::Unread),
-            Err(NextFault::Record(fault)) => {
-                return ended(out, so_far, line, Ending::Fault(fault));
-            }
+            Err(ending) => return ended(out, so_far, line, ending),
         }
     }
     None
@@ -52,19 +49,15 @@ pub fn count_items<S: Shelf>(name: &str, selection: &Selection, shelf: &mut S) -
     requires { S.is_settled shelf.old }
 {
     let mut counts = Counts::new();
-    let mut place = crate::lines::Place::Opening;
+    let mut place = Place::Opening;
     let mut reader = Reader::open(name);
     loop {
-        match reader.next(shelf) {
-            Ok(Some(item)) => {
-                match place_at(&item) {
-                    Some(next) => place = next,
-                    None => count_chosen(&mut counts, selection, place, &item),
-                }
-            }
-            Ok(None) => return (counts, Ending::Whole),
-            Err(NextFault::Read) => return (counts, Ending::Unread),
-            Err(NextFault::Record(fault)) => return (counts, Ending::Fault(fault)),
+        match next_item(&mut reader, shelf) {
+            Ok(item) => match place_at(&item) {
+                Some(next) => place = next,
+                None => count_chosen(&mut counts, selection, place, &item),
+            },
+            Err(ending) => return (counts, ending),
         }
     }
 }
@@ -73,7 +66,7 @@ pub fn count_items<S: Shelf>(name: &str, selection: &Selection, shelf: &mut S) -
 fn count_chosen(
     counts: &mut Counts,
     selection: &Selection,
-    place: crate::lines::Place,
+    place: Place,
     item: &Item,
 ) {
     if selection.has_item(place, item) {

@@ -8,10 +8,11 @@ use crate::telling::{put_presented, put_target};
 use crate::watch::Watch;
 use cloak_base::NoMemory;
 use cloak_model::{Bundle, Item};
-use exchange_log::{NextFault, Reader};
+use exchange_log::Reader;
 use outside_io::{Shelf, Sink};
 use program_parts::{Refusal, Status, read_bundle, refuse};
 use read_back::{Ending, show_fault, status};
+use record_text::next_item;
 use std::alloc::Global;
 
 /// How a record was read.
@@ -25,19 +26,6 @@ enum Read {
 impl From<NoMemory> for Read {
     fn from(_: NoMemory) -> Read {
         Read::NoMemory
-    }
-}
-
-/// The next item of a record, or how reading ended.
-fn next_item<S: Shelf>(reader: &mut Reader<'_>, shelf: &mut S) -> Result<Item, Ending>
-    requires { S.is_settled shelf.old }
-    ensures settled { S.is_settled shelf.new }
-{
-    match reader.next(shelf) {
-        Ok(Some(item)) => Ok(item),
-        Ok(None) => Err(Ending::Whole),
-        Err(NextFault::Read) => Err(Ending::Unread),
-        Err(NextFault::Record(fault)) => Err(Ending::Fault(fault)),
     }
 }
 

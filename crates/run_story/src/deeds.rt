@@ -11,15 +11,30 @@ use std::alloc::Global;
 #[derive(Clone, Copy, Debug, PartialEq, Eq)]
 pub enum Deed {
     /// The page was shown in a frame, and not again.
-    LastShown { frame: u32 },
+    LastShown {
+        frame: u32,
+    },
     /// The page was shown in a frame.
-    Shown { frame: u32 },
+    Shown {
+        frame: u32,
+    },
     /// Another page was shown in a frame of interest.
-    ShownOther { frame: u32, page: PageId },
+    ShownOther {
+        frame: u32,
+        page: PageId,
+    },
     /// A hart wrote a frame to a block of the disk.
-    Written { hart: u32, frame: u32, block: u32 },
+    Written {
+        hart: u32,
+        frame: u32,
+        block: u32,
+    },
     /// A hart read a block of the disk into a frame.
-    Read { hart: u32, frame: u32, block: u32 },
+    Read {
+        hart: u32,
+        frame: u32,
+        block: u32,
+    },
     /// A hart stored to a frame: how many bytes changed, and the first of them.
     Stored {
         hart: u32,
@@ -30,7 +45,10 @@ pub enum Deed {
         changed: u32,
     },
     /// The address leads to another frame than before, or to none.
-    Leads { from: Option<u32>, to: Option<u32> },
+    Leads {
+        from: Option<u32>,
+        to: Option<u32>,
+    },
 }
 
 /// What was done in a step.
@@ -218,7 +236,13 @@ impl Deeds {
         self.note_writing(step, before)?;
         let first = self.shown_frame();
         let second = self.target.frame;
-        self.note_change(step, before, first, &before.first, &frame_bytes(watch, first))?;
+        self.note_change(
+            step,
+            before,
+            first,
+            &before.first,
+            &frame_bytes(watch, first),
+        )?;
         if first != second {
             self.note_change(
                 step,

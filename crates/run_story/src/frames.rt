@@ -12,6 +12,7 @@ const RAM_START: u64 = 0x8000_0000;
 pub const ECALL: u32 = 0x0000_0073;
 
 /// Frames as the kernel sees them.
+#[derive(Drop)]
 pub struct Frames<'f> {
     pub frames: &'f [[u8; 4096]],
 }

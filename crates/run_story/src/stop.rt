@@ -39,11 +39,20 @@ pub enum Target {
     None,
     Page(Presented),
     /// A context that runs on this hart.
-    Running { asking: Asking, on: u32 },
+    Running {
+        asking: Asking,
+        on: u32,
+    },
     /// A context that is not there.
-    Gone { asking: Asking },
+    Gone {
+        asking: Asking,
+    },
     /// A context of a space that was first resumed with another page table, in the step of that.
-    Mapping { asking: Asking, first: u32, satp: u32 },
+    Mapping {
+        asking: Asking,
+        first: u32,
+        satp: u32,
+    },
 }
 
 /// What a program's question was about that stopped the run; nothing where its frame has what was shown.

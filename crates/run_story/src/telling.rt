@@ -150,7 +150,11 @@ fn put_access<O: Sink>(out: &mut O, so_far: SoFar, presented: &Presented) -> SoF
         b".\nThe kernel's page table leads there to frame ",
         presented.frame,
     );
-    text(out, so_far, b", and what that frame has is not what was last shown of the page.\n")
+    text(
+        out,
+        so_far,
+        b", and what that frame has is not what was last shown of the page.\n",
+    )
 }
 
 /// Where the bytes come from that were found.
@@ -179,7 +183,12 @@ pub fn put_presented<O: Sink>(out: &mut O, presented: &Presented, deeds: &Deeds)
         );
     }
     if deeds.left_out > 0 {
-        so_far = put_number(out, so_far, b"  (earlier events are left out: ", deeds.left_out);
+        so_far = put_number(
+            out,
+            so_far,
+            b"  (earlier events are left out: ",
+            deeds.left_out,
+        );
         so_far = text(out, so_far, b")\n");
     }
     for event in deeds.events.as_slice() {
@@ -187,7 +196,12 @@ pub fn put_presented<O: Sink>(out: &mut O, presented: &Presented, deeds: &Deeds)
     }
     let so_far = text(out, so_far, b"  ");
     let so_far = put_step(out, so_far, presented.step);
-    let so_far = put_number(out, so_far, b"the program asked for the page, and found in frame ", presented.frame);
+    let so_far = put_number(
+        out,
+        so_far,
+        b"the program asked for the page, and found in frame ",
+        presented.frame,
+    );
     let so_far = text(out, so_far, b" bytes with the digest ");
     let so_far = digest(out, so_far, &presented.digest);
     let so_far = put_origin(out, so_far, presented);
@@ -207,10 +221,21 @@ fn put_asking<O: Sink>(out: &mut O, asking: &Asking) -> SoFar {
 }
 
 /// Why a run stopped by a violation, where it is no page.
-pub fn put_target<O: Sink>(out: &mut O, target: &Target, steps: u32, ended: Option<u32>, resumed: Option<u32>) -> SoFar {
+pub fn put_target<O: Sink>(
+    out: &mut O,
+    target: &Target,
+    steps: u32,
+    ended: Option<u32>,
+    resumed: Option<u32>,
+) -> SoFar {
     match target {
         Target::None | Target::Page(_) => {
-            let so_far = put_number(out, Ok(()), b"The run was not stopped by a violation: it has ", steps);
+            let so_far = put_number(
+                out,
+                Ok(()),
+                b"The run was not stopped by a violation: it has ",
+                steps,
+            );
             text(
                 out,
                 so_far,
@@ -233,8 +258,17 @@ pub fn put_target<O: Sink>(out: &mut O, target: &Target, steps: u32, ended: Opti
         Target::Gone { asking } => {
             let so_far = put_asking(out, asking);
             let so_far = match ended {
-                Some(step) => put_number(out, so_far, b"The context is not there: it ended at step ", step),
-                None => text(out, so_far, b"The context is not there: the record has no such context"),
+                Some(step) => put_number(
+                    out,
+                    so_far,
+                    b"The context is not there: it ended at step ",
+                    step,
+                ),
+                None => text(
+                    out,
+                    so_far,
+                    b"The context is not there: the record has no such context",
+                ),
             };
             text(
                 out,
@@ -249,7 +283,12 @@ pub fn put_target<O: Sink>(out: &mut O, target: &Target, steps: u32, ended: Opti
         } => {
             let so_far = put_asking(out, asking);
             let so_far = put_word(out, so_far, b"The page table of the hart is ", asking.satp);
-            let so_far = put_word(out, so_far, b" (satp), and the context was first resumed under ", *satp);
+            let so_far = put_word(
+                out,
+                so_far,
+                b" (satp), and the context was first resumed under ",
+                *satp,
+            );
             let so_far = put_number(out, so_far, b", at step ", *first);
             text(
                 out,
