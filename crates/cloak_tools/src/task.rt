@@ -19,12 +19,7 @@ fn show_words<O: Sink>(out: &mut O, text: &str, status: Status) -> Status {
 }
 
 /// Does a task.
-fn do_task<S: Shelf, O: Sink>(
-    alloc: Global,
-    task: &Task<'_>,
-    shelf: &mut S,
-    out: &mut O,
-) -> Status
+fn do_task<S: Shelf, O: Sink>(alloc: Global, task: &Task<'_>, shelf: &mut S, out: &mut O) -> Status
     requires { S.is_settled shelf.old }
 {
     match task {
@@ -36,12 +31,7 @@ fn do_task<S: Shelf, O: Sink>(
 }
 
 /// Does what the words ask for, of which the first is the program's name.
-fn obey<S: Shelf, O: Sink>(
-    alloc: Global,
-    words: &[String],
-    shelf: &mut S,
-    out: &mut O,
-) -> Status
+fn obey<S: Shelf, O: Sink>(alloc: Global, words: &[String], shelf: &mut S, out: &mut O) -> Status
     requires { S.is_settled shelf.old }
 {
     match read_words(alloc, words) {

@@ -9,10 +9,22 @@ use std::alloc::{AllocError, Global};
 /// What is asked for.
 #[derive(Drop)]
 pub enum Task<'a> {
-    Asm { text: &'a str, words: &'a str },
-    Pack { manifest: &'a str, bundle: &'a str },
-    Show { record: &'a str, selection: Selection },
-    Explain { bundle: &'a str, record: &'a str },
+    Asm {
+        text: &'a str,
+        words: &'a str,
+    },
+    Pack {
+        manifest: &'a str,
+        bundle: &'a str,
+    },
+    Show {
+        record: &'a str,
+        selection: Selection,
+    },
+    Explain {
+        bundle: &'a str,
+        record: &'a str,
+    },
 }
 
 /// What the words come to.
@@ -58,7 +70,9 @@ fn show_form<'a>(alloc: Global) -> Result<Command<'a>, AllocError> {
     let only = Arg::new(alloc, "only")
         .long("only")
         .value_name("KINDS")
-        .help("Kinds of items with commas between: cipher, put, leave, ok, absent, word, timer, resume, stopped; outward, inward");
+        .help(
+            "Kinds of items with commas between: cipher, put, leave, ok, absent, word, timer, resume, stopped; outward, inward",
+        );
     let counts = Arg::new(alloc, "counts")
         .long("counts")
         .action(clap::ArgAction::SetTrue)
@@ -101,7 +115,7 @@ fn needed<'a>(matches: &ArgMatches<'a>, name: &str) -> &'a str {
 }
 
 /// What of a record is asked for; nothing where a kind has no such name.
-fn selection(matches: &ArgMatches<'_>) -> Option<Selection> {
+fn chosen(matches: &ArgMatches<'_>) -> Option<Selection> {
     let only = match matches.get_str("only") {
         Some(names) => match Kinds::from_names(names) {
             Some(kinds) => Some(kinds),
@@ -118,8 +132,8 @@ fn selection(matches: &ArgMatches<'_>) -> Option<Selection> {
 }
 
 /// What a command asks with the texts that it found.
-fn task<'a>(alloc: Global, name: &str, matches: &ArgMatches<'a>) -> Result<Words<'a>, NoMemory> {
-    let task = match name {
+fn task_named<'a>(alloc: Global, name: &str, matches: &ArgMatches<'a>) -> Result<Words<'a>, NoMemory> {
+    let asked = match name {
         "asm" => Task::Asm {
             text: needed(matches, "TEXT"),
             words: needed(matches, "OUT"),
@@ -132,7 +146,7 @@ fn task<'a>(alloc: Global, name: &str, matches: &ArgMatches<'a>) -> Result<Words
             bundle: needed(matches, "BUNDLE"),
             record: needed(matches, "RECORD"),
         },
-        _ => match selection(matches) {
+        _ => match chosen(matches) {
             Some(selection) => Task::Show {
                 record: needed(matches, "RECORD"),
                 selection,
@@ -143,7 +157,7 @@ fn task<'a>(alloc: Global, name: &str, matches: &ArgMatches<'a>) -> Result<Words
             }
         },
     };
-    Ok(Words::Task(task))
+    Ok(Words::Task(asked))
 }
 
 /// What an error of `clap` says.
@@ -167,7 +181,7 @@ pub fn read_words<'a>(alloc: Global, words: &'a [String]) -> Result<Words<'a>, N
         Err(error) => return refused(alloc, &error),
     };
     match matches.subcommand() {
-        Some((name, found)) => task(alloc, name, found),
+        Some((name, found)) => task_named(alloc, name, found),
         None => {
             let text = String::from_str(alloc, "error: there is no command\n")?;
             Ok(Words::Faulty(text))

@@ -20,6 +20,13 @@ fn taken(room: u64, size: usize) -> Option<u64>
     }
 }
 
+/// What bytes leave of some room, where there is enough.
+fn behind_bytes(room: u64, bytes: &[u8]) -> Option<u64>
+    ensures { IfSome result (λ left. length bytes.now + left ≡ room) }
+{
+    taken(room, bytes.len())
+}
+
 /// What segments leave of some room, where there is enough.
 fn behind_segments(room: u64, segments: &[Segment]) -> Option<u64>
     ensures { IfSome result (λ left. length (flat_map segment_bytes segments.now) + left ≡ room) }
@@ -50,8 +57,8 @@ pub fn room_behind(bundle: &Bundle) -> Option<u64>
 {
     let kernel = &bundle.kernel;
     let front = LARGEST_BUNDLE - 40;
-    let turns = taken(front, kernel.schedule.as_slice().len())?;
-    let disk = taken(turns, kernel.disk.as_slice().len())?;
+    let turns = behind_bytes(front, kernel.schedule.as_slice())?;
+    let disk = behind_bytes(turns, kernel.disk.as_slice())?;
     let segments = behind_segments(disk, kernel.segments.as_slice())?;
     let programs = behind_programs(segments, bundle.programs.as_slice())?;
     Some(programs)

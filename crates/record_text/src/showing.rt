@@ -63,12 +63,7 @@ pub fn count_items<S: Shelf>(name: &str, selection: &Selection, shelf: &mut S) -
 }
 
 /// Counts an item, where it is chosen.
-fn count_chosen(
-    counts: &mut Counts,
-    selection: &Selection,
-    place: Place,
-    item: &Item,
-) {
+fn count_chosen(counts: &mut Counts, selection: &Selection, place: Place, item: &Item) {
     if selection.has_item(place, item) {
         counts.count(item);
     }

@@ -39,14 +39,14 @@ fn take_item(watch: &mut Watch, item: &Item) -> Result<Option<Read>, NoMemory> {
 
 /// What a run that is over presented as it stopped.
 #[derive(Drop)]
-struct Seen {
+struct Outcome {
     target: Target,
     steps: u32,
     read: Read,
 }
 
 /// Reads a record, and tells what was presented as its run stopped.
-fn seen<S: Shelf>(watch: &mut Watch, name: &str, shelf: &mut S) -> Seen
+fn outcome_of<S: Shelf>(watch: &mut Watch, name: &str, shelf: &mut S) -> Outcome
     requires { S.is_settled shelf.old }
     ensures settled { S.is_settled shelf.new }
 {
@@ -56,7 +56,7 @@ fn seen<S: Shelf>(watch: &mut Watch, name: &str, shelf: &mut S) -> Seen
         let item = match next_item(&mut reader, shelf) {
             Ok(item) => item,
             Err(ending) => {
-                return Seen {
+                return Outcome {
                     target,
                     steps: watch.step,
                     read: Read::To(ending),
@@ -70,14 +70,14 @@ fn seen<S: Shelf>(watch: &mut Watch, name: &str, shelf: &mut S) -> Seen
         match take_item(watch, &item) {
             Ok(None) => {}
             Ok(Some(read)) => {
-                return Seen {
+                return Outcome {
                     target,
                     steps: watch.step,
                     read,
                 };
             }
             Err(_) => {
-                return Seen {
+                return Outcome {
                     target,
                     steps: watch.step,
                     read: Read::NoMemory,
@@ -209,14 +209,14 @@ fn tell<S: Shelf, O: Sink>(
     let Ok(mut watch) = Watch::open(alloc, bundle) else {
         return refuse(out, &Refusal::NoMemory);
     };
-    let seen = seen(&mut watch, name, shelf);
-    match seen.read {
+    let outcome = outcome_of(&mut watch, name, shelf);
+    match outcome.read {
         Read::To(Ending::Whole) => {}
         read => return end(read, out),
     }
-    match seen.target {
+    match outcome.target {
         Target::Page(presented) => tell_page(alloc, bundle, &presented, name, shelf, out),
-        target => tell_other(&watch, &target, seen.steps, out),
+        target => tell_other(&watch, &target, outcome.steps, out),
     }
 }
 

@@ -1,6 +1,6 @@
 use Rattle.std.proofs.Common.{◌<◌, ◌^◌, ◌-◌}
 use Rattle.exchange_log.specs.Place.{reader_offset}
-use Rattle.run_story.proofs.command.seen.Given as goal
+use Rattle.run_story.proofs.command.outcome_of.Given as goal
 
 abbrev pub invariant-loop-item : goal.invariant-loop-item
 invariant-loop-item g l = record {
