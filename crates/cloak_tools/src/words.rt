@@ -132,7 +132,11 @@ fn chosen(matches: &ArgMatches<'_>) -> Option<Selection> {
 }
 
 /// What a command asks with the texts that it found.
-fn task_named<'a>(alloc: Global, name: &str, matches: &ArgMatches<'a>) -> Result<Words<'a>, NoMemory> {
+fn task_named<'a>(
+    alloc: Global,
+    name: &str,
+    matches: &ArgMatches<'a>,
+) -> Result<Words<'a>, NoMemory> {
     let asked = match name {
         "asm" => Task::Asm {
             text: needed(matches, "TEXT"),

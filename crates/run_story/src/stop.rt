@@ -107,7 +107,7 @@ fn runner(watch: &Watch, ctx: u32, hart: u32) -> Option<u32> {
         if number != hart && other.inside == Some(ctx) {
             return Some(number);
         }
-        number += 1;
+        number = u32::saturating_add(number, 1);
     }
     None
 }

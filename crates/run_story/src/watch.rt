@@ -73,7 +73,7 @@ fn opening_pages(alloc: Global, bundle: &Bundle) -> Result<Vec<PageId>, NoMemory
                 page,
             })?;
         }
-        domain += 1;
+        domain = u32::saturating_add(domain, 1);
     }
     Ok(pages)
 }
