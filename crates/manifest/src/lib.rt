@@ -1,7 +1,7 @@
 //! The manifest of a guest image: a TOML document that says what stands where, and the bundle that it means.
 //!
-//! `bundle_of` gives the bundle that a document means, with the files that it names (`specs/Manifest`), or its first
-//! fault: the key at which it stands, and what is wrong there. `pack_command` is the command `pack` of the tools: from
+//! `bundle_of` gives a bundle in the grammar, made of a document and the files that it names, or its first fault: the
+//! key at which it stands, and what is wrong there. `pack_command` is the command `pack` of the tools: from
 //! a manifest to the file of its bundle.
 #![tactic(auto)]
 
