@@ -1,5 +1,8 @@
 //! Kinds of items, which a reader of a record chooses by their names.
 
+ghost use Rattle.std.specs.Prelude.{◌≡◌};
+ghost use Rattle.record_text.specs.Lines as spec;
+
 use cloak_model::Item;
 
 /// The kinds of items that are chosen. Markers are of no kind.
@@ -112,7 +115,9 @@ impl Kinds {
     }
 
     /// The item is of a kind that is chosen.
-    pub fn has(&self, item: &Item) -> bool {
+    pub fn has(&self, item: &Item) -> bool
+        ensures { result ≡ spec.has_kind self.now item.now }
+    {
         match item {
             Item::Cipher { .. } => self.cipher,
             Item::Put { .. } => self.put,

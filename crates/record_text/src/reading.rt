@@ -1,7 +1,9 @@
 //! The next item of a record, or how reading ended. All tools read records by this call.
-ghost use Rattle.std.specs.Prelude.{◌≡◌, ◌<◌, ◌^◌, IfOk};
+ghost use Rattle.std.specs.Prelude.{◌≡◌, ◌<◌, ◌^◌, List, IfOk, IfErr};
+ghost use Rattle.cloak_model.specs.declared.item.Item.{Item};
 ghost use Rattle.exchange_log.specs.Place.{reader_offset};
 ghost use Rattle.outside_io.specs.Told.{SameFiles};
+ghost use Rattle.record_text.specs.Reading.{CountsFound, Finds, StandsAt};
 
 use cloak_model::Item;
 use exchange_log::{NextFault, Reader};
@@ -11,6 +13,9 @@ use read_back::Ending;
 /// The next item of a record, or how reading ended: at its end, at its first fault, or by a fault of reading.
 pub fn next_item<S: Shelf>(reader: &mut Reader<'_>, shelf: &mut S) -> Result<Item, Ending>
     requires { S.is_settled shelf.old }
+    ensures next { (items : List Item) → StandsAt (S.held shelf.old reader.old.name.now) reader.old items →
+        Finds (S.held shelf.old reader.old.name.now) reader.new items result }
+    ensures counts { CountsFound (S.reading_faults shelf.old) (S.reading_faults shelf.new) result }
     ensures moves { IfOk result (λ i. reader_offset reader.old < reader_offset reader.new) }
     ensures within { reader_offset reader.new < 2 ^ 64 }
     ensures same { reader.new.name ≡ reader.old.name }

@@ -1,5 +1,8 @@
 //! What of a record is shown.
 
+ghost use Rattle.std.specs.Prelude.{◌≡◌};
+ghost use Rattle.record_text.specs.Lines as spec;
+
 use crate::kinds::Kinds;
 use crate::lines::Place;
 use cloak_model::Item;
@@ -19,7 +22,9 @@ pub struct Selection {
 
 impl Selection {
     /// The place is shown.
-    pub fn has_place(&self, place: Place) -> bool {
+    fn has_place(&self, place: Place) -> bool
+        ensures { result ≡ spec.has_place self.now place }
+    {
         match place {
             Place::Opening => self.from == 0,
             Place::Step(number) => self.from <= number && number <= self.to,
@@ -28,16 +33,26 @@ impl Selection {
     }
 
     /// A place is shown also where none of its items is.
-    pub fn has_bare(&self, place: Place) -> bool {
+    pub fn has_bare(&self, place: Place) -> bool
+        ensures { result ≡ spec.has_bare self.now place }
+    {
         self.only.is_none() && self.has_place(place)
     }
 
     /// An item of this place, which is no marker, is shown.
-    pub fn has_item(&self, place: Place, item: &Item) -> bool {
-        let is_chosen = match self.only {
+    pub fn has_item(&self, place: Place, item: &Item) -> bool
+        ensures { result ≡ spec.has_item self.now place item.now }
+    {
+        self.has_chosen_kind(item) && self.has_place(place)
+    }
+
+    /// An item is of a kind that is chosen.
+    fn has_chosen_kind(&self, item: &Item) -> bool
+        ensures { result ≡ spec.has_chosen_kind self.now.only item.now }
+    {
+        match self.only {
             None => true,
             Some(kinds) => kinds.has(item),
-        };
-        is_chosen && self.has_place(place)
+        }
     }
 }

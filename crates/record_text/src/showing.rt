@@ -1,8 +1,11 @@
 //! A record, from its first item to its end or its first fault.
-ghost use Rattle.std.specs.Prelude.{◌≡◌};
+ghost use Rattle.std.specs.Prelude.{◌≡◌, Ok, None, IsErr};
+ghost use Rattle.kernel_report.specs.Putting.{putting};
+ghost use Rattle.outside_io.specs.Told.{SameFiles};
+ghost use Rattle.record_text.specs.Reading.{ShowsItems};
 
 use crate::counts::Counts;
-use crate::lines::{Line, Place, end_line, place_at, put_first, put_next};
+use crate::lines::{Place, end_line, place_at, put_first, put_next};
 use crate::reading::next_item;
 use crate::selection::Selection;
 use cloak_model::Item;
@@ -11,15 +14,28 @@ use kernel_report::lines::SoFar;
 use outside_io::{Shelf, Sink};
 use read_back::Ending;
 
-/// Shows the items of a record that are chosen, and answers how reading ended. There is no ending where the output
-/// failed.
+/// How far a record was shown.
+#[derive(Clone, Copy, Debug, PartialEq, Eq)]
+pub struct Showing {
+    pub so_far: SoFar,
+    /// How reading ended; there is no ending where the output failed before.
+    pub ended: Option<Ending>,
+}
+
+/// Shows the items of a record that are chosen, up to where reading ends or the output fails.
 pub fn show_items<S: Shelf, O: Sink>(
     name: &str,
     selection: &Selection,
     shelf: &mut S,
     out: &mut O,
-) -> Option<Ending>
+) -> Showing
     requires { S.is_settled shelf.old }
+    ensures shows { ShowsItems selection.now (S.held shelf.old name.now)
+        (S.reading_faults shelf.old) (S.reading_faults shelf.new)
+        (putting O.taken O.faults out.old (Ok tt)) (putting O.taken O.faults out.new result.so_far) result.ended }
+    ensures broken { result.ended ≡ None → IsErr result.so_far }
+    ensures files { SameFiles (S.held shelf.old) (S.held shelf.new) }
+    ensures writing { S.writing_faults shelf.new ≡ S.writing_faults shelf.old }
 {
     let (mut so_far, mut line) = put_first(out, Ok(()), selection);
     let mut reader = Reader::open(name);
@@ -30,17 +46,17 @@ pub fn show_items<S: Shelf, O: Sink>(
                 so_far = put;
                 line = next;
             }
-            Err(ending) => return ended(out, so_far, line, ending),
+            Err(ending) => {
+                return Showing {
+                    so_far: end_line(out, so_far, line),
+                    ended: Some(ending),
+                };
+            }
         }
     }
-    None
-}
-
-/// Ends the last line.
-fn ended<O: Sink>(out: &mut O, so_far: SoFar, line: Line, ending: Ending) -> Option<Ending> {
-    match end_line(out, so_far, line) {
-        Ok(()) => Some(ending),
-        Err(_) => None,
+    Showing {
+        so_far,
+        ended: None,
     }
 }
 
@@ -63,7 +79,12 @@ pub fn count_items<S: Shelf>(name: &str, selection: &Selection, shelf: &mut S) -
 }
 
 /// Counts an item, where it is chosen.
-fn count_chosen(counts: &mut Counts, selection: &Selection, place: Place, item: &Item) {
+fn count_chosen(
+    counts: &mut Counts,
+    selection: &Selection,
+    place: Place,
+    item: &Item,
+) {
     if selection.has_item(place, item) {
         counts.count(item);
     }

@@ -1,0 +1,3 @@
+pub mod Shown
+pub mod SoFar
+pub mod Commanded
