@@ -43,14 +43,30 @@ impl<'m, 'e, E: Emit> Side<'m, 'e, E> {
     ghost use Rattle.cloaked_side.specs.Holding.{HoldsNoOther, frames_of, domains_in};
     ghost use Rattle.cloaked_side.specs.Seeing.{Sees, Becomes, FollowsAlways, Stays, StaysWithin, CanRead, CanWrite};
 
-    /// Writes an item.
-    fn write_item(&mut self, i: &Item)
-        ensures sees { Becomes E.gave self.old self.new (written i.now) }
+    /// Writes that a page is absent. Apart, since to build an item clears room for a page.
+    #[cold]
+    #[inline(never)]
+    fn write_absent(&mut self, cause: u32)
+        ensures sees { Becomes E.gave self.old self.new (written (item.Absent self.old.view.domain cause)) }
         ensures keeps { Keeps (StaysWithin E.gave) self.old self.new }
         ensures same { self.new.memory ≡ self.old.memory }
         ensures view { self.new.view ≡ self.old.view }
     {
-        self.emitter.item(i);
+        let domain = self.view.domain;
+        self.emitter.item(&Item::Absent { domain, cause });
+    }
+
+    /// Writes that a question stopped the run. Apart, as `write_absent` is.
+    #[cold]
+    #[inline(never)]
+    fn write_stopped(&mut self)
+        ensures sees { Becomes E.gave self.old self.new (written (item.Stopped self.old.view.domain)) }
+        ensures keeps { Keeps (StaysWithin E.gave) self.old self.new }
+        ensures same { self.new.memory ≡ self.old.memory }
+        ensures view { self.new.view ≡ self.old.view }
+    {
+        let domain = self.view.domain;
+        self.emitter.item(&Item::Stopped { domain });
     }
 
     /// Writes that a question was granted.
@@ -82,12 +98,11 @@ impl<'m, 'e, E: Emit> Side<'m, 'e, E> {
         ensures same { self.new.memory ≡ self.old.memory }
         ensures view { self.new.view ≡ self.old.view }
     {
-        let domain = self.view.domain;
         match a {
             Answer::Ok => self.write_ok(),
-            Answer::Absent(cause) => self.write_item(&Item::Absent { domain, cause }),
+            Answer::Absent(cause) => self.write_absent(cause),
             Answer::Word(value) => self.write_word(value),
-            Answer::Stopped => self.write_item(&Item::Stopped { domain }),
+            Answer::Stopped => self.write_stopped(),
         }
     }
 
@@ -228,6 +243,7 @@ impl<'m, 'e, E: Emit> Side<'m, 'e, E> {
     }
 
     /// Offers a page in a frame, and answers whether the frame holds it.
+    #[inline(always)]
     fn offered(&mut self, q: PageId, g: Frame, write: bool) -> Answer
         requires inside { g.0 < frames_of self.old.memory.now }
         requires domain { q.domain < domains_in self.old.memory.now }
@@ -254,6 +270,7 @@ impl<'m, 'e, E: Emit> Side<'m, 'e, E> {
     }
 
     /// Brings a page to where its address leads.
+    #[inline(always)]
     fn reached(&mut self, q: PageId, kind: Kind, to: Result<u32, u32>) -> Answer
         requires inside { IfOk to (λ pa. IsTrue (is_in_frames (frames_of self.old.memory.now) pa)) }
         requires domain { q.domain < domains_in self.old.memory.now }
@@ -274,6 +291,7 @@ impl<'m, 'e, E: Emit> Side<'m, 'e, E> {
     }
 
     /// Brings the page to where the kernel's page table leads from this address.
+    #[inline(always)]
     pub(crate) fn reach_page(&mut self, q: PageId, va: u32, kind: Kind) -> Answer
         requires domain { q.domain < domains_in self.old.memory.now }
         requires own { q.domain ≡ self.old.view.domain }
