@@ -1,5 +1,5 @@
 -- The questions of a cloaked program, over plain variables.
-use Rattle.std.proofs.Common.{◌≡◌, ℕ, Bool, true, false, cond, List, ◌++◌, Option, Some, ◌*◌, ◌%◌, ◌^◌, Result, Ok}
+use Rattle.std.proofs.Common.{◌≡◌, ℕ, Bool, true, false, cond, List, length, ◌++◌, Option, Some, ◌*◌, ◌%◌, ◌^◌, Result, Ok}
 use Rattle.std.proofs.Common.{Err, refl, ap, sym, ◌∙◌, subst}
 use Rattle.cloak_model.specs.declared.answer.Answer.{Answer}
 use Rattle.cloak_model.specs.declared.answer.Answer.TheVariants.{Stopped, Absent, Word, Ok as Granted}
@@ -25,7 +25,7 @@ use Rattle.cloaked_side.specs.Offering.{Offers, offer_of}
 use Rattle.cloaked_side.specs.declared.memory.Offer.{Offer as Ended}
 use Rattle.cloaked_side.specs.declared.memory.Offer.TheVariants as ended
 use Rattle.cloaked_side.proofs.Emitting.{emits_items}
-use Rattle.cloaked_side.proofs.Sided.{Repaged, sees_moved}
+use Rattle.cloaked_side.proofs.Sided.{Repaged, still_turned, sees_moved}
 use Rattle.cloak_model.specs.PageMoves.{with_newest}
 use Rattle.cloak_pager.specs.AfterCall.{ReadsNewest, MeetsStill, after_write_plain}
 use Rattle.cloaked_side.specs.Seeing.{Sees}
@@ -294,16 +294,20 @@ plain_told gave first now q at width value (Cloaked c) sees drawn reads =
     record { answer = reads sees.holds.wiped c.memory sees.holds.pager (sees.holds.whole drawn q); stands = sees }
 
 pub plain_stored : {E : Type 0} (gave : E → E → List Piece → Type 0) (first old new : Side E) (q : PageId)
-    (at width value : ℕ) (w : World) → Repaged old new →
+    (at width value : ℕ) (w : World) → Repaged old new → new.memory.now.shadows ≡ old.memory.now.shadows →
+    new.memory.now.pager.rights ≡ old.memory.now.pager.rights →
+    length new.memory.now.pager.frames ≡ length old.memory.now.pager.frames →
     MeetsStill old.memory.now.pager new.memory.now.pager (tt {0})
     (after_write_plain q (record { at = at; width = width; value = value })) →
     Sees gave first old w → FollowsFrom (λ side v. Sees gave first side v) new (tt {0}) (ask_write q at width value w)
 unfolding ask_write
-plain_stored gave first old new q at width value (Flat ram) same meets sees = absurd sees
-plain_stored gave first old new q at width value (Alone handed) same meets sees = absurd sees
-plain_stored gave first old new q at width value (Cloaked c) same meets sees = record {
+plain_stored gave first old new q at width value (Flat ram) same shadows rights count meets sees = absurd sees
+plain_stored gave first old new q at width value (Alone handed) same shadows rights count meets sees = absurd sees
+plain_stored gave first old new q at width value (Cloaked c) same shadows rights count meets sees = record {
   answer = refl;
   stands = sees_moved gave first old new c
       (with_newest q (with_value_in (c.memory.plain q) at width value) c.memory) same
-      (record { stream = refl; draws = refl; missed = refl }) (λ wiped s. (meets wiped c.memory s).stands) sees;
+      (record { stream = refl; draws = refl; missed = refl })
+      (still_turned old.memory.now new.memory.now c.memory _ rights count shadows (λ held. refl))
+      (λ wiped s. (meets wiped c.memory s).stands) sees;
 }

@@ -1,6 +1,8 @@
 pub mod Emitting
 pub mod Holders
 pub mod Settling
+pub mod Presents
+pub mod Translating
 pub mod Rooming
 pub mod Sided
 pub mod Answering

@@ -186,12 +186,11 @@ impl<'m, 'e, E: Emit> Side<'m, 'e, E> {
         if self.memory.missed {
             return self.answer(Answer::Stopped);
         }
-        self.memory.pager.write_outside(
-            memory::frame_of(pa),
-            memory::place_of(pa) as u32,
-            width,
-            v,
-        );
+        let f = memory::frame_of(pa);
+        self.memory
+            .pager
+            .write_outside(f, memory::place_of(pa) as u32, width, v);
+        self.memory.shadows.kill_dependents(f);
         self.write_put(pa, width, v);
         self.answer(Answer::Ok)
     }

@@ -2,10 +2,12 @@ ghost use Rattle.std.specs.Prelude.{◌≡◌, ◌≢◌, ◌^◌, IsTrue, ◌�
 ghost use Rattle.cloak_model.specs.Memory as memory;
 ghost use Rattle.cloak_model.specs.Memory.{is_in_frames};
 ghost use Rattle.cloak_model.specs.declared.item.Item.TheVariants.{Cipher};
+ghost use Rattle.shadow_fold.specs.Table.{killed};
 
 use cloak_base::{Frame, PageId};
 use cloak_model::Emit;
 use cloak_pager::{Offered, Pager, Touched};
+use multi_shadow::Shadows;
 use outside_io::Stream;
 
 /// Where RAM begins.
@@ -41,7 +43,7 @@ pub enum Offer {
     Missed,
 }
 
-/// The frames of RAM with the cloaked pages in them, and the random stream.
+/// The frames of RAM with the cloaked pages in them, the random stream, and the translations that are known.
 #[derive(Drop)]
 pub struct Memory {
     pub pager: Pager,
@@ -50,6 +52,16 @@ pub struct Memory {
     pub draws: u64,
     /// A draw was missing.
     pub missed: bool,
+    /// The translations that are known.
+    pub shadows: Shadows,
+}
+
+/// Ends the translations that lead to a frame or through it.
+fn end_entries(shadows: &mut Shadows, f: Frame)
+    ensures { shadows.new ≡ killed f shadows.old }
+{
+    shadows.kill_target(f);
+    shadows.kill_dependents(f);
 }
 
 impl Memory {
@@ -72,12 +84,14 @@ impl Memory {
     {
         match self.pager.touch(f, &mut self.stream) {
             Touched::Quiet => {}
-            Touched::Resealed => {}
+            Touched::Resealed => end_entries(&mut self.shadows, f),
             Touched::Sealed => {
+                end_entries(&mut self.shadows, f);
                 self.draws = self.draws.saturating_add(1);
                 self.emit_frame(f, e);
             }
             Touched::Wiped => {
+                end_entries(&mut self.shadows, f);
                 self.missed = true;
                 self.emit_frame(f, e);
             }
@@ -157,8 +171,14 @@ impl Memory {
         if !self.make_room(q, g, e) {
             return Offer::Missed;
         }
+        let held = self.is_held(q, g);
         match self.pager.offer(q, g, write) {
-            Offered::Ready => Offer::Ready,
+            Offered::Ready => {
+                if !held {
+                    end_entries(&mut self.shadows, g);
+                }
+                Offer::Ready
+            }
             Offered::Mismatch => Offer::Mismatch,
         }
     }
@@ -181,6 +201,7 @@ impl Memory {
         ensures stream { self.new.stream ≡ self.old.stream }
         ensures draws { self.new.draws ≡ self.old.draws }
         ensures missed { self.new.missed ≡ self.old.missed }
+        ensures shadows { self.new.shadows ≡ self.old.shadows }
         ensures emits { Emits E.gave e.old e.new (item_pieces (Cipher f.0 (bytes_in self.old.pager f.0) ∷ [])) }
     {
         e.cipher(f.0, self.pager.read_outside(f));

@@ -102,6 +102,7 @@ impl<'m, 'e, E: Emit> Ram for Side<'m, 'e, E> {
         self.memory
             .pager
             .write_outside(f, place_of(pa) as u32, width, v);
+        self.memory.shadows.kill_dependents(f);
     }
 
     fn frame(&mut self, f: Frame) -> &[u8; 4096] {
@@ -112,6 +113,7 @@ impl<'m, 'e, E: Emit> Ram for Side<'m, 'e, E> {
     fn fill(&mut self, f: Frame, b: &[u8; 4096]) {
         self.settle(f);
         self.memory.pager.fill_outside(f, b);
+        self.memory.shadows.kill_dependents(f);
     }
 
     #[tactic(auto, unfolding(cloak_model::specs::Ask::ask_count))]

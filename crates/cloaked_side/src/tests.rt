@@ -7,6 +7,7 @@ use super::*;
 use cloak_base::{Frame, Kind, Mode, NoMemory, PageId};
 use cloak_model::{Answer, Emit, Item, PageSide, View};
 use cloak_pager::Pager;
+use multi_shadow::Shadows;
 use host_calls::Ram;
 use outside_io::Stream;
 use std::alloc::Global;
@@ -64,6 +65,7 @@ fn fresh(alloc: Global) -> Result<Memory, NoMemory>
         stream: Stream::numbered(0),
         draws: 0,
         missed: false,
+        shadows: Shadows::open(alloc, 64)?,
     })
 }
 

@@ -1,7 +1,7 @@
 -- RAM as a run begins, over plain variables.
 use Rattle.std.proofs.Common.{◌≡◌, ◌<◌, ◌≤◌, ◌+◌, ◌-◌, ◌*◌, ◌/◌, ◌%◌, ℕ, false, List, [], ◌∷◌, ◌++◌, length, drop, take, slice_index_or, slice_set, All, refl, ap, sym, ◌∙◌, subst, arith, add-one, None, Some, Option, map}
 use Rattle.std.proofs.lemmas.List.{set_split, length-set, length-replicate, at_drop_more, at_drop_all}
-use Rattle.std.proofs.lemmas.List.Elements.{All-set, All-replicate}
+use Rattle.std.proofs.lemmas.List.Elements.{All-nil, All-set, All-replicate}
 use Rattle.cloak_base.specs.Pages.{zero_page}
 use Rattle.cloak_base.specs.Random.{Random}
 use Rattle.cloak_base.specs.declared.names.PageId.{PageId}
@@ -13,12 +13,15 @@ use Rattle.cloak_model.specs.Memory.{frame_of, place_of, with_byte, with_bytes, 
 use Rattle.cloak_model.specs.Opening.{with_segments, started_kernel, started_ledger, started_memory}
 use Rattle.protect_meta.specs.declared.meta.Meta.{Meta}
 use Rattle.protect_meta.specs.Table.{meta_at}
-use Rattle.cloak_pager.specs.State.{PagerState, IsWholePager, owed_under}
+use Rattle.cloak_pager.specs.State.{PagerState, IsWholePager, owed_under, held_in}
 use Rattle.cloak_pager.specs.Turns.{IsNewPager, HasBytes}
 use Rattle.cloak_pager.specs.Relation.{StandsForMemory, FrameStands, PageStands}
 use Rattle.cloak_pager.specs.AfterCall.{none_wiped, StandsBlank}
 use Rattle.cloak_pager.specs.declared.held.Held.{Held}
 use Rattle.cloak_pager.specs.declared.held.Held.TheVariants.{Spent}
+use Rattle.shadow_fold.specs.Keeping.{Agrees}
+use Rattle.shadow_fold.specs.Table.{Table, empty_table}
+use Rattle.shadow_law.specs.Agreeing.{present}
 use Rattle.cloaked_side.specs.Holding.{Holds}
 use Rattle.joint_machine.specs.Starting.{ArePages, HasFrames}
 
@@ -281,15 +284,17 @@ loaded_stands old p k domains key stream is =
       drained = s.drained;
     }
 
-pub loaded_holds : (old p : PagerState) (k : KernelImage) (domains : ℕ) (key : List ℕ) (stream : Random) →
-    IsLoaded old p k domains key →
-    Holds (record { pager = p; stream = stream; draws = 0; missed = false }) (started_memory k key stream)
+pub loaded_holds : (old p : PagerState) (k : KernelImage) (domains : ℕ) (key : List ℕ) (stream : Random) (t : Table) →
+    IsLoaded old p k domains key → t ≡ empty_table k.frames →
+    Holds (record { pager = p; stream = stream; draws = 0; missed = false; shadows = t }) (started_memory k key stream)
 unfolding started_memory started_ledger
-loaded_holds old p k domains key stream is = record {
+loaded_holds old p k domains key stream t is empty = record {
   wiped = none_wiped;
   pager = loaded_stands old p k domains key stream is;
   whole = λ drawn q. refl;
   stream = refl;
   draws = refl;
   missed = refl;
+  agrees = subst (λ (u : Table). Agrees (present (held_in p) (started_memory k key stream)) u) (sym empty) (All-nil _);
+  room = ap (λ (u : Table). u.frames) empty ∙ sym (loaded_count old p k domains key is);
 }

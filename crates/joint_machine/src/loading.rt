@@ -11,6 +11,7 @@ use cloak_base::{Frame, NoMemory};
 use cloak_model::KernelImage;
 use cloak_pager::Pager;
 use cloaked_side::Memory;
+use multi_shadow::Shadows;
 use outside_io::Stream;
 use std::alloc::Global;
 
@@ -58,5 +59,6 @@ pub(crate) fn load(
         stream,
         draws: 0,
         missed: false,
+        shadows: Shadows::open(alloc, k.frames)?,
     })
 }

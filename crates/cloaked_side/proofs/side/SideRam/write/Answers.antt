@@ -4,7 +4,7 @@ use Rattle.cloak_model.specs.World.{settled}
 use Rattle.cloak_model.specs.Ask.{ask_store}
 use Rattle.cloak_pager.specs.AfterCall.{MeetsStill, after_write_outside}
 use Rattle.cloaked_side.specs.Seeing.{Sees}
-use Rattle.cloaked_side.proofs.Sided.{stored_after, within_repaged, written_size}
+use Rattle.cloaked_side.proofs.Sided.{stored_after, still_written, within_repaged, written_size}
 use Rattle.cloaked_side.proofs.Holders.{no_more_rights}
 use Rattle.cloaked_side.proofs.side.SideRam.write.Goals as goal
 
@@ -21,6 +21,8 @@ returns-clause-follows g c first w sees unclashed =
     c.place_of.ensures.value at_frame in
     stored_after g.E.Emit.gave first side _ pa c.args.width c.args.v (settled (frame_of pa) w)
     (record { stream = refl; draws = refl; missed = refl; emitter = refl; violation = refl; view = refl })
+    (λ m. still_written side.memory.now _ m c.frame_of-f.result (frame_of pa) _ _ c.frame_of-f.ensures
+    c.write_outside.ensures.state c.kill_dependents.ensures)
     (λ wiped m stands. (meets wiped m stands).stands)
     (subst (λ (f : ℕ). Sees g.E.Emit.gave first side (settled f w)) c.frame_of-f.ensures
     (c.settle.ensures.sees first w sees))
