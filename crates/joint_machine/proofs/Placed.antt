@@ -25,7 +25,7 @@ use Rattle.shadow_fold.specs.Table.{Table, ending}
 use Rattle.shadow_law.specs.Agreeing.{present, frame}
 use Rattle.shadow_law.proofs.Tables.{write_agrees}
 use Rattle.cloaked_side.specs.Holding.{Holds}
-use Rattle.cloaked_side.proofs.Translating.{agrees_rights}
+use Rattle.cloaked_side.proofs.Translating.{agrees_rights, ending_frames}
 use Rattle.cloaked_side.specs.declared.memory.Memory.{Memory}
 use Rattle.joint_machine.specs.Starting.{IsReady, PlacesTo}
 
@@ -142,7 +142,7 @@ page_placed old new given q f there bytes same meets missed draws rights count e
     (λ none. h.whole (sym missed ∙ none)) missed draws h.draws h.missed
     (λ is. subst (λ (u : Table). IfSome (place q f there m) (λ m'. Agrees (present (held_in new.pager) m') u)) (sym (ended is))
     (placed_agrees (held_in new.pager) q f there m old.shadows (agrees_rights old.pager new.pager m old.shadows rights h.agrees)))
-    (λ is. ap (λ (u : Table). u.frames) (ended is) ∙ h.room ∙ sym count))
+    (λ is. ap (λ (u : Table). u.frames) (ended is) ∙ ending_frames (is_table (frame f)) old.shadows ∙ h.room ∙ sym count))
 
 -- Pages one after another.
 

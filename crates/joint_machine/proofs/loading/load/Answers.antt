@@ -21,4 +21,4 @@ returns-clause-holds c =
     loaded_holds c.in_ok-pager.pager c.loop-segment.pager c.args.k.now c.args.domains c.args.key c.args.stream _
     (loaded c.in_ok-pager.pager c.loop-segment.pager c.args.k.now c.args.domains c.loop-segment.segment-index c.args.key
     c.as_slice-segments.result.now c.as_slice-segments.ensures c.in_ok-pager.ensures.state c.in_ok-pager.ensures.model
-    c.loop-segment.invariant c.loop-segment-test.false c.whole.ensures) c.in_ok-shadows.ensures
+    c.loop-segment.invariant c.loop-segment-test.false c.whole.ensures) c.in_ok-open.ensures
