@@ -9,3 +9,4 @@ pub mod Answering
 pub mod Cleared
 pub mod Serving
 pub mod Telling
+pub mod Leading

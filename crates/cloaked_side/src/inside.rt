@@ -4,11 +4,12 @@ ghost use Rattle.cloak_model.specs.AskPages as inside;
 ghost use Rattle.cloak_model.specs.Effect.{IsWidth};
 
 use crate::kept_items::{set_ok, set_put, set_word};
+use crate::leading::Led;
 use crate::memory::{self, Offer};
 use crate::side::Side;
-use cloak_base::{Frame, Kind, Mode, PageId, Violation};
+use cloak_base::{Frame, Kind, PageId, SpaceId, Violation};
 use cloak_model::{Answer, Emit, Item};
-use host_calls::Ram;
+use multi_shadow::ShadowView;
 
 /// The lowest bytes of a value.
 fn low_bytes(width: u32, v: u32) -> u32
@@ -34,13 +35,14 @@ fn is_store(kind: Kind) -> bool
 impl<'m, 'e, E: Emit> Side<'m, 'e, E> {
     ghost use Rattle.std.specs.Prelude.{IsTrue, IfOk};
     ghost use Rattle.cloak_model.specs.declared.item.Item.TheVariants as item;
-    ghost use Rattle.cloak_model.specs.World.{written};
-    ghost use Rattle.cloak_model.specs.Asking.{Follows, Keeps};
+    ghost use Rattle.cloak_model.specs.World.{World, is_clashed, written};
+    ghost use Rattle.cloak_model.specs.Asking.{Follows, FollowsFrom, Keeps};
     ghost use Rattle.cloak_model.specs.Memory.{is_in_frames, frame_of};
     ghost use Rattle.cloak_model.specs.AskPages.{replies, if_drawn, got, put_at, stored_inside, ask_offer, reached};
-    ghost use Rattle.cloak_model.specs.AskPages.{reach_by_table, get_by_table, put_by_table, ask_inside_address};
+    ghost use Rattle.cloak_model.specs.AskPages.{reach_by_table, get_by_table, put_by_table};
     ghost use Rattle.cloak_pager.specs.State.{held_in, owed_at};
     ghost use Rattle.cloaked_side.specs.Holding.{HoldsNoOther, frames_of, domains_in};
+    ghost use Rattle.cloaked_side.specs.Leading.{AreLedOutside, IsLedBy, inside_view, place_in};
     ghost use Rattle.cloaked_side.specs.Seeing.{Sees, Becomes, FollowsAlways, Stays, StaysWithin, CanRead, CanWrite};
 
     /// Writes an item.
@@ -91,18 +93,19 @@ impl<'m, 'e, E: Emit> Side<'m, 'e, E> {
         }
     }
 
-    /// The address in RAM where an access of the domain leads, or its fault.
-    #[tactic(auto, unfolding(cloak_model::specs::AskPages::ask_inside_address))]
-    fn inside_address(&mut self, va: u32, kind: Kind) -> Result<u32, u32>
-        ensures follows { Follows (Sees E.gave) self.old self.new result (ask_inside_address va kind) }
-        ensures keeps { Keeps (StaysWithin E.gave) self.old self.new }
-        ensures inside { IfOk result (λ pa. IsTrue (is_in_frames (frames_of self.old.memory.now) pa)) }
-        ensures offset { IfOk result (λ pa. pa % 4096 ≡ va % 4096) }
-        ensures same_domains { domains_in self.new.memory.now ≡ domains_in self.old.memory.now }
-        ensures same_count { frames_of self.new.memory.now ≡ frames_of self.old.memory.now }
+    /// Who translates for the questions of the context that asks.
+    fn inside_view(&self) -> ShadowView
+        ensures { result ≡ inside_view self.now }
     {
-        let view = self.view;
-        self.translate(view.satp, Mode::U, view.sum, view.mxr, va, kind)
+        ShadowView::Inside {
+            satp: self.view.satp,
+            sum: self.view.sum,
+            mxr: self.view.mxr,
+            space: SpaceId {
+                domain: self.view.domain as u32,
+                number: self.space,
+            },
+        }
     }
 
     /// Answers a question, and writes that.
@@ -130,17 +133,20 @@ impl<'m, 'e, E: Emit> Side<'m, 'e, E> {
     }
 
     /// The value where an address leads that is not cloaked.
-    fn got(&mut self, width: u32, to: Result<u32, u32>) -> Answer
-        requires inside { IfOk to (λ pa. IsTrue (is_in_frames (frames_of self.old.memory.now) pa)) }
+    fn got(&mut self, view: &ShadowView, va: u32, width: u32, to: &Result<Led, u32>) -> Answer
+        requires inside { IfOk to.now (λ led. IsTrue (is_in_frames (frames_of self.old.memory.now) led.pa)) }
+        requires tables { IfOk to.now (AreLedOutside (held_in self.old.memory.now.pager)) }
         requires width { IsWidth width }
-        requires aligned { IfOk to (λ pa. pa % width ≡ 0) }
-        ensures follows { Follows (Sees E.gave) self.old self.new result (got width to) }
+        requires aligned { IfOk to.now (λ led. led.pa % width ≡ 0) }
+        ensures told { (first : _) (w : World) → Sees E.gave first self.old w → IfOk to.now (IsLedBy w view.now va Kind.Load) →
+            FollowsFrom (Sees E.gave first) self.new result (got width (place_in to.now) w) }
         ensures keeps { Keeps (StaysWithin E.gave) self.old self.new }
     {
         match to {
-            Err(cause) => self.answer(Answer::Absent(cause)),
-            Ok(pa) => {
-                let value = Ram::read(self, pa, width);
+            Err(cause) => self.answer(Answer::Absent(*cause)),
+            Ok(led) => {
+                self.settle_led(view, va, Kind::Load, led);
+                let value = self.read_settled(led.pa, width);
                 self.answer_word(low_bytes(width, value))
             }
         }
@@ -153,11 +159,12 @@ impl<'m, 'e, E: Emit> Side<'m, 'e, E> {
         ensures follows { Follows (Sees E.gave) self.old self.new result (get_by_table va width) }
         ensures keeps { Keeps (StaysWithin E.gave) self.old self.new }
     {
-        let to = self.inside_address(va, Kind::Load);
+        let view = self.inside_view();
+        let to = self.led(&view, va, Kind::Load);
         if self.memory.missed {
             return self.answer(Answer::Stopped);
         }
-        self.got(width, to)
+        self.got(&view, va, width, &to)
     }
 
     /// Writes that a value was stored.
@@ -175,8 +182,7 @@ impl<'m, 'e, E: Emit> Side<'m, 'e, E> {
 
     /// Stores a value at a settled address, and writes that, unless a draw was missing.
     fn put_settled(&mut self, pa: u32, width: u32, v: u32) -> Answer
-        requires low { 0x80000000 ≤ pa }
-        requires inside { frame_of pa < frames_of self.old.memory.now }
+        requires inside { IsTrue (is_in_frames (frames_of self.old.memory.now) pa) }
         requires outside { held_in self.old.memory.now.pager (frame_of pa) ≡ None }
         requires width { IsWidth width }
         requires aligned { pa % width ≡ 0 }
@@ -186,28 +192,26 @@ impl<'m, 'e, E: Emit> Side<'m, 'e, E> {
         if self.memory.missed {
             return self.answer(Answer::Stopped);
         }
-        let f = memory::frame_of(pa);
-        self.memory
-            .pager
-            .write_outside(f, memory::place_of(pa) as u32, width, v);
-        self.memory.shadows.kill_dependents(f);
+        self.write_settled(pa, width, v);
         self.write_put(pa, width, v);
         self.answer(Answer::Ok)
     }
 
     /// Stores a value where an address leads that is not cloaked.
-    fn put_inside(&mut self, width: u32, v: u32, to: Result<u32, u32>) -> Answer
-        requires inside { IfOk to (λ pa. IsTrue (is_in_frames (frames_of self.old.memory.now) pa)) }
+    fn put_inside(&mut self, view: &ShadowView, va: u32, width: u32, v: u32, to: &Result<Led, u32>) -> Answer
+        requires inside { IfOk to.now (λ led. IsTrue (is_in_frames (frames_of self.old.memory.now) led.pa)) }
+        requires tables { IfOk to.now (AreLedOutside (held_in self.old.memory.now.pager)) }
         requires width { IsWidth width }
-        requires aligned { IfOk to (λ pa. pa % width ≡ 0) }
-        ensures told { FollowsAlways E.gave self.old self.new result (stored_inside width v to) }
+        requires aligned { IfOk to.now (λ led. led.pa % width ≡ 0) }
+        ensures told { (first : _) (w : World) → Sees E.gave first self.old w → IfOk to.now (IsLedBy w view.now va Kind.Store) →
+            FollowsFrom (Sees E.gave first) self.new result (stored_inside width v (place_in to.now) w) }
         ensures keeps { Keeps (StaysWithin E.gave) self.old self.new }
     {
         match to {
-            Err(cause) => self.answer(Answer::Absent(cause)),
-            Ok(pa) => {
-                self.settle(memory::frame_of(pa));
-                self.put_settled(pa, width, v)
+            Err(cause) => self.answer(Answer::Absent(*cause)),
+            Ok(led) => {
+                self.settle_led(view, va, Kind::Store, led);
+                self.put_settled(led.pa, width, v)
             }
         }
     }
@@ -219,11 +223,12 @@ impl<'m, 'e, E: Emit> Side<'m, 'e, E> {
         ensures follows { Follows (Sees E.gave) self.old self.new result (put_by_table va width v) }
         ensures keeps { Keeps (StaysWithin E.gave) self.old self.new }
     {
-        let to = self.inside_address(va, Kind::Store);
+        let view = self.inside_view();
+        let to = self.led(&view, va, Kind::Store);
         if self.memory.missed {
             return self.answer(Answer::Stopped);
         }
-        self.put_inside(width, v, to)
+        self.put_inside(&view, va, width, v, &to)
     }
 
     /// Offers a page in a frame, and answers whether the frame holds it.
@@ -253,22 +258,32 @@ impl<'m, 'e, E: Emit> Side<'m, 'e, E> {
     }
 
     /// Brings a page to where its address leads.
-    fn reached(&mut self, q: PageId, kind: Kind, to: Result<u32, u32>) -> Answer
-        requires inside { IfOk to (λ pa. IsTrue (is_in_frames (frames_of self.old.memory.now) pa)) }
+    fn reached(&mut self, q: PageId, view: &ShadowView, va: u32, kind: Kind, to: &Result<Led, u32>) -> Answer
+        requires inside { IfOk to.now (λ led. IsTrue (is_in_frames (frames_of self.old.memory.now) led.pa)) }
+        requires tables { IfOk to.now (AreLedOutside (held_in self.old.memory.now.pager)) }
         requires domain { q.domain < domains_in self.old.memory.now }
         requires own { q.domain ≡ self.old.view.domain }
         requires resource { q.resource < 16 }
         requires page { q.page < 1024 }
         requires drawn { self.old.memory.now.missed ≡ false }
-        ensures follows { Follows (Sees E.gave) self.old self.new result (reached q kind to) }
+        ensures told { (first : _) (w : World) → Sees E.gave first self.old w → IfOk to.now (IsLedBy w view.now va kind) →
+            is_clashed (reached q kind (place_in to.now) w).world ≡ false →
+            FollowsFrom (Sees E.gave first) self.new result (reached q kind (place_in to.now) w) }
         ensures keeps { Keeps (Stays E.gave) self.old self.new }
         ensures others { HoldsNoOther q self.old.memory.now.pager self.new.memory.now.pager }
         ensures readable { result ≡ Answer.Ok → CanRead self.new q }
         ensures writable { result ≡ Answer.Ok → kind ≡ Kind.Store → CanWrite self.new q }
     {
         match to {
-            Err(cause) => self.answer(Answer::Absent(cause)),
-            Ok(pa) => self.offered(q, memory::frame_of(pa), is_store(kind)),
+            Err(cause) => self.answer(Answer::Absent(*cause)),
+            Ok(led) => {
+                let answer = self.offered(q, memory::frame_of(led.pa), is_store(kind));
+                match answer {
+                    Answer::Ok => self.learn_page(q, view, va, kind, led),
+                    _ => {}
+                }
+                answer
+            }
         }
     }
 
@@ -284,10 +299,11 @@ impl<'m, 'e, E: Emit> Side<'m, 'e, E> {
         ensures readable { result ≡ Answer.Ok → CanRead self.new q }
         ensures writable { result ≡ Answer.Ok → kind ≡ Kind.Store → CanWrite self.new q }
     {
-        let to = self.inside_address(va, kind);
+        let view = self.inside_view();
+        let to = self.led(&view, va, kind);
         if self.memory.missed {
             return self.answer(Answer::Stopped);
         }
-        self.reached(q, kind, to)
+        self.reached(q, &view, va, kind, &to)
     }
 }

@@ -16,6 +16,7 @@
 mod clearing;
 mod inside;
 mod kept_items;
+mod leading;
 mod memory;
 mod outside;
 mod page_side;

@@ -131,6 +131,7 @@ fn answers_each_question(rt: HostRuntime) -> Result<(), Fail> {
             mxr: false,
             domain: 0,
         },
+        space: 0,
     };
     assert_eq!(rt; ask_each(&mut side), Some((Answer::Word(0x3344), 77)));
     assert!(rt; load(&mut side, CLOAKED) != Some(77));
