@@ -10,6 +10,8 @@
 
 ghost use Rattle.shadow_law.specs.Agreeing.{BornAgrees, ChangeKeeps, HitIsWalk, HitIsOffer, OfferKeeps, RemapKeeps};
 ghost use Rattle.shadow_law.specs.Agreeing.{TouchKeeps, WriteKeeps};
+ghost use Rattle.shadow_law.specs.Misses.{AskedWalk, SettledWalk, OfferedWalk, OpenEntryAgrees, PageEntryAgrees};
+ghost use Rattle.shadow_law.specs.Misses.{EntryWithin, BirthKeeps, BirthKeepsMapped, BirthKeepsWithin};
 ghost use Rattle.shadow_law.specs.Tables.{GrantAgrees, HeldAgrees, RefuseAgrees, RemapAgrees, TouchAgrees, WriteAgrees};
 ghost use Rattle.shadow_law.specs.Walks.{WalkKept, WalkOfPage, WalkReaches, WalkWithin};
 
@@ -44,6 +46,20 @@ pub fn law_of_tables()
 /// A miss makes an entry that agrees. It does nothing: its contract is the law.
 pub fn law_of_misses()
     ensures { BornAgrees }
+{}
+
+/// The walk of a miss stays as it was behind what its access does then, so that its entry agrees, and so do all live
+/// entries with it. It does nothing: its contract is the law.
+pub fn law_of_new_entries()
+    ensures asked { AskedWalk }
+    ensures settled { SettledWalk }
+    ensures offered { OfferedWalk }
+    ensures open { OpenEntryAgrees }
+    ensures page { PageEntryAgrees }
+    ensures within { EntryWithin }
+    ensures birth { BirthKeeps }
+    ensures birth_mapped { BirthKeepsMapped }
+    ensures birth_within { BirthKeepsWithin }
 {}
 
 /// An entry that agrees gives what a walk and an offer would. It does nothing: its contract is the law.
