@@ -9,4 +9,4 @@ pub mod Answering
 pub mod Cleared
 pub mod Serving
 pub mod Telling
-pub mod Leading
+pub mod Known

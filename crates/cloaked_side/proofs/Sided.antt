@@ -341,3 +341,8 @@ turned_size old new metas t =
 pub within_of : {E : Type 0} (gave : E → E → List Piece → Type 0) (old new : Side E) →
     Keeps (StaysWithin gave) old new → StaysWithin gave old new
 within_of gave old new keeps = keeps old (within_self gave old)
+
+-- the same of one that offers a page
+pub stays_of : {E : Type 0} (gave : E → E → List Piece → Type 0) (old new : Side E) →
+    Keeps (Stays gave) old new → Stays gave old new
+stays_of gave old new keeps = keeps old (stays_self gave old)

@@ -7,7 +7,7 @@ use Rattle.cloak_model.specs.Memory.{frame_of, is_in_ram}
 use Rattle.cloak_model.specs.Walk.{walk}
 use Rattle.cloak_model.specs.World.{World, Flat, Cloaked, Alone}
 use Rattle.shadow_fold.specs.Agreement.{EntryAgrees, satp_in, access_in}
-use Rattle.shadow_fold.specs.Entries.{IsWithin, is_frame}
+use Rattle.shadow_fold.specs.Entries.{IsWithin, is_table}
 use Rattle.shadow_fold.specs.declared.entry.Entry.{Entry}
 use Rattle.shadow_fold.specs.declared.entry.ShadowView.{ShadowView}
 use Rattle.shadow_fold.specs.declared.entry.ShadowView.TheVariants.{Inside}
@@ -56,8 +56,8 @@ entry_at view va kind pa walked cloaked = record {
 -- The walk that led an access to a cloaked page, where there was one, makes an entry that agrees, unless the page's frame
 -- is one of its own tables.
 abbrev pub IsReachedBy : World → (ℕ → Option PageId) → ShadowView → ℕ → Kind → PageId → Led → Type 0
-IsReachedBy w held view va kind q led = IfSome led.walked (λ walked. let f = record { 0 = frame_of led.pa } in
-    is_frame f walked.pt1 ≡ false → is_frame f walked.pt0 ≡ false → IsEntryOf w held (entry_at view va kind led.pa walked (Some q)))
+IsReachedBy w held view va kind q led = IfSome led.walked (λ walked. let e = entry_at view va kind led.pa walked (Some q) in
+    is_table e.frame e ≡ false → IsEntryOf w held e)
 
 -- who translates for the questions of a cloaked program
 abbrev pub inside_view : {E : Type 0} → Side E → ShadowView

@@ -1,5 +1,5 @@
 //! The questions of a cloaked program.
-ghost use Rattle.std.specs.Prelude.{◌≡◌, ◌<◌, ◌%◌, ◌^◌, ◌*◌, ◌≤◌, false};
+ghost use Rattle.std.specs.Prelude.{◌≡◌, ◌<◌, ◌%◌, ◌^◌, ◌*◌, ◌≤◌, false, Ok};
 ghost use Rattle.cloak_model.specs.AskPages as inside;
 ghost use Rattle.cloak_model.specs.Effect.{IsWidth};
 
@@ -33,7 +33,7 @@ fn is_store(kind: Kind) -> bool
 }
 
 impl<'m, 'e, E: Emit> Side<'m, 'e, E> {
-    ghost use Rattle.std.specs.Prelude.{IsTrue, IfOk};
+    ghost use Rattle.std.specs.Prelude.{IsTrue};
     ghost use Rattle.cloak_model.specs.declared.item.Item.TheVariants as item;
     ghost use Rattle.cloak_model.specs.World.{World, is_clashed, written};
     ghost use Rattle.cloak_model.specs.Asking.{Follows, FollowsFrom, Keeps};
@@ -42,7 +42,7 @@ impl<'m, 'e, E: Emit> Side<'m, 'e, E> {
     ghost use Rattle.cloak_model.specs.AskPages.{reach_by_table, get_by_table, put_by_table};
     ghost use Rattle.cloak_pager.specs.State.{held_in, owed_at};
     ghost use Rattle.cloaked_side.specs.Holding.{HoldsNoOther, frames_of, domains_in};
-    ghost use Rattle.cloaked_side.specs.Leading.{AreLedOutside, IsLedBy, inside_view, place_in};
+    ghost use Rattle.cloaked_side.specs.Leading.{AreLedOutside, IsLedBy, inside_view};
     ghost use Rattle.cloaked_side.specs.Seeing.{Sees, Becomes, FollowsAlways, Stays, StaysWithin, CanRead, CanWrite};
 
     /// Writes an item.
@@ -132,24 +132,19 @@ impl<'m, 'e, E: Emit> Side<'m, 'e, E> {
         self.answer(Answer::Word(value))
     }
 
-    /// The value where an address leads that is not cloaked.
-    fn got(&mut self, view: &ShadowView, va: u32, width: u32, to: &Result<Led, u32>) -> Answer
-        requires inside { IfOk to.now (λ led. IsTrue (is_in_frames (frames_of self.old.memory.now) led.pa)) }
-        requires tables { IfOk to.now (AreLedOutside (held_in self.old.memory.now.pager)) }
+    /// The value to which an access was led that is not cloaked.
+    fn got(&mut self, view: &ShadowView, va: u32, width: u32, led: &Led) -> Answer
+        requires inside { IsTrue (is_in_frames (frames_of self.old.memory.now) led.now.pa) }
+        requires tables { AreLedOutside (held_in self.old.memory.now.pager) led.now }
         requires width { IsWidth width }
-        requires aligned { IfOk to.now (λ led. led.pa % width ≡ 0) }
-        ensures told { (first : _) (w : World) → Sees E.gave first self.old w → IfOk to.now (IsLedBy w view.now va Kind.Load) →
-            FollowsFrom (Sees E.gave first) self.new result (got width (place_in to.now) w) }
+        requires aligned { led.now.pa % width ≡ 0 }
+        ensures told { (first : _) (w : World) → Sees E.gave first self.old w → IsLedBy w view.now va Kind.Load led.now →
+            FollowsFrom (Sees E.gave first) self.new result (got width (Ok led.now.pa) w) }
         ensures keeps { Keeps (StaysWithin E.gave) self.old self.new }
     {
-        match to {
-            Err(cause) => self.answer(Answer::Absent(*cause)),
-            Ok(led) => {
-                self.settle_led(view, va, Kind::Load, led);
-                let value = self.read_settled(led.pa, width);
-                self.answer_word(low_bytes(width, value))
-            }
-        }
+        self.settle_led(view, va, Kind::Load, led);
+        let value = self.read_settled(led.pa, width);
+        self.answer_word(low_bytes(width, value))
     }
 
     /// The value at an address that is not cloaked.
@@ -164,7 +159,10 @@ impl<'m, 'e, E: Emit> Side<'m, 'e, E> {
         if self.memory.missed {
             return self.answer(Answer::Stopped);
         }
-        self.got(&view, va, width, &to)
+        match to {
+            Err(cause) => self.answer(Answer::Absent(cause)),
+            Ok(led) => self.got(&view, va, width, &led),
+        }
     }
 
     /// Writes that a value was stored.
@@ -197,23 +195,18 @@ impl<'m, 'e, E: Emit> Side<'m, 'e, E> {
         self.answer(Answer::Ok)
     }
 
-    /// Stores a value where an address leads that is not cloaked.
-    fn put_inside(&mut self, view: &ShadowView, va: u32, width: u32, v: u32, to: &Result<Led, u32>) -> Answer
-        requires inside { IfOk to.now (λ led. IsTrue (is_in_frames (frames_of self.old.memory.now) led.pa)) }
-        requires tables { IfOk to.now (AreLedOutside (held_in self.old.memory.now.pager)) }
+    /// Stores a value to where an access was led that is not cloaked.
+    fn put_led(&mut self, view: &ShadowView, va: u32, width: u32, v: u32, led: &Led) -> Answer
+        requires inside { IsTrue (is_in_frames (frames_of self.old.memory.now) led.now.pa) }
+        requires tables { AreLedOutside (held_in self.old.memory.now.pager) led.now }
         requires width { IsWidth width }
-        requires aligned { IfOk to.now (λ led. led.pa % width ≡ 0) }
-        ensures told { (first : _) (w : World) → Sees E.gave first self.old w → IfOk to.now (IsLedBy w view.now va Kind.Store) →
-            FollowsFrom (Sees E.gave first) self.new result (stored_inside width v (place_in to.now) w) }
+        requires aligned { led.now.pa % width ≡ 0 }
+        ensures told { (first : _) (w : World) → Sees E.gave first self.old w → IsLedBy w view.now va Kind.Store led.now →
+            FollowsFrom (Sees E.gave first) self.new result (stored_inside width v (Ok led.now.pa) w) }
         ensures keeps { Keeps (StaysWithin E.gave) self.old self.new }
     {
-        match to {
-            Err(cause) => self.answer(Answer::Absent(*cause)),
-            Ok(led) => {
-                self.settle_led(view, va, Kind::Store, led);
-                self.put_settled(led.pa, width, v)
-            }
-        }
+        self.settle_led(view, va, Kind::Store, led);
+        self.put_settled(led.pa, width, v)
     }
 
     /// Stores a value at an address that is not cloaked.
@@ -228,7 +221,10 @@ impl<'m, 'e, E: Emit> Side<'m, 'e, E> {
         if self.memory.missed {
             return self.answer(Answer::Stopped);
         }
-        self.put_inside(&view, va, width, v, &to)
+        match to {
+            Err(cause) => self.answer(Answer::Absent(cause)),
+            Ok(led) => self.put_led(&view, va, width, v, &led),
+        }
     }
 
     /// Offers a page in a frame, and answers whether the frame holds it.
@@ -257,34 +253,29 @@ impl<'m, 'e, E: Emit> Side<'m, 'e, E> {
         }
     }
 
-    /// Brings a page to where its address leads.
-    fn reached(&mut self, q: PageId, view: &ShadowView, va: u32, kind: Kind, to: &Result<Led, u32>) -> Answer
-        requires inside { IfOk to.now (λ led. IsTrue (is_in_frames (frames_of self.old.memory.now) led.pa)) }
-        requires tables { IfOk to.now (AreLedOutside (held_in self.old.memory.now.pager)) }
+    /// Brings a page to where its access was led.
+    fn reached(&mut self, q: PageId, view: &ShadowView, va: u32, kind: Kind, led: &Led) -> Answer
+        requires inside { IsTrue (is_in_frames (frames_of self.old.memory.now) led.now.pa) }
+        requires tables { AreLedOutside (held_in self.old.memory.now.pager) led.now }
         requires domain { q.domain < domains_in self.old.memory.now }
         requires own { q.domain ≡ self.old.view.domain }
         requires resource { q.resource < 16 }
         requires page { q.page < 1024 }
         requires drawn { self.old.memory.now.missed ≡ false }
-        ensures told { (first : _) (w : World) → Sees E.gave first self.old w → IfOk to.now (IsLedBy w view.now va kind) →
-            is_clashed (reached q kind (place_in to.now) w).world ≡ false →
-            FollowsFrom (Sees E.gave first) self.new result (reached q kind (place_in to.now) w) }
+        ensures told { (first : _) (w : World) → Sees E.gave first self.old w → IsLedBy w view.now va kind led.now →
+            is_clashed (reached q kind (Ok led.now.pa) w).world ≡ false →
+            FollowsFrom (Sees E.gave first) self.new result (reached q kind (Ok led.now.pa) w) }
         ensures keeps { Keeps (Stays E.gave) self.old self.new }
         ensures others { HoldsNoOther q self.old.memory.now.pager self.new.memory.now.pager }
         ensures readable { result ≡ Answer.Ok → CanRead self.new q }
         ensures writable { result ≡ Answer.Ok → kind ≡ Kind.Store → CanWrite self.new q }
     {
-        match to {
-            Err(cause) => self.answer(Answer::Absent(*cause)),
-            Ok(led) => {
-                let answer = self.offered(q, memory::frame_of(led.pa), is_store(kind));
-                match answer {
-                    Answer::Ok => self.learn_page(q, view, va, kind, led),
-                    _ => {}
-                }
-                answer
-            }
+        let answer = self.offered(q, memory::frame_of(led.pa), is_store(kind));
+        match answer {
+            Answer::Ok => self.learn_page(q, view, va, kind, led),
+            _ => {}
         }
+        answer
     }
 
     /// Brings the page to where the kernel's page table leads from this address.
@@ -304,6 +295,9 @@ impl<'m, 'e, E: Emit> Side<'m, 'e, E> {
         if self.memory.missed {
             return self.answer(Answer::Stopped);
         }
-        self.reached(q, &view, va, kind, &to)
+        match to {
+            Err(cause) => self.answer(Answer::Absent(cause)),
+            Ok(led) => self.reached(q, &view, va, kind, &led),
+        }
     }
 }

@@ -1,13 +1,12 @@
 //! Where an access leads: by a translation that is known, or else by a walk, which makes one known.
-ghost use Rattle.std.specs.Prelude.{◌≡◌, ◌%◌, IsTrue, IfOk, IfSome, None, Ok};
+ghost use Rattle.std.specs.Prelude.{◌≡◌, ◌/◌, ◌%◌, false, IsTrue, IfOk, IfSome, None, Ok};
 ghost use Rattle.shadow_fold.specs.Agreement.{satp_in, access_in};
-ghost use Rattle.shadow_fold.specs.Entries as entries;
 
 use crate::memory::frame_of;
 use crate::side::Side;
 use cloak_base::{Frame, Kind, Mode, PageId, SpaceId};
 use cloak_model::{Access, Emit, Walked, access_fault};
-use multi_shadow::{Entry, ShadowView};
+use multi_shadow::{Entry, ShadowView, is_table};
 use sv32_walk::walk;
 
 /// Where RAM begins.
@@ -66,15 +65,6 @@ fn entry_of(view: &ShadowView, va: u32, kind: Kind, frame: Frame, walked: &Walke
         pt1: walked.pt1,
         pt0: walked.pt0,
         cloaked,
-    }
-}
-
-fn is_frame(f: Frame, table: Option<Frame>) -> bool
-    ensures { result ≡ entries.is_frame f table }
-{
-    match table {
-        None => false,
-        Some(g) => g.0 == f.0,
     }
 }
 
@@ -215,8 +205,9 @@ impl<'m, 'e, E: Emit> Side<'m, 'e, E> {
     {
         let f = frame_of(led.pa);
         if let Some(walked) = &led.walked {
-            if !is_frame(f, walked.pt1) && !is_frame(f, walked.pt0) {
-                self.learn(entry_of(view, va, kind, f, walked, Some(q)));
+            let e = entry_of(view, va, kind, f, walked, Some(q));
+            if !is_table(f, &e) {
+                self.learn(e);
             }
         }
     }
