@@ -7,8 +7,7 @@ use crate::kept_items::{set_ok, set_put, set_word};
 use crate::memory::{self, Offer};
 use crate::side::Side;
 use cloak_base::{Frame, Kind, Mode, PageId, Violation};
-use cloak_model::{Answer, Emit, Item};
-use host_calls::Ram;
+use cloak_model::{Access, Answer, Emit, Item};
 
 /// The lowest bytes of a value.
 fn low_bytes(width: u32, v: u32) -> u32
@@ -102,7 +101,14 @@ impl<'m, 'e, E: Emit> Side<'m, 'e, E> {
         ensures same_count { frames_of self.new.memory.now ≡ frames_of self.old.memory.now }
     {
         let view = self.view;
-        self.translate(view.satp, Mode::U, view.sum, view.mxr, va, kind)
+        let access = Access {
+            mode: Mode::U,
+            sum: view.sum,
+            mxr: view.mxr,
+            va,
+            kind,
+        };
+        self.led(view.satp, access)
     }
 
     /// Answers a question, and writes that.
@@ -140,7 +146,7 @@ impl<'m, 'e, E: Emit> Side<'m, 'e, E> {
         match to {
             Err(cause) => self.answer(Answer::Absent(cause)),
             Ok(pa) => {
-                let value = Ram::read(self, pa, width);
+                let value = self.read_at(pa, width);
                 self.answer_word(low_bytes(width, value))
             }
         }

@@ -5,7 +5,7 @@ ghost use Rattle.cloaked_side.specs.Holding.{domains_in};
 
 use super::*;
 use cloak_base::{Frame, Kind, Mode, NoMemory, PageId};
-use cloak_model::{Answer, Emit, Item, PageSide, View};
+use cloak_model::{Access, Answer, Emit, Item, PageSide, View};
 use cloak_pager::Pager;
 use host_calls::Ram;
 use outside_io::Stream;
@@ -96,8 +96,14 @@ fn ask_each<M: PageSide>(m: &mut M) -> Option<(Answer, u32)>
 fn load<M: Ram>(m: &mut M, va: u32) -> Option<u32>
     requires { va % 4 ≡ 0 }
 {
-    let pa = m.translate(0, Mode::S, false, false, va, Kind::Load).ok()?;
-    Some(m.read(pa, 4))
+    let access = Access {
+        mode: Mode::S,
+        sum: false,
+        mxr: false,
+        va,
+        kind: Kind::Load,
+    };
+    m.load(0, access, 4).ok()
 }
 
 /// Fills frame 3 with one byte, and reads a byte of it where it lies.

@@ -3,4 +3,4 @@ use Rattle.cloaked_side.proofs.side.Side.inside_address.Goals as goal
 
 pub returns-clause-same_domains : goal.returns-clause-same_domains
 returns-clause-same_domains g c =
-    (within_of g.E.Emit.gave c.args.self.now c.translate.new.self c.translate.ensures.keeps).stays.size.domains
+    (within_of g.E.Emit.gave c.args.self.now c.led.new.self c.led.ensures.keeps).stays.size.domains

@@ -6,7 +6,7 @@ use Rattle.cloak_pager.specs.AfterCall.{MeetsStill, after_write_outside}
 use Rattle.cloaked_side.specs.Seeing.{Sees}
 use Rattle.cloaked_side.proofs.Sided.{stored_after, within_repaged, written_size}
 use Rattle.cloaked_side.proofs.Holders.{no_more_rights}
-use Rattle.cloaked_side.proofs.side.SideRam.write.Goals as goal
+use Rattle.cloaked_side.proofs.side.Side.write_at.Goals as goal
 
 pub returns-clause-follows : goal.returns-clause-follows
 unfolding ask_store

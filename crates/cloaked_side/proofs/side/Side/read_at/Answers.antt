@@ -5,7 +5,7 @@ use Rattle.cloak_model.specs.Ask.{ask_value}
 use Rattle.cloak_pager.specs.AfterCall.{SeesFrame}
 use Rattle.cloaked_side.specs.Seeing.{Sees}
 use Rattle.cloaked_side.proofs.Sided.{read_after, within_repaged, read_size, no_more_read}
-use Rattle.cloaked_side.proofs.side.SideRam.read.Goals as goal
+use Rattle.cloaked_side.proofs.side.Side.read_at.Goals as goal
 
 pub returns-clause-follows : goal.returns-clause-follows
 unfolding ask_value

@@ -2,7 +2,7 @@ use Rattle.std.proofs.Common.{rules, ℕ, subst}
 use Rattle.std.specs.Bool.{IsTrue}
 use Rattle.cloak_model.specs.Memory.{is_in_frames}
 use Rattle.cloaked_side.proofs.Sided.{within_of}
-use Rattle.cloaked_side.proofs.side.SideRam.translate.Goals as goal
+use Rattle.cloaked_side.proofs.side.Side.led.Goals as goal
 
 pub returns-in-Err-clause-same_count : goal.returns-in-Err-clause-same_count
 returns-in-Err-clause-same_count g c =
