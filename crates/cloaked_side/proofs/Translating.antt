@@ -17,13 +17,17 @@ use Rattle.cloak_pager.proofs.Pages.{same_or_not}
 use Rattle.protect_meta.specs.declared.meta.Meta.{Meta}
 use Rattle.cloak_pager.proofs.Stands.{owed_by_right}
 use Rattle.cloak_pager.proofs.Touches.{settle_none}
+use Rattle.shadow_fold.specs.Agreement.{EntryAgrees}
 use Rattle.shadow_fold.specs.Keeping.{Agrees}
+use Rattle.shadow_fold.proofs.Agreeing.{keeps_ending}
 use Rattle.shadow_fold.specs.declared.entry.Entry.{Entry}
 use Rattle.shadow_fold.specs.Entries.{is_target, is_table}
 use Rattle.shadow_fold.specs.Table.{Table, ending, killed}
 use Rattle.shadow_law.specs.Agreeing.{present, frame}
 use Rattle.shadow_law.proofs.Changes.{change_keeps}
 use Rattle.shadow_law.proofs.Tables.{touch_agrees, held_agrees, grant_agrees, refuse_agrees}
+use Rattle.cloaked_side.specs.Holding.{Holds}
+use Rattle.cloaked_side.specs.declared.memory.Memory.{Memory}
 use Rattle.cloaked_side.proofs.Presents.{pager_owes, pager_shows}
 
 -- frames hold what their rights say
@@ -143,3 +147,18 @@ offered_vain old new w m q g write t stands same alone outside ends agrees =
 
     unlike : Mismatch ≡ Ready → ⊥
     unlike is = cc
+
+-- entries of a space ended: the memory stands for what it stood for
+pub ended_holds : (old new : Memory) (ends : Entry → Bool) → new ≡ record old { shadows = ending ends old.shadows }
+    → (m : CloakedMemory) → Holds old m → Holds new m
+ended_holds old new ends is m h = subst (λ (x : Memory). Holds x m) (sym is) (record {
+  wiped = h.wiped;
+  pager = h.pager;
+  whole = h.whole;
+  stream = h.stream;
+  draws = h.draws;
+  missed = h.missed;
+  agrees = keeps_ending (EntryAgrees (present (held_in old.pager) m)) (EntryAgrees (present (held_in old.pager) m)) ends old.shadows
+      (λ e stays agrees. agrees) h.agrees;
+  room = ending_frames ends old.shadows ∙ h.room;
+})

@@ -2,9 +2,10 @@ ghost use Rattle.std.specs.Prelude.{◌≡◌, ◌≢◌, ◌^◌, IsTrue, ◌�
 ghost use Rattle.cloak_model.specs.Memory as memory;
 ghost use Rattle.cloak_model.specs.Memory.{is_in_frames};
 ghost use Rattle.cloak_model.specs.declared.item.Item.TheVariants.{Cipher};
-ghost use Rattle.shadow_fold.specs.Table.{killed};
+ghost use Rattle.shadow_fold.specs.Entries.{is_of_space};
+ghost use Rattle.shadow_fold.specs.Table.{ending, killed};
 
-use cloak_base::{Frame, PageId};
+use cloak_base::{Frame, PageId, SpaceId};
 use cloak_model::Emit;
 use cloak_pager::{Offered, Pager, Touched};
 use multi_shadow::Shadows;
@@ -181,6 +182,13 @@ impl Memory {
             }
             Offered::Mismatch => Offer::Mismatch,
         }
+    }
+
+    /// The regions of a space changed, or it ended: what was known of its pages ends.
+    pub fn end_space(&mut self, s: SpaceId)
+        ensures { self.new ≡ record self.old { shadows = ending (is_of_space s) self.old.shadows } }
+    {
+        self.shadows.kill_space(s);
     }
 
     /// The address lies in RAM.

@@ -1,6 +1,7 @@
 -- RAM as a run begins, over plain variables.
-use Rattle.std.proofs.Common.{◌≡◌, ◌<◌, ◌≤◌, ◌+◌, ◌-◌, ◌*◌, ◌/◌, ◌%◌, ℕ, false, List, [], ◌∷◌, ◌++◌, length, drop, take, slice_index_or, slice_set, All, refl, ap, sym, ◌∙◌, subst, arith, add-one, None, Some, Option, map}
-use Rattle.std.proofs.lemmas.List.{set_split, length-set, length-replicate, at_drop_more, at_drop_all}
+use Rattle.std.proofs.Common.{inl, inr, ◌≡◌, ◌<◌, ◌≤◌, ◌+◌, ◌-◌, ◌*◌, ◌/◌, ◌%◌, ℕ, false, List, [], ◌∷◌, ◌++◌, length, drop, take, slice_index_or, slice_set, All, refl, ap, sym, ◌∙◌, subst, arith, add-one, None, Some, Option, map}
+use Rattle.std.proofs.lemmas.List.{get_or_past, set_split, length-set, length-replicate, at_drop_more, at_drop_all}
+use Rattle.std.proofs.lemmas.Bool.{cases_lt}
 use Rattle.std.proofs.lemmas.List.Elements.{All-nil, All-set, All-replicate}
 use Rattle.cloak_base.specs.Pages.{zero_page}
 use Rattle.cloak_base.specs.Random.{Random}
@@ -13,7 +14,7 @@ use Rattle.cloak_model.specs.Memory.{frame_of, place_of, with_byte, with_bytes, 
 use Rattle.cloak_model.specs.Opening.{with_segments, started_kernel, started_ledger, started_memory}
 use Rattle.protect_meta.specs.declared.meta.Meta.{Meta}
 use Rattle.protect_meta.specs.Table.{meta_at}
-use Rattle.cloak_pager.specs.State.{PagerState, IsWholePager, owed_under, held_in}
+use Rattle.cloak_pager.specs.State.{PagerState, IsWholePager, page_of, owed_under, held_in}
 use Rattle.cloak_pager.specs.Turns.{IsNewPager, HasBytes}
 use Rattle.cloak_pager.specs.Relation.{StandsForMemory, FrameStands, PageStands}
 use Rattle.cloak_pager.specs.AfterCall.{none_wiped, StandsBlank}
@@ -23,7 +24,7 @@ use Rattle.shadow_fold.specs.Keeping.{Agrees}
 use Rattle.shadow_fold.specs.Table.{Table, empty_table}
 use Rattle.shadow_law.specs.Agreeing.{present}
 use Rattle.cloaked_side.specs.Holding.{Holds}
-use Rattle.joint_machine.specs.Starting.{ArePages, HasFrames}
+use Rattle.joint_machine.specs.Starting.{ArePages, HasFrames, IsReady}
 
 -- One byte.
 
@@ -169,6 +170,24 @@ loads_none n domains key p segments new = record {
       subst ArePages (sym new.zeros)
       (All-replicate (λ (page : List ℕ). length page ≡ 4096) n zero_page (length-replicate {A = ℕ} 4096 0));
   stored = refl;
+}
+
+-- no frame holds a page yet
+pub loads_outside : (n domains : ℕ) (key : List ℕ) (old p : PagerState) (i : ℕ) (segments : List Segment) →
+    IsNewPager n domains key old → LoadsFrom old p i segments → (k : ℕ) → held_in p k ≡ None
+loads_outside n domains key old p i segments new so_far k =
+    ap (λ (rights : List Held). page_of (slice_index_or rights k Spent)) so_far.stays.rights_are ∙ elim (cases_lt k n) [
+      | inl inside ↦ ap page_of (new.outside k inside)
+      | inr past ↦ ap page_of (get_or_past old.rights k Spent (let count = new.count in omega (arith, past, count)))
+    ]
+
+-- and none was shown
+pub loads_ready : (n domains : ℕ) (key : List ℕ) (old p : PagerState) (i : ℕ) (segments : List Segment) →
+    IsNewPager n domains key old → LoadsFrom old p i segments → IsReady p 0 0
+loads_ready n domains key old p i segments new so_far = record {
+  outside = loads_outside n domains key old p i segments new so_far;
+  rest = λ q here past. so_far.stays.metas_are q ∙ new.no_metas q;
+  later = λ q past. so_far.stays.metas_are q ∙ new.no_metas q;
 }
 
 loads_more : (old p p' : PagerState) (i : ℕ) (s : Segment) (segments : List Segment) → LoadsFrom old p i segments →

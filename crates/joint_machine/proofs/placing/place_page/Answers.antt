@@ -7,7 +7,7 @@ overflow_add-f c = omega (arith, c.requires.program.place, c.requires.page, c.wh
 
 pub returns-then-not-place-clause-places : goal.returns-then-not-place-clause-places
 returns-then-not-place-clause-places c m holds =
-    page_placed c.args.memory.now _ false (first_page c.args.domain c.args.page) _ c.page_bytes.result.now _
+    page_placed c.args.memory.now (record c.args.memory.now { pager = c.place.new.self; stream = c.place.new.s }) false (first_page c.args.domain c.args.page) _ c.page_bytes.result.now _
     c.page_bytes.ensures c.if-not-place.ensures.model refl refl c.place.ensures.rights c.place.ensures.stays.count
     (λ (is : false ≡ true). cc) m holds
 
