@@ -15,7 +15,7 @@
 //! page names the next frame.
 #![tactic(auto)]
 
-ghost use Rattle.cause_law.specs.Causes.{ContextIsRefused, FetchIsRefused, MappingIsRefused, PageIsRefused, StoppedIsLast, ViolationHasCause};
+ghost use Rattle.cause_law.specs.Causes.{PageIsRefused, PresentedIsRefused, StoppedIsLast, ViolationHasCause};
 ghost use Rattle.cause_law.specs.Closing.{ClosingOwesNothing, ClosingShowsOwed, ClosingSparesOthers};
 
 /// What the closing of a run shows, and that it leaves nothing to show. It does nothing: its contract is the law.
@@ -32,9 +32,7 @@ pub fn law_of_violations()
 
 /// What is presented in place of what is recorded stops the run. It does nothing: its contract is the law.
 pub fn law_of_refusals()
-    ensures context { ContextIsRefused }
-    ensures mapping { MappingIsRefused }
+    ensures presented { PresentedIsRefused }
     ensures page { PageIsRefused }
-    ensures fetch { FetchIsRefused }
     ensures stopped { StoppedIsLast }
 {}
