@@ -1,5 +1,5 @@
 -- A step of a program leaves all calm, or it is stopped at a page for which it asks.
-use Rattle.std.proofs.Common.{◌≡◌, ◌∙◌, ◌⊎◌, ◌%◌, ℕ, Bool, true, false, nat_le, Option, Some, None, Result, Ok, Err, refl, sym, ap, inl, inr}
+use Rattle.std.proofs.Common.{◌≡◌, ◌∙◌, ◌⊎◌, ◌%◌, ℕ, Bool, true, false, nat_le, List, Option, Some, None, Result, Ok, Err, refl, sym, ap, inl, inr}
 use Rattle.std.specs.Prelude.{slice_index_or}
 use Rattle.std.proofs.lemmas.Bool.{leb-false}
 use Rattle.cloak_base.specs.declared.names.CtxId.{CtxId}

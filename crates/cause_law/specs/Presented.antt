@@ -54,8 +54,8 @@ pub record Executes (d : Domain) (c : Context) (begun : World) (i : Instr) (w : 
   pub word : instruction (value_in (plain_of w page) (c.pc % 4096) 4) ≡ Some i
 
 -- The area of a call, which its bytes go to or come from, is not cloaked at this byte.
-abbrev pub is_open : Domain → Context → ℕ → Type 0
-is_open d c done = is_cloaked d.control.resources c (byte_address (area c) done) ≡ false
+abbrev pub HasPlainArea : Domain → Context → ℕ → Type 0
+HasPlainArea d c done = is_cloaked d.control.resources c (byte_address (area c) done) ≡ false
 
 -- A step of a context, which began in this memory, asks for the cloaked page at an address, in memory w:
 pub data AsksAt (d : Domain) (c : Context) (begun : World) (va : ℕ) (kind : Kind) (w : World) : Type 0 where
@@ -68,9 +68,9 @@ pub data AsksAt (d : Domain) (c : Context) (begun : World) (va : ℕ) (kind : Ki
       effect i c.regs c.pc ≡ does.Store va width value → kind ≡ Store → AsksAt d c begun va kind w
   -- or for the next byte of the buffer of a call, which the kernel is given or has given.
   CopiesFrom : (done : ℕ) → c.phase ≡ CopyIn done → done < call_length c → va ≡ byte_address (buffer c) done →
-      is_open d c done → kind ≡ Load → w ≡ begun → AsksAt d c begun va kind w
+      HasPlainArea d c done → kind ≡ Load → w ≡ begun → AsksAt d c begun va kind w
   CopiesTo : (done total byte : ℕ) → c.phase ≡ CopyOut done total → done < total →
-      va ≡ byte_address (buffer c) done → is_open d c done →
+      va ≡ byte_address (buffer c) done → HasPlainArea d c done →
       ask_get (byte_address (area c) done) 1 begun ≡ record { answer = answer.Word byte; world = w } →
       kind ≡ Store → AsksAt d c begun va kind w
 
