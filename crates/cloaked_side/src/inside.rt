@@ -43,17 +43,34 @@ impl<'m, 'e, E: Emit> Side<'m, 'e, E> {
     ghost use Rattle.cloaked_side.specs.Holding.{HoldsNoOther, frames_of, domains_in};
     ghost use Rattle.cloaked_side.specs.Seeing.{Sees, Becomes, FollowsAlways, Stays, StaysWithin, CanRead, CanWrite};
 
-    /// Writes an item.
-    fn write_item(&mut self, i: &Item)
-        ensures sees { Becomes E.gave self.old self.new (written i.now) }
+    /// Writes that a page is absent. Apart, since to build an item clears room for a page.
+    #[cold]
+    #[inline(never)]
+    fn write_absent(&mut self, cause: u32)
+        ensures sees { Becomes E.gave self.old self.new (written (item.Absent self.old.view.domain cause)) }
         ensures keeps { Keeps (StaysWithin E.gave) self.old self.new }
         ensures same { self.new.memory ≡ self.old.memory }
         ensures view { self.new.view ≡ self.old.view }
     {
-        self.emitter.item(i);
+        let domain = self.view.domain;
+        self.emitter.item(&Item::Absent { domain, cause });
+    }
+
+    /// Writes that a question stopped the run. Apart, as `write_absent` is.
+    #[cold]
+    #[inline(never)]
+    fn write_stopped(&mut self)
+        ensures sees { Becomes E.gave self.old self.new (written (item.Stopped self.old.view.domain)) }
+        ensures keeps { Keeps (StaysWithin E.gave) self.old self.new }
+        ensures same { self.new.memory ≡ self.old.memory }
+        ensures view { self.new.view ≡ self.old.view }
+    {
+        let domain = self.view.domain;
+        self.emitter.item(&Item::Stopped { domain });
     }
 
     /// Writes that a question was granted.
+    #[inline(always)]
     fn write_ok(&mut self)
         ensures sees { Becomes E.gave self.old self.new (written (item.Ok self.old.view.domain)) }
         ensures keeps { Keeps (StaysWithin E.gave) self.old self.new }
@@ -65,6 +82,7 @@ impl<'m, 'e, E: Emit> Side<'m, 'e, E> {
     }
 
     /// Writes a value that was asked for.
+    #[inline(always)]
     fn write_word(&mut self, value: u32)
         ensures sees { Becomes E.gave self.old self.new (written (item.Word self.old.view.domain value)) }
         ensures keeps { Keeps (StaysWithin E.gave) self.old self.new }
@@ -76,18 +94,18 @@ impl<'m, 'e, E: Emit> Side<'m, 'e, E> {
     }
 
     /// Writes an answer.
+    #[inline(always)]
     fn write_answer(&mut self, a: Answer)
         ensures sees { Becomes E.gave self.old self.new (written (inside.answer_item self.old.view.domain a)) }
         ensures keeps { Keeps (StaysWithin E.gave) self.old self.new }
         ensures same { self.new.memory ≡ self.old.memory }
         ensures view { self.new.view ≡ self.old.view }
     {
-        let domain = self.view.domain;
         match a {
             Answer::Ok => self.write_ok(),
-            Answer::Absent(cause) => self.write_item(&Item::Absent { domain, cause }),
+            Answer::Absent(cause) => self.write_absent(cause),
             Answer::Word(value) => self.write_word(value),
-            Answer::Stopped => self.write_item(&Item::Stopped { domain }),
+            Answer::Stopped => self.write_stopped(),
         }
     }
 
@@ -106,6 +124,7 @@ impl<'m, 'e, E: Emit> Side<'m, 'e, E> {
     }
 
     /// Answers a question, and writes that.
+    #[inline(always)]
     pub(crate) fn answer(&mut self, a: Answer) -> Answer
         ensures told { FollowsAlways E.gave self.old self.new result (replies a) }
         ensures keeps { Keeps (StaysWithin E.gave) self.old self.new }
@@ -228,6 +247,7 @@ impl<'m, 'e, E: Emit> Side<'m, 'e, E> {
     }
 
     /// Offers a page in a frame, and answers whether the frame holds it.
+    #[inline(always)]
     fn offered(&mut self, q: PageId, g: Frame, write: bool) -> Answer
         requires inside { g.0 < frames_of self.old.memory.now }
         requires domain { q.domain < domains_in self.old.memory.now }
@@ -254,6 +274,7 @@ impl<'m, 'e, E: Emit> Side<'m, 'e, E> {
     }
 
     /// Brings a page to where its address leads.
+    #[inline(always)]
     fn reached(&mut self, q: PageId, kind: Kind, to: Result<u32, u32>) -> Answer
         requires inside { IfOk to (λ pa. IsTrue (is_in_frames (frames_of self.old.memory.now) pa)) }
         requires domain { q.domain < domains_in self.old.memory.now }
@@ -274,6 +295,7 @@ impl<'m, 'e, E: Emit> Side<'m, 'e, E> {
     }
 
     /// Brings the page to where the kernel's page table leads from this address.
+    #[inline(always)]
     pub(crate) fn reach_page(&mut self, q: PageId, va: u32, kind: Kind) -> Answer
         requires domain { q.domain < domains_in self.old.memory.now }
         requires own { q.domain ≡ self.old.view.domain }
