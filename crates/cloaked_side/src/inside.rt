@@ -45,17 +45,34 @@ impl<'m, 'e, E: Emit> Side<'m, 'e, E> {
     ghost use Rattle.cloaked_side.specs.Leading.{AreLedOutside, IsLedBy, inside_view};
     ghost use Rattle.cloaked_side.specs.Seeing.{Sees, Becomes, FollowsAlways, Stays, StaysWithin, CanRead, CanWrite};
 
-    /// Writes an item.
-    fn write_item(&mut self, i: &Item)
-        ensures sees { Becomes E.gave self.old self.new (written i.now) }
+    /// Writes that a page is absent. Apart, since to build an item clears room for a page.
+    #[cold]
+    #[inline(never)]
+    fn write_absent(&mut self, cause: u32)
+        ensures sees { Becomes E.gave self.old self.new (written (item.Absent self.old.view.domain cause)) }
         ensures keeps { Keeps (StaysWithin E.gave) self.old self.new }
         ensures same { self.new.memory ≡ self.old.memory }
         ensures view { self.new.view ≡ self.old.view }
     {
-        self.emitter.item(i);
+        let domain = self.view.domain;
+        self.emitter.item(&Item::Absent { domain, cause });
+    }
+
+    /// Writes that a question stopped the run. Apart, as `write_absent` is.
+    #[cold]
+    #[inline(never)]
+    fn write_stopped(&mut self)
+        ensures sees { Becomes E.gave self.old self.new (written (item.Stopped self.old.view.domain)) }
+        ensures keeps { Keeps (StaysWithin E.gave) self.old self.new }
+        ensures same { self.new.memory ≡ self.old.memory }
+        ensures view { self.new.view ≡ self.old.view }
+    {
+        let domain = self.view.domain;
+        self.emitter.item(&Item::Stopped { domain });
     }
 
     /// Writes that a question was granted.
+    #[inline(always)]
     fn write_ok(&mut self)
         ensures sees { Becomes E.gave self.old self.new (written (item.Ok self.old.view.domain)) }
         ensures keeps { Keeps (StaysWithin E.gave) self.old self.new }
@@ -67,6 +84,7 @@ impl<'m, 'e, E: Emit> Side<'m, 'e, E> {
     }
 
     /// Writes a value that was asked for.
+    #[inline(always)]
     fn write_word(&mut self, value: u32)
         ensures sees { Becomes E.gave self.old self.new (written (item.Word self.old.view.domain value)) }
         ensures keeps { Keeps (StaysWithin E.gave) self.old self.new }
@@ -78,18 +96,18 @@ impl<'m, 'e, E: Emit> Side<'m, 'e, E> {
     }
 
     /// Writes an answer.
+    #[inline(always)]
     fn write_answer(&mut self, a: Answer)
         ensures sees { Becomes E.gave self.old self.new (written (inside.answer_item self.old.view.domain a)) }
         ensures keeps { Keeps (StaysWithin E.gave) self.old self.new }
         ensures same { self.new.memory ≡ self.old.memory }
         ensures view { self.new.view ≡ self.old.view }
     {
-        let domain = self.view.domain;
         match a {
             Answer::Ok => self.write_ok(),
-            Answer::Absent(cause) => self.write_item(&Item::Absent { domain, cause }),
+            Answer::Absent(cause) => self.write_absent(cause),
             Answer::Word(value) => self.write_word(value),
-            Answer::Stopped => self.write_item(&Item::Stopped { domain }),
+            Answer::Stopped => self.write_stopped(),
         }
     }
 
@@ -109,6 +127,7 @@ impl<'m, 'e, E: Emit> Side<'m, 'e, E> {
     }
 
     /// Answers a question, and writes that.
+    #[inline(always)]
     pub(crate) fn answer(&mut self, a: Answer) -> Answer
         ensures told { FollowsAlways E.gave self.old self.new result (replies a) }
         ensures keeps { Keeps (StaysWithin E.gave) self.old self.new }
@@ -228,6 +247,7 @@ impl<'m, 'e, E: Emit> Side<'m, 'e, E> {
     }
 
     /// Offers a page in a frame, and answers whether the frame holds it.
+    #[inline(always)]
     fn offered(&mut self, q: PageId, g: Frame, write: bool) -> Answer
         requires inside { g.0 < frames_of self.old.memory.now }
         requires domain { q.domain < domains_in self.old.memory.now }
@@ -254,6 +274,7 @@ impl<'m, 'e, E: Emit> Side<'m, 'e, E> {
     }
 
     /// Brings a page to where its access was led.
+    #[inline(always)]
     fn reached(&mut self, q: PageId, view: &ShadowView, va: u32, kind: Kind, led: &Led) -> Answer
         requires inside { IsTrue (is_in_frames (frames_of self.old.memory.now) led.now.pa) }
         requires tables { AreLedOutside (held_in self.old.memory.now.pager) led.now }
@@ -279,6 +300,7 @@ impl<'m, 'e, E: Emit> Side<'m, 'e, E> {
     }
 
     /// Brings the page to where the kernel's page table leads from this address.
+    #[inline(always)]
     pub(crate) fn reach_page(&mut self, q: PageId, va: u32, kind: Kind) -> Answer
         requires domain { q.domain < domains_in self.old.memory.now }
         requires own { q.domain ≡ self.old.view.domain }

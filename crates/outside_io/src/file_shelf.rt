@@ -86,6 +86,7 @@ impl<R: Files + Drop> FileShelf<R> {
     }
 
     /// Takes a piece for the file that is being written, and says whether it was taken whole.
+    #[inline(always)]
     fn write(&mut self, bytes: &[u8]) -> bool
         ensures whole { IsTrue result →
             Takes (length bytes.now) bytes.now self.old.gathered self.new.gathered self.old.written self.new.written }
@@ -115,6 +116,7 @@ impl<R: Files + Drop> FileShelf<R> {
     }
 
     /// Says whether the file of this name is now the one that is being written.
+    #[inline(always)]
     fn turn_to(&mut self, name: &str) -> bool
         ensures open { IsTrue result → IsOpen name.now self.new }
         ensures same { IsOpen name.now self.old → self.new ≡ self.old }
@@ -124,6 +126,18 @@ impl<R: Files + Drop> FileShelf<R> {
         if self.writing.is_open(name) {
             return true;
         }
+        self.turn_away(name)
+    }
+
+    /// Turns from what is being written to the file of this name, and says whether it is now the one that is being
+    /// written.
+    #[cold]
+    #[inline(never)]
+    fn turn_away(&mut self, name: &str) -> bool
+        ensures open { IsTrue result → IsOpen name.now self.new }
+        ensures start { IsTrue result → self.new.gathered ≡ [] }
+        ensures counts { SameCounts self.old self.new }
+    {
         if !self.write_out() {
             return false;
         }
@@ -213,6 +227,7 @@ impl<R: Files + Drop> Shelf for FileShelf<R> {
         }
     }
 
+    #[inline(always)]
     fn append(&mut self, name: &str, bytes: &[u8]) -> Result<(), Failed>
         ensures taken { OnOk result (TakesPiece name.now bytes.now self.old self.new) }
         ensures kept { IsOpen name.now self.old →

@@ -1,7 +1,7 @@
 use Rattle.std.proofs.Common.{refl}
 use Rattle.cloaked_side.proofs.Holders.{no_more_self}
 use Rattle.cloaked_side.proofs.Sided.{within_more, same_size}
-use Rattle.cloaked_side.proofs.side.Side.write_item.Goals as goal
+use Rattle.cloaked_side.proofs.side.Side.write_absent.Goals as goal
 
 pub returns-clause-keeps : goal.returns-clause-keeps
 returns-clause-keeps g c first stays =

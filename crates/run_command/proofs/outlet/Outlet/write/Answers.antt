@@ -1,6 +1,6 @@
 use Rattle.std.proofs.Common.{refl}
 use Rattle.run_command.proofs.OutletFacts.{emits_none, emits_recorded, recorded_as}
-use Rattle.run_command.proofs.outlet.OutletEmit.item.Goals as goal
+use Rattle.run_command.proofs.outlet.Outlet.write.Goals as goal
 
 pub returns-then-self : goal.returns-then-self
 returns-then-self g c = emits_none _ _ _ _ _ _ _ c.if-self.true
