@@ -1,0 +1,254 @@
+//! Words, and what they ask for.
+
+use cloak_base::NoMemory;
+use command_words::{
+    DemoRequest, GenRequest, Randomness, RecordRequest, Request, RunRequest, SoloRequest,
+    UsageFault, read_words,
+};
+use std::alloc::{AllocError, Global};
+use std::test::*;
+
+fn command_line(alloc: Global, line: &[&str]) -> Result<Vec<String>, AllocError> {
+    let mut words = Vec::new(alloc);
+    for word in line {
+        words.push(String::from_str(alloc, word)?)?;
+    }
+    Ok(words)
+}
+
+/// What is asked for, as a line of text.
+fn shown(alloc: Global, line: &[&str]) -> Result<String, NoMemory> {
+    let words = command_line(alloc, line)?;
+    let text = match read_words(alloc, words.as_slice())? {
+        Request::NotBuilt => format!(in alloc; "not built")?,
+        Request::Faulty(UsageFault::NoCommand) => format!(in alloc; "no command")?,
+        Request::Faulty(UsageFault::UnknownCommand) => format!(in alloc; "unknown command")?,
+        Request::Faulty(UsageFault::WrongWords) => format!(in alloc; "words")?,
+        Request::Faulty(UsageFault::NoRandomness) => format!(in alloc; "randomness")?,
+        Request::Faulty(UsageFault::WrongNumber) => format!(in alloc; "number")?,
+        Request::Run(
+            RunRequest {
+                bundle,
+                record_name,
+                steps,
+                randomness: Randomness::Numbered(number),
+                ..
+            },
+        ) => { format!(in alloc; "run {bundle} {record_name} {steps} number {number}")? }
+        Request::Run(
+            RunRequest {
+                bundle,
+                record_name,
+                steps,
+                randomness: Randomness::FromFile(name),
+                ..
+            },
+        ) => { format!(in alloc; "run {bundle} {record_name} {steps} stream {name}")? }
+        Request::View(
+            RecordRequest {
+                bundle,
+                record_name,
+            },
+        ) => format!(in alloc; "view {bundle} {record_name}")?,
+        Request::Solo(SoloRequest { domain, files, .. }) => {
+            let bundle = files.bundle;
+            let record_name = files.record_name;
+            format!(in alloc; "solo {domain} {bundle} {record_name}")?
+        }
+        Request::Gen(GenRequest { number, bundle }) => format!(in alloc; "gen {number} {bundle}")?,
+        Request::Demo(DemoRequest { number, steps, .. }) => format!(in alloc;
+            "demo {number} {steps}"
+        )?,
+    };
+    Ok(text)
+}
+
+/// Words, and what they ask for by the rules of the words.
+static LINES: [(&[&str], &str); 47] = [
+    (&[], "no command"),
+    (&["stats", "a.b"], "not built"),
+    (&["walk"], "unknown command"),
+    (&["Run", "a.b", "a.r"], "unknown command"),
+    (&["--steps", "10"], "unknown command"),
+    // Options stand before, between and behind the positions.
+    (
+        &["run", "--number=0", "--steps=10", "a.b", "a.r"],
+        "run a.b a.r 10 number 0",
+    ),
+    (
+        &["run", "a.b", "a.r", "--steps", "10", "--number", "0"],
+        "run a.b a.r 10 number 0",
+    ),
+    (
+        &["run", "a.b", "--steps", "10", "a.r", "--stream", "s"],
+        "run a.b a.r 10 stream s",
+    ),
+    (
+        &["run", "--stream=s=t", "a.b", "--steps=010", "a.r"],
+        "run a.b a.r 10 stream s=t",
+    ),
+    (
+        &["run", "--steps=10", "--number=0", "--", "--a", "-b"],
+        "run --a -b 10 number 0",
+    ),
+    (
+        &["run", "a.b", "--steps=10", "--number=0", "--", "--"],
+        "run a.b -- 10 number 0",
+    ),
+    (
+        &["run", "-", "a.r", "--steps=10", "--stream=-x"],
+        "run - a.r 10 stream -x",
+    ),
+    // Each option at most once, with one value, and no other.
+    (
+        &[
+            "run", "a.b", "a.r", "--steps", "10", "--steps", "10", "--number", "0",
+        ],
+        "words",
+    ),
+    (
+        &[
+            "run",
+            "a.b",
+            "a.r",
+            "--steps=10",
+            "--number=0",
+            "--number=0",
+        ],
+        "words",
+    ),
+    (
+        &[
+            "run",
+            "a.b",
+            "a.r",
+            "--steps=10",
+            "--stream",
+            "s",
+            "--stream",
+            "s",
+        ],
+        "words",
+    ),
+    (&["run", "a.b", "a.r", "--steps=10", "--number"], "words"),
+    (
+        &["run", "a.b", "a.r", "--number=0", "--steps", "-10"],
+        "words",
+    ),
+    (&["run", "a.b", "a.r", "--number=0"], "words"),
+    (
+        &["run", "a.b", "a.r", "--steps=10", "--", "--number=0"],
+        "words",
+    ),
+    (&["run", "a.b", "--steps=10", "--number=0"], "words"),
+    (
+        &["run", "a.b", "a.r", "c", "--steps=10", "--number=0"],
+        "words",
+    ),
+    (
+        &["run", "a.b", "a.r", "--steps=10", "--number=0", "--fast"],
+        "words",
+    ),
+    (&["run", "a.b", "a.r", "--step=10", "--number=0"], "words"),
+    (
+        &["run", "a.b", "a.r", "--steps=10", "--number=0", "-h"],
+        "words",
+    ),
+    (&["run", "--help"], "words"),
+    (&["run", "--version"], "words"),
+    (&["view", "a.b", "a.r", "--steps=10"], "words"),
+    // Randomness comes behind words and before numbers.
+    (
+        &[
+            "run",
+            "a.b",
+            "a.r",
+            "--steps=10",
+            "--number",
+            "0",
+            "--stream",
+            "s",
+        ],
+        "randomness",
+    ),
+    (&["run", "a.b", "a.r", "--steps=ten"], "randomness"),
+    (
+        &[
+            "run",
+            "a.b",
+            "a.r",
+            "--steps",
+            "1000000001",
+            "--number",
+            "0",
+        ],
+        "number",
+    ),
+    (
+        &[
+            "run",
+            "a.b",
+            "a.r",
+            "--steps",
+            "1000000000",
+            "--number",
+            "0",
+        ],
+        "run a.b a.r 1000000000 number 0",
+    ),
+    (&["run", "a.b", "a.r", "--steps=", "--number=0"], "number"),
+    (
+        &["run", "a.b", "a.r", "--steps=-10", "--number=0"],
+        "number",
+    ),
+    (
+        &["run", "a.b", "a.r", "--steps=+10", "--number=0"],
+        "number",
+    ),
+    (
+        &[
+            "run",
+            "a.b",
+            "a.r",
+            "--steps=000000000000000000010",
+            "--number=0",
+        ],
+        "number",
+    ),
+    (
+        &[
+            "run",
+            "a.b",
+            "a.r",
+            "--steps=1",
+            "--number=18446744073709551616",
+        ],
+        "number",
+    ),
+    // The other commands.
+    (&["view", "a.b", "a.r"], "view a.b a.r"),
+    (&["view", "a.b"], "words"),
+    (&["solo", "3", "a.b", "a.r"], "solo 3 a.b a.r"),
+    (&["solo", "4", "a.b", "a.r"], "number"),
+    (&["solo", "-1", "a.b", "a.r"], "words"),
+    (&["solo", "a.b", "a.r"], "words"),
+    (
+        &["gen", "18446744073709551615", "a.b"],
+        "gen 18446744073709551615 a.b",
+    ),
+    (&["gen", "--", "-1", "a.b"], "number"),
+    (&["demo", "9", "--steps", "200000"], "demo 9 200000"),
+    (&["demo", "--steps=1000000001", "9"], "number"),
+    (&["demo", "9"], "words"),
+];
+
+#[test]
+fn lines_as_they_are_read(rt: HostRuntime) -> Result<(), Fail> {
+    for (line, want) in LINES {
+        let text = shown(rt.alloc(), line).ok().ok_or("no memory")?;
+        let found = text.as_str();
+        let command = line.first();
+        assert_eq!(rt; found, want, "{command:?}: {found}");
+    }
+    Ok(())
+}

@@ -1,0 +1,13 @@
+//! Tests of the frames, the metadata, the page states, the pager, and the side of a step over it.
+#![tactic(auto)]
+
+#[cfg(test)]
+mod frames;
+#[cfg(test)]
+mod metadata;
+#[cfg(test)]
+mod pager;
+#[cfg(test)]
+mod side;
+#[cfg(test)]
+mod states;
