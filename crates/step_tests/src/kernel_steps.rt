@@ -5,6 +5,7 @@ ghost use Rattle.std.specs.Prelude.{◌≡◌, ◌-◌, ◌/◌, ◌≤◌, leng
 
 use cloak_base::{Frame, Kind, Mode, Shown};
 use host_calls::{Disk, Hart, Kernel, Ram, kernel_step, leave};
+use rv_traps::Csrs;
 use std::test::Fail;
 
 /// Frames without paging. They stand for no world, since the rows compare what a step leaves.
@@ -70,18 +71,25 @@ impl Ram for Bare {
     }
 }
 
-/// A hart at 0x80000000 in this mode, with these words in sstatus and sie, and all traps to 0x80000800.
-fn hart(mode: Mode, sstatus: u32, sie: u32) -> Hart {
-    let mut hart = Hart::start(0x8000_0000, 0);
-    hart.mode = mode;
+/// Registers with these words in sstatus and sie, and with all traps to 0x80000800.
+fn registers(sstatus: u32, sie: u32) -> Csrs {
+    let mut csrs = Csrs::new();
     for (number, value) in [
         (0x100, sstatus),
         (0x104, sie),
         (0x105, 0x8000_0800),
         (0x141, 0x8000_0100),
     ] {
-        let _ = hart.csrs.write(number, value);
+        let _ = csrs.write(number, value);
     }
+    csrs
+}
+
+/// A hart at 0x80000000 in this mode, with these words in sstatus and sie, and all traps to 0x80000800.
+fn hart(mode: Mode, sstatus: u32, sie: u32) -> Hart {
+    let mut hart = Hart::start(0x8000_0000, 0);
+    hart.mode = mode;
+    hart.csrs = registers(sstatus, sie);
     hart
 }
 

@@ -1,4 +1,6 @@
-use crate::Schedule;
+//! Blocks under AES-128.
+
+use aes_block::Schedule;
 
 /// Key, plain block and cipher block.
 static CASES: [(u128, u128, u128); 9] = [
