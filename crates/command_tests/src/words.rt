@@ -1,10 +1,7 @@
 //! Words, and what they ask for.
 
 use cloak_base::NoMemory;
-use command_words::{
-    DemoRequest, GenRequest, Randomness, RecordRequest, Request, RunRequest, SoloRequest,
-    UsageFault, read_words,
-};
+use command_words::{Randomness, Request, RunRequest, SoloRequest, UsageFault, read_words};
 use std::alloc::{AllocError, Global};
 use std::test::*;
 
@@ -16,51 +13,52 @@ fn command_line(alloc: Global, line: &[&str]) -> Result<Vec<String>, AllocError>
     Ok(words)
 }
 
+/// What is wrong with words.
+fn fault_text(fault: UsageFault) -> &'static str {
+    match fault {
+        UsageFault::NoCommand => "no command",
+        UsageFault::UnknownCommand => "unknown command",
+        UsageFault::WrongWords => "words",
+        UsageFault::NoRandomness => "randomness",
+        UsageFault::WrongNumber => "number",
+    }
+}
+
+fn run_text(alloc: Global, run: &RunRequest<'_>) -> Result<String, AllocError> {
+    let (bundle, record_name, steps) = (run.bundle, run.record_name, run.steps);
+    match &run.randomness {
+        Randomness::Numbered(number) => format!(in alloc;
+            "run {bundle} {record_name} {steps} number {number}"
+        ),
+        Randomness::FromFile(name) => format!(in alloc;
+            "run {bundle} {record_name} {steps} stream {name}"
+        ),
+    }
+}
+
+fn solo_text(alloc: Global, solo: &SoloRequest<'_>) -> Result<String, AllocError> {
+    let (domain, bundle, record_name) = (solo.domain, solo.files.bundle, solo.files.record_name);
+    format!(in alloc; "solo {domain} {bundle} {record_name}")
+}
+
 /// What is asked for, as a line of text.
+fn text_of(alloc: Global, request: &Request<'_>) -> Result<String, AllocError> {
+    match request {
+        Request::NotBuilt => String::from_str(alloc, "not built"),
+        Request::Faulty(fault) => String::from_str(alloc, fault_text(*fault)),
+        Request::Run(run) => run_text(alloc, run),
+        Request::View(files) => format!(in alloc; "view {} {}", files.bundle, files.record_name),
+        Request::Solo(solo) => solo_text(alloc, solo),
+        Request::Gen(image) => format!(in alloc; "gen {} {}", image.number, image.bundle),
+        Request::Demo(demo) => format!(in alloc; "demo {} {}", demo.number, demo.steps),
+    }
+}
+
+/// What a line asks for.
 fn shown(alloc: Global, line: &[&str]) -> Result<String, NoMemory> {
     let words = command_line(alloc, line)?;
-    let text = match read_words(alloc, words.as_slice())? {
-        Request::NotBuilt => format!(in alloc; "not built")?,
-        Request::Faulty(UsageFault::NoCommand) => format!(in alloc; "no command")?,
-        Request::Faulty(UsageFault::UnknownCommand) => format!(in alloc; "unknown command")?,
-        Request::Faulty(UsageFault::WrongWords) => format!(in alloc; "words")?,
-        Request::Faulty(UsageFault::NoRandomness) => format!(in alloc; "randomness")?,
-        Request::Faulty(UsageFault::WrongNumber) => format!(in alloc; "number")?,
-        Request::Run(
-            RunRequest {
-                bundle,
-                record_name,
-                steps,
-                randomness: Randomness::Numbered(number),
-                ..
-            },
-        ) => { format!(in alloc; "run {bundle} {record_name} {steps} number {number}")? }
-        Request::Run(
-            RunRequest {
-                bundle,
-                record_name,
-                steps,
-                randomness: Randomness::FromFile(name),
-                ..
-            },
-        ) => { format!(in alloc; "run {bundle} {record_name} {steps} stream {name}")? }
-        Request::View(
-            RecordRequest {
-                bundle,
-                record_name,
-            },
-        ) => format!(in alloc; "view {bundle} {record_name}")?,
-        Request::Solo(SoloRequest { domain, files, .. }) => {
-            let bundle = files.bundle;
-            let record_name = files.record_name;
-            format!(in alloc; "solo {domain} {bundle} {record_name}")?
-        }
-        Request::Gen(GenRequest { number, bundle }) => format!(in alloc; "gen {number} {bundle}")?,
-        Request::Demo(DemoRequest { number, steps, .. }) => format!(in alloc;
-            "demo {number} {steps}"
-        )?,
-    };
-    Ok(text)
+    let request = read_words(alloc, words.as_slice())?;
+    Ok(text_of(alloc, &request)?)
 }
 
 /// Words, and what they ask for by the rules of the words.
