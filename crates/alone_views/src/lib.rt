@@ -25,8 +25,3 @@ mod unfit;
 pub use domain::DomainAlone;
 pub use kernel::KernelAlone;
 pub use unfit::Unfit;
-
-#[cfg(test)]
-mod domain_tests;
-#[cfg(test)]
-mod kernel_tests;
