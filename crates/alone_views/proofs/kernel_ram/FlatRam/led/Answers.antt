@@ -3,7 +3,7 @@ use Rattle.std.proofs.Common.{◌≡◌, ◌∙◌, ℕ, Bool, true, refl, ap, s
 use Rattle.cloak_model.specs.Ask.{ask_inside}
 use Rattle.cloak_model.specs.Memory.{is_in_frames}
 use Rattle.alone_views.proofs.KernelRam.{same_length, follows_translate, tested_inside, tested_outside}
-use Rattle.alone_views.proofs.kernel_ram.FlatRamRam.translate.Goals as goal
+use Rattle.alone_views.proofs.kernel_ram.FlatRam.led.Goals as goal
 
 inside_same : (n m pa : ℕ) → n ≡ m → true ≡ is_in_frames n pa → IsTrue (is_in_frames m pa)
 inside_same n m pa same inside =
