@@ -215,8 +215,7 @@ open_entry gave first old new view va kind pa walked (Cloaked c) sees is at outs
     (pager_owes old.memory.now.pager h.wiped c.memory h.pager) outside
     (outside_still old.memory.now.pager new.memory.now.pager (frame_of walked.pa) less)
     (subst (λ (n : ℕ). held' (frame_of n) ≡ None) (sym at) none) in
-    let within = entry_within c.memory.ram view va kind walked None is.0 is.1 in
-    (
+    let within = entry_within c.memory.ram view va kind walked None is.0 is.1 in (
       subst (λ (n : ℕ). EntryAgrees (present held' (settle (frame_of n) c.memory).memory) (entry_at view va kind n walked None)) at agrees,
       subst (λ (n : ℕ). IsWithin n (entry_at view va kind pa walked None)) (sym (settle_count (frame_of pa) c.memory))
           (subst (λ (n : ℕ). IsWithin (length c.memory.ram) (entry_at view va kind n walked None)) at within),
@@ -286,8 +285,7 @@ page_entry_in gave first old new view va kind q pa walked c c' sees sees' is_mem
     (subst (λ (n : ℕ). held' (frame_of n) ≡ Some q) (sym at) here)
     (λ store. subst (λ (n : ℕ). owed_in (offer q (frame_of n) (is_store kind) c.memory).memory (frame_of n) ≡ Some q) (sym at)
     (subst (λ (m : CloakedMemory). owed_in m (frame_of pa) ≡ Some q) is_memory
-    (owed_by_right new.memory.now.pager h'.wiped c'.memory h'.pager (frame_of pa) ∙ owed store))) in
-    (
+    (owed_by_right new.memory.now.pager h'.wiped c'.memory h'.pager (frame_of pa) ∙ owed store))) in (
       subst (λ (m : CloakedMemory). EntryAgrees (present held' m) (entry_at view va kind pa walked (Some q))) (sym is_memory)
           (subst (λ (n : ℕ). EntryAgrees (present held' (offer q (frame_of n) (is_store kind) c.memory).memory)
           (entry_at view va kind n walked (Some q))) at agrees),

@@ -52,10 +52,23 @@ fn access_of(view: &ShadowView, va: u32, kind: Kind) -> Access
 }
 
 /// The entry of a walk.
-fn entry_of(view: &ShadowView, va: u32, kind: Kind, frame: Frame, walked: &Walked, cloaked: Option<PageId>) -> Entry
+fn entry_of(
+    view: &ShadowView,
+    va: u32,
+    kind: Kind,
+    frame: Frame,
+    walked: &Walked,
+    cloaked: Option<PageId>,
+) -> Entry
     ensures { result ≡ record {
-        view = view.now; page = va / 4096; kind = kind; frame = frame;
-        pt1 = walked.now.pt1; pt0 = walked.now.pt0; cloaked = cloaked } }
+      view = view.now;
+      page = va / 4096;
+      kind = kind;
+      frame = frame;
+      pt1 = walked.now.pt1;
+      pt0 = walked.now.pt0;
+      cloaked = cloaked;
+    } }
 {
     Entry {
         view: *view,
@@ -195,7 +208,14 @@ impl<'m, 'e, E: Emit> Side<'m, 'e, E> {
 
     /// Makes known the translation that led to a cloaked page, which its frame holds now. One through its own frame is
     /// not kept.
-    pub(crate) fn learn_page(&mut self, q: PageId, view: &ShadowView, va: u32, kind: Kind, led: &Led)
+    pub(crate) fn learn_page(
+        &mut self,
+        q: PageId,
+        view: &ShadowView,
+        va: u32,
+        kind: Kind,
+        led: &Led,
+    )
         requires inside { IsTrue (is_in_frames (frames_of self.old.memory.now) led.now.pa) }
         ensures sees { (first : _) (w : World) → Sees E.gave first self.old w →
             IsReachedBy w (held_in self.old.memory.now.pager) view.now va kind q led.now → Sees E.gave first self.new w }

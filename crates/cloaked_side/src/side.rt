@@ -55,7 +55,11 @@ impl<'m, 'e, E: Emit> Side<'m, 'e, E> {
         ensures keeps { Keeps (StaysWithin E.gave) self.old self.new }
         ensures same_count { frames_of self.new.memory.now ≡ frames_of self.old.memory.now }
     {
-        value_in(self.memory.pager.read_outside(frame_of(pa)), place_of(pa), width)
+        value_in(
+            self.memory.pager.read_outside(frame_of(pa)),
+            place_of(pa),
+            width,
+        )
     }
 
     /// Stores the lowest bytes of a word at an address in an outside frame. Translations through the frame end.
