@@ -1,8 +1,6 @@
 -- A step of a program leaves all calm, or it is stopped at a page for which it asks.
-use Rattle.std.proofs.Common.{◌≡◌, ◌∙◌, ◌⊎◌, ◌%◌, ℕ, Bool, true, false, nat_le, List, Option, Some, None, Result, Ok, Err, refl, sym, ap, inl, inr}
-use Rattle.std.specs.Prelude.{slice_index_or}
+use Rattle.std.proofs.Common.{◌≡◌, ◌⊎◌, ◌%◌, ℕ, Bool, true, false, nat_le, List, Option, Some, None, Result, Ok, Err, refl, ap, inl, inr}
 use Rattle.std.proofs.lemmas.Bool.{leb-false}
-use Rattle.cloak_base.specs.declared.names.CtxId.{CtxId}
 use Rattle.cloak_base.specs.declared.names.Kind.{Kind}
 use Rattle.cloak_base.specs.declared.names.Kind.TheVariants.{Fetch, Load, Store}
 use Rattle.cloak_base.specs.declared.names.PageId.{PageId}
@@ -22,7 +20,7 @@ use Rattle.cloak_model.specs.declared.outcome.Effect.{Effect}
 use Rattle.cloak_model.specs.declared.outcome.Effect.TheVariants as does
 use Rattle.cloak_model.specs.declared.resource.MapFault.{MapFault}
 use Rattle.cloak_model.specs.Asking.{Told}
-use Rattle.cloak_model.specs.AskPages.{ask_reach, ask_read, ask_get, ask_put, ask_clear}
+use Rattle.cloak_model.specs.AskPages.{ask_reach, ask_read, ask_get}
 use Rattle.cloak_model.specs.Calls.{Copy, buffer, area, call_length, byte_address, is_cloaked, in_put, in_reached, in_placed, in_step, copy_in_step, out_reached, out_got, out_placed, out_step, copy_out_step}
 use Rattle.cloak_model.specs.Contexts.{Context}
 use Rattle.cloak_model.specs.DomainState.{Control, Domain}
@@ -33,7 +31,7 @@ use Rattle.cloak_model.specs.Hypercalls.{Hypercall, New, Map, Unmap, File, Threa
 use Rattle.cloak_model.specs.InsideStep.{AfterInstruction, loaded_inside, load_reached, load_got, load_inside, store_reached, store_put, store_inside, system_inside, done_inside, decoded_inside, executed_inside, fetched_inside, fetch, instruction_inside}
 use Rattle.cloak_model.specs.Joint.{pages_for}
 use Rattle.cloak_model.specs.Memory.{value_in}
-use Rattle.cloak_model.specs.Resources.{Resources, page_at}
+use Rattle.cloak_model.specs.Resources.{Resources}
 use Rattle.cloak_model.specs.World.{World, Cloak, Flat, Cloaked, Alone, view_of, plain_of}
 use Rattle.domain_isolation.proofs.Answers.{question_answered}
 use Rattle.domain_isolation.proofs.Scripts.{Question, Reach, Get}

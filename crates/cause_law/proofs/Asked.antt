@@ -13,7 +13,7 @@ use Rattle.cloak_model.specs.declared.answer.Answer.TheVariants as told
 use Rattle.cloak_model.specs.Ask.{ask_word, ask_second, ask_after, ask_first, ask_walk, ask_inside, ask_translate, ask_value}
 use Rattle.cloak_model.specs.AskPages.{replies, if_drawn, is_store, ask_inside_address, offered_by, ask_offer, reached, reach_by_table, got, get_by_table, put_at, stored_inside, put_by_table, settled_if_marked, clear_from, ask_reach, ask_write, ask_get, ask_put, ask_clear, ask_copy, ask_forget}
 use Rattle.cloak_model.specs.Asking.{Told, Asking}
-use Rattle.cloak_model.specs.Cloaking.{AfterOffer, Offer, Ready, Mismatch, Missed, offer}
+use Rattle.cloak_model.specs.Cloaking.{Offer, Ready, Mismatch, Missed, offer}
 use Rattle.cloak_model.specs.Fork.{ask_copies, ask_forgets}
 use Rattle.cloak_model.specs.Memory.{frame_of}
 use Rattle.cloak_model.specs.PageMoves.{copy_pages, drop_pages}
@@ -21,8 +21,8 @@ use Rattle.cloak_model.specs.Walk.{FirstWord, Ends, GoesOn, Walk, first_entry, w
 use Rattle.cloak_model.specs.World.{World, Cloak, Flat, Cloaked, Alone, Handed, settled, cipher_items, is_missed}
 use Rattle.domain_isolation.proofs.Steady.{is_cloaked}
 use Rattle.cause_law.specs.Presented.{Differs, FindsOther}
-use Rattle.cause_law.proofs.Compared.{Compares, offer_compares}
-use Rattle.cause_law.proofs.Kept.{IsKept, kept_settled, Offers, offer_offers}
+use Rattle.cause_law.proofs.Compared.{offer_compares}
+use Rattle.cause_law.proofs.Kept.{IsKept, kept_settled, offer_offers}
 use Rattle.cause_law.proofs.Leading.{OfMemory, access_of, LeadsStill, address_leads}
 
 -- Nothing wrong was met.

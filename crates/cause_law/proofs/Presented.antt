@@ -1,5 +1,5 @@
 -- A page that is presented to the step of a context, in a frame that differs, is the step's violation.
-use Rattle.std.proofs.Common.{◌≡◌, ◌∙◌, ◌%◌, ℕ, Bool, false, Option, Some, None, refl, sym, ap, subst}
+use Rattle.std.proofs.Common.{◌≡◌, ◌∙◌, ℕ, Bool, false, Option, Some, refl, sym, ap, subst}
 use Rattle.std.specs.Prelude.{nat_le}
 use Rattle.std.proofs.lemmas.Bool.{lt-leb}
 use Rattle.cloak_base.specs.declared.causes.Violation.{Violation}
@@ -30,7 +30,6 @@ use Rattle.cloak_model.specs.Joint.{Moment, next_hart, cloak_of, domain_ended, a
 use Rattle.cloak_model.specs.KernelStep.{ticked}
 use Rattle.cloak_model.specs.Parts.{Joint}
 use Rattle.cloak_model.specs.World.{World, Cloaked, violation_of}
-use Rattle.cause_law.specs.Causes.{QuestionIsRefused}
 use Rattle.cause_law.specs.Presented.{hart_of_step, StepsInside, world_inside, Executes, AsksAt, Fetches, LoadsAt, StoresAt, CopiesFrom, CopiesTo, PresentsPage}
 use Rattle.cause_law.proofs.Refused.{page_is_refused}
 

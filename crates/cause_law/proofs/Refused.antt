@@ -1,7 +1,6 @@
 -- A page that is found in another frame is refused, at whatever question of a step.
-use Rattle.std.proofs.Common.{◌≡◌, ℕ, Bool, true, false, cond, ◌++◌, Some, Result, Ok, refl, sym, subst}
+use Rattle.std.proofs.Common.{◌≡◌, ℕ, Bool, true, false, cond, ◌++◌, Result, Ok, refl, sym, subst}
 use Rattle.std.proofs.lemmas.Bool.{false≢true}
-use Rattle.cloak_base.specs.declared.causes.Violation.TheVariants as violation
 use Rattle.cloak_base.specs.declared.names.Kind.{Kind}
 use Rattle.cloak_base.specs.declared.names.PageId.{PageId}
 use Rattle.cloak_model.specs.declared.answer.Answer.{Answer}
@@ -11,8 +10,7 @@ use Rattle.cloak_model.specs.Cloaking.{CloakedMemory, Offer, Mismatch, offer}
 use Rattle.cloak_model.specs.Memory.{frame_of}
 use Rattle.cloak_model.specs.World.{Cloak, Cloaked, cipher_items}
 use Rattle.cause_law.specs.Causes.{QuestionIsRefused, PageIsRefused}
-use Rattle.cause_law.specs.Presented.{FindsOther, at_comparison}
-use Rattle.cause_law.proofs.Compared.{Drawn, drawn_so, offer_refuses}
+use Rattle.cause_law.proofs.Compared.{drawn_so, offer_refuses}
 
 mismatch_refuses : (q : PageId) (g : ℕ) (o : Offer) (c : Cloak) → o ≡ Mismatch →
     QuestionIsRefused q g (offered_by q g o (Cloaked c))

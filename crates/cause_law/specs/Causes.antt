@@ -1,5 +1,5 @@
 -- Why a run is stopped by a violation: what the kernel's side presented in its last step. And presented so, it is stopped.
-use Rattle.std.specs.Prelude.{ℕ, ◌≡◌, ◌≢◌, ◌<◌, ◌⊎◌, suc, Bool, true, false, List, ◌∷◌, ◌++◌, length, take, Option, Some, None, Ok, slice_get, option_and_then, is_none}
+use Rattle.std.specs.Prelude.{ℕ, ◌≡◌, ◌≢◌, ◌<◌, ◌⊎◌, suc, Bool, false, List, ◌∷◌, ◌++◌, length, take, Option, Some, None, Ok, slice_get, option_and_then, is_none}
 use Rattle.cloak_base.specs.Random.{Random}
 use Rattle.cloak_base.specs.declared.causes.Stop.TheVariants as stop
 use Rattle.cloak_base.specs.declared.causes.Violation.{Violation}

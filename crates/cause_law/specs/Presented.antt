@@ -45,7 +45,8 @@ page_here s va = pages_for s.domain (Some s.context) va
 abbrev pub world_inside : (m : Moment) → StepsInside m → World
 world_inside m s = Cloaked (cloak_of m.joint.memory (ticked (hart_of_step m)) (domain_of s.ctx) (page_here s))
 
--- The context's fetch is granted, and this instruction is in its page; the memory behind the fetch.
+-- A context executes this instruction: its fetch is granted, which leaves memory w, and the page at its program counter has
+-- the word.
 pub record Executes (d : Domain) (c : Context) (begun : World) (i : Instr) (w : World) : Type 0 where
   pub plain : c.phase ≡ Plain
   pub page : PageId
@@ -53,20 +54,20 @@ pub record Executes (d : Domain) (c : Context) (begun : World) (i : Instr) (w : 
   pub granted : ask_reach page c.pc Fetch begun ≡ record { answer = answer.Ok; world = w }
   pub word : instruction (value_in (plain_of w page) (c.pc % 4096) 4) ≡ Some i
 
--- The area of a call, which its bytes go to or come from, is not cloaked at this byte.
+-- The area of a call, which the kernel sees, is not cloaked at this byte.
 abbrev pub HasPlainArea : Domain → Context → ℕ → Type 0
 HasPlainArea d c done = is_cloaked d.control.resources c (byte_address (area c) done) ≡ false
 
--- A step of a context, which began in this memory, asks for the cloaked page at an address, in memory w:
+-- The step of a context, which began in this memory, asks for the page at an address, for an access of a kind, in memory w:
 pub data AsksAt (d : Domain) (c : Context) (begun : World) (va : ℕ) (kind : Kind) (w : World) : Type 0 where
-  -- for its instruction,
+  -- for its instruction, as the step begins;
   Fetches : c.phase ≡ Plain → va ≡ c.pc → kind ≡ Fetch → w ≡ begun → AsksAt d c begun va kind w
-  -- for what this loads or stores,
+  -- for what this loads or stores, behind the fetch;
   LoadsAt : (i : Instr) → Executes d c begun i w → (rd width : ℕ) (is_signed : Bool) →
       effect i c.regs c.pc ≡ does.Load rd va width is_signed → kind ≡ Load → AsksAt d c begun va kind w
   StoresAt : (i : Instr) → Executes d c begun i w → (width value : ℕ) →
       effect i c.regs c.pc ≡ does.Store va width value → kind ≡ Store → AsksAt d c begun va kind w
-  -- or for the next byte of the buffer of a call, which the kernel is given or has given.
+  -- for the next byte of a call's buffer, which is to go to the area, or which came from there.
   CopiesFrom : (done : ℕ) → c.phase ≡ CopyIn done → done < call_length c → va ≡ byte_address (buffer c) done →
       HasPlainArea d c done → kind ≡ Load → w ≡ begun → AsksAt d c begun va kind w
   CopiesTo : (done total byte : ℕ) → c.phase ≡ CopyOut done total → done < total →
@@ -85,12 +86,13 @@ pub record Differs (q : PageId) (f : ℕ) (m : CloakedMemory) : Type 0 where
   pub visible : owed_in m f ≡ None
   pub newest : (g : ℕ) → owed_in m g ≢ Some q
 
--- the memory in which a frame is compared with what was last shown of a page: both are shown as they are
+-- the memory in which a frame is compared with what was last shown of a page: the frame is settled, and then the one that
+-- is owed the page
 abbrev pub at_comparison : PageId → ℕ → CloakedMemory → CloakedMemory
 at_comparison q f m = let m' = (settle f m).memory in (settle_frame_if (owing_frame m' q) m').memory
 
--- The kernel's page table leads an access at an address to a frame of RAM. It is not the frame that has the newest bytes
--- of page q, and once both are shown, with no draw missing, it differs from what was last shown of q.
+-- The kernel's page table leads an access at an address to a frame of RAM. It is not the frame that is owed page q; and as
+-- they are compared, with no draw missing, it differs from what was last shown of q.
 pub record FindsOther (q : PageId) (va : ℕ) (kind : Kind) (f : ℕ) (c : Cloak) : Type 0 where
   pub pa : ℕ
   pub found : Cloak

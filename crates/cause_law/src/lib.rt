@@ -11,7 +11,8 @@
 //! No body turns a law, so there is no wrong body to refuse here. These changed definitions were tried on a copy, and
 //! with none of them did the proofs go through. Of the closing: the last frame is not settled. Of violations and
 //! refusals: a resume with another page table stops the run as one of a context that cannot run; the violation of a
-//! page names the next frame.
+//! page names the next frame; the frame of a page is compared before it is settled; the step of an access is one in
+//! which an interrupt is due.
 #![tactic(auto)]
 
 ghost use Rattle.cause_law.specs.Causes.{PageIsRefused, PresentedIsRefused, StoppedIsLast, ViolationHasCause};

@@ -5,7 +5,11 @@
 //! What a frame holds is no part of the ledger: the laws speak of any `held`, as far as a frame that is owed a page holds
 //! it. A machine takes what its pager holds.
 //!
-//! No body turns a law, so there is no wrong body to refuse here.
+//! No body turns a law, so there is no wrong body to refuse here. These changed definitions were tried on a copy, and
+//! with none of them did the proof of its law go through. Of walks: all addresses of a page lead where its start
+//! leads. Of changes: an entry goes on where a frame is written or settled that it leads through, and not to. Of
+//! tables: the settling of a frame ends only the entries that lead to it. Of misses: the table frames of the new
+//! entry may hold pages. Of hits: the address is the start of the frame.
 #![tactic(auto)]
 
 ghost use Rattle.shadow_law.specs.Agreeing.{BornAgrees, ChangeKeeps, HitIsWalk, HitIsOffer, OfferKeeps, RemapKeeps};
