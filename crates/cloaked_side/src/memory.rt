@@ -100,6 +100,7 @@ impl Memory {
     }
 
     /// Whether the frame holds the page.
+    #[inline(always)]
     fn is_held(&self, q: PageId, g: Frame) -> bool
         requires { g.0 < frames_of self.now }
         ensures held { IsTrue result → held_in self.now.pager g.0 ≡ Some q }
@@ -122,6 +123,7 @@ impl Memory {
 
     /// Settles what is to be before this page comes into this frame: the frame, unless it holds the page, and the frame
     /// that holds the page. Whether no draw was missing.
+    #[inline(always)]
     fn make_room<E: Emit>(&mut self, q: PageId, g: Frame, e: &mut E) -> bool
         requires inside { g.0 < frames_of self.old }
         requires domain { q.domain < domains_in self.old }
@@ -153,6 +155,7 @@ impl Memory {
     }
 
     /// Offers a page in a frame, for reading or for writing.
+    #[inline(always)]
     pub fn offer<E: Emit>(&mut self, q: PageId, g: Frame, write: bool, e: &mut E) -> Offer
         requires inside { g.0 < frames_of self.old }
         requires domain { q.domain < domains_in self.old }
