@@ -225,37 +225,42 @@ fn long(rt: &HostRuntime, first: &str, count: u32, last: &str) -> Result<String,
     Ok(text)
 }
 
+/// Lines around so many others, and a word of them with its place: a branch reaches 4092 bytes ahead and 4096 back. AUIPC x6,
+/// 1 and ADDI x6, x6, -1688 are 2408 ahead; AUIPC x7, -1 and ADDI x7, x7, 1688 as many back.
+static REACHING: [(&str, u32, &str, usize, u32); 6] = [
+    ("beq x0, x0, a\n", 1022, "a:", 0, 0x7e00_0ee3),
+    ("a:\n", 1024, "beq x0, x0, a", 1024, 0x8000_0063),
+    ("a:\nla x6, b\n", 600, "b:\nla x7, a", 0, 0x0000_1317),
+    ("a:\nla x6, b\n", 600, "b:\nla x7, a", 1, 0x9683_0313),
+    ("a:\nla x6, b\n", 600, "b:\nla x7, a", 602, 0xffff_f397),
+    ("a:\nla x6, b\n", 600, "b:\nla x7, a", 603, 0x6983_8393),
+];
+
 #[test]
 fn reaches_so_far(rt: HostRuntime) -> Result<(), Fail> {
-    let ahead = long(&rt, "beq x0, x0, a\n", 1022, "a:")?;
-    let words = words_of(&rt, ahead.as_str())
-        .ok()
-        .ok_or("a branch reaches 4092 ahead")?;
-    assert_eq!(rt; words.first().copied(), Some(0x7e00_0ee3));
-    let ahead = long(&rt, "beq x0, x0, a\n", 1023, "a:")?;
-    assert_eq!(rt;
-        words_of(&rt, ahead.as_str()).err(),
-        Some(AsmFault::OutOfReach(1))
-    );
-    let back = long(&rt, "a:\n", 1024, "beq x0, x0, a")?;
-    let words = words_of(&rt, back.as_str())
-        .ok()
-        .ok_or("a branch reaches 4096 back")?;
-    assert_eq!(rt; words.last().copied(), Some(0x8000_0063));
-    let back = long(&rt, "a:\n", 1025, "beq x0, x0, a")?;
-    assert_eq!(rt;
-        words_of(&rt, back.as_str()).err(),
-        Some(AsmFault::OutOfReach(1027))
-    );
-    // AUIPC x6, 1 and ADDI x6, x6, -1688 are 2408 ahead; AUIPC x7, -1 and ADDI x7, x7, 1688 as many back.
-    let address = long(&rt, "a:\nla x6, b\n", 600, "b:\nla x7, a")?;
-    let words = words_of(&rt, address.as_str())
-        .ok()
-        .ok_or("an address reaches")?;
-    assert_eq!(rt; words.first().copied(), Some(0x0000_1317));
-    assert_eq!(rt; words.get(1).copied(), Some(0x9683_0313));
-    assert_eq!(rt; words.get(602).copied(), Some(0xffff_f397));
-    assert_eq!(rt; words.last().copied(), Some(0x6983_8393));
+    for (first, count, last, place, word) in REACHING {
+        let text = long(&rt, first, count, last)?;
+        let words = words_of(&rt, text.as_str())
+            .ok()
+            .ok_or("it reaches so far")?;
+        assert_eq!(rt; words.get(place).copied(), Some(word), "{first}");
+    }
+    Ok(())
+}
+
+/// Lines around so many others, with the line that does not reach its label.
+static TOO_FAR: [(&str, u32, &str, u32); 2] = [
+    ("beq x0, x0, a\n", 1023, "a:", 1),
+    ("a:\n", 1025, "beq x0, x0, a", 1027),
+];
+
+#[test]
+fn reaches_no_further(rt: HostRuntime) -> Result<(), Fail> {
+    for (first, count, last, line) in TOO_FAR {
+        let text = long(&rt, first, count, last)?;
+        let fault = words_of(&rt, text.as_str()).err();
+        assert_eq!(rt; fault, Some(AsmFault::OutOfReach(line)), "{first}");
+    }
     Ok(())
 }
 

@@ -61,17 +61,28 @@ fn pieces_that_are_read_follow_one_another(rt: HostRuntime) -> Result<(), Fail> 
     Ok(())
 }
 
+/// Begins a file with this text, and says whether that was done.
+fn is_put<R: Files + Drop>(shelf: &mut FileShelf<R>, name: &str, text: &str) -> bool {
+    shelf.begin(name).is_ok() && shelf.append(name, text.as_bytes()).is_ok()
+}
+
+/// Whether a file is read as this text.
+fn is_read<R: Files + Drop>(shelf: &mut FileShelf<R>, name: &str, text: &str) -> bool {
+    let mut into = [0u8; 8];
+    match shelf.read_at(name, 0, &mut into) {
+        Ok(n) => &into[..n] == text.as_bytes(),
+        Err(_) => false,
+    }
+}
+
 /// A file that is begun, by whatever name, is not what was read ahead.
 #[test]
 fn what_was_read_ahead_is_forgotten(rt: HostRuntime) -> Result<(), Fail> {
     let name = "file_shelf_test_ahead.bytes";
     let mut shelf = FileShelf::open(rt.clone()?)?;
-    let mut into = [0u8; 8];
     for (other, text) in [(name, "old"), ("./file_shelf_test_ahead.bytes", "new!")] {
-        shelf.begin(other)?;
-        shelf.append(other, text.as_bytes())?;
-        let n = shelf.read_at(name, 0, &mut into)?;
-        assert_eq!(rt; &into[..n], text.as_bytes());
+        assert!(rt; is_put(&mut shelf, other, text), "{text}");
+        assert!(rt; is_read(&mut shelf, name, text), "{text}");
     }
     fs::remove_file(&rt, name)?;
     Ok(())

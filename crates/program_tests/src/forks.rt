@@ -5,6 +5,7 @@ use cloak_base::{CtxId, Kind, PageId};
 use cloak_model::{Answer, Owner, PageSide, Region};
 use cloaked_fork::{Ended, MapFault, end_context, fork_space};
 use resource_map::Resources;
+use std::process::Abort;
 use std::test::Fail;
 use thread_context::{Context, Contexts};
 
@@ -123,6 +124,20 @@ fn end(r: &mut Resources, c: &mut Contexts, slot: u32, m: &mut Fake) -> Option<E
     Some(end_context(r, c, 1, slot, m))
 }
 
+/// The owners and pages of the first resources once the space was forked.
+static HELD: [Option<(Owner, u32)>; 4] = [
+    Some((Owner::Space(0), 3)),
+    Some((Owner::File(4), 1)),
+    Some((Owner::Space(1), 3)),
+    None,
+];
+
+fn holds_each(rt: &impl Abort, r: &Resources) {
+    for (n, held) in HELD.iter().enumerate() {
+        assert_eq!(rt; r.resource(n as u32), *held, "resource {n}");
+    }
+}
+
 /// The child has the lowest free space, slot and number, and its regions are of its copy and of the file.
 #[test]
 fn forks_a_space_with_a_file(rt: HostRuntime) -> Result<(), Fail> {
@@ -134,18 +149,13 @@ fn forks_a_space_with_a_file(rt: HostRuntime) -> Result<(), Fail> {
         (m.marked[0], m.marked[1], m.copied),
         (true, false, Some((0, 2)))
     );
-    let resources = [
-        Some((Owner::Space(0), 3)),
-        Some((Owner::File(4), 1)),
-        Some((Owner::Space(1), 3)),
-        None,
-    ];
-    for n in 0..4 {
-        assert_eq!(rt; r.resource(n), resources[n as usize], "resource {n}");
-    }
-    assert_eq!(rt; r.region(1, 0), Some(region(0x8000, 3, 2)));
-    assert_eq!(rt; r.region(1, 1), Some(region(0x0010_0000, 1, 1)));
-    assert_eq!(rt; r.region(1, 2), None);
+    holds_each(&rt, &r);
+    let regions = [0, 1, 2].map(|n| r.region(1, n));
+    let copied = region(0x8000, 3, 2);
+    assert_eq!(rt;
+        regions,
+        [Some(copied), Some(region(0x0010_0000, 1, 1)), None]
+    );
     let child = c.get(1).expect(&rt, "the child");
     assert_eq!(rt;
         (child.pc, child.regs.get(2), child.regs.get(10)),
