@@ -17,7 +17,7 @@ const RAM_START: u64 = 0x8000_0000;
 pub(crate) struct Led {
     /// The address in RAM.
     pub pa: u32,
-    /// The walk that led there through outside tables, where no translation was known.
+    /// The walk that led there through outside tables, where no translation was known and paging is on.
     pub walked: Option<Walked>,
 }
 
@@ -28,6 +28,11 @@ fn satp_of(view: &ShadowView) -> u32
         ShadowView::Outside { satp, .. } => satp,
         ShadowView::Inside { satp, .. } => satp,
     }
+}
+
+/// Paging is on: the highest bit of `satp`.
+fn has_paging(satp: u32) -> bool {
+    satp >> 31 == 1
 }
 
 fn access_of(view: &ShadowView, va: u32, kind: Kind) -> Access
@@ -122,12 +127,12 @@ impl<'m, 'e, E: Emit> Side<'m, 'e, E> {
         }
     }
 
-    /// The walk, where its tables are outside.
+    /// The walk, where it read tables and these are outside.
     fn through_outside(&self, walked: Walked) -> Option<Walked>
         ensures same { IfSome result (λ w. w ≡ walked) }
         ensures tables { IfSome result (λ w. AreOutside (held_in self.now.memory.now.pager) w) }
     {
-        if self.is_outside(walked.pt1) && self.is_outside(walked.pt0) {
+        if walked.pt1.is_some() && self.is_outside(walked.pt1) && self.is_outside(walked.pt0) {
             Some(walked)
         } else {
             None
@@ -159,7 +164,7 @@ impl<'m, 'e, E: Emit> Side<'m, 'e, E> {
         })
     }
 
-    /// Where an access leads, or the cause of its fault.
+    /// Where an access leads, or the cause of its fault. Without paging it leads to its own address, and nothing is kept.
     pub(crate) fn led(&mut self, view: &ShadowView, va: u32, kind: Kind) -> Result<Led, u32>
         ensures follows { Follows (Sees E.gave) self.old self.new (place_in result)
             (ask_translate (satp_in view.now) (access_in view.now va kind)) }
@@ -172,6 +177,9 @@ impl<'m, 'e, E: Emit> Side<'m, 'e, E> {
             is_clashed told.world ≡ false → IsLedBy told.world view.now va kind led) }
         ensures tables { IfOk result (AreLedOutside (held_in self.new.memory.now.pager)) }
     {
+        if !has_paging(satp_of(view)) {
+            return self.led_by_walk(view, va, kind);
+        }
         match self.known(view, va, kind) {
             Some(pa) => Ok(Led { pa, walked: None }),
             None => self.led_by_walk(view, va, kind),
