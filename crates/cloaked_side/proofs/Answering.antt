@@ -8,8 +8,7 @@ use Rattle.cloak_model.specs.declared.item.Item.TheVariants as item
 use Rattle.cloak_model.specs.Memory.{frame_of, with_value_in}
 use Rattle.cloak_model.specs.Ask.{ask_value, shown_value}
 use Rattle.cloak_model.proofs.Later.{IsLater}
-use Rattle.cloak_model.proofs.PagesLater.{later_drawn, later_answers, later_offered}
-use Rattle.cloak_model.specs.declared.item.Item.{Item}
+use Rattle.cloak_model.proofs.PagesLater.{later_drawn, later_offered}
 use Rattle.cloak_model.specs.World.{World, Cloak, Flat, Cloaked, Alone, cipher_items, is_clashed, stored_at, settled}
 use Rattle.cloak_model.specs.World.{view_of, is_missed, written}
 use Rattle.cloak_model.specs.Asking.{Told, Asking, FollowsFrom, then_ask}

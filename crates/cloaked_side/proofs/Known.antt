@@ -1,12 +1,12 @@
 -- Where an access leads by a known translation, and how translations become known.
-use Rattle.std.proofs.Common.{◌≡◌, ◌≢◌, ◌∙◌, ◌+◌, ◌-◌, ◌*◌, ◌/◌, ◌%◌, ◌<◌, ◌≤◌, ℕ, Bool, true, false, cond, ◌&&◌, List, [], length, Option, Some, None, Result, Ok, Err, refl, sym, ap, subst, arith, nat_le, nat_lt, inl, inr, find}
+use Rattle.std.proofs.Common.{◌≡◌, ◌∙◌, ◌+◌, ◌/◌, ◌%◌, ◌<◌, ℕ, Bool, true, false, cond, List, [], length, Option, Some, None, Result, Ok, Err, refl, sym, ap, subst, arith, nat_le, inl, inr, find}
 use Rattle.std.proofs.lemmas.Bool.{ltb-true}
 use Rattle.std.specs.Prelude.{◌++◌, IfSome}
 use Rattle.std.proofs.lemmas.Option.{none-some}
 use Rattle.cloak_base.proofs.Pages.{same_page_tells}
 use Rattle.cloak_base.specs.declared.names.Kind.TheVariants.{Store}
 use Rattle.cloak_model.specs.AskPages.{is_store, replies, offered_by, ask_offer, reached, ask_inside_address}
-use Rattle.cloak_model.specs.Cloaking.{CloakedMemory, Offer, Ready, Mismatch, Missed, AfterSettling, owed_in, settle, offer}
+use Rattle.cloak_model.specs.Cloaking.{CloakedMemory, Offer, Ready, Mismatch, Missed, owed_in, settle, offer}
 use Rattle.cloak_model.specs.World.{is_clashed, settled, cipher_items}
 use Rattle.cloak_model.proofs.Later.{later_inside, later_loaded_at, later_stored_to}
 use Rattle.cloak_base.specs.declared.names.Frame.{Frame}
@@ -31,10 +31,10 @@ use Rattle.cloak_model.specs.declared.view.View.{View}
 use Rattle.cloak_model.specs.declared.answer.Answer.{Answer}
 use Rattle.cloak_base.specs.declared.names.Mode.TheVariants.{U}
 use Rattle.cloak_model.specs.Ask.{ask_walk, ask_inside, ask_translate, ask_value, ask_store, shown_value, stored_value, loaded_at, ask_load, stored_to, ask_store_at}
-use Rattle.cloak_model.specs.Asking.{Told, FollowsFrom, answered, then_ask}
+use Rattle.cloak_model.specs.Asking.{Told, FollowsFrom}
 use Rattle.cloak_model.specs.Exchange.{Piece}
-use Rattle.cloak_model.specs.Memory.{frame_of, is_in_ram, is_in_frames}
-use Rattle.cloak_model.specs.Walk.{Walk, walk}
+use Rattle.cloak_model.specs.Memory.{frame_of, is_in_frames}
+use Rattle.cloak_model.specs.Walk.{Walk}
 use Rattle.cloak_model.specs.World.{World, Cloak, Flat, Cloaked, Alone}
 use Rattle.shadow_fold.specs.Agreement.{Present, EntryAgrees, satp_in, access_in, start_of}
 use Rattle.shadow_fold.specs.Entries.{is_for}

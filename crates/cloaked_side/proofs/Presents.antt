@@ -1,12 +1,12 @@
 -- What a pager that stands for a memory tells of the frames that hold pages.
-use Rattle.std.proofs.Common.{◌≡◌, ◌≢◌, ◌∙◌, ◌<◌, ℕ, Bool, inl, inr, List, [], Option, Some, None, length, sym, ap, subst, refl}
+use Rattle.std.proofs.Common.{◌≡◌, ◌∙◌, ◌<◌, ℕ, Bool, inl, inr, [], Some, None, length, sym, ap, subst}
 use Rattle.std.specs.Prelude.{slice_index_or}
 use Rattle.std.proofs.lemmas.Bool.{cases_lt}
 use Rattle.std.proofs.lemmas.List.{get_or_past}
 use Rattle.std.proofs.lemmas.Option.{none-some, same_Some}
 use Rattle.cloak_base.specs.declared.names.PageId.{PageId}
 use Rattle.cloak_model.specs.Cloaking.{CloakedMemory, owed_in}
-use Rattle.cloak_pager.specs.State.{PagerState, page_of, owed_under, right_at, held_in, owed_at}
+use Rattle.cloak_pager.specs.State.{PagerState, page_of, owed_under, right_at, held_in}
 use Rattle.cloak_pager.specs.Relation.{StandsForMemory, FrameStands}
 use Rattle.cloak_pager.specs.declared.held.Held.{Held}
 use Rattle.cloak_pager.specs.declared.held.Held.TheVariants.{Outside, Clean, Changed, Spent}

@@ -27,6 +27,8 @@ use Rattle.cloak_model.specs.Exchange.{Piece, Emits, item_pieces}
 use Rattle.cloak_pager.specs.AfterCall.{MeetsUnclashed, after_offer}
 use Rattle.shadow_fold.specs.Keeping.{Agrees}
 use Rattle.shadow_law.specs.Agreeing.{present}
+use Rattle.cloaked_side.specs.Holding.{Holds}
+use Rattle.cloaked_side.proofs.Emitting.{emits_none}
 use Rattle.cloaked_side.specs.Offering.{behind_ciphers, offer_left, Rooms, Offers, offer_of}
 use Rattle.cloaked_side.specs.declared.memory.Memory.{Memory}
 use Rattle.cloaked_side.specs.declared.memory.Offer.{Offer as Ended}
@@ -312,6 +314,12 @@ offer_same q g write m none drawn = let s = same in (s.draws, s.missed)
 
     same : Same m (offer q g write m)
     same = by_owes (owes q (owed_in m g)) refl
+
+-- a frame that holds the page has room for it
+abbrev pub rooms_self : {E : Type 0} (gave : E → E → List Piece → Type 0) (e : E) (memory : Memory) (q : PageId) (g : ℕ) (m : CloakedMemory) →
+    Holds memory m → Rooms gave e e memory true q g m
+rooms_self gave e memory q g m h =
+    record { memory = m; ciphers = []; holds = h; emits = emits_none gave e; offers = λ write. refl }
 
 -- What an offer of the pager comes to, once there is room, of the memory around it.
 pub offers_so : {E : Type 0} (gave : E → E → List Piece → Type 0) (e e' : E) (old new : Memory) (given : Ended)

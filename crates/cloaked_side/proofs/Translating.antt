@@ -1,20 +1,17 @@
 -- The known translations go on agreeing through the calls on a pager.
-use Rattle.std.proofs.Common.{◌≡◌, ◌≢◌, ◌∙◌, ◌⊎◌, inl, inr, ℕ, Bool, List, length, slice_index_or, Option, Some, None, refl, sym, ap, subst}
-use Rattle.std.proofs.lemmas.Option.{none-some, same_Some}
+use Rattle.std.proofs.Common.{◌≡◌, ◌≢◌, ◌∙◌, inl, inr, ℕ, Bool, List, slice_index_or, Option, Some, None, refl, sym, ap, subst}
+use Rattle.std.proofs.lemmas.Option.{none-some}
 use Rattle.cloak_base.specs.Random.{Random}
 use Rattle.cloak_base.specs.declared.names.Frame.{Frame}
 use Rattle.cloak_base.specs.declared.names.PageId.{PageId}
-use Rattle.cloak_model.specs.Cloaking.{CloakedMemory, AfterSettling, Ready, Mismatch, owed_in, settle, offer}
+use Rattle.cloak_model.specs.Cloaking.{CloakedMemory, AfterSettling, Ready, Mismatch, settle, offer}
 use Rattle.cloak_pager.specs.State.{PagerState, page_of, owed_under, right_at, held_in}
 use Rattle.cloak_pager.specs.Relation.{StandsForMemory}
-use Rattle.cloak_pager.specs.Turns.{StaysBut, IsReadOnce, touched_by, end_of_offer}
+use Rattle.cloak_pager.specs.Turns.{StaysBut, IsReadOnce, touched_by}
 use Rattle.cloak_pager.specs.declared.held.Held.{Held}
 use Rattle.cloak_pager.specs.declared.held.Held.TheVariants.{Outside, Clean, Changed, Spent}
-use Rattle.cloak_pager.specs.declared.touching.Touched.{Touched}
 use Rattle.cloak_pager.specs.declared.touching.Touched.TheVariants.{Quiet, Resealed, Sealed, Wiped}
-use Rattle.cloak_pager.specs.declared.offering.Offered.TheVariants as offered
 use Rattle.cloak_pager.proofs.Pages.{same_or_not}
-use Rattle.protect_meta.specs.declared.meta.Meta.{Meta}
 use Rattle.cloak_pager.proofs.Stands.{owed_by_right}
 use Rattle.cloak_pager.proofs.Touches.{settle_none}
 use Rattle.shadow_fold.specs.Agreement.{EntryAgrees}
@@ -121,17 +118,6 @@ pub offered_new : (old new : PagerState) (w : PageId → Bool) (m : CloakedMemor
     → Agrees (present (held_in old) m) t → Agrees (present (held_in new) (offer q g write m).memory) (killed (frame g) t)
 offered_new old new w m q g write t stands stays alone =
     grant_agrees (held_in old) (held_in new) m q g write t (pager_owes old w m stands) alone (other_held g old new stays)
-
--- an offer is refused of an outside frame alone
-pub refused_outside : (p : PagerState) (g : ℕ) (shown : Option Meta) (bytes : List ℕ)
-    → offered.Mismatch ≡ end_of_offer (right_at p g) shown bytes → held_in p g ≡ None
-refused_outside p g shown bytes is = by_right (right_at p g) is
-  where
-    by_right : (h : Held) → offered.Mismatch ≡ end_of_offer h shown bytes → page_of h ≡ None
-    by_right (Outside r) is = refl
-    by_right (Clean r) is = absurd (let no : offered.Mismatch ≡ offered.Ready = is in cc)
-    by_right (Changed r) is = absurd (let no : offered.Mismatch ≡ offered.Ready = is in cc)
-    by_right Spent is = refl
 
 -- it did not, and is outside:
 pub offered_vain : (old new : PagerState) (w : PageId → Bool) (m : CloakedMemory) (q : PageId) (g : ℕ) (write : Bool) (t : Table)

@@ -1,5 +1,5 @@
 -- Where an access of a side leads.
-use Rattle.std.specs.Prelude.{ℕ, ◌≡◌, ◌/◌, true, false, List, length, Option, Some, Result, Ok, Err, IfSome}
+use Rattle.std.specs.Prelude.{ℕ, ◌≡◌, ◌/◌, true, false, length, Option, Some, Result, Ok, Err, IfSome}
 use Rattle.cloak_base.specs.declared.names.Kind.{Kind}
 use Rattle.cloak_base.specs.declared.names.PageId.{PageId}
 use Rattle.cloak_model.specs.declared.access.Walked.{Walked}

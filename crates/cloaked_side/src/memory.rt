@@ -121,27 +121,24 @@ impl Memory {
         }
     }
 
-    /// Settles what is to be before this page comes into this frame: the frame, unless it holds the page, and the frame
-    /// that holds the page. Whether no draw was missing.
-    #[inline(always)]
+    /// Settles what is to be before this page comes into this frame, which does not hold it: the frame, and the frame that
+    /// holds the page. Whether no draw was missing.
     fn make_room<E: Emit>(&mut self, q: PageId, g: Frame, e: &mut E) -> bool
         requires inside { g.0 < frames_of self.old }
         requires domain { q.domain < domains_in self.old }
         requires resource { q.resource < 16 }
         requires page { q.page < 1024 }
         requires drawn { self.old.missed ≡ false }
+        requires away { held_in self.old.pager g.0 ≢ Some q }
         ensures same { SameSize self.old self.new }
         ensures emits_some { EmitsSome E.gave e.old e.new }
         ensures missed { result ≡ not self.new.missed }
-        ensures room { IsTrue result → (held_in self.new.pager g.0 ≡ None) ⊎ (held_in self.new.pager g.0 ≡ Some q) }
+        ensures room { IsTrue result → held_in self.new.pager g.0 ≡ None }
         ensures alone { IsTrue result → (k : ℕ) → held_in self.new.pager k ≡ Some q → k ≡ g.0 }
         ensures no_more { HoldsNoMore self.old.pager self.new.pager }
         ensures rooms { (m : CloakedMemory) → Holds self.old m → Rooms E.gave e.old e.new self.new result q g.0 m }
     {
         self.pager.whole();
-        if self.is_held(q, g) {
-            return true;
-        }
         self.settle(g, e);
         if self.missed {
             return false;
@@ -172,15 +169,19 @@ impl Memory {
         ensures owed { result ≡ Offer.Ready → IsTrue write → owed_at self.new.pager g.0 ≡ Some q }
         ensures drawn { result ≡ Offer.Ready → self.new.missed ≡ false }
     {
+        if self.is_held(q, g) {
+            self.pager.whole();
+            return match self.pager.offer(q, g, write) {
+                Offered::Ready => Offer::Ready,
+                Offered::Mismatch => Offer::Mismatch,
+            };
+        }
         if !self.make_room(q, g, e) {
             return Offer::Missed;
         }
-        let held = self.is_held(q, g);
         match self.pager.offer(q, g, write) {
             Offered::Ready => {
-                if !held {
-                    end_entries(&mut self.shadows, g);
-                }
+                end_entries(&mut self.shadows, g);
                 Offer::Ready
             }
             Offered::Mismatch => Offer::Mismatch,

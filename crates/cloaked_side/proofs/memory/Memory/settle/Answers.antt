@@ -1,10 +1,8 @@
-use Rattle.std.proofs.Common.{refl, ap, sym, ◌∙◌, ◌≡◌, true, false, [], ◌∷◌, length, subst, None}
+use Rattle.std.proofs.Common.{refl, ap, ◌∙◌, true, false, [], ◌∷◌, length}
 use Rattle.cloak_model.specs.Cloaking.{settle}
-use Rattle.cloak_pager.specs.State.{PagerState, bytes_in, held_in, page_of}
+use Rattle.cloak_pager.specs.State.{PagerState, bytes_in, page_of}
 use Rattle.cloak_pager.proofs.Calls.{stands_read}
-use Rattle.shadow_fold.specs.Keeping.{Agrees}
 use Rattle.shadow_fold.specs.Table.{Table}
-use Rattle.shadow_law.specs.Agreeing.{present}
 use Rattle.cloaked_side.proofs.Settling.{settled_so}
 use Rattle.cloaked_side.proofs.Emitting.{emits_none}
 use Rattle.cloaked_side.proofs.Translating.{quiet_agrees, settled_agrees, read_agrees, ended_frames}

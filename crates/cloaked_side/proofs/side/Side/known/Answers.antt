@@ -1,4 +1,4 @@
-use Rattle.std.proofs.Common.{◌≡◌, ◌∙◌, rules, Some, sym}
+use Rattle.std.proofs.Common.{rules}
 use Rattle.cloaked_side.proofs.Known.{looks, known_leads}
 use Rattle.cloaked_side.proofs.side.Side.known.Goals as goal
 

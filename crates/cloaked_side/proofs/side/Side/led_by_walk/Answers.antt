@@ -1,4 +1,4 @@
-use Rattle.std.proofs.Common.{◌≡◌, ◌∙◌, rules, refl, sym, Ok}
+use Rattle.std.proofs.Common.{rules, refl, Ok}
 use Rattle.shadow_fold.specs.Agreement.{satp_in, access_in}
 use Rattle.cloaked_side.proofs.Known.{walk_of, led_so, walked_by, translate_unclashed}
 use Rattle.cloaked_side.proofs.Sided.{within_of}

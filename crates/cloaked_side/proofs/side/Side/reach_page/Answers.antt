@@ -1,10 +1,10 @@
-use Rattle.std.proofs.Common.{◌∙◌, sym, ap, refl, Ok, Err}
+use Rattle.std.proofs.Common.{refl, Ok, Err}
 use Rattle.cloak_model.specs.AskPages.{reached, reach_by_table}
 use Rattle.cloak_model.proofs.PagesLater.{later_reached}
 use Rattle.cloaked_side.specs.Leading.{place_in}
 use Rattle.cloaked_side.proofs.Answering.{asked_drawn, asked_undrawn, reached_err}
 use Rattle.cloaked_side.proofs.Known.{inside_follows, led_behind}
-use Rattle.cloaked_side.proofs.Sided.{stays_on, no_other_on, within_of}
+use Rattle.cloaked_side.proofs.Sided.{stays_on, no_other_on}
 use Rattle.cloaked_side.proofs.side.Side.reach_page.Goals as goal
 
 pub returns-then-self-clause-follows : goal.returns-then-self-clause-follows

@@ -1,9 +1,7 @@
-use Rattle.std.proofs.Common.{◌≡◌, ◌∙◌, Ok, Some, ap, sym, subst, ℕ, true, IsTrue}
-use Rattle.cloak_base.specs.declared.names.Kind.TheVariants.{Store}
-use Rattle.cloak_model.specs.Memory.{frame_of, is_in_frames}
-use Rattle.cloak_model.specs.AskPages.{is_store, ask_offer, reached}
+use Rattle.std.proofs.Common.{◌≡◌, ◌∙◌, Some, ap, sym, subst, ℕ, true}
+use Rattle.cloak_model.specs.Memory.{is_in_frames}
+use Rattle.cloak_model.specs.AskPages.{is_store, reached}
 use Rattle.cloak_pager.specs.State.{held_in, owed_at}
-use Rattle.cloaked_side.specs.Holding.{frames_of}
 use Rattle.cloaked_side.proofs.Known.{reached_by, reached_told}
 use Rattle.cloaked_side.proofs.Sided.{stays_on, stays_of}
 use Rattle.cloaked_side.proofs.side.Side.reached.Goals as goal

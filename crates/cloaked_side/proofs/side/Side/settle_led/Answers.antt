@@ -1,8 +1,8 @@
-use Rattle.std.proofs.Common.{◌≡◌, refl, sym, subst, ℕ, None}
+use Rattle.std.proofs.Common.{◌≡◌, subst, ℕ, None}
 use Rattle.cloak_model.specs.World.{settled}
 use Rattle.cloak_model.specs.Memory.{frame_of}
 use Rattle.cloak_pager.specs.State.{held_in}
-use Rattle.cloaked_side.specs.Leading.{IsEntryOf, entry_at}
+use Rattle.cloaked_side.specs.Leading.{IsEntryOf}
 use Rattle.cloaked_side.specs.Seeing.{Sees}
 use Rattle.cloaked_side.proofs.Known.{led_entry, entry_is}
 use Rattle.cloaked_side.proofs.Sided.{within_of}

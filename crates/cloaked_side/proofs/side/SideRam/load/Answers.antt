@@ -1,8 +1,6 @@
-use Rattle.std.proofs.Common.{◌≡◌}
-use Rattle.cloak_model.specs.World.{is_clashed, settled}
+use Rattle.cloak_model.specs.World.{settled}
 use Rattle.cloak_model.specs.Memory.{frame_of}
-use Rattle.cloak_model.specs.Ask.{ask_load, ask_translate, loaded_at}
-use Rattle.cloak_model.proofs.Later.{later_loaded_at}
+use Rattle.cloak_model.specs.Ask.{ask_translate}
 use Rattle.cloaked_side.proofs.Known.{load_unclashed, loaded_told, load_fault}
 use Rattle.cloaked_side.proofs.side.SideRam.load.Goals as goal
 

@@ -1,5 +1,4 @@
-use Rattle.std.proofs.Common.{◌≡◌}
-use Rattle.cloak_model.specs.World.{is_clashed, settled}
+use Rattle.cloak_model.specs.World.{settled}
 use Rattle.cloak_model.specs.Memory.{frame_of}
 use Rattle.cloak_model.specs.Ask.{ask_translate}
 use Rattle.cloaked_side.proofs.Known.{store_unclashed, stored_told, store_fault}
