@@ -38,6 +38,8 @@ returns-in_default-clause-rooms g c m h =
             st.holds.stream;
         draws = st.holds.draws;
         missed = st.holds.missed;
+        agrees = st.holds.agrees;
+        room = st.holds.room;
       };
       emits = st.emits;
       offers = λ write. rooms_alone _ _ h.wiped st.holds.wiped m f c.args.q write h.pager n missed st.holds.pager
