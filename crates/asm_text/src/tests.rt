@@ -1,0 +1,44 @@
+//! A text that is assembled, and one that is not.
+
+use crate::asm_command;
+use outside_io::{MemoryShelf, MemorySink};
+use program_parts::Status;
+use std::alloc::Global;
+use std::test::*;
+
+/// What `asm` leaves of a text: its status, the file of the words, and what is shown.
+fn check(
+    rt: &HostRuntime,
+    text: &[u8],
+    status: Status,
+    words: &[u8],
+    shown: &str,
+) -> Result<(), Fail> {
+    let alloc = rt.alloc();
+    let mut shelf = MemoryShelf::open(alloc, Vec::new(alloc));
+    let mut sink = MemorySink::open(alloc, Vec::new(alloc));
+    if shelf.add("a.s", text).is_err() {
+        return Err(Fail::from("no memory"));
+    }
+    let answer = asm_command(alloc, "a.s", "a.w", &mut shelf, &mut sink);
+    assert_eq!(rt; answer, status);
+    assert_eq!(rt; shelf.bytes("a.w"), words);
+    assert_eq!(rt; sink.taken(), shown.as_bytes());
+    Ok(())
+}
+
+/// `addi x10,x0,65`, `ecall` and a word, by the table of the manual, each with its lowest byte first.
+#[test]
+fn a_text_becomes_its_words(rt: HostRuntime) -> Result<(), Fail> {
+    let text = b"go: \n addi x10, x0, 65 # A\n ecall\n .word 0x01020304\n";
+    let words = [0x13, 0x05, 0x10, 0x04, 0x73, 0, 0, 0, 4, 3, 2, 1];
+    check(&rt, text, Status::Done, &words, "")
+}
+
+#[test]
+fn a_faulty_line_is_shown(rt: HostRuntime) -> Result<(), Fail> {
+    let text = b"ecall\n  ad x5, x6, x7 # sum\necall\n";
+    let shown =
+        "a.s:2: the first word is no instruction, and no label with its colon\n      ad x5, x6, x7 # sum\n";
+    check(&rt, text, Status::BadBundle, &[], shown)
+}
