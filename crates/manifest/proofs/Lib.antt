@@ -1,0 +1,4 @@
+pub mod Rooms
+pub mod Listed
+pub mod Kept
+pub mod Paths
