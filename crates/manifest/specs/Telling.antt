@@ -40,7 +40,7 @@ wrong_words TooLarge = codes "the bundle would have more than 67108864 bytes"
 -- an assembler text that a table names is faulty
 abbrev pub faulty_text_line : Part → (name text : List ℕ) → TextFault → List ℕ
 faulty_text_line at name text fault =
-    part_text at ++ codes "text: the file is no assembler text\n" ++ fault_text name text fault
+    part_text at ++ (codes "text: the file is no assembler text\n" ++ fault_text name text fault)
 
 -- what is said behind the manifest's name
 abbrev pub pack_fault_line : PackFault → List ℕ
