@@ -1,0 +1,3 @@
+pub mod ToolForms
+pub mod ToolCommand
+pub mod ToolRequest
