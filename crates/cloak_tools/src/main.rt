@@ -1,22 +1,18 @@
 //! The program `cloak_tools`: for people who make guest images and read records.
 //!
-//! `words::read_words` reads the words by a form of `clap`, with help and version. The commands are `asm` (`asm_text`),
-//! `pack` (`manifest`), `show` (`record_text`) and `explain` (`run_story`). The program exits with the number of the
-//! command's status, of which 3 stands for a text, a manifest or a bundle that is faulty.
+//! `tool_commands::run_tools` is all of it over any words, files and output. The program exits with the number of the
+//! answer's status, of which 3 stands for a text, a manifest or an image that is faulty, and says on standard error why it
+//! came.
 #![tactic(auto)]
 
-mod task;
-#[cfg(test)]
-mod tests;
-mod words;
-
-use crate::task::run_words;
 use cloak_base::NoMemory;
 use outside_io::{FileShelf, StdSink};
 use program_parts::Status;
 use std::fs::{File, OpenOptions};
+use std::io::ErrorKind;
 use std::process::ExitCode;
 use std::{env, io};
+use tool_commands::{CommandLine, run_tools, sentence};
 
 /// Files that hold the three standard streams.
 type Held = [File; 3];
@@ -31,23 +27,28 @@ fn hold_streams(rt: &HostRuntime) -> io::Result<Held> {
     Ok([open()?, open()?, open()?])
 }
 
-/// The words of the command line, the program's name first; none where one is no text.
-fn all_words(rt: &HostRuntime) -> Result<Option<Vec<String>>, NoMemory> {
-    let Ok(words) = env::args(rt) else {
-        return Ok(None);
+/// The words of the command line, the program's name first.
+fn command_line(rt: &HostRuntime) -> CommandLine {
+    let words = match env::args(rt) {
+        Ok(words) => words,
+        Err(fault) => {
+            return match fault.kind() {
+                ErrorKind::OutOfMemory => CommandLine::NoMemory,
+                _ => CommandLine::NotText,
+            };
+        }
     };
     match words.collect(rt.alloc()) {
-        Ok(words) => Ok(Some(words)),
-        Err(_) => Err(NoMemory),
+        Ok(words) => CommandLine::Taken(words),
+        Err(_) => CommandLine::NoMemory,
     }
 }
 
-/// Runs the program with the files and the output of the system.
+/// Runs the tools with the files and the output of the system.
 fn run_here(rt: &HostRuntime) -> Result<Status, NoMemory> {
     let mut shelf = FileShelf::open(rt.clone()?)?;
     let mut out = StdSink::open(rt.clone()?)?;
-    let words = all_words(rt)?;
-    Ok(run_words(rt.alloc(), words.as_ref(), &mut shelf, &mut out))
+    Ok(run_tools(rt.alloc(), &command_line(rt), &mut shelf, &mut out))
 }
 
 /// There is no memory to gather in, so the line is shown as it is.
@@ -58,9 +59,17 @@ fn refuse_for_memory(rt: &HostRuntime) -> Status {
     }
 }
 
+/// Runs the tools, and says on standard error why a status other than 0 came. Where that cannot be said, nothing else
+/// changes.
+fn run_and_say_why(rt: &HostRuntime) -> Status {
+    let status = run_here(rt).unwrap_or_else(|_| refuse_for_memory(rt));
+    let _ = rt.eprint(sentence(status));
+    status
+}
+
 fn main(rt: HostRuntime) -> ExitCode {
     let status = match hold_streams(&rt) {
-        Ok(_held) => run_here(&rt).unwrap_or_else(|_| refuse_for_memory(&rt)),
+        Ok(_held) => run_and_say_why(&rt),
         Err(_) => Status::WriteFault,
     };
     ExitCode::from(status.number())

@@ -1,7 +1,7 @@
 -- What is asked of the tools.
-use Rattle.std.specs.Prelude.{ℕ, ◌≡◌, ◌⊎◌, ◌^◌, ◌&&◌, Bool, true, false, List, [], codes, length, nat_lt}
+use Rattle.std.specs.Prelude.{ℕ, ◌≡◌, ◌⊎◌, ◌^◌, ◌-◌, ◌==◌, ◌&&◌, Bool, true, false, List, [], codes, length, nat_lt}
 use Rattle.std.specs.Prelude.{Option, Some, None, option_map, if◌then◌else◌}
-use Rattle.std.specs.List.{list_all}
+use Rattle.std.specs.List.{list_all, slice_split}
 use Rattle.std.specs.Option.{option_map_or}
 use Rattle.std.specs.Char.{digit_value}
 use Rattle.std.specs.Str.{bytes_eq}
@@ -17,8 +17,8 @@ pub data ToolAsked : Type 0 where
   Asm : (text_name words_name : List ℕ) → ToolAsked
   -- the bundle that a manifest means, written to a file
   Pack : (manifest bundle_name : List ℕ) → ToolAsked
-  -- the text of a record from one step to another, with the items of some kinds only, or how many there are of each
-  Show : (record_name : List ℕ) → (from to : ℕ) → (only : Option (List ℕ)) → (counts : Bool) → ToolAsked
+  -- the text of a record from one step to another, with the items only of kinds that are named, or how many there are
+  Show : (record_name : List ℕ) → (from to : ℕ) → (only : Option (List (List ℕ))) → (counts : Bool) → ToolAsked
   -- why the run of a bundle that wrote a record was stopped
   Explain : (bundle record_name : List ℕ) → ToolAsked
 
@@ -40,6 +40,10 @@ step_named name otherwise rows = option_map_or (step_or otherwise) (one_of name 
 abbrev pub is_flagged : (name : List ℕ) → List Row → Bool
 is_flagged name rows = option_map_or (λ text. bytes_eq text (codes "true")) (first_of name rows) false
 
+-- names with commas (44) between
+abbrev pub names_in : List ℕ → List (List ℕ)
+names_in text = slice_split (λ b. b == 44) text
+
 -- the last step that there can be
 abbrev pub last_step : ℕ
 last_step = 2 ^ 32 - 1
@@ -47,7 +51,8 @@ last_step = 2 ^ 32 - 1
 abbrev pub show_asked : List Row → ToolAsked
 show_asked rows =
     Show (needed_text (codes "RECORD") rows) (step_named (codes "from") 0 rows)
-    (step_named (codes "to") last_step rows) (first_of (codes "only") rows) (is_flagged (codes "counts") rows)
+    (step_named (codes "to") last_step rows) (option_map names_in (first_of (codes "only") rows))
+    (is_flagged (codes "counts") rows)
 
 -- What a command asks with the texts that it found. There are no more than these four.
 unfoldable pub tool_asked_with : Text → List Row → ToolAsked

@@ -1,5 +1,7 @@
--- What was read of the words.
-use Rattle.std.specs.Prelude.{◌≡◌, ◌≢◌, true, false, List, option_map}
+-- What is read of the words.
+use Rattle.std.specs.Prelude.{ℕ, ◌≡◌, ◌≢◌, true, false, List, Vec, map, option_map}
+use Rattle.std.specs.Borrow.{Bor}
+use Rattle.std.specs.declared.alloc.Global.{Global}
 use Rattle.clap.specs.Words.{Text}
 use Rattle.clap.specs.declared.error.kind.ErrorKind.{ErrorKind}
 use Rattle.clap.specs.declared.error.kind.ErrorKind.TheVariants.{OutOfMemory}
@@ -10,8 +12,11 @@ use Rattle.tool_words.specs.declared.request.ToolRequest.TheVariants.{Asm, Pack,
 use Rattle.tool_words.specs.declared.request.ToolWords.{ToolWords}
 use Rattle.tool_words.specs.declared.request.ToolWords.TheVariants.{Asks, Help, Faulty}
 
+abbrev pub names_of : Vec (Bor (List ℕ)) Global → List (List ℕ)
+names_of names = map (λ name. name.now) names.items
+
 abbrev pub asked_of_show : ShowRequest → spec.ToolAsked
-asked_of_show show = spec.Show show.record_name.now show.from show.to (option_map (λ names. names.now) show.only) show.counts
+asked_of_show show = spec.Show show.record_name.now show.from show.to (option_map names_of show.only) show.counts
 
 abbrev pub tool_asked_of : ToolRequest → spec.ToolAsked
 tool_asked_of (Asm text words) = spec.Asm text.now words.now

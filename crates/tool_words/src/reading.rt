@@ -5,7 +5,7 @@ ghost use Rattle.tool_words.specs.ToolCommand as spec;
 ghost use Rattle.tool_words.specs.ToolRequest.{ReadsTool, SaysFault, asked_of_show, tool_asked_of};
 
 use crate::form::tools_form;
-use crate::found::{given_text, is_flagged, needed_text, step_named};
+use crate::found::{given_names, is_flagged, needed_text, step_named};
 use crate::request::{ShowRequest, ToolRequest, ToolWords};
 use clap::error::ErrorKind;
 use clap::{ArgMatches, Error};
@@ -13,37 +13,42 @@ use cloak_base::NoMemory;
 use std::alloc::Global;
 
 /// What is asked of a record with the texts that were found.
-fn show_request<'a>(matches: &ArgMatches<'a>) -> ShowRequest<'a>
-    ensures { asked_of_show result ≡ spec.show_asked (rows_of (found_of matches.now)) }
+fn show_request<'a>(alloc: Global, matches: &ArgMatches<'a>) -> Result<ShowRequest<'a>, NoMemory>
+    ensures { IfOk result (λ show. asked_of_show show ≡ spec.show_asked (rows_of (found_of matches.now))) }
 {
-    ShowRequest {
+    Ok(ShowRequest {
         record_name: needed_text(matches, "RECORD"),
         from: step_named(matches, "from", 0),
         to: step_named(matches, "to", u32::MAX),
-        only: given_text(matches, "only"),
+        only: given_names(alloc, matches, "only")?,
         counts: is_flagged(matches, "counts"),
-    }
+    })
 }
 
 /// What a command asks with the texts that it found.
 #[tactic(auto, unfolding(crate::specs::ToolCommand::tool_asked_with))]
-fn asked_with<'a>(name: &str, matches: &ArgMatches<'a>) -> ToolRequest<'a>
-    ensures { tool_asked_of result ≡ spec.tool_asked_with name.now (rows_of (found_of matches.now)) }
+fn asked_with<'a>(
+    alloc: Global,
+    name: &str,
+    matches: &ArgMatches<'a>,
+) -> Result<ToolRequest<'a>, NoMemory>
+    ensures { IfOk result (λ request. tool_asked_of request
+        ≡ spec.tool_asked_with name.now (rows_of (found_of matches.now))) }
 {
     match name {
-        "asm" => ToolRequest::Asm {
+        "asm" => Ok(ToolRequest::Asm {
             text: needed_text(matches, "TEXT"),
             words: needed_text(matches, "OUT"),
-        },
-        "pack" => ToolRequest::Pack {
+        }),
+        "pack" => Ok(ToolRequest::Pack {
             manifest: needed_text(matches, "MANIFEST"),
             bundle: needed_text(matches, "BUNDLE"),
-        },
-        "show" => ToolRequest::Show(show_request(matches)),
-        _ => ToolRequest::Explain {
+        }),
+        "show" => Ok(ToolRequest::Show(show_request(alloc, matches)?)),
+        _ => Ok(ToolRequest::Explain {
             bundle: needed_text(matches, "BUNDLE"),
             record_name: needed_text(matches, "RECORD"),
-        },
+        }),
     }
 }
 
@@ -69,7 +74,7 @@ pub fn read_tool_words<'a>(alloc: Global, words: &'a [String]) -> Result<ToolWor
         Err(error) => return not_taken(alloc, &error),
     };
     match matches.subcommand() {
-        Some((name, found)) => Ok(ToolWords::Asks(asked_with(name, found))),
+        Some((name, found)) => Ok(ToolWords::Asks(asked_with(alloc, name, found)?)),
         None => Ok(ToolWords::Faulty(String::from_str(alloc, "error: there is no command\n")?)),
     }
 }

@@ -8,8 +8,8 @@ pub struct ShowRequest<'a> {
     pub from: u32,
     /// The last step.
     pub to: u32,
-    /// Names of kinds of items, with commas between; all are shown where it is not given.
-    pub only: Option<&'a str>,
+    /// Names of kinds of items; where there are none, all items are meant.
+    pub only: Option<Vec<&'a str>>,
     /// How many items there are of each kind, in the place of the items.
     pub counts: bool,
 }

@@ -25,8 +25,7 @@ fn shown(alloc: Global, line: &str) -> Result<String, NoMemory> {
         }
         ToolWords::Asks(ToolRequest::Show(show)) => {
             let (from, to, counts) = (show.from, show.to, show.counts);
-            let only = show.only.unwrap_or("all");
-            format!(in alloc; "show {} {from} {to} {only} {counts}", show.record_name)?
+            format!(in alloc; "show {} {from} {to} {:?} {counts}", show.record_name, show.only)?
         }
         ToolWords::Asks(
             ToolRequest::Explain {
@@ -45,10 +44,10 @@ fn lines_as_they_are_read(rt: HostRuntime) -> Result<(), Fail> {
     for (line, want) in [
         ("tools asm a.s a.w", "asm a.s a.w"),
         ("tools pack a.toml a.b", "pack a.toml a.b"),
-        ("tools show a.r", "show a.r 0 4294967295 all false"),
+        ("tools show a.r", "show a.r 0 4294967295 None false"),
         (
             "tools show --to=5 a.r --counts --from 2 --only put,leave",
-            "show a.r 2 5 put,leave true",
+            "show a.r 2 5 Some([\"put\", \"leave\"]) true",
         ),
         ("tools explain a.b a.r", "explain a.b a.r"),
         ("tools --help", "help"),
