@@ -52,7 +52,7 @@ not_taken words error (Faulty text) has says =
 -- The name and the matches of a subcommand, from both of its getters.
 
 pub both_found : {X Y Z : Type 0} (f : X → Y) (g : X → Z) (o : Option X) (y : Y) (z : Z) →
-    Some y ≡ option_map f o → Some z ≡ option_map (λ p. p.1) (option_map (λ x. (f x, g x)) o) →
+    Some y ≡ option_map f o → Some z ≡ option_map (λ (p : Y × Z). p.1) (option_map (λ x. (f x, g x)) o) →
     option_map (λ x. (f x, g x)) o ≡ Some (y, z)
 both_found f g None y z named found = absurd (none-some y (sym named))
 both_found f g (Some x) y z named found =
@@ -96,8 +96,9 @@ pub step_read : {E : Type 0} (P : Text → Result ℕ E → Type 0) (o : Option 
     ((t : Text) (x : Result ℕ E) → P t x → ParsesUnsigned 32 10 t x) → (o ≡ None → r ≡ None) →
     ((t : Text) → o ≡ Some t → ReadsOne P t r) →
     unwrap_or r otherwise ≡ option_map_or (step_or otherwise) o otherwise
-step_read P None r otherwise parses none some = ap (λ (x : Option ℕ). unwrap_or x otherwise) (none refl)
-step_read P (Some t) (Some v) otherwise parses none some = text_read t (Ok v) otherwise (parses t (Ok v) (some t refl))
-step_read P (Some t) None otherwise parses none some =
+step_read {E} P None r otherwise parses none some = ap (λ (x : Option ℕ). unwrap_or x otherwise) (none refl)
+step_read {E} P (Some t) (Some v) otherwise parses none some =
+    text_read {E = E} t (Ok v) otherwise (parses t (Ok v) (some t refl))
+step_read {E} P (Some t) None otherwise parses none some =
     let read = some t refl in
-    text_read t (Err read.0) otherwise (parses t (Err read.0) read.1)
+    text_read {E = E} t (Err read.0) otherwise (parses t (Err read.0) read.1)

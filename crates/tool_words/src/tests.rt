@@ -25,7 +25,10 @@ fn shown(alloc: Global, line: &str) -> Result<String, NoMemory> {
         }
         ToolWords::Asks(ToolRequest::Show(show)) => {
             let (from, to, counts) = (show.from, show.to, show.counts);
-            format!(in alloc; "show {} {from} {to} {:?} {counts}", show.record_name, show.only)?
+            format!(in alloc;
+                "show {} {from} {to} {:?} {counts}",
+                show.record_name, show.only
+            )?
         }
         ToolWords::Asks(
             ToolRequest::Explain {
