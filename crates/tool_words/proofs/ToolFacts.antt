@@ -8,12 +8,12 @@ use Rattle.std.proofs.lemmas.Option.{same_Some, none-some}
 use Rattle.std.specs.List.{list_all}
 use Rattle.std.specs.Char.{digit_value}
 use Rattle.std.specs.Str.Parse.{AllDigits, ParsesUnsigned, digits_value, without_leading_plus}
-use Rattle.clap.specs.Words.{App, HasKind, IsAmong, Kinds, ReadsOne, fault_of, is_simple, is_simple_and_free, kind_of}
+use Rattle.clap.specs.Words.{App, HasKind, IsAmong, Kinds, ReadsOne, Row, fault_of, is_simple, is_simple_and_free, kind_of, subcommand_of}
 use Rattle.clap.specs.Walk.{Text}
 use Rattle.clap.specs.declared.error.Error.{Error}
 use Rattle.clap.specs.declared.error.kind.ErrorKind.TheVariants.{OutOfMemory}
 use Rattle.tool_words.specs.ToolForms.{tools_form}
-use Rattle.tool_words.specs.ToolCommand.{is_step, step_or}
+use Rattle.tool_words.specs.ToolCommand.{ToolAsked, is_step, step_or, tool_asked_by, tool_asked_with}
 use Rattle.tool_words.specs.ToolRequest.{ReadsTool, SaysFault}
 use Rattle.tool_words.specs.declared.request.ToolWords.{ToolWords}
 use Rattle.tool_words.specs.declared.request.ToolWords.TheVariants.{Asks, Help, Faulty}
@@ -51,16 +51,33 @@ not_taken words error (Faulty text) has says =
 
 -- The name and the matches of a subcommand, from both of its getters.
 
+abbrev both_of : {X Y Z : Type 0} → (X → Y) → (X → Z) → X → Y × Z
+both_of f g x = (f x, g x)
+
 pub both_found : {X Y Z : Type 0} (f : X → Y) (g : X → Z) (o : Option X) (y : Y) (z : Z) →
-    Some y ≡ option_map f o → Some z ≡ option_map (λ (p : Y × Z). p.1) (option_map (λ x. (f x, g x)) o) →
-    option_map (λ x. (f x, g x)) o ≡ Some (y, z)
+    Some y ≡ option_map f o → Some z ≡ option_map (λ (p : Y × Z). p.1) (option_map (both_of f g) o) →
+    option_map (both_of f g) o ≡ Some (y, z)
 both_found f g None y z named found = absurd (none-some y (sym named))
-both_found f g (Some x) y z named found =
-    ap₂ (λ a b. Some (a, b)) (sym (same_Some _ _ named)) (sym (same_Some _ _ found))
+both_found {X} {Y} {Z} f g (Some x) y z named found =
+    ap₂ (λ (a : Y) (b : Z). Some (a, b)) (sym (same_Some _ _ named)) (sym (same_Some _ _ found))
 
 pub none_found : {X Y : Type 0} (g : X → Y) (o : Option X) → None ≡ option_map g o → o ≡ None
 none_found g None none = refl
 none_found g (Some x) none = absurd (none-some (g x) none)
+
+pub asks_found : (form : App) (words : List Text) (name : Text) (rows : List Row) (asked : ToolAsked) →
+    form ≡ tools_form → subcommand_of form words ≡ Some (name, rows) → asked ≡ tool_asked_with name rows →
+    tool_asked_by words ≡ Some asked
+asks_found form words name rows asked is found same =
+    ap (option_map (λ (p : Text × List Row). tool_asked_with p.0 p.1))
+    (ap (λ (f : App). subcommand_of f words) (sym is) ∙ found)
+    ∙ ap (λ (a : ToolAsked). Some a) (sym same)
+
+pub asks_none : (form : App) (words : List Text) → form ≡ tools_form → subcommand_of form words ≡ None →
+    tool_asked_by words ≡ None
+asks_none form words is found =
+    ap (option_map (λ (p : Text × List Row). tool_asked_with p.0 p.1))
+    (ap (λ (f : App). subcommand_of f words) (sym is) ∙ found)
 
 -- The step of a text.
 
