@@ -1,0 +1,2 @@
+mod KindFacts
+mod ExitFacts
