@@ -1,7 +1,7 @@
 //! What of a record is meant.
 ghost use Rattle.std.specs.Prelude.{◌≡◌, option_map};
 ghost use Rattle.tool_words.specs.ToolRequest.{names_of};
-ghost use Rattle.tool_commands.specs.KindNames.{selection_asked};
+ghost use Rattle.tool_commands.specs.KindNames as spec;
 
 use crate::kinds::kinds_of_names;
 use record_text::Selection;
@@ -9,7 +9,7 @@ use tool_words::ShowRequest;
 
 /// What of a record is meant, unless a name is that of no kind.
 pub fn selection_asked(show: &ShowRequest<'_>) -> Option<Selection>
-    ensures { result ≡ selection_asked show.now.from show.now.to (option_map names_of show.now.only) show.now.counts }
+    ensures { result ≡ spec.selection_asked show.now.from show.now.to (option_map names_of show.now.only) show.now.counts }
 {
     let only = match &show.only {
         None => None,

@@ -1,6 +1,7 @@
 //! The tools as a command of `clap`, which reads their words and writes help.
-ghost use Rattle.std.specs.Prelude.{◌≡◌, IfOk};
-ghost use Rattle.clap.specs.Words.{App, app_of, with_subcommand};
+ghost use Rattle.std.specs.Prelude.{◌≡◌, IfOk, false};
+ghost use Rattle.clap.specs.Words.{App, app_of, rule_of, with_subcommand};
+ghost use Rattle.command_words.specs.Forms as forms;
 ghost use Rattle.tool_words.specs.HasForm.{AddsForm, HasForm};
 ghost use Rattle.tool_words.specs.ToolForms as spec;
 
@@ -8,15 +9,53 @@ use clap::{Arg, ArgAction, Command, value_parser};
 use cloak_base::NoMemory;
 use std::alloc::Global;
 
+/// A position, which is not to be left out.
+fn position<'a>(alloc: Global, name: &'a str, help: &'a str) -> Arg<'a>
+    ensures rule { rule_of result ≡ forms.position name.entry.now }
+    ensures local { result.global ≡ false }
+{
+    Arg::new(alloc, name).required(true).help(help)
+}
+
+/// An option whose value is a step.
+fn step_option<'a>(alloc: Global, name: &'a str, help: &'a str) -> Arg<'a>
+    ensures rule { rule_of result ≡ spec.step_option name.entry.now }
+    ensures local { result.global ≡ false }
+{
+    Arg::new(alloc, name)
+        .long(name)
+        .value_name("N")
+        .value_parser(value_parser!(u32))
+        .help(help)
+}
+
+/// An option whose value is names of kinds.
+fn kinds_option<'a>(alloc: Global, name: &'a str, help: &'a str) -> Arg<'a>
+    ensures rule { rule_of result ≡ spec.named_option name.entry.now }
+    ensures local { result.global ≡ false }
+{
+    Arg::new(alloc, name)
+        .long(name)
+        .value_name("KINDS")
+        .help(help)
+}
+
+/// An option with no value.
+fn flag<'a>(alloc: Global, name: &'a str, help: &'a str) -> Arg<'a>
+    ensures rule { rule_of result ≡ spec.flag name.entry.now }
+    ensures local { result.global ≡ false }
+{
+    Arg::new(alloc, name)
+        .long(name)
+        .action(ArgAction::SetTrue)
+        .help(help)
+}
+
 fn asm_form<'a>(alloc: Global) -> Result<Command<'a>, NoMemory>
     ensures { IfOk result (HasForm spec.asm_form) }
 {
-    let text = Arg::new(alloc, "TEXT")
-        .required(true)
-        .help("The text, one statement a line");
-    let out = Arg::new(alloc, "OUT")
-        .required(true)
-        .help("The file that gets the bytes");
+    let text = position(alloc, "TEXT", "The text, one statement a line");
+    let out = position(alloc, "OUT", "The file that gets the bytes");
     let asm = Command::new(alloc, "asm")
         .about("Assemble a text, and write the flat bytes of its words")
         .arg(text)?
@@ -27,12 +66,8 @@ fn asm_form<'a>(alloc: Global) -> Result<Command<'a>, NoMemory>
 fn pack_form<'a>(alloc: Global) -> Result<Command<'a>, NoMemory>
     ensures { IfOk result (HasForm spec.pack_form) }
 {
-    let manifest = Arg::new(alloc, "MANIFEST")
-        .required(true)
-        .help("The manifest, a TOML document");
-    let bundle = Arg::new(alloc, "BUNDLE")
-        .required(true)
-        .help("The file that gets the image");
+    let manifest = position(alloc, "MANIFEST", "The manifest, a TOML document");
+    let bundle = position(alloc, "BUNDLE", "The file that gets the image");
     let pack = Command::new(alloc, "pack")
         .about("Make the guest image that a manifest means")
         .arg(manifest)?
@@ -43,29 +78,19 @@ fn pack_form<'a>(alloc: Global) -> Result<Command<'a>, NoMemory>
 fn show_form<'a>(alloc: Global) -> Result<Command<'a>, NoMemory>
     ensures { IfOk result (HasForm spec.show_form) }
 {
-    let record = Arg::new(alloc, "RECORD")
-        .required(true)
-        .help("The record of a run");
-    let from = Arg::new(alloc, "from")
-        .long("from")
-        .value_name("N")
-        .value_parser(value_parser!(u32))
-        .help("The first step; 0 is the opening");
-    let to = Arg::new(alloc, "to")
-        .long("to")
-        .value_name("N")
-        .value_parser(value_parser!(u32))
-        .help("The last step");
-    let only = Arg::new(alloc, "only")
-        .long("only")
-        .value_name("KINDS")
-        .help(
-            "Only these items: cipher, put, leave, ok, absent, word, timer, resume, stopped, outward, inward, with commas between",
-        );
-    let counts = Arg::new(alloc, "counts")
-        .long("counts")
-        .action(ArgAction::SetTrue)
-        .help("Show how many items there are of each kind");
+    let record = position(alloc, "RECORD", "The record of a run");
+    let from = step_option(alloc, "from", "The first step; 0 is the opening");
+    let to = step_option(alloc, "to", "The last step");
+    let only = kinds_option(
+        alloc,
+        "only",
+        "Only these items: cipher, put, leave, ok, absent, word, timer, resume, stopped, outward, inward, with commas between",
+    );
+    let counts = flag(
+        alloc,
+        "counts",
+        "Show how many items there are of each kind",
+    );
     let show = Command::new(alloc, "show")
         .about("Show a record as text, a line for each step with its items")
         .arg(record)?
@@ -79,12 +104,8 @@ fn show_form<'a>(alloc: Global) -> Result<Command<'a>, NoMemory>
 fn explain_form<'a>(alloc: Global) -> Result<Command<'a>, NoMemory>
     ensures { IfOk result (HasForm spec.explain_form) }
 {
-    let bundle = Arg::new(alloc, "BUNDLE")
-        .required(true)
-        .help("The guest image");
-    let record = Arg::new(alloc, "RECORD")
-        .required(true)
-        .help("The record of its run");
+    let bundle = position(alloc, "BUNDLE", "The guest image");
+    let record = position(alloc, "RECORD", "The record of its run");
     let explain = Command::new(alloc, "explain")
         .about("Tell why a run was stopped by a violation")
         .arg(bundle)?

@@ -1,18 +1,20 @@
 use Rattle.std.proofs.Common.{rules, ◌≡◌, ◌∙◌, ap, ap₂, codes}
-use Rattle.clap.specs.Words.{App, app_of, new_app, rule_of, with_rule, with_subcommand}
-use Rattle.command_words.specs.Forms.{position}
+use Rattle.clap.specs.Words.{App, app_of, new_app, with_rule, with_subcommand}
 use Rattle.tool_words.specs.ToolForms.{explain_form}
+use Rattle.tool_words.proofs.ToolFacts.{neither}
 use Rattle.tool_words.proofs.form.explain_form.Goals as goal
 
 pub returns : goal.returns
 returns c =
-    let first : rule_of c.help-bundle.result ≡ position (codes "BUNDLE") = search rules in
-    let second : rule_of c.help-record.result ≡ position (codes "RECORD") = search rules in
+    let first = c.position-bundle.ensures in
+    let second = c.position-record.ensures in
     let bare : app_of c.about.result ≡ new_app (codes "explain") = search rules in
     let own : app_of c.in_ok-explain.explain ≡ explain_form =
-    c.in_ok-explain.ensures.shape (search rules)
-    ∙ ap₂ with_rule (c.in_ok-arg.ensures.shape (search rules) ∙ ap₂ with_rule bare first) second in
+    c.in_ok-explain.ensures.shape second.local
+    ∙ ap₂ with_rule (c.in_ok-arg.ensures.shape first.local ∙ ap₂ with_rule bare first.rule) second.rule in
+    let local = neither _ _ _ c.in_ok-arg.ensures.globals (search rules) first.local in
     record {
       own = own;
-      added = λ above more adds. adds.shape (search rules) ∙ ap (λ (f : App). with_subcommand (app_of above) f.top) own;
+      added = λ above more adds. adds.shape (neither _ _ _ c.in_ok-explain.ensures.globals local second.local)
+          ∙ ap (λ (f : App). with_subcommand (app_of above) f.top) own;
     }
