@@ -1,5 +1,5 @@
 -- What the tools answer, by what the words ask for.
-use Rattle.std.specs.Prelude.{ℕ, ◌≡◌, ◌⊎◌, true, List, Option, Some, None, codes}
+use Rattle.std.specs.Prelude.{ℕ, ◌≡◌, ◌⊎◌, true, List, Option, Some, None, codes, string_bytes}
 use Rattle.outside_io.specs.Told.{SameFiles}
 use Rattle.clap.specs.Walk.{Text}
 use Rattle.asm_text.specs.Commanded.{AsmAnswers}
@@ -13,6 +13,9 @@ use Rattle.program_parts.specs.declared.refusal.Refusal.TheVariants as refusal
 use Rattle.program_parts.specs.declared.status.Status.{Status}
 use Rattle.program_parts.specs.declared.status.Status.TheVariants as status
 use Rattle.tool_words.specs.ToolCommand.{ToolAsked, Asm, Pack, Show, Explain, AreFaulty, AreNotTaken, AsksTool}
+use Rattle.tool_words.specs.ToolRequest.{tool_asked_of}
+use Rattle.tool_words.specs.declared.request.ToolWords.{ToolWords}
+use Rattle.tool_words.specs.declared.request.ToolWords.TheVariants.{Asks, Help, Faulty}
 use Rattle.tool_commands.specs.KindNames.{selection_asked}
 use Rattle.tool_commands.specs.ToolSaying.{Says}
 
@@ -37,6 +40,12 @@ ToolAnswers (Pack manifest bundle_name) before after answer = PackAnswers manife
 ToolAnswers (Show record_name from to only counts) before after answer =
     ShowAnswers (selection_asked from to only counts) record_name before after answer
 ToolAnswers (Explain bundle record_name) before after answer = ExplainAnswers bundle record_name before after answer
+
+-- what they answer to what was read of words
+abbrev pub ReadAnswers : {S O : Type 0} → ToolWords → Outside S O → Outside S O → Status → Type 0
+ReadAnswers (Asks request) before after answer = ToolAnswers (tool_asked_of request) before after answer
+ReadAnswers (Help text) before after answer = Says (string_bytes text) status.Done before after answer
+ReadAnswers (Faulty text) before after answer = Says (string_bytes text) status.Usage before after answer
 
 -- The words are taken, and this was answered to what they ask for.
 pub record DoesAsked {S O : Type 0} (words : List Text) (before after : Outside S O) (answer : Status) : Type 0 where

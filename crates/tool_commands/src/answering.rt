@@ -2,7 +2,7 @@
 ghost use Rattle.std.specs.Prelude.{map, string_bytes};
 ghost use Rattle.program_parts.specs.Outside.{outside};
 ghost use Rattle.tool_words.specs.ToolRequest.{asked_of_show, tool_asked_of};
-ghost use Rattle.tool_commands.specs.ToolAnswering.{ToolAnswers, WordsAnswers};
+ghost use Rattle.tool_commands.specs.ToolAnswering.{ReadAnswers, ToolAnswers, WordsAnswers};
 
 use crate::choosing::selection_asked;
 use crate::saying::say;
@@ -55,6 +55,25 @@ fn carry_out<S: Shelf, O: Sink>(
     }
 }
 
+/// Does what was read of words.
+fn follow<S: Shelf, O: Sink>(
+    alloc: Global,
+    read: &ToolWords<'_>,
+    shelf: &mut S,
+    out: &mut O,
+) -> Status
+    requires { S.is_settled shelf.old }
+    ensures { ReadAnswers read.now
+        (outside S.held S.reading_faults S.writing_faults O.taken O.faults shelf.old out.old)
+        (outside S.held S.reading_faults S.writing_faults O.taken O.faults shelf.new out.new) result }
+{
+    match read {
+        ToolWords::Asks(request) => carry_out(alloc, request, shelf, out),
+        ToolWords::Help(text) => say(out, text.as_bytes(), Status::Done),
+        ToolWords::Faulty(text) => say(out, text.as_bytes(), Status::Usage),
+    }
+}
+
 /// Does what the words ask for, of which the first is the program's name.
 pub fn obey<S: Shelf, O: Sink>(
     alloc: Global,
@@ -68,9 +87,7 @@ pub fn obey<S: Shelf, O: Sink>(
         (outside S.held S.reading_faults S.writing_faults O.taken O.faults shelf.new out.new) result }
 {
     match read_tool_words(alloc, words.as_slice()) {
-        Ok(ToolWords::Asks(request)) => carry_out(alloc, &request, shelf, out),
-        Ok(ToolWords::Help(text)) => say(out, text.as_bytes(), Status::Done),
-        Ok(ToolWords::Faulty(text)) => say(out, text.as_bytes(), Status::Usage),
+        Ok(read) => follow(alloc, &read, shelf, out),
         Err(_) => refuse(out, &Refusal::NoMemory),
     }
 }
