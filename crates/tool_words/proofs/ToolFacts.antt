@@ -1,5 +1,5 @@
 -- What `clap` says of the tools' command, and what is read of it.
-use Rattle.std.proofs.Common.{◌≡◌, ◌≢◌, ◌^◌, ◌&&◌, ◌||◌, ℕ, Bool, true, false, true≢false, List, [], ◌∷◌, length, nat_lt, refl, sym, ap, ap₂}
+use Rattle.std.proofs.Common.{◌≡◌, ◌≢◌, ◌^◌, ◌&&◌, ℕ, Bool, true, false, true≢false, List, [], ◌∷◌, length, nat_lt, refl, sym, ap, ap₂}
 use Rattle.std.proofs.Common.{◌∙◌, inl, inr, lt-ltb, ltb-true, Option, Some, None, Result, Ok, Err}
 use Rattle.std.specs.Prelude.{option_map, unwrap_or}
 use Rattle.std.specs.Option.{option_map_or}
@@ -31,9 +31,6 @@ simple = refl
 
 pub tools_simple : (form : App) → form ≡ tools_form → is_simple form ≡ true
 tools_simple form same = ap (λ a. is_simple a) same ∙ simple
-
-pub neither : (a b either : Bool) → either ≡ (a || b) → a ≡ false → b ≡ false → either ≡ false
-neither a b either is first second = is ∙ ap₂ (λ x y. x || y) first second
 
 -- Words that are not taken.
 

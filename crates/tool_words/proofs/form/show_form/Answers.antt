@@ -1,7 +1,6 @@
 use Rattle.std.proofs.Common.{rules, ◌≡◌, ◌∙◌, ap, ap₂, codes}
 use Rattle.clap.specs.Words.{App, app_of, new_app, with_rule, with_subcommand}
 use Rattle.tool_words.specs.ToolForms.{show_form}
-use Rattle.tool_words.proofs.ToolFacts.{neither}
 use Rattle.tool_words.proofs.form.show_form.Goals as goal
 
 pub returns : goal.returns
@@ -19,12 +18,8 @@ returns c =
     ∙ ap₂ with_rule (c.in_ok-arg-2.ensures.shape from.local
     ∙ ap₂ with_rule (c.in_ok-arg.ensures.shape name.local
     ∙ ap₂ with_rule bare name.rule) from.rule) to.rule) only.rule) counts.rule in
-    let local1 = neither _ _ _ c.in_ok-arg.ensures.globals (search rules) name.local in
-    let local2 = neither _ _ _ c.in_ok-arg-2.ensures.globals local1 from.local in
-    let local3 = neither _ _ _ c.in_ok-arg-3.ensures.globals local2 to.local in
-    let local4 = neither _ _ _ c.in_ok-arg-4.ensures.globals local3 only.local in
     record {
       own = own;
-      added = λ above more adds. adds.shape (neither _ _ _ c.in_ok-show.ensures.globals local4 counts.local)
+      added = λ above more adds. adds.shape (search rules)
           ∙ ap (λ (f : App). with_subcommand (app_of above) f.top) own;
     }

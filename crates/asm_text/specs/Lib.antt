@@ -1,0 +1,4 @@
+pub mod Assembling
+pub mod Telling
+pub mod Making
+pub mod Commanded
