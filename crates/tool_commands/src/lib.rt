@@ -12,11 +12,11 @@ mod exiting;
 mod kinds;
 mod line;
 mod saying;
-mod sentence;
+mod sentences;
 
 pub use exiting::run_tools;
 pub use line::CommandLine;
-pub use sentence::sentence;
+pub use sentences::sentence;
 
 #[cfg(test)]
 mod tests;

@@ -1,6 +1,6 @@
 use Rattle.std.proofs.Common.{◌≡◌, ◌∙◌, ap}
 use Rattle.std.proofs.lemmas.Result.{IfOk-weaker}
-use Rattle.clap.specs.Words.{App, Shape, app_of, with_subcommand}
+use Rattle.clap.specs.Words.{App, Shape, with_subcommand}
 use Rattle.tool_words.specs.ToolForms.{asm_form, explain_form, pack_form, show_form}
 use Rattle.tool_words.proofs.form.tools_form.Goals as goal
 

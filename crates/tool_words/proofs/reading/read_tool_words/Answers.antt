@@ -1,8 +1,8 @@
-use Rattle.std.proofs.Common.{◌≡◌, ◌∙◌, ℕ, List, [], ap, subst, sym, map, string_bytes}
+use Rattle.std.proofs.Common.{◌≡◌, ◌∙◌, [], subst, sym, map, string_bytes}
 use Rattle.std.proofs.lemmas.Result.{IfOk-weaker}
-use Rattle.clap.specs.Words.{App, HasKind, app_of, fault_of, found_of, rows_of, subcommand_of}
+use Rattle.clap.specs.Words.{App, HasKind, app_of, fault_of}
 use Rattle.tool_words.specs.ToolForms.{tools_form}
-use Rattle.tool_words.proofs.ToolFacts.{asks_found, asks_none, both_found, none_found, not_taken, tools_simple, tools_simple_and_free}
+use Rattle.tool_words.proofs.ToolFacts.{asks_found, both_found, not_taken, tools_simple, tools_simple_and_free}
 use Rattle.tool_words.proofs.reading.read_tool_words.Goals as goal
 
 pub returns-in-Err : goal.returns-in-Err
