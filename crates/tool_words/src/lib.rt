@@ -12,6 +12,3 @@ mod request;
 
 pub use reading::read_tool_words;
 pub use request::{ShowRequest, ToolRequest, ToolWords};
-
-#[cfg(test)]
-mod tests;
