@@ -10,5 +10,6 @@ mod screen;
 mod solo;
 mod view;
 
+pub use ending::{Ending, show_fault, status};
 pub use solo::solo_command;
 pub use view::view_command;

@@ -1,0 +1,32 @@
+-- What of a record was shown or counted, and where reading ended.
+use Rattle.std.specs.Prelude.{ℕ, List, Option, Some, Result, Ok, Err}
+use Rattle.cloak_base.specs.declared.causes.Failed.{Failed}
+use Rattle.cloak_model.specs.declared.item.Item.{Item}
+use Rattle.kernel_report.specs.Putting.{Putting, PutsMore}
+use Rattle.read_back.specs.Reading.{IsReadTo}
+use Rattle.read_back.specs.declared.ending.Ending.{Ending}
+use Rattle.record_text.specs.declared.counts.Counts.{Counts}
+use Rattle.record_text.specs.declared.selection.Selection.{Selection}
+use Rattle.record_text.specs.Counting.{AreCounts, chosen}
+use Rattle.record_text.specs.Reading.{items_text, never_unfit}
+
+-- Items were read up to where reading ended, if it did, and shown.
+pub record ShowsTo (s : Selection) (told : Option (List ℕ)) (reading reads : ℕ) (old new : Putting)
+    (ended : Option Ending) : Type 0 where
+  pub items : List Item
+  pub read : IsReadTo never_unfit told reading reads items ended
+  pub text : PutsMore old new (items_text s items ended)
+
+-- all was shown and reading ended so; or the output failed, whether or not reading had ended
+abbrev pub ShowsItems : Selection → Option (List ℕ) → ℕ → ℕ → Putting → (Result Unit Failed → Putting) →
+    Result Ending Failed → Type 0
+ShowsItems s told reading reads old new (Ok ended) = ShowsTo s told reading reads old (new (Ok tt)) (Some ended)
+ShowsItems s told reading reads old new (Err failed) =
+    (ended : Option Ending) × ShowsTo s told reading reads old (new (Err failed)) ended
+
+-- Items were read up to where reading ended, and those that are chosen were counted.
+pub record CountsItems (s : Selection) (told : Option (List ℕ)) (reading reads : ℕ) (counts : Counts) (ended : Ending) :
+    Type 0 where
+  pub items : List Item
+  pub read : IsReadTo never_unfit told reading reads items (Some ended)
+  pub counted : AreCounts counts (chosen s items).items

@@ -1,0 +1,101 @@
+//! How many items are chosen of each kind.
+ghost use Rattle.std.specs.Prelude.{◌≡◌, ◌^◌, ◌-◌, ◌<◌, ◌++◌, [], ◌∷◌, List, length};
+ghost use Rattle.std.specs.List.{count_by};
+ghost use Rattle.cloak_model.specs.Report.{number_line};
+ghost use Rattle.cloak_model.specs.declared.item.Item.{Item};
+ghost use Rattle.kernel_report.specs.Putting.{PutsMore, putting};
+ghost use Rattle.record_text.specs.Counting.{AreCounts, counts_text};
+ghost use Rattle.record_text.specs.Kinds.{is_of_kind};
+
+use crate::kinds::Kinds;
+use cloak_model::Item;
+use kernel_report::lines::{SoFar, decimal, text};
+use outside_io::Sink;
+
+/// How many items there are of each kind.
+#[derive(Clone, Copy, Debug, PartialEq, Eq)]
+pub struct Counts {
+    cipher: u64,
+    put: u64,
+    leave: u64,
+    ok: u64,
+    absent: u64,
+    word: u64,
+    timer: u64,
+    resume: u64,
+    stopped: u64,
+}
+
+/// How many items are of a kind, behind one more.
+fn counted(count: u64, kind: Kinds, item: &Item) -> u64
+    ensures { (items : List Item) → length items < 2 ^ 64 - 1 → count ≡ count_by (is_of_kind kind) items →
+        result ≡ count_by (is_of_kind kind) (items ++ item.now ∷ []) }
+{
+    if kind.has(item) {
+        count.saturating_add(1)
+    } else {
+        count
+    }
+}
+
+/// The line of a count, whose name has a space behind it.
+fn put_count<O: Sink>(out: &mut O, so_far: SoFar, name: &[u8], count: u64) -> SoFar
+    ensures { PutsMore (putting O.taken O.faults out.old so_far) (putting O.taken O.faults out.new result)
+        (number_line name.now count) }
+{
+    let so_far = text(out, so_far, name);
+    let so_far = decimal(out, so_far, count);
+    text(out, so_far, b"\n")
+}
+
+impl Counts {
+    /// None yet.
+    pub fn new() -> Counts
+        ensures { AreCounts result [] }
+    {
+        Counts {
+            cipher: 0,
+            put: 0,
+            leave: 0,
+            ok: 0,
+            absent: 0,
+            word: 0,
+            timer: 0,
+            resume: 0,
+            stopped: 0,
+        }
+    }
+
+    /// One more.
+    pub fn count(&mut self, item: &Item)
+        ensures { (items : List Item) → length items < 2 ^ 64 - 1 → AreCounts self.old items →
+            AreCounts self.new (items ++ item.now ∷ []) }
+    {
+        self.cipher = counted(self.cipher, Kinds::CIPHER, item);
+        self.put = counted(self.put, Kinds::PUT, item);
+        self.leave = counted(self.leave, Kinds::LEAVE, item);
+        self.ok = counted(self.ok, Kinds::OK, item);
+        self.absent = counted(self.absent, Kinds::ABSENT, item);
+        self.word = counted(self.word, Kinds::WORD, item);
+        self.timer = counted(self.timer, Kinds::TIMER, item);
+        self.resume = counted(self.resume, Kinds::RESUME, item);
+        self.stopped = counted(self.stopped, Kinds::STOPPED, item);
+    }
+
+    /// A line for each kind.
+    pub fn put<O: Sink>(&self, out: &mut O, so_far: SoFar) -> SoFar
+        ensures { (items : List Item) → AreCounts self.now items →
+            PutsMore (putting O.taken O.faults out.old so_far) (putting O.taken O.faults out.new result)
+            (counts_text items) }
+    {
+        let so_far = put_count(out, so_far, b"cipher ", self.cipher);
+        let so_far = put_count(out, so_far, b"put ", self.put);
+        let so_far = put_count(out, so_far, b"leave ", self.leave);
+        let so_far = put_count(out, so_far, b"ok ", self.ok);
+        let so_far = put_count(out, so_far, b"absent ", self.absent);
+        let so_far = put_count(out, so_far, b"word ", self.word);
+        let so_far = put_count(out, so_far, b"timer ", self.timer);
+        let so_far = put_count(out, so_far, b"resume ", self.resume);
+        put_count(out, so_far, b"stopped ", self.stopped)
+    }
+}

@@ -1,0 +1,26 @@
+//! A record as text: a line for each step with its items, in the words of the privileged manual.
+//!
+//! The layer above may rely on this: `show_command` shows each item that is chosen once, in the order of the record
+//! (`specs/Lines`, `specs/Items`), or how many are chosen of each kind (`specs/Counting`), up to the record's end or its
+//! first fault, for which it answers as `view` does. No file is changed. `next_item` is how every tool reads a record.
+#![tactic(auto)]
+
+mod causes;
+mod command;
+mod counts;
+mod items;
+mod kinds;
+mod lines;
+mod place;
+mod reading;
+mod selection;
+mod showing;
+
+pub use causes::{cause_name, put_word};
+pub use command::show_command;
+pub use kinds::Kinds;
+pub use reading::next_item;
+pub use selection::Selection;
+
+#[cfg(test)]
+mod tests;

@@ -1,0 +1,27 @@
+//! Where the items of a record stand.
+ghost use Rattle.std.specs.Prelude.{◌≡◌};
+ghost use Rattle.record_text.specs.Kinds as spec;
+
+use cloak_model::Item;
+
+/// Where items of a record stand.
+#[derive(Clone, Copy, Debug, PartialEq, Eq)]
+pub enum Place {
+    Opening,
+    Step(u32),
+    /// Behind so many steps.
+    Closing(u32),
+    End,
+}
+
+/// The place that a marker begins.
+pub fn place_marked(item: &Item) -> Option<Place>
+    ensures { result ≡ spec.place_marked item.now }
+{
+    match *item {
+        Item::Step { number } => Some(Place::Step(number)),
+        Item::Close { steps } => Some(Place::Closing(steps)),
+        Item::End => Some(Place::End),
+        _ => None,
+    }
+}

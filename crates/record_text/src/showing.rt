@@ -1,0 +1,89 @@
+//! A record, from its first item to its end or its first fault.
+ghost use Rattle.std.specs.Prelude.{◌≡◌, ◌<◌, ◌-◌, ◌^◌, length, Ok, Some};
+ghost use Rattle.kernel_report.specs.Putting.{putting};
+ghost use Rattle.outside_io.specs.Told.{SameFiles};
+ghost use Rattle.record_text.specs.Counting.{AreCounts, Chosen, chosen_more};
+ghost use Rattle.record_text.specs.Showing.{CountsItems, ShowsItems};
+
+use crate::counts::Counts;
+use crate::lines::{end_line, put_first, put_next};
+use crate::place::{Place, place_marked};
+use crate::reading::next_item;
+use crate::selection::Selection;
+use cloak_base::Failed;
+use cloak_model::Item;
+use outside_io::{Shelf, Sink};
+use read_back::Ending;
+use record_reader::{KeptItems, Reader};
+
+/// Shows the items of a record that are chosen, up to where reading ends or the output fails.
+pub fn show_items<S: Shelf, O: Sink>(
+    name: &str,
+    selection: &Selection,
+    shelf: &mut S,
+    out: &mut O,
+) -> Result<Ending, Failed>
+    requires { S.is_settled shelf.old }
+    ensures shows { ShowsItems selection.now (S.held shelf.old name.now)
+        (S.reading_faults shelf.old) (S.reading_faults shelf.new)
+        (putting O.taken O.faults out.old (Ok tt)) (putting O.taken O.faults out.new) result }
+    ensures files { SameFiles (S.held shelf.old) (S.held shelf.new) }
+    ensures writing { S.writing_faults shelf.new ≡ S.writing_faults shelf.old }
+{
+    let (mut so_far, mut line) = put_first(out, Ok(()), selection);
+    let mut reader = Reader::open(name);
+    let mut kept = KeptItems::new();
+    loop {
+        if let Err(failed) = so_far {
+            return Err(failed);
+        }
+        match next_item(&mut reader, shelf, &mut kept) {
+            Ok(tag) => {
+                let (put, next) = put_next(out, so_far, line, kept.item(tag), selection);
+                so_far = put;
+                line = next;
+            }
+            Err(ending) => {
+                return match end_line(out, so_far, line) {
+                    Ok(()) => Ok(ending),
+                    Err(failed) => Err(failed),
+                };
+            }
+        }
+    }
+}
+
+/// Counts an item, where it is chosen, and answers the place of what comes next.
+fn count_next(counts: &mut Counts, selection: &Selection, place: Place, item: &Item) -> Place
+    ensures counts { (c : Chosen) → c.place ≡ place → length c.items < 2 ^ 64 - 1 → AreCounts counts.old c.items →
+        AreCounts counts.new (chosen_more selection.now c item.now).items }
+    ensures place { (c : Chosen) → c.place ≡ place → result ≡ (chosen_more selection.now c item.now).place }
+{
+    if let Some(next) = place_marked(item) {
+        return next;
+    }
+    if selection.has_item(place, item) {
+        counts.count(item);
+    }
+    place
+}
+
+/// Counts the items of a record that are chosen, and answers how reading ended.
+pub fn count_items<S: Shelf>(name: &str, selection: &Selection, shelf: &mut S) -> (Counts, Ending)
+    requires { S.is_settled shelf.old }
+    ensures counts { CountsItems selection.now (S.held shelf.old name.now)
+        (S.reading_faults shelf.old) (S.reading_faults shelf.new) result.0 result.1 }
+    ensures files { SameFiles (S.held shelf.old) (S.held shelf.new) }
+    ensures writing { S.writing_faults shelf.new ≡ S.writing_faults shelf.old }
+{
+    let mut counts = Counts::new();
+    let mut place = Place::Opening;
+    let mut reader = Reader::open(name);
+    let mut kept = KeptItems::new();
+    loop {
+        match next_item(&mut reader, shelf, &mut kept) {
+            Ok(tag) => place = count_next(&mut counts, selection, place, kept.item(tag)),
+            Err(ending) => return (counts, ending),
+        }
+    }
+}
