@@ -1,0 +1,5 @@
+pub mod Rooms
+pub mod Listed
+pub mod Meant
+pub mod Kept
+pub mod Paths

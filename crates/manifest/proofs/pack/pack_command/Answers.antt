@@ -1,0 +1,11 @@
+use Rattle.program_parts.specs.Outside.{files}
+use Rattle.manifest.proofs.pack.pack_command.Goals as goal
+
+pub returns : goal.returns
+returns g c =
+    record {
+      made = c.packed-made.result;
+      files = files g.S.Shelf.held g.S.Shelf.reading_faults g.S.Shelf.writing_faults c.packed-made.new.shelf;
+      reads = c.packed-made.ensures;
+      concludes = c.conclude.ensures;
+    }

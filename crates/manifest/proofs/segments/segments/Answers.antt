@@ -1,0 +1,31 @@
+use Rattle.std.proofs.Common.{◌≡◌, ◌∷◌, ℕ, List, Option, subst, sym, length-append, arith}
+use Rattle.std.proofs.lemmas.List.Elements.{All-push}
+use Rattle.toml.specs.View.{view}
+use Rattle.program_parts.specs.Outside.{files}
+use Rattle.cloak_model.specs.Bundle.{IsSegmentIn}
+use Rattle.manifest.specs.Manifest.{IsSegmentOf}
+use Rattle.manifest.proofs.Kept.{same_held, read_more}
+use Rattle.manifest.proofs.Listed.{items_view-more, means_more}
+use Rattle.manifest.proofs.segments.segments.Goals as goal
+
+pub loop-table-preserved : goal.loop-table-preserved
+loop-table-preserved g c =
+    let held = g.S.Shelf.held in
+    let state = files held g.S.Shelf.reading_faults g.S.Shelf.writing_faults in
+    let first = c.args.shelf.now in
+    let manifest = c.args.manifest.now in
+    let table = c.table-item.result in
+    let so_far = c.loop-table.invariant in
+    let last = c.in_ok-segment.segment in
+    let more = items_view-more c.args.tables.now c.loop-table.table-index table c.loop-table-test.true (sym c.table-item.is) in
+    let here = subst (λ (h : List ℕ → Option (List ℕ)). IsSegmentOf h manifest (view table) last)
+    (same_held (held first) (held c.loop-table.shelf) so_far.read.held) c.in_ok-segment.ensures.means in
+    let pushed = c.in_ok-push.ensures.items in
+    record {
+      mean = rw (more, pushed) (means_more (IsSegmentOf (held first) manifest) _ _ (view table) last so_far.mean here);
+      count = rw pushed (simp length-append (omega (arith, so_far.count)));
+      in_ram = rw pushed (All-push (IsSegmentIn c.args.frames) c.loop-table.segments.items last so_far.in_ram
+          c.in_ok-segment.ensures.in_ram);
+      read = read_more (state first) (state c.loop-table.shelf) (state c.segment.new.shelf) so_far.read c.in_ok-segment.ensures.reads;
+      settled = c.in_ok-segment.ensures.settled;
+    }

@@ -1,0 +1,56 @@
+-- Why a manifest means no image, for a person to read: the manifest, the table and the key, and what is wrong there.
+use Rattle.std.specs.Prelude.{ℕ, List, [], ◌++◌, codes, decimal, string_bytes}
+use Rattle.asm_text.specs.Telling.{fault_text}
+use Rattle.asm_text.specs.declared.fault.TextFault.{TextFault}
+use Rattle.manifest.specs.declared.key.Part.{Part}
+use Rattle.manifest.specs.declared.key.Part.TheVariants as part
+use Rattle.manifest.specs.declared.fault.Wrong.{Wrong}
+use Rattle.manifest.specs.declared.fault.Wrong.TheVariants.{Missing, NoSource, NoNumber, NoTurn, NoMultiple, NoName, NoList, NoTable, TooFew, TooMany, TwoSources, NoFile, NoRoom, PastRam, PastAddresses, TooLarge}
+use Rattle.manifest.specs.declared.fault.PackFault.{PackFault}
+use Rattle.manifest.specs.declared.fault.PackFault.TheVariants as fault
+use Rattle.manifest.specs.Keys.{key_name}
+
+-- a table, and a colon; nothing for the top of the document
+abbrev pub part_text : Part → List ℕ
+part_text part.Image = []
+part_text (part.Segment number) = codes "segment " ++ decimal number ++ codes ": "
+part_text part.Disk = codes "disk: "
+part_text (part.File number) = codes "disk: file " ++ decimal number ++ codes ": "
+part_text (part.Program number) = codes "program " ++ decimal number ++ codes ": "
+
+-- what is wrong
+abbrev pub wrong_words : Wrong → List ℕ
+wrong_words Missing = codes "it is missing"
+wrong_words NoSource = codes "it is missing, and so is `text`"
+wrong_words (NoNumber least most) = codes "it is to be a whole number from " ++ decimal least ++ codes " to " ++ decimal most
+wrong_words (NoTurn last) = codes "each turn is to be a whole number from 0 to " ++ decimal last
+wrong_words (NoMultiple of) = codes "it is to be a multiple of " ++ decimal of
+wrong_words NoName = codes "it is to be the name of a file, in quotes"
+wrong_words NoList = codes "it is to be a list"
+wrong_words NoTable = codes "it is to be a table"
+wrong_words TooFew = codes "it is to have at least 1 element"
+wrong_words (TooMany most) = codes "it is to have at most " ++ decimal most ++ codes " elements"
+wrong_words TwoSources = codes "it stands beside `text`; one of both is to go"
+wrong_words NoFile = codes "the file is empty, or is not there"
+wrong_words (NoRoom room) = codes "there is room for " ++ decimal room ++ codes " bytes, and there are more"
+wrong_words PastRam = codes "what begins here goes past the end of RAM"
+wrong_words PastAddresses = codes "the pages that begin here go past the last address"
+wrong_words TooLarge = codes "the bundle would have more than 67108864 bytes"
+
+-- an assembler text that a table names is faulty
+abbrev pub faulty_text_line : Part → (name text : List ℕ) → TextFault → List ℕ
+faulty_text_line at name text fault =
+    part_text at ++ (codes "text: the file is no assembler text\n" ++ fault_text name text fault)
+
+-- what is said behind the manifest's name
+abbrev pub pack_fault_line : PackFault → List ℕ
+pack_fault_line fault.NoMemory = codes "there is not enough memory\n"
+pack_fault_line fault.TooLong = codes "the file has more than 1048576 bytes\n"
+pack_fault_line fault.NotText = codes "the file is no text in UTF-8\n"
+pack_fault_line (fault.NotToml words) = codes "no TOML document: " ++ string_bytes words ++ codes "\n"
+pack_fault_line (fault.AtKey at key wrong) = part_text at ++ key_name key ++ codes ": " ++ wrong_words wrong ++ codes "\n"
+pack_fault_line (fault.UnknownKey at name) = part_text at ++ string_bytes name ++ codes ": there is no key of this name here\n"
+pack_fault_line (fault.FaultyText at name text wrong) = faulty_text_line at (string_bytes name) (string_bytes text) wrong
+
+abbrev pub pack_text : List ℕ → PackFault → List ℕ
+pack_text manifest wrong = manifest ++ codes ": " ++ pack_fault_line wrong

@@ -1,0 +1,115 @@
+//! Why a manifest means no bundle.
+ghost use Rattle.std.specs.Prelude.{◌≡◌};
+ghost use Rattle.manifest.specs.declared.fault.PackFault.TheVariants as faults;
+ghost use Rattle.manifest.specs.declared.fault.PackError.TheVariants as errors;
+
+use crate::key::{Key, Part};
+use asm_text::TextFault;
+use std::alloc::{AllocError, AllocFailed};
+
+/// What is wrong at a key.
+#[derive(Clone, Copy, Debug, PartialEq, Eq)]
+pub enum Wrong {
+    /// The key is needed, and is not there.
+    Missing,
+    /// Neither this key, which names a file of bytes, nor the one that names a text is there.
+    NoSource,
+    /// It is no whole number from the first of these to the second.
+    NoNumber(u32, u32),
+    /// A turn of the schedule is no whole number up to this, the last hart's.
+    NoTurn(u32),
+    /// It is no multiple of this number.
+    NoMultiple(u32),
+    /// It is no text.
+    NoName,
+    /// It is no list.
+    NoList,
+    /// It is no table.
+    NoTable,
+    /// The list has no elements.
+    TooFew,
+    /// The list has more elements than this.
+    TooMany(u32),
+    /// Beside this key, which names a file of bytes, the other one names a text.
+    TwoSources,
+    /// The file has no bytes, or is not there.
+    NoFile,
+    /// The file has more bytes than there is room for.
+    NoRoom(u32),
+    /// What begins here goes past the end of RAM.
+    PastRam,
+    /// The pages that begin here go past the end of the addresses.
+    PastAddresses,
+    /// The bundle is larger than 67,108,864 bytes.
+    TooLarge,
+}
+
+/// Why a manifest means no bundle, or there is no memory to see what it means.
+#[derive(Debug, Drop)]
+pub enum PackFault {
+    NoMemory,
+    /// The manifest has more than 1,048,576 bytes.
+    TooLong,
+    /// The manifest is no UTF-8.
+    NotText,
+    /// The manifest is no TOML document; what its reader says.
+    NotToml(String),
+    /// What stands at a key is wrong.
+    AtKey {
+        part: Part,
+        key: Key,
+        wrong: Wrong,
+    },
+    /// There is no key of this name in this table.
+    UnknownKey {
+        part: Part,
+        name: String,
+    },
+    /// The assembler text of this file is faulty.
+    FaultyText {
+        part: Part,
+        name: String,
+        text: String,
+        fault: TextFault,
+    },
+}
+
+impl From<AllocError> for PackFault {
+    ghost from_gives = { λ _ fault. fault ≡ faults.NoMemory };
+
+    fn from(_: AllocError) -> PackFault {
+        PackFault::NoMemory
+    }
+}
+
+impl<T: Drop> From<AllocFailed<T>> for PackFault {
+    ghost from_gives = { λ _ fault. fault ≡ faults.NoMemory };
+
+    fn from(_: AllocFailed<T>) -> PackFault {
+        PackFault::NoMemory
+    }
+}
+
+/// Why there is no bundle.
+#[derive(Debug, Drop)]
+pub enum PackError {
+    /// A file could not be read.
+    ReadFault,
+    Faulty(PackFault),
+}
+
+impl From<PackFault> for PackError {
+    ghost from_gives = { λ fault error. error ≡ errors.Faulty fault };
+
+    fn from(fault: PackFault) -> PackError {
+        PackError::Faulty(fault)
+    }
+}
+
+impl<T: Drop> From<AllocFailed<T>> for PackError {
+    ghost from_gives = { λ _ error. error ≡ errors.Faulty faults.NoMemory };
+
+    fn from(_: AllocFailed<T>) -> PackError {
+        PackError::Faulty(PackFault::NoMemory)
+    }
+}

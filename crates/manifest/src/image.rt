@@ -1,0 +1,61 @@
+//! The bundle that a document means.
+ghost use Rattle.std.specs.Prelude.{IfOk};
+ghost use Rattle.toml.specs.View.{view};
+ghost use Rattle.program_parts.specs.Outside.{files};
+ghost use Rattle.cloak_model.specs.Bundle.{IsInGrammar};
+ghost use Rattle.manifest.specs.Manifest.{IsImageOf};
+ghost use Rattle.manifest.specs.Reading.{ReadsParts};
+
+use crate::fault::{PackError, Wrong};
+use crate::fields::Place;
+use crate::kernel::kernel;
+use crate::key::{Key, Part};
+use crate::programs::programs;
+use crate::room::room_behind;
+use cloak_model::{Bundle, Sequence};
+use outside_io::Shelf;
+use std::alloc::Global;
+use toml::Value;
+
+/// The keys at the top of a manifest.
+const KEYS: [Key; 7] = [
+    Key::Frames,
+    Key::Harts,
+    Key::Schedule,
+    Key::Entry,
+    Key::Segment,
+    Key::Disk,
+    Key::Program,
+];
+
+/// The bundle that the document of the manifest of this name means.
+pub fn bundle_of<S: Shelf>(
+    alloc: Global,
+    shelf: &mut S,
+    manifest: &str,
+    document: &Value,
+) -> Result<Bundle, PackError>
+    requires { S.is_settled shelf.old }
+    ensures means { IfOk result (IsImageOf (S.held shelf.old) manifest.now (view document.now)) }
+    ensures in_grammar { IfOk result IsInGrammar }
+    ensures reads { ReadsParts (files S.held S.reading_faults S.writing_faults shelf.old)
+        (files S.held S.reading_faults S.writing_faults shelf.new) result }
+    ensures settled { S.is_settled shelf.new }
+{
+    let place = Place {
+        part: Part::Image,
+        table: document,
+    };
+    place.has_only(alloc, &KEYS)?;
+    let kernel = kernel(alloc, shelf, manifest, place)?;
+    let tables = place.short_list(Key::Program, 4)?;
+    let programs = programs(alloc, shelf, manifest, tables, kernel.frames)?;
+    let bundle = Bundle {
+        kernel,
+        programs: Sequence::new(programs),
+    };
+    if room_behind(&bundle).is_none() {
+        return Err(PackError::Faulty(place.fault(Key::Segment, Wrong::TooLarge)));
+    }
+    Ok(bundle)
+}

@@ -1,0 +1,64 @@
+//! The keys of a manifest, and its tables.
+ghost use Rattle.std.specs.Prelude.{◌≡◌};
+ghost use Rattle.manifest.specs.Keys.{key_name};
+
+/// A key of a manifest.
+#[derive(Clone, Copy, Debug, PartialEq, Eq)]
+pub enum Key {
+    Frames,
+    Harts,
+    Schedule,
+    Entry,
+    Segment,
+    Disk,
+    Program,
+    Address,
+    Text,
+    Bytes,
+    Blocks,
+    File,
+    Block,
+    Pages,
+    Place,
+    Base,
+    Stack,
+}
+
+impl Key {
+    /// The key as it is written.
+    pub fn name(self) -> &'static str
+        ensures { result.now ≡ key_name self }
+    {
+        match self {
+            Key::Frames => "frames",
+            Key::Harts => "harts",
+            Key::Schedule => "schedule",
+            Key::Entry => "entry",
+            Key::Segment => "segment",
+            Key::Disk => "disk",
+            Key::Program => "program",
+            Key::Address => "address",
+            Key::Text => "text",
+            Key::Bytes => "bytes",
+            Key::Blocks => "blocks",
+            Key::File => "file",
+            Key::Block => "block",
+            Key::Pages => "pages",
+            Key::Place => "place",
+            Key::Base => "base",
+            Key::Stack => "stack",
+        }
+    }
+}
+
+/// A table of a manifest; those of a list are counted from 1.
+#[derive(Clone, Copy, Debug, PartialEq, Eq)]
+pub enum Part {
+    /// The top of the document.
+    Image,
+    Segment(u32),
+    Disk,
+    /// A file of the disk.
+    File(u32),
+    Program(u32),
+}

@@ -1,0 +1,25 @@
+//! The manifest of a guest image: a TOML document that says what stands where, and the bundle that it means.
+//!
+//! What a manifest means is `specs/Manifest`. The layer above may rely on this: `pack_command` writes exactly the file of
+//! the bundle that a manifest means, or shows the key at which one is faulty, and what is wrong there.
+#![tactic(auto)]
+
+mod disk;
+mod fault;
+mod fields;
+mod image;
+mod kernel;
+mod key;
+mod pack;
+mod programs;
+mod room;
+mod segments;
+mod sources;
+mod telling;
+
+pub use fault::{PackError, PackFault, Wrong};
+pub use key::{Key, Part};
+pub use pack::pack_command;
+
+#[cfg(test)]
+mod tests;

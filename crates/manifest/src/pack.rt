@@ -1,0 +1,106 @@
+//! The command `pack`.
+ghost use Rattle.std.specs.Prelude.{◌≡◌, IfOk, Some};
+ghost use Rattle.toml.specs.Data.{table};
+ghost use Rattle.toml.specs.Parse.{parse_document};
+ghost use Rattle.toml.specs.View.{view, table_view};
+ghost use Rattle.program_parts.specs.Outside.{files, outside};
+ghost use Rattle.cloak_model.specs.Bundle.{IsInGrammar};
+ghost use Rattle.asm_text.specs.Making.{IsWhy, ReadsFor};
+ghost use Rattle.manifest.specs.Reading.{ReadsParts};
+ghost use Rattle.manifest.specs.Packing.{IsMeantBy, IsPacked, PackAnswers, TellsPackFault};
+
+use crate::fault::{PackError, PackFault};
+use crate::image::bundle_of;
+use crate::sources::read_whole;
+use crate::telling::FaultyManifest;
+use asm_text::{Reason, conclude};
+use cloak_model::Bundle;
+use guest_bundle::write;
+use outside_io::{Shelf, Sink};
+use program_parts::Status;
+use std::alloc::Global;
+use toml::{Table, Value};
+
+/// The most bytes of a manifest.
+const LARGEST_MANIFEST: u32 = 1_048_576;
+
+/// The document that the text of a manifest is.
+fn document(alloc: Global, text: &[u8]) -> Result<Table, PackFault>
+    ensures { IfOk result (λ t. parse_document text.now ≡ Some (table_view t)) }
+{
+    let Ok(text) = std::str::from_utf8(text) else {
+        return Err(PackFault::NotText);
+    };
+    match toml::table_from_str(alloc, text) {
+        Ok(table) => Ok(table),
+        Err(error) if error.is_memory() => Err(PackFault::NoMemory),
+        Err(error) => Err(PackFault::NotToml(error.to_string(alloc)?)),
+    }
+}
+
+/// The bundle that the manifest of a file means.
+fn meant_bundle<S: Shelf>(alloc: Global, shelf: &mut S, manifest: &str) -> Result<Bundle, PackError>
+    requires { S.is_settled shelf.old }
+    ensures meant { IfOk result (IsMeantBy (S.held shelf.old) manifest.now) }
+    ensures in_grammar { IfOk result IsInGrammar }
+    ensures reads { ReadsParts (files S.held S.reading_faults S.writing_faults shelf.old)
+        (files S.held S.reading_faults S.writing_faults shelf.new) result }
+{
+    let Some(text) = read_whole(alloc, shelf, manifest, LARGEST_MANIFEST)? else {
+        return Err(PackError::Faulty(PackFault::TooLong));
+    };
+    let document = Value::Table(document(alloc, text.as_slice())?);
+    bundle_of(alloc, shelf, manifest, &document)
+}
+
+/// Why the manifest in a file of this name means no bundle.
+fn reason_of_fault(alloc: Global, manifest: &str, fault: &PackFault) -> Reason
+    ensures { IsWhy (TellsPackFault manifest.now) result }
+{
+    if matches!(fault, PackFault::NoMemory) {
+        return Reason::NoMemory;
+    }
+    let faulty = FaultyManifest {
+        name: manifest,
+        fault,
+    };
+    match faulty.to_string(alloc) {
+        Ok(text) => Reason::Faulty(text),
+        Err(_) => Reason::NoMemory,
+    }
+}
+
+/// The file of the bundle that a manifest means.
+fn packed<S: Shelf>(alloc: Global, shelf: &mut S, manifest: &str) -> Result<Vec<u8>, Reason>
+    requires { S.is_settled shelf.old }
+    ensures { ReadsFor (IsPacked (S.held shelf.old) manifest.now) (TellsPackFault manifest.now)
+        (files S.held S.reading_faults S.writing_faults shelf.old)
+        (files S.held S.reading_faults S.writing_faults shelf.new) result }
+{
+    let bundle = match meant_bundle(alloc, shelf, manifest) {
+        Ok(bundle) => bundle,
+        Err(PackError::ReadFault) => return Err(Reason::ReadFault),
+        Err(PackError::Faulty(fault)) => return Err(reason_of_fault(alloc, manifest, &fault)),
+    };
+    match write(alloc, &bundle) {
+        Ok(file) => Ok(file),
+        Err(_) => Err(Reason::NoMemory),
+    }
+}
+
+/// Writes the file of the bundle that a manifest means.
+pub fn pack_command<S: Shelf, O: Sink>(
+    alloc: Global,
+    manifest: &str,
+    bundle: &str,
+    shelf: &mut S,
+    out: &mut O,
+) -> Status
+    requires { S.is_settled shelf.old }
+    ensures { PackAnswers manifest.now bundle.now
+        (outside S.held S.reading_faults S.writing_faults O.taken O.faults shelf.old out.old)
+        (outside S.held S.reading_faults S.writing_faults O.taken O.faults shelf.new out.new) result }
+{
+    let made = packed(alloc, shelf, manifest);
+    conclude(&made, bundle, shelf, out)
+}

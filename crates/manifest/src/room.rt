@@ -1,0 +1,65 @@
+//! How much room the parts of a bundle leave in the largest file.
+ghost use Rattle.std.specs.Prelude.{◌≡◌, ◌+◌, length, IfSome};
+ghost use Rattle.std.specs.List.{flat_map};
+ghost use Rattle.cloak_model.specs.Bundle.{bundle_bytes, largest_bundle, program_bytes, segment_bytes};
+
+use cloak_model::{Bundle, Program, Segment};
+
+/// The largest file of a bundle, in bytes.
+const LARGEST_BUNDLE: u64 = 67_108_864;
+
+/// What some bytes leave of some room, where there is enough.
+fn taken(room: u64, size: usize) -> Option<u64>
+    ensures { IfSome result (λ left. size + left ≡ room) }
+{
+    let size = size as u64;
+    if size <= room {
+        Some(room - size)
+    } else {
+        None
+    }
+}
+
+/// What bytes leave of some room, where there is enough.
+fn behind_bytes(room: u64, bytes: &[u8]) -> Option<u64>
+    ensures { IfSome result (λ left. length bytes.now + left ≡ room) }
+{
+    taken(room, bytes.len())
+}
+
+/// What segments leave of some room, where there is enough.
+fn behind_segments(room: u64, segments: &[Segment]) -> Option<u64>
+    ensures { IfSome result (λ left. length (flat_map segment_bytes segments.now) + left ≡ room) }
+{
+    let mut left = room;
+    for segment in segments {
+        left = taken(left, 8)?;
+        left = taken(left, segment.bytes.as_slice().len())?;
+    }
+    Some(left)
+}
+
+/// What programs leave of some room, where there is enough.
+fn behind_programs(room: u64, programs: &[Program]) -> Option<u64>
+    ensures { IfSome result (λ left. length (flat_map program_bytes programs.now) + left ≡ room) }
+{
+    let mut left = room;
+    for program in programs {
+        left = taken(left, 20)?;
+        left = taken(left, program.bytes.as_slice().len())?;
+    }
+    Some(left)
+}
+
+/// What the file of a bundle leaves of the largest file, where it is not larger.
+pub fn room_behind(bundle: &Bundle) -> Option<u64>
+    ensures { IfSome result (λ left. length (bundle_bytes bundle.now) + left ≡ largest_bundle) }
+{
+    let kernel = &bundle.kernel;
+    let front = LARGEST_BUNDLE - 40;
+    let turns = behind_bytes(front, kernel.schedule.as_slice())?;
+    let disk = behind_bytes(turns, kernel.disk.as_slice())?;
+    let segments = behind_segments(disk, kernel.segments.as_slice())?;
+    let programs = behind_programs(segments, bundle.programs.as_slice())?;
+    Some(programs)
+}

@@ -1,0 +1,85 @@
+//! The segments of an image.
+ghost use Rattle.std.specs.Prelude.{◌≡◌, ◌≤◌, ◌+◌, ◌*◌, All, IfOk, IsTrue, length};
+ghost use Rattle.toml.specs.View.{view, items_view};
+ghost use Rattle.program_parts.specs.Outside.{files};
+ghost use Rattle.cloak_model.specs.Bundle.{IsSegmentIn};
+ghost use Rattle.manifest.specs.Manifest.{EachMeans, IsSegmentOf};
+ghost use Rattle.manifest.specs.Reading.{ReadsParts};
+
+use crate::fault::{PackError, Wrong};
+use crate::fields::Place;
+use crate::key::{Key, Part};
+use crate::sources::source;
+use cloak_model::{Segment, Sequence};
+use outside_io::Shelf;
+use std::alloc::Global;
+use toml::Value;
+
+/// Where RAM begins.
+pub const RAM_START: u32 = 0x8000_0000;
+
+/// So many bytes from this address of RAM on lie in RAM.
+fn is_in_ram(address: u32, size: usize, frames: u32) -> bool
+    requires frames { frames ≤ 4096 }
+    ensures { IsTrue result → address + size ≤ 0x80000000 + 4096 * frames }
+{
+    let end = u64::from(RAM_START) + 4096 * u64::from(frames);
+    let address = u64::from(address);
+    address <= end && size as u64 <= end - address
+}
+
+/// The segment that a table means.
+fn segment<S: Shelf>(
+    alloc: Global,
+    shelf: &mut S,
+    manifest: &str,
+    place: Place<'_>,
+    frames: u32,
+) -> Result<Segment, PackError>
+    requires settled { S.is_settled shelf.old }
+    requires frames { frames ≤ 4096 }
+    ensures means { IfOk result (IsSegmentOf (S.held shelf.old) manifest.now (view place.entry.table.now)) }
+    ensures in_ram { IfOk result (IsSegmentIn frames) }
+    ensures reads { ReadsParts (files S.held S.reading_faults S.writing_faults shelf.old)
+        (files S.held S.reading_faults S.writing_faults shelf.new) result }
+    ensures settled { S.is_settled shelf.new }
+{
+    place.has_only(alloc, &[Key::Address, Key::Text, Key::Bytes])?;
+    let address = place.needed_number(Key::Address, RAM_START, u32::MAX)?;
+    let bytes = source(alloc, shelf, manifest, place)?;
+    if !is_in_ram(address, bytes.len(), frames) {
+        return Err(PackError::Faulty(place.fault(Key::Address, Wrong::PastRam)));
+    }
+    Ok(Segment {
+        address,
+        bytes: Sequence::new(bytes),
+    })
+}
+
+/// The segments that tables mean.
+pub fn segments<S: Shelf>(
+    alloc: Global,
+    shelf: &mut S,
+    manifest: &str,
+    tables: &[Value],
+    frames: u32,
+) -> Result<Vec<Segment>, PackError>
+    requires settled { S.is_settled shelf.old }
+    requires frames { frames ≤ 4096 }
+    ensures mean { IfOk result (λ v. EachMeans (IsSegmentOf (S.held shelf.old) manifest.now) (items_view tables.now) v.items) }
+    ensures count { IfOk result (λ v. length v.items ≡ length tables.now) }
+    ensures in_ram { IfOk result (λ v. All (IsSegmentIn frames) v.items) }
+    ensures reads { ReadsParts (files S.held S.reading_faults S.writing_faults shelf.old)
+        (files S.held S.reading_faults S.writing_faults shelf.new) result }
+    ensures settled { S.is_settled shelf.new }
+{
+    let mut segments = Vec::new(alloc);
+    let mut count = 0;
+    for table in tables {
+        count = u32::saturating_add(count, 1);
+        let part = Part::Segment(count);
+        let segment = segment(alloc, shelf, manifest, Place { part, table }, frames)?;
+        segments.push(segment)?;
+    }
+    Ok(segments)
+}
