@@ -1,12 +1,19 @@
--- What is answered to words, by what was read of them.
-use Rattle.std.proofs.Common.{◌≡◌, List, inl, inr, string_bytes}
+-- What is answered, by what was chosen of a record, and by what was read of words.
+use Rattle.std.proofs.Common.{◌≡◌, ℕ, List, Option, inl, inr, subst, string_bytes}
+use Rattle.record_text.specs.declared.selection.Selection.{Selection}
 use Rattle.clap.specs.Walk.{Text}
 use Rattle.program_parts.specs.Outside.{Outside}
 use Rattle.program_parts.specs.declared.status.Status.{Status}
 use Rattle.tool_words.specs.ToolRequest.{ReadsTool, tool_asked_of}
 use Rattle.tool_words.specs.declared.request.ToolWords.{ToolWords}
 use Rattle.tool_words.specs.declared.request.ToolWords.TheVariants.{Asks, Help, Faulty}
-use Rattle.tool_commands.specs.ToolAnswering.{ReadAnswers, WordsAnswers}
+use Rattle.tool_commands.specs.ToolAnswering.{ReadAnswers, ShowAnswers, WordsAnswers}
+
+pub shows_meant : {S O : Type 0} (meant same : Option Selection) (record_name : List ℕ) (before after : Outside S O)
+    (answer : Status) → meant ≡ same → ShowAnswers meant record_name before after answer →
+    ShowAnswers same record_name before after answer
+shows_meant meant same record_name before after answer is answers =
+    subst (λ (chosen : Option Selection). ShowAnswers chosen record_name before after answer) is answers
 
 pub answers_read : {S O : Type 0} (words : List Text) (read : ToolWords) (before after : Outside S O) (answer : Status) →
     ReadsTool words read → ReadAnswers read before after answer → WordsAnswers words before after answer

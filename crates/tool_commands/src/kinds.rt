@@ -29,15 +29,15 @@ fn joined(a: Kinds, b: Kinds) -> Kinds
     ensures { result ≡ spec.joined_kinds a b }
 {
     Kinds {
-        cipher: a.cipher || b.cipher,
-        put: a.put || b.put,
-        leave: a.leave || b.leave,
-        ok: a.ok || b.ok,
-        absent: a.absent || b.absent,
-        word: a.word || b.word,
-        timer: a.timer || b.timer,
-        resume: a.resume || b.resume,
-        stopped: a.stopped || b.stopped,
+        cipher: a.cipher | b.cipher,
+        put: a.put | b.put,
+        leave: a.leave | b.leave,
+        ok: a.ok | b.ok,
+        absent: a.absent | b.absent,
+        word: a.word | b.word,
+        timer: a.timer | b.timer,
+        resume: a.resume | b.resume,
+        stopped: a.stopped | b.stopped,
     }
 }
 
