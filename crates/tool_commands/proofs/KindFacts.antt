@@ -24,7 +24,8 @@ pub unnamed_at : (names : List (Bor (List ℕ))) (i : ℕ) (d : Bor (List ℕ)) 
     i < length names → None ≡ kinds_named (get_or names i d).now →
     fold with_name (Some kinds) (map (λ name. name.now) (drop i names)) ≡ whole → None ≡ whole
 unnamed_at names i d kinds whole inside unnamed so_far =
+    let rest = map (λ (name : Bor (List ℕ)). name.now) (drop (suc i) names) in
     let split : map (λ (name : Bor (List ℕ)). name.now) (drop i names)
-        ≡ (get_or names i d).now ∷ map (λ (name : Bor (List ℕ)). name.now) (drop (suc i) names) =
+        ≡ (get_or names i d).now ∷ rest =
     ap (map (λ (name : Bor (List ℕ)). name.now)) (drop-cons names i d inside) in
-    sym (with_unnamed kinds (get_or names i d).now _ unnamed) ∙ (ap (fold with_name (Some kinds)) (sym split) ∙ so_far)
+    sym (with_unnamed kinds (get_or names i d).now rest unnamed) ∙ (ap (fold with_name (Some kinds)) (sym split) ∙ so_far)
