@@ -1,5 +1,5 @@
 -- What a side answers, over each world that it stands for.
-use Rattle.std.proofs.Common.{◌≡◌, ◌∙◌, ◌≢◌, ◌<◌, ◌≤◌, ◌*◌, ◌+◌, ◌-◌, nat_lt, sym, ap, refl, ℕ, Bool, List, [], length, slice_index_or, slice_set, arith, inl, inr, if◌then◌else◌}
+use Rattle.std.proofs.Common.{◌≡◌, ◌∙◌, ◌≢◌, ◌<◌, ◌≤◌, ◌*◌, ◌+◌, ◌-◌, nat_lt, sym, ap, subst, Option, refl, ℕ, Bool, List, [], length, slice_index_or, slice_set, arith, inl, inr, if◌then◌else◌}
 use Rattle.std.proofs.lemmas.List.{get_or-set_same, get_or-set_other}
 use Rattle.std.proofs.lemmas.Bool.Decides.{Decides-ltb}
 use Rattle.cloak_base.specs.declared.names.Kind.{Kind}
@@ -11,7 +11,8 @@ use Rattle.cloak_model.specs.Memory.{with_value_in}
 use Rattle.cloak_model.specs.Asking.{Follows, FollowsWhere, FollowsFrom}
 use Rattle.cloak_model.specs.World.{Flat, Cloaked, Alone, Handed, HasPage, plain_of}
 use Rattle.cloak_model.specs.AskPages.{next_answer, is_for_access, is_for_value, is_for_clearing, of_width, ask_reach, ask_write, ask_get, ask_put, ask_clear, ask_copy, ask_forget}
-use Rattle.alone_views.specs.Side.{IsPageOf, StandsForHanded, IsAloneNow, IsAlone, answers_of}
+use Rattle.alone_views.specs.DomainPages.{HasPlain}
+use Rattle.alone_views.specs.Side.{IsPageOf, StandsForHanded, IsAloneNow, IsAlone, answers_in, answers_of}
 use Rattle.alone_views.specs.declared.side.HandedSide.{HandedSide}
 
 -- where a page stands
@@ -21,6 +22,16 @@ place q = q.resource * 1024 + q.page
 -- the side takes the next answer
 abbrev pub Takes : HandedSide → HandedSide → Answer → (Answer → Bool) → Type 0
 Takes side side' given is_fit = (h : Handed) → StandsForHanded side h → FollowsFrom IsAloneNow side' given (next_answer is_fit h.answers h)
+
+-- so too where a question was noted before
+pub takes_noted : (side noted side' : HandedSide) (given : Answer) (is_fit : Answer → Bool) → noted.pages.items ≡ side.pages.items →
+    noted.first ≡ side.first → noted.second ≡ side.second → noted.unfit ≡ side.unfit → Takes noted side' given is_fit →
+    Takes side side' given is_fit
+takes_noted side noted side' given is_fit pages first second unfit takes h stands = takes h (record {
+  pages = subst (λ (x : List (List ℕ)). HasPlain x h.plain) (sym pages) stands.pages;
+  answers = ap (λ (o : Option Answer). answers_in o noted.second) first ∙ (ap (λ (o : Option Answer). answers_in side.first o) second ∙ stands.answers);
+  unfit = unfit ∙ stands.unfit;
+})
 
 pub reach_follows : (side side' : HandedSide) (given : Answer) (q : PageId) (va : ℕ) (kind : Kind) → Takes side side' given is_for_access →
     FollowsWhere (HasPage va q) IsAlone side side' given (ask_reach q va kind)

@@ -1,7 +1,7 @@
 //! A program that runs alone.
-ghost use Rattle.std.specs.Prelude.{ℕ, List, false, ◌≡◌, ◌<◌, ◌==◌, ◌^◌, [], ◌∷◌, ◌++◌, All, IfOk, length, if◌then◌else◌};
+ghost use Rattle.std.specs.Prelude.{ℕ, List, None, false, ◌≡◌, ◌<◌, ◌==◌, ◌^◌, [], ◌∷◌, ◌++◌, All, IfOk, IfSome, length, option_map, if◌then◌else◌};
 ghost use Rattle.cloak_model.specs.Bundle.{IsKernelImage, IsProgramIn};
-ghost use Rattle.cloak_model.specs.Contexts.{context_at};
+ghost use Rattle.cloak_model.specs.Contexts.{Context, context_at};
 ghost use Rattle.cloak_model.specs.DomainAlone as spec;
 ghost use Rattle.cloak_model.specs.DomainAlone.{opened_domain};
 ghost use Rattle.cloak_model.specs.DomainState as program;
@@ -12,6 +12,7 @@ ghost use Rattle.hypercalls.specs.Standing.{StandsFor, control_of, number_of};
 ghost use Rattle.outside_io.specs.Told.{Counts, Puts};
 ghost use Rattle.alone_views.specs.Side.{answers_in, one_answer};
 
+use crate::asked::Asked;
 use crate::side::{HandedSide, Handing};
 use crate::unfit::Unfit;
 use cloak_base::{Failed, HartId, NoMemory};
@@ -95,6 +96,22 @@ impl DomainAlone {
             }
             Some(unfit) => Err(unfit),
         }
+    }
+
+    /// What the step asked to which the last answer belongs: its first two questions for an access or a value, in order.
+    pub fn asked(&self) -> [Asked; 2] {
+        self.side.asked
+    }
+
+    /// The space of a slot's context and the hart on which this runs, none exactly where the slot is free or above 7.
+    pub fn context(&self, slot: u32) -> Option<(u32, Option<HartId>)>
+        ensures below_eight { IfSome result (λ told. told.0 < 8) }
+        ensures value { (number : ℕ) (schedule : List ℕ) (s : spec.DomainAlone) →
+            StandsForDomain number schedule self.now s → s.unfit ≡ None →
+            result ≡ option_map (λ (c : Context). (c.space, c.on))
+            (context_at s.part.domain.control.contexts slot) }
+    {
+        self.domain.context(slot)
     }
 
     /// What an item is answered.

@@ -5,14 +5,17 @@
 //! and `specs/DomainAlone`) over any list of items, also over one that no run wrote: for every state that the machine
 //! stood for, `take` answers whether the item fits or the step at which one did not, and the machine then stands for the
 //! state behind the item; of the kernel's, the byte that its console gains is emitted. Once an item was unfit nothing
-//! changes. `report` writes the machine's lines of the report. After the opening no call takes memory.
+//! changes. `harts`, `frames`, `context` and `asked` tell what a machine is at a moment (what `asked` tells no clause says).
+//! `report` writes the machine's lines of the report. After the opening no call takes memory.
 #![tactic(auto)]
 
+mod asked;
 mod domain;
 mod domain_pages;
 mod kernel;
 mod kernel_ciphers;
 mod kernel_leaves;
+mod kernel_parts;
 mod kernel_place;
 mod kernel_puts;
 mod kernel_ram;
@@ -22,6 +25,7 @@ mod kernel_steps;
 mod side;
 mod unfit;
 
+pub use asked::Asked;
 pub use domain::DomainAlone;
 pub use kernel::KernelAlone;
 pub use unfit::Unfit;

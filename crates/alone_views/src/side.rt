@@ -8,6 +8,7 @@ ghost use Rattle.cloak_model.specs.Effect.{IsWidth};
 ghost use Rattle.cloak_model.specs.World.{Handed};
 ghost use Rattle.alone_views.specs.DomainPages.{HasPlain};
 
+use crate::asked::Asked;
 use crate::domain_pages::{page_place, started_pages, wipe};
 use cloak_base::{Kind, NoMemory, PageId};
 use cloak_model::{Answer, PageSide, Program, set_value_in, value_in};
@@ -32,6 +33,8 @@ pub(crate) struct HandedSide {
     pub second: Option<Answer>,
     /// A question found no answer of its kind.
     pub unfit: bool,
+    /// What was asked since answers were handed in, up to two questions.
+    pub asked: [Asked; 2],
     ghost all: { length pages.items ≡ 16384 },
 }
 
@@ -77,6 +80,7 @@ impl HandedSide {
             first: None,
             second: None,
             unfit: false,
+            asked: [Asked::Nothing; 2],
         })
     }
 
@@ -91,6 +95,22 @@ impl HandedSide {
         self.first = first;
         self.second = second;
         self.unfit = false;
+        self.asked = [Asked::Nothing; 2];
+    }
+
+    /// One question more is asked.
+    fn note(&mut self, question: Asked)
+        ensures pages { self.new.pages.items ≡ self.old.pages.items }
+        ensures domain { self.new.domain ≡ self.old.domain }
+        ensures first { self.new.first ≡ self.old.first }
+        ensures second { self.new.second ≡ self.old.second }
+        ensures fit { self.new.unfit ≡ self.old.unfit }
+    {
+        let [first, _] = self.asked;
+        self.asked = match first {
+            Asked::Nothing => [question, Asked::Nothing],
+            _ => [first, question],
+        };
     }
 
     /// How the step ended that was made since answers were handed in.
@@ -172,7 +192,12 @@ impl PageSide for HandedSide {
 
     ghost is_unused = { λ side n. Unit {0} };
 
-    fn reach(&mut self, _: PageId, _: u32, _: Kind) -> Answer {
+    fn reach(&mut self, page: PageId, address: u32, kind: Kind) -> Answer {
+        self.note(Asked::Page {
+            page,
+            address,
+            kind,
+        });
         self.take(Question::Access)
     }
 
@@ -184,12 +209,14 @@ impl PageSide for HandedSide {
         set_value_in(&mut self.pages[page_place(q)], at as usize, width, v)
     }
 
-    fn get(&mut self, _: u32, width: u32) -> Answer {
+    fn get(&mut self, address: u32, width: u32) -> Answer {
+        self.note(Asked::Uncloaked { address });
         let taken = self.take(Question::Value);
         of_width(width, taken)
     }
 
-    fn put(&mut self, _: u32, _: u32, _: u32) -> Answer {
+    fn put(&mut self, address: u32, _: u32, _: u32) -> Answer {
+        self.note(Asked::Uncloaked { address });
         self.take(Question::Access)
     }
 

@@ -7,6 +7,7 @@ use Rattle.manifest.specs.Packing.{PackAnswers}
 use Rattle.record_text.specs.Reading.{never_unfit, record_text}
 use Rattle.record_text.specs.declared.selection.Selection.{Selection}
 use Rattle.read_back.specs.Reading.{ShowsRecord}
+use Rattle.run_story.specs.Answering.{ExplainAnswers}
 use Rattle.program_parts.specs.Outside.{Outside}
 use Rattle.program_parts.specs.Refusing.{Refuses}
 use Rattle.program_parts.specs.declared.refusal.Refusal.TheVariants as refusal
@@ -33,13 +34,19 @@ abbrev pub ShowAnswers : {S O : Type 0} → Option Selection → List ℕ → Ou
 ShowAnswers None record_name before after answer = Says kinds_line status.Usage before after answer
 ShowAnswers (Some meant) record_name before after answer = ShowsSelection meant record_name before after answer
 
+-- Why the run of the record of this name was stopped was told, or why that cannot be, and no file was changed.
+pub record ExplainsRun {S O : Type 0} (bundle_name record_name : List ℕ) (before after : Outside S O) (answer : Status) : Type 0 where
+  pub answers : ExplainAnswers bundle_name record_name before after answer
+  pub kept : SameFiles before.files.held after.files.held
+  pub writing : after.files.writing ≡ before.files.writing
+
 -- What the tools answer to what is asked of them.
 abbrev pub ToolAnswers : {S O : Type 0} → ToolAsked → Outside S O → Outside S O → Status → Type 0
 ToolAnswers (Asm text_name words_name) before after answer = AsmAnswers text_name words_name before after answer
 ToolAnswers (Pack manifest bundle_name) before after answer = PackAnswers manifest bundle_name before after answer
 ToolAnswers (Show record_name from to only counts) before after answer =
     ShowAnswers (selection_asked from to only counts) record_name before after answer
-ToolAnswers (Explain bundle record_name) before after answer = ExplainAnswers bundle record_name before after answer
+ToolAnswers (Explain bundle_name record_name) before after answer = ExplainsRun bundle_name record_name before after answer
 
 -- what they answer to what was read of words
 abbrev pub ReadAnswers : {S O : Type 0} → ToolWords → Outside S O → Outside S O → Status → Type 0

@@ -10,4 +10,9 @@ pub returns-in-Show : goal.returns-in-Show
 returns-in-Show g c = rw c.in-Show.is c.show.ensures
 
 pub returns-in-Explain : goal.returns-in-Explain
-returns-in-Explain g c = rw c.in-Explain.is c.explain_command.ensures
+returns-in-Explain g c =
+    rw c.in-Explain.is (record {
+      answers = c.explain_command.ensures.answers;
+      kept = c.explain_command.ensures.files;
+      writing = c.explain_command.ensures.writing;
+    })

@@ -1,0 +1,8 @@
+-- An emitter that nobody hears.
+use Rattle.std.specs.Prelude.{List}
+use Rattle.cloak_model.specs.Exchange.{Piece}
+use Rattle.run_story.specs.declared.silent.Silent.{Silent}
+
+-- whatever it is given, nothing is written
+abbrev pub gave_silent : Silent → Silent → List Piece → Type 0
+gave_silent first now pieces = Unit {0}

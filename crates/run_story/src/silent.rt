@@ -1,0 +1,19 @@
+//! An emitter that nobody hears.
+
+use cloak_model::{Emit, Item};
+
+/// Takes items and console bytes, and writes nothing.
+#[derive(Drop)]
+pub struct Silent {}
+
+impl Emit for Silent {
+    ghost use Rattle.run_story.specs.Silent.{gave_silent};
+
+    ghost gave = { gave_silent };
+
+    fn item(&mut self, _: &Item) {}
+
+    fn cipher(&mut self, _: u32, _: &[u8; 4096]) {}
+
+    fn console(&mut self, _: u8) {}
+}

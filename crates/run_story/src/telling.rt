@@ -1,0 +1,328 @@
+//! The story in sentences.
+
+use crate::contexts::{FirstTable, Told};
+use crate::deeds::{Change, Deed, Deeds, Event};
+use crate::frames::DiskCall;
+use crate::pages::Showing;
+use crate::stop::{Asking, Presented, Refused};
+use cloak_base::{Kind, PageId};
+use std::fmt;
+
+/// Why a run stopped.
+#[derive(Drop)]
+pub enum Story {
+    /// By no violation, after so many steps.
+    NoViolation { steps: u32 },
+    /// By a context that was to be resumed.
+    Resume(Asking, Refused),
+    /// By the page that a frame was presented for, with what was done to it before.
+    Page(Presented, Deeds),
+}
+
+/// A page, by its numbers.
+#[derive(Clone, Copy)]
+struct PageName(PageId);
+
+/// A digest in hexadecimal digits.
+#[derive(Clone, Copy)]
+struct DigestText([u8; 32]);
+
+/// The step of an event, or the opening.
+#[derive(Clone, Copy)]
+struct StepName(u32);
+
+/// A frame, or none.
+#[derive(Clone, Copy)]
+struct FrameName(Option<usize>);
+
+/// What an access does.
+#[derive(Clone, Copy)]
+struct AccessName(Kind);
+
+impl fmt::Display for PageName {
+    fn fmt<W: fmt::Write>(&self, f: &mut fmt::Formatter<W>) -> fmt::Result {
+        let PageId {
+            domain,
+            resource,
+            page,
+        } = self.0;
+        write!(f, "page {page} of resource {resource} of program {domain}")
+    }
+}
+
+impl fmt::Display for DigestText {
+    fn fmt<W: fmt::Write>(&self, f: &mut fmt::Formatter<W>) -> fmt::Result {
+        for byte in self.0 {
+            write!(f, "{byte:02x}")?;
+        }
+        Ok(())
+    }
+}
+
+impl fmt::Display for StepName {
+    fn fmt<W: fmt::Write>(&self, f: &mut fmt::Formatter<W>) -> fmt::Result {
+        match self.0 {
+            0 => f.write_str("opening"),
+            step => write!(f, "step {step}"),
+        }
+    }
+}
+
+impl fmt::Display for FrameName {
+    fn fmt<W: fmt::Write>(&self, f: &mut fmt::Formatter<W>) -> fmt::Result {
+        match self.0 {
+            Some(frame) => write!(f, "frame {frame}"),
+            None => f.write_str("no frame"),
+        }
+    }
+}
+
+impl fmt::Display for AccessName {
+    fn fmt<W: fmt::Write>(&self, f: &mut fmt::Formatter<W>) -> fmt::Result {
+        f.write_str(match self.0 {
+            Kind::Fetch => "fetched an instruction",
+            Kind::Load => "loaded",
+            Kind::Store => "stored",
+        })
+    }
+}
+
+impl fmt::Display for DiskCall {
+    fn fmt<W: fmt::Write>(&self, f: &mut fmt::Formatter<W>) -> fmt::Result {
+        let DiskCall { block, frame, .. } = *self;
+        if self.is_write {
+            write!(f, "wrote frame {frame} to block {block}")
+        } else {
+            write!(f, "read block {block} into frame {frame}")
+        }
+    }
+}
+
+impl fmt::Display for Change {
+    fn fmt<W: fmt::Write>(&self, f: &mut fmt::Formatter<W>) -> fmt::Result {
+        let Change {
+            place,
+            was,
+            now,
+            count,
+        } = *self;
+        write!(f, "byte {place} was {was:02x} and became {now:02x}")?;
+        if count == 1 {
+            return Ok(());
+        }
+        write!(f, ", and so on, {count} bytes in all")
+    }
+}
+
+impl fmt::Display for Deed {
+    fn fmt<W: fmt::Write>(&self, f: &mut fmt::Formatter<W>) -> fmt::Result {
+        match *self {
+            Deed::LastShown(showing) => {
+                let digest = showing.digest;
+                let (page, digest) = (PageName(showing.page), DigestText(digest));
+                write!(f, "{page} was last shown, in frame {}, ", showing.frame)?;
+                write!(f, "as ciphertext with the digest {digest}")
+            }
+            Deed::Shown { page, frame } => {
+                let page = PageName(page);
+                write!(f, "{page} was shown, in frame {frame}")
+            }
+            Deed::Moved { hart, call } => write!(f, "the kernel, on hart {hart}, {call}"),
+            Deed::Stored {
+                hart,
+                frame,
+                change,
+            } => write!(
+                f,
+                "the kernel, on hart {hart}, stored to frame {frame}: {change}"
+            ),
+            Deed::Leads { address, from, to } => {
+                let (from, to) = (FrameName(from), FrameName(to));
+                f.write_str("the kernel changed its page table: ")?;
+                write!(f, "{address:08x} led to {from}, and now leads to {to}")
+            }
+        }
+    }
+}
+
+impl fmt::Display for Event {
+    fn fmt<W: fmt::Write>(&self, f: &mut fmt::Formatter<W>) -> fmt::Result {
+        let step = StepName(self.step);
+        let deed = self.deed;
+        write!(f, "  {step}: {deed}\n")
+    }
+}
+
+impl fmt::Display for Asking {
+    fn fmt<W: fmt::Write>(&self, f: &mut fmt::Formatter<W>) -> fmt::Result {
+        let Asking {
+            step,
+            hart,
+            ctx,
+            ..
+        } = *self;
+        write!(
+            f,
+            "The run was stopped at step {step}. The kernel, on hart {hart}, asked to resume context {ctx}.\n"
+        )
+    }
+}
+
+/// The program's access that stopped the run.
+fn write_access<W: fmt::Write>(presented: &Presented, f: &mut fmt::Formatter<W>) -> fmt::Result {
+    let Presented {
+        step,
+        hart,
+        ctx,
+        address,
+        frame,
+        ..
+    } = *presented;
+    let (access, page) = (AccessName(presented.kind), PageName(presented.page));
+    write!(
+        f,
+        "The run was stopped at step {step}. Context {ctx}, on hart {hart}, "
+    )?;
+    write!(f, "{access} at {address:08x}, which is {page}.\n")?;
+    write!(
+        f,
+        "The kernel's page table leads there to frame {frame}, and what that frame has is not what was last shown of "
+    )?;
+    f.write_str(match presented.showing {
+        Some(_) => "the page.\n",
+        None => "the page from which a fork copied this one.\n",
+    })
+}
+
+/// What was done before.
+fn write_events<W: fmt::Write>(deeds: &Deeds, f: &mut fmt::Formatter<W>) -> fmt::Result {
+    let left_out = deeds.left_out();
+    if left_out > 0 {
+        write!(f, "  (earlier events that are left out: {left_out})\n")?;
+    }
+    for event in deeds.events() {
+        write!(f, "{event}")?;
+    }
+    Ok(())
+}
+
+/// What the program found in the frame, and where those bytes come from.
+fn write_found<W: fmt::Write>(
+    presented: &Presented,
+    origin: Option<Showing>,
+    f: &mut fmt::Formatter<W>,
+) -> fmt::Result {
+    let Presented { step, frame, .. } = *presented;
+    let digest = presented.digest;
+    let digest = DigestText(digest);
+    write!(
+        f,
+        "  step {step}: the program asked for the page, and found in frame {frame} "
+    )?;
+    write!(f, "bytes with the digest {digest}, which were ")?;
+    let Some(Showing { page, step, .. }) = origin else {
+        return f.write_str("never shown\n");
+    };
+    let page = PageName(page);
+    match step {
+        0 => write!(f, "shown of {page} at the opening\n"),
+        _ => write!(f, "shown of {page} at step {step}\n"),
+    }
+}
+
+/// The page that a frame was presented for, and the rule that this broke.
+fn write_page<W: fmt::Write>(
+    presented: &Presented,
+    deeds: &Deeds,
+    f: &mut fmt::Formatter<W>,
+) -> fmt::Result {
+    write_access(presented, f)?;
+    write_events(deeds, f)?;
+    write_found(presented, deeds.origin(), f)?;
+    f.write_str(
+        "The rule: a frame that the kernel presents for a cloaked page has exactly the bytes that were last shown of that page.\n",
+    )
+}
+
+/// A context that runs.
+fn write_running<W: fmt::Write>(
+    on: u32,
+    told: Option<Told>,
+    f: &mut fmt::Formatter<W>,
+) -> fmt::Result {
+    write!(f, "The context runs on hart {on}")?;
+    match told {
+        Some(Told { resumed, .. }) => write!(f, ", where it was resumed at step {resumed}.\n"),
+        None => f.write_str(".\n"),
+    }
+}
+
+/// A context that is not there.
+fn write_gone<W: fmt::Write>(told: Option<Told>, f: &mut fmt::Formatter<W>) -> fmt::Result {
+    f.write_str("The context is not there: ")?;
+    match told {
+        Some(
+            Told {
+                ended: Some(step),
+                ..
+            },
+        ) => write!(f, "it ended at step {step}.\n"),
+        _ => f.write_str("the record has no such context.\n"),
+    }
+}
+
+/// A space that has another page table.
+fn write_mapping<W: fmt::Write>(
+    satp: u32,
+    first: FirstTable,
+    f: &mut fmt::Formatter<W>,
+) -> fmt::Result {
+    let FirstTable { satp: was, step } = first;
+    write!(
+        f,
+        "The page table of the hart is {satp:08x} (satp), and the context's space was first resumed under "
+    )?;
+    write!(f, "{was:08x}, at step {step}.\n")
+}
+
+/// Why a context is not resumed, and the rule that asking for it broke.
+fn write_refused<W: fmt::Write>(
+    asking: &Asking,
+    refused: Refused,
+    f: &mut fmt::Formatter<W>,
+) -> fmt::Result {
+    match refused {
+        Refused::Running { on, told } => write_running(on.0, told, f)?,
+        Refused::Gone { told } => write_gone(told, f)?,
+        Refused::Mapping { first } => write_mapping(asking.satp, first, f)?,
+    }
+    f.write_str(match refused {
+        Refused::Running { .. } | Refused::Gone { .. } => {
+            "The rule: a context that is resumed is there, and runs on no hart.\n"
+        }
+        Refused::Mapping { .. } => {
+            "The rule: each space of a program is resumed under one page table, the first one.\n"
+        }
+    })
+}
+
+impl fmt::Display for Story {
+    fn fmt<W: fmt::Write>(&self, f: &mut fmt::Formatter<W>) -> fmt::Result {
+        match self {
+            Story::NoViolation { steps } => {
+                write!(
+                    f,
+                    "The run was not stopped by a violation: it has {steps} steps, "
+                )?;
+                f.write_str(
+                    "and ended by a halt, by its number of steps, or for want of randomness.\n",
+                )
+            }
+            Story::Resume(asking, refused) => {
+                write!(f, "{asking}")?;
+                write_refused(asking, *refused, f)
+            }
+            Story::Page(presented, deeds) => write_page(presented, deeds, f),
+        }
+    }
+}
