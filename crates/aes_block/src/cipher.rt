@@ -98,25 +98,3 @@ impl Schedule {
         write_words(&s, b);
     }
 }
-
-#[cfg(test)]
-mod tests {
-    use super::*;
-
-    // FIPS 197, appendix A.1
-    #[test]
-    fn expands_the_standards_key(rt: HostRuntime) {
-        let schedule = Schedule::new(&0x2b7e151628aed2a6abf7158809cf4f3c_u128.to_be_bytes());
-        for (j, want) in [
-            (0, 0x2b7e151628aed2a6abf7158809cf4f3c),
-            (1, 0xa0fafe1788542cb123a339392a6c7605),
-            (2, 0xf2c295f27a96b9435935807a7359f67f),
-            (9, 0xac7766f319fadc2128d12941575c006e),
-            (10, 0xd014f9a8c9ee2589e13f0cc8b6630ca6),
-        ] {
-            let mut block = [0; 16];
-            write_words(&schedule.keys[j], &mut block);
-            assert_eq!(rt; u128::from_be_bytes(block), want, "round key {j}");
-        }
-    }
-}

@@ -20,6 +20,3 @@ mod words;
 
 pub use cipher::Schedule;
 pub use words::{add_words, words_of, write_words};
-
-#[cfg(test)]
-mod tests;

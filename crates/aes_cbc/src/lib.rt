@@ -94,6 +94,3 @@ pub fn seal_blocks(k: &Schedule, iv: &[u8; 16], p: &mut [[u8; 16]])
         seal_block(k, &mut last, block);
     }
 }
-
-#[cfg(test)]
-mod tests;

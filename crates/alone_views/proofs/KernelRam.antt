@@ -8,25 +8,22 @@ use Rattle.cloak_model.specs.Ask.{ask_walk, ask_inside, ask_translate}
 use Rattle.cloak_model.proofs.Later.{later_inside}
 use Rattle.cloak_model.proofs.Following.{then_follows}
 use Rattle.alone_views.specs.declared.kernel_ram.FlatRam.{FlatRam}
-
--- these frames are the world
-abbrev pub is_world : FlatRam → FlatRam → World → Type 0
-is_world first side w = w ≡ Flat side.frames.items
+use Rattle.alone_views.specs.KernelWorld.{IsWorld}
 
 pub same_length : (old new : List (List ℕ)) → Flat old ≡ Flat new → length new ≡ length old
 same_length old new same = sym (ap (λ (w : World). length (ram_of w)) same)
 
 -- what follows a walk and then the test of the address follows the translation
 pub follows_translate : (old new : FlatRam) (satp : ℕ) (a : Access) (walk : Walk) (given : Result ℕ ℕ) →
-    Follows is_world old new walk (ask_walk satp a) → given ≡ (ask_inside a walk (Flat new.frames.items)).answer →
-    Follows is_world old new given (ask_translate satp a)
+    Follows IsWorld old new walk (ask_walk satp a) → given ≡ (ask_inside a walk (Flat new.frames.items)).answer →
+    Follows IsWorld old new given (ask_translate satp a)
 unfolding ask_translate ask_inside
 follows_translate old new satp a walk given follows answer =
-    then_follows is_world old new new walk given (ask_walk satp a) (ask_inside a) (λ x w. later_inside a x w) follows
+    then_follows IsWorld old new new walk given (ask_walk satp a) (ask_inside a) (λ x w. later_inside a x w) follows
     (tested walk answer)
   where
     unmoved : (w : World) (r : Result ℕ ℕ) (walk : Walk) → w ≡ Flat new.frames.items →
-        r ≡ (ask_inside a walk (Flat new.frames.items)).answer → FollowsFrom (is_world new) new r (ask_inside a walk w)
+        r ≡ (ask_inside a walk (Flat new.frames.items)).answer → FollowsFrom (IsWorld new) new r (ask_inside a walk w)
     unmoved w r (Err cause) stands is = record { answer = is; stands = stands }
     unmoved w r (Ok walked) stands is = record {
       answer = is ∙ ap (λ (v : World). (ask_inside a (Ok walked) v).answer) (sym stands);
@@ -34,7 +31,7 @@ follows_translate old new satp a walk given follows answer =
     }
 
     tested : (walk : Walk) → given ≡ (ask_inside a walk (Flat new.frames.items)).answer →
-        Follows is_world new new given (ask_inside a walk)
+        Follows IsWorld new new given (ask_inside a walk)
     tested walk is first w stands unclashed = unmoved w given walk stands is
 
 -- an address that is in RAM or not

@@ -16,6 +16,7 @@ use Rattle.alone_views.specs.KernelChanges.{ChangesTo}
 use Rattle.alone_views.specs.KernelStanding.{state_with}
 use Rattle.alone_views.specs.declared.kernel.KernelAlone.{KernelAlone}
 use Rattle.alone_views.specs.declared.kernel_ram.FlatRam.{FlatRam}
+use Rattle.alone_views.specs.KernelWorld.{IsWorld}
 
 -- what a step told, of this hart, disk and ending, and these frames
 abbrev pub told_of : Hart → List ℕ → Kernel → List (List ℕ) → Told After
@@ -31,7 +32,7 @@ later_kernel_step h disk w =
 
 -- the step over frames without cloaked pages
 pub step_over_ram : (old new : FlatRam) (h h' : Hart) (disk disk' : List ℕ) (k : Kernel) →
-    Follows (λ (first side : FlatRam) w. w ≡ Flat side.frames.items) old new
+    Follows IsWorld old new
     (record { hart = h'; disk = disk'; ending = k }) (kernel_step h disk) →
     kernel_step h disk (Flat old.frames.items) ≡ told_of h' disk' k new.frames.items
 step_over_ram old new h h' disk disk' k follows =

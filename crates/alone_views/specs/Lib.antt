@@ -4,4 +4,5 @@ pub mod KernelChanges
 pub mod KernelConsole
 pub mod KernelPlaces
 pub mod KernelStanding
+pub mod KernelWorld
 pub mod Side

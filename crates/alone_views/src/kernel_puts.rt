@@ -33,7 +33,7 @@ impl KernelAlone {
         ensures schedule { turns_of self.new ≡ turns_of self.old }
     {
         if self.may_store(address, width) {
-            self.ram.store(address, width, value)
+            self.ram.write_at(address, width, value)
         } else {
             self.refuse()
         }

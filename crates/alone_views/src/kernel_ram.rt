@@ -3,14 +3,16 @@ ghost use Rattle.std.specs.Prelude.{◌≡◌, ◌+◌, ◌*◌, ◌%◌, ◌≤
 ghost use Rattle.std.specs.List.{concat};
 ghost use Rattle.sha2.specs.Sha256.{sha256};
 ghost use Rattle.cloak_base.specs.Pages.{zero_page};
+ghost use Rattle.cloak_model.specs.Ask as ask;
+ghost use Rattle.cloak_model.specs.Asking.{Follows};
 ghost use Rattle.cloak_model.specs.Bundle.{IsSegmentIn};
 ghost use Rattle.cloak_model.specs.Effect.{IsWidth};
 ghost use Rattle.cloak_model.specs.Memory as memory;
 ghost use Rattle.cloak_model.specs.Memory.{is_in_frames, with_bytes, with_value_at, zero_ram};
 ghost use Rattle.cloak_model.specs.Opening.{with_segments};
 
-use cloak_base::{Frame, Kind, Mode, NoMemory};
-use cloak_model::{Segment, access_fault, set_value_in, value_in, word_in};
+use cloak_base::{Frame, NoMemory};
+use cloak_model::{Access, Segment, access_fault, set_value_in, value_in, word_in};
 use host_calls::Ram;
 use sha2::{Digest, Sha256};
 use std::alloc::Global;
@@ -46,6 +48,8 @@ fn place_of(pa: u32) -> usize
 }
 
 impl FlatRam {
+    ghost use Rattle.alone_views.specs.KernelWorld.{IsWorld};
+
     /// The address lies in RAM.
     #[inline]
     pub fn is_inside(&self, pa: u64) -> bool
@@ -61,13 +65,54 @@ impl FlatRam {
         (f as usize) < self.frames.len()
     }
 
+    /// The address in RAM where an access leads, by the page tables. Err is the cause of its fault.
+    #[tactic(auto, using(cloak_model::proofs::Later::laters), unfolding(cloak_model::specs::Ask::ask_translate, cloak_model::specs::Ask::ask_inside))]
+    fn led(&mut self, satp: u32, access: Access) -> Result<u32, u32>
+        ensures follows { Follows IsWorld self.old self.new result (ask.ask_translate satp access) }
+        ensures inside { IfOk result (λ pa. IsTrue (is_in_frames (length self.old.frames.items) pa)) }
+        ensures offset { IfOk result (λ pa. pa % 4096 ≡ access.va % 4096) }
+        ensures same_count { length self.new.frames.items ≡ length self.old.frames.items }
+    {
+        let Access {
+            mode,
+            sum,
+            mxr,
+            va,
+            kind,
+        } = access;
+        match walk(satp, mode, sum, mxr, va, kind, self) {
+            Err(cause) => Err(cause),
+            Ok(walked) => {
+                if self.is_inside(walked.pa) {
+                    Ok(walked.pa as u32)
+                } else {
+                    Err(access_fault(kind))
+                }
+            }
+        }
+    }
+
+    /// The value of the 1, 2 or 4 bytes at an address, the lowest byte first.
+    #[inline]
+    #[tactic(auto, unfolding(cloak_model::specs::Ask::ask_value))]
+    fn read_at(&self, pa: u32, width: u32) -> u32
+        requires inside { IsTrue (is_in_frames (length self.now.frames.items) pa) }
+        requires width { IsWidth width }
+        requires aligned { pa % width ≡ 0 }
+        ensures { Follows IsWorld self.now self.now result (ask.ask_value pa width) }
+    {
+        value_in(&self.frames[frame_of(pa)], place_of(pa), width)
+    }
+
     /// Stores the lowest 1, 2 or 4 bytes of a word at an address.
     #[inline]
-    pub fn store(&mut self, pa: u32, width: u32, value: u32)
+    #[tactic(auto, unfolding(cloak_model::specs::Ask::ask_store))]
+    pub fn write_at(&mut self, pa: u32, width: u32, value: u32)
         requires inside { IsTrue (is_in_frames (length self.old.frames.items) pa) }
         requires width { IsWidth width }
         requires aligned { pa % width ≡ 0 }
-        ensures { self.new.frames.items ≡ with_value_at pa width value self.old.frames.items }
+        ensures frames { self.new.frames.items ≡ with_value_at pa width value self.old.frames.items }
+        ensures follows { Follows IsWorld self.old self.new tt (ask.ask_store pa width value) }
     {
         set_value_in(&mut self.frames[frame_of(pa)], place_of(pa), width, value)
     }
@@ -95,10 +140,9 @@ impl FlatRam {
 
 #[tactic(auto, unfolding(cloak_model::specs::Ask::ask_word))]
 impl Words for FlatRam {
-    ghost use Rattle.std.specs.Prelude.{◌≡◌};
-    ghost use Rattle.cloak_model.specs.World.{Flat};
+    ghost use Rattle.alone_views.specs.KernelWorld.{IsWorld};
 
-    ghost stands_for = { λ first side w. w ≡ Flat side.frames.items };
+    ghost stands_for = { λ first side w. IsWorld first side w };
 
     ghost kept = { λ first side. Unit {0} };
 
@@ -111,44 +155,32 @@ impl Words for FlatRam {
     }
 }
 
-#[tactic(auto, using(cloak_model::proofs::Later::laters), unfolding(cloak_model::specs::Ask::ask_translate, cloak_model::specs::Ask::ask_inside, cloak_model::specs::Ask::ask_value, cloak_model::specs::Ask::ask_store, cloak_model::specs::Ask::ask_frame, cloak_model::specs::Ask::ask_fill, cloak_model::specs::Ask::ask_count))]
+#[tactic(auto, using(cloak_model::proofs::Later::laters), unfolding(cloak_model::specs::Ask::ask_load, cloak_model::specs::Ask::loaded_at, cloak_model::specs::Ask::ask_store_at, cloak_model::specs::Ask::stored_to, cloak_model::specs::Ask::ask_frame, cloak_model::specs::Ask::ask_fill, cloak_model::specs::Ask::ask_count))]
 impl Ram for FlatRam {
-    ghost use Rattle.std.specs.Prelude.{◌≡◌, length};
-    ghost use Rattle.cloak_model.specs.World.{Flat};
+    ghost use Rattle.std.specs.Prelude.{length};
+    ghost use Rattle.alone_views.specs.KernelWorld.{IsWorld};
 
-    ghost stands_for = { λ first side w. w ≡ Flat side.frames.items };
+    ghost stands_for = { λ first side w. IsWorld first side w };
 
     ghost kept = { λ first side. Unit {0} };
 
     ghost count = { λ side. length side.frames.items };
 
-    fn translate(
-        &mut self,
-        satp: u32,
-        mode: Mode,
-        sum: bool,
-        mxr: bool,
-        va: u32,
-        kind: Kind,
-    ) -> Result<u32, u32> {
-        match walk(satp, mode, sum, mxr, va, kind, self) {
+    fn load(&mut self, satp: u32, access: Access, width: u32) -> Result<u32, u32> {
+        match self.led(satp, access) {
             Err(cause) => Err(cause),
-            Ok(walked) => {
-                if self.is_inside(walked.pa) {
-                    Ok(walked.pa as u32)
-                } else {
-                    Err(access_fault(kind))
-                }
-            }
+            Ok(pa) => Ok(self.read_at(pa, width)),
         }
     }
 
-    fn read(&mut self, pa: u32, width: u32) -> u32 {
-        value_in(&self.frames[frame_of(pa)], place_of(pa), width)
-    }
-
-    fn write(&mut self, pa: u32, width: u32, v: u32) {
-        set_value_in(&mut self.frames[frame_of(pa)], place_of(pa), width, v)
+    fn store(&mut self, satp: u32, access: Access, width: u32, v: u32) -> Result<(), u32> {
+        match self.led(satp, access) {
+            Err(cause) => Err(cause),
+            Ok(pa) => {
+                self.write_at(pa, width, v);
+                Ok(())
+            }
+        }
     }
 
     fn frame(&mut self, f: Frame) -> &[u8; 4096] {

@@ -29,8 +29,3 @@ pub use asked::Asked;
 pub use domain::DomainAlone;
 pub use kernel::KernelAlone;
 pub use unfit::Unfit;
-
-#[cfg(test)]
-mod domain_tests;
-#[cfg(test)]
-mod kernel_tests;

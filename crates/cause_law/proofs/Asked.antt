@@ -1,6 +1,6 @@
--- A program's questions over the joint machine: each leaves a memory that is kept and has met nothing wrong, or it is
--- stopped, where a frame differs from what was last shown of a page of the program.
-use Rattle.std.proofs.Common.{◌≡◌, ◌∙◌, ◌⊎◌, ℕ, zero, suc, ◌+◌, Bool, true, false, cond, List, ◌++◌, Some, None, Result, Ok, Err, refl, sym, ap, subst, inl, inr}
+-- What each question of a program leaves: a memory that is kept and has met nothing wrong, or it is stopped, where the
+-- program's page is found in a frame that differs from what was last shown of it.
+use Rattle.std.proofs.Common.{◌≡◌, ◌∙◌, ◌⊎◌, ℕ, zero, suc, ◌+◌, Bool, true, false, cond, List, [], ◌∷◌, ◌++◌, Some, None, Result, Ok, Err, refl, sym, ap, inl, inr}
 use Rattle.std.proofs.lemmas.List.{length-set}
 use Rattle.cloak_base.specs.declared.causes.Violation.TheVariants as violation
 use Rattle.cloak_base.specs.declared.names.Kind.{Kind}
@@ -10,20 +10,19 @@ use Rattle.cloak_model.specs.declared.access.Access.{Access}
 use Rattle.cloak_model.specs.declared.access.Walked.{Walked}
 use Rattle.cloak_model.specs.declared.answer.Answer.{Answer}
 use Rattle.cloak_model.specs.declared.answer.Answer.TheVariants as told
-use Rattle.cloak_model.specs.declared.view.View.{View}
 use Rattle.cloak_model.specs.Ask.{ask_word, ask_second, ask_after, ask_first, ask_walk, ask_inside, ask_translate, ask_value}
-use Rattle.cloak_model.specs.AskPages.{replies, if_drawn, ask_inside_address, offered_by, ask_offer, reached, reach_by_table, got, get_by_table, put_at, stored_inside, put_by_table, settled_if_marked, clear_from, ask_reach, ask_read, ask_write, ask_get, ask_put, ask_clear, ask_copy, ask_forget}
+use Rattle.cloak_model.specs.AskPages.{replies, if_drawn, is_store, ask_inside_address, offered_by, ask_offer, reached, reach_by_table, got, get_by_table, put_at, stored_inside, put_by_table, settled_if_marked, clear_from, ask_reach, ask_write, ask_get, ask_put, ask_clear, ask_copy, ask_forget}
 use Rattle.cloak_model.specs.Asking.{Told, Asking}
-use Rattle.cloak_model.specs.Cloaking.{AfterOffer, Offer, Ready, Mismatch, Missed, offer}
+use Rattle.cloak_model.specs.Cloaking.{Offer, Ready, Mismatch, Missed, offer}
+use Rattle.cloak_model.specs.Fork.{ask_copies, ask_forgets}
 use Rattle.cloak_model.specs.Memory.{frame_of}
 use Rattle.cloak_model.specs.PageMoves.{copy_pages, drop_pages}
-use Rattle.cloak_model.specs.Walk.{Walk, FirstWord, Ends, GoesOn, first_entry, walk}
-use Rattle.cloak_model.specs.World.{World, Cloak, Flat, Cloaked, Alone, Handed, settled, cipher_items, view_of}
-use Rattle.domain_isolation.proofs.Scripts.{Question, Reach, Get, Put, Clear, Change, Write, Copy, Forget, Script, Gives, Asks, Reads, Changes, asked, changed, played, Ending, IsStop, EndsSo}
-use Rattle.domain_isolation.proofs.Answers.{question_answered, change_leaves}
+use Rattle.cloak_model.specs.Walk.{FirstWord, Ends, GoesOn, Walk, first_entry, walk}
+use Rattle.cloak_model.specs.World.{World, Cloak, Flat, Cloaked, Alone, Handed, settled, cipher_items, is_missed}
 use Rattle.domain_isolation.proofs.Steady.{is_cloaked}
-use Rattle.cause_law.specs.Causes.{Differs}
-use Rattle.cause_law.proofs.Kept.{IsKept, kept_settled, Offers, offer_offers}
+use Rattle.cause_law.specs.Presented.{Differs, FindsOther}
+use Rattle.cause_law.proofs.Compared.{offer_compares}
+use Rattle.cause_law.proofs.Kept.{IsKept, kept_settled, offer_offers}
 use Rattle.cause_law.proofs.Leading.{OfMemory, access_of, LeadsStill, address_leads}
 
 -- Nothing wrong was met.
@@ -31,18 +30,15 @@ pub record IsCalm (c : Cloak) : Type 0 where
   pub kept : IsKept c.memory
   pub none : c.violation ≡ None
 
--- A page of domain d was met in a frame that differs, to which an access in this view leads.
-pub record HasMet (x : View) (d : ℕ) (c : Cloak) : Type 0 where
+-- A program asked for its page q at an address in memory `asked`, and it was found in another frame.
+pub record HasMet (q : PageId) (va : ℕ) (kind : Kind) (asked c : Cloak) : Type 0 where
   pub kept : IsKept c.memory
-  pub page : PageId
   pub frame : ℕ
-  pub violation : c.violation ≡ Some (violation.Page page (record { 0 = frame }))
-  pub own : page.domain ≡ d
-  pub differs : Differs page frame c.memory
-  pub va : ℕ
-  pub kind : Kind
+  pub violation : c.violation ≡ Some (violation.Page q (record { 0 = frame }))
+  pub finds : FindsOther q va kind frame asked
+  pub differs : Differs q frame c.memory
   pub walked : Walked
-  pub leads : walk c.memory.ram x.satp (access_of x kind va) ≡ Ok walked
+  pub leads : walk c.memory.ram asked.view.satp (access_of asked.view kind va) ≡ Ok walked
   pub there : frame_of walked.pa ≡ frame
 
 abbrev pub Calm : World → Type 0
@@ -50,18 +46,18 @@ Calm (Flat ram) = ⊥
 Calm (Cloaked c) = IsCalm c
 Calm (Alone h) = ⊥
 
-abbrev pub Met : View → ℕ → World → Type 0
-Met x d (Flat ram) = ⊥
-Met x d (Cloaked c) = HasMet x d c
-Met x d (Alone h) = ⊥
+abbrev pub Met : PageId → ℕ → Kind → Cloak → World → Type 0
+Met q va kind asked (Flat ram) = ⊥
+Met q va kind asked (Cloaked c) = HasMet q va kind asked c
+Met q va kind asked (Alone h) = ⊥
 
-record Calms (w v : World) : Type 0 where
+pub record Calms (w v : World) : Type 0 where
   pub by : Calm w → Calm v
 
-Calms-refl : (w : World) → Calms w w
+pub Calms-refl : (w : World) → Calms w w
 Calms-refl w = record { by = λ calm. calm }
 
-Calms-trans : (u v w : World) → Calms u v → Calms v w → Calms u w
+pub Calms-trans : (u v w : World) → Calms u v → Calms v w → Calms u w
 Calms-trans u v w p q = record { by = λ calm. q.by (p.by calm) }
 
 Calms-either : {A : Type 0} (b : Bool) (m n : Told A) (w : World) → Calms w m.world → Calms w n.world →
@@ -179,123 +175,143 @@ calms_clear domain marked f (suc n) w =
 
 -- A page is reached.
 
--- a question leaves all calm, or it is stopped at a page of domain d
-abbrev pub CalmOrMet : View → ℕ → Told Answer → Type 0
-CalmOrMet x d t = Calm t.world ⊎ ((t.answer ≡ told.Stopped) × Met x d t.world)
+-- a question for page q leaves all calm, or it is stopped, as the page was found in another frame
+abbrev pub CalmOrMet : PageId → ℕ → Kind → Cloak → Told Answer → Type 0
+CalmOrMet q va kind asked t = Calm t.world ⊎ ((t.answer ≡ told.Stopped) × Met q va kind asked t.world)
 
-offered_meets : (x : View) (d : ℕ) (q : PageId) (va pa : ℕ) (kind : Kind) (o : AfterOffer) (c : Cloak) (a : Offer) →
-    q.domain ≡ d → Offers q (frame_of pa) c.memory o → LeadsStill x kind va pa c.memory → o.answer ≡ a → IsCalm c →
-    CalmOrMet x d (offered_by q (frame_of pa) a
+offered_meets : (q : PageId) (va pa : ℕ) (kind : Kind) (k c : Cloak) (a : Offer) →
+    ask_inside_address va kind (Cloaked k) ≡ record { answer = Ok pa; world = Cloaked c } →
+    LeadsStill k.view kind va pa c.memory → c.memory.ledger.missed ≡ false → IsCalm c →
+    let o = offer q (frame_of pa) (is_store kind) c.memory in
+    o.answer ≡ a →
+    CalmOrMet q va kind k (offered_by q (frame_of pa) a
     (Cloaked (record c { memory = o.memory; items = c.items ++ cipher_items o.ciphers })))
 unfolding offered_by replies
-offered_meets x d q va pa kind o c Ready own offers leads is calm =
-    inl (record { kept = offers.kept; none = calm.none })
-offered_meets x d q va pa kind o c Missed own offers leads is calm =
-    inl (record { kept = offers.kept; none = calm.none })
-offered_meets x d q va pa kind o c Mismatch own offers leads is calm = inr (
-  refl,
-  record {
-    kept = offers.kept;
-    page = q;
-    frame = frame_of pa;
-    violation = refl;
-    own = own;
-    differs = offers.differs is;
-    va = va;
-    kind = kind;
-    walked = leads.walked;
-    leads = leads.leads o.memory (offers.more is);
-    there = ap frame_of leads.at;
-  },
-)
+offered_meets q va pa kind k c Ready is leads drawn calm answers =
+    inl (record { kept = (offer_offers q (frame_of pa) (is_store kind) c.memory calm.kept).kept; none = calm.none })
+offered_meets q va pa kind k c Missed is leads drawn calm answers =
+    inl (record { kept = (offer_offers q (frame_of pa) (is_store kind) c.memory calm.kept).kept; none = calm.none })
+offered_meets q va pa kind k c Mismatch is leads drawn calm answers =
+    let o = offer q (frame_of pa) (is_store kind) c.memory in
+    let offers = offer_offers q (frame_of pa) (is_store kind) c.memory calm.kept in
+    let compares = offer_compares q (frame_of pa) (is_store kind) c.memory calm.kept drawn answers in
+    inr (
+      refl,
+      record {
+        kept = offers.kept;
+        frame = frame_of pa;
+        violation = refl;
+        finds = record {
+          pa = pa;
+          found = c;
+          leads = is;
+          frame = refl;
+          elsewhere = compares.elsewhere;
+          drawn = compares.drawn;
+          differs = compares.differs;
+        };
+        differs = offers.differs answers;
+        walked = leads.walked;
+        leads = leads.leads o.memory (offers.more answers);
+        there = ap frame_of leads.at;
+      },
+    )
 
-offer_meets : (x : View) (d : ℕ) (q : PageId) (va pa : ℕ) (kind : Kind) (write : Bool) (w : World) → q.domain ≡ d →
-    OfMemory (LeadsStill x kind va pa) w → Calm w → CalmOrMet x d (ask_offer q (frame_of pa) write w)
-unfolding ask_offer
-offer_meets x d q va pa kind write (Flat ram) own leads calm = absurd calm
-offer_meets x d q va pa kind write (Cloaked c) own leads calm =
-    offered_meets x d q va pa kind (offer q (frame_of pa) write c.memory) c _ own
-    (offer_offers q (frame_of pa) write c.memory calm.kept) leads refl calm
-offer_meets x d q va pa kind write (Alone h) own leads calm = absurd calm
+reached_meets : (q : PageId) (va : ℕ) (kind : Kind) (k : Cloak) (to : Result ℕ ℕ) (w : World) →
+    ask_inside_address va kind (Cloaked k) ≡ record { answer = to; world = w } →
+    ((pa : ℕ) → to ≡ Ok pa → OfMemory (LeadsStill k.view kind va pa) w) → is_missed w ≡ false → Calm w →
+    CalmOrMet q va kind k (reached q kind to w)
+unfolding reached ask_offer
+reached_meets q va kind k (Err cause) w is leads drawn calm = inl ((calms_replies _ w).by calm)
+reached_meets q va kind k (Ok pa) (Flat ram) is leads drawn calm = absurd calm
+reached_meets q va kind k (Ok pa) (Cloaked c) is leads drawn calm =
+    offered_meets q va pa kind k c _ is (leads pa refl) drawn calm refl
+reached_meets q va kind k (Ok pa) (Alone h) is leads drawn calm = absurd calm
 
-reached_meets : (x : View) (d : ℕ) (q : PageId) (va : ℕ) (kind : Kind) (to : Result ℕ ℕ) (w : World) →
-    q.domain ≡ d → ((pa : ℕ) → to ≡ Ok pa → OfMemory (LeadsStill x kind va pa) w) → Calm w →
-    CalmOrMet x d (reached q kind to w)
-unfolding reached
-reached_meets x d q va kind (Err cause) w own leads calm = inl ((calms_replies _ w).by calm)
-reached_meets x d q va kind (Ok pa) w own leads calm = offer_meets x d q va pa kind _ w own (leads pa refl) calm
+drawn_meets : (q : PageId) (va : ℕ) (kind : Kind) (k : Cloak) (to : Result ℕ ℕ) (w : World) (missed : Bool) →
+    ask_inside_address va kind (Cloaked k) ≡ record { answer = to; world = w } →
+    ((pa : ℕ) → to ≡ Ok pa → OfMemory (LeadsStill k.view kind va pa) w) → is_missed w ≡ missed → Calm w →
+    CalmOrMet q va kind k (cond missed (replies told.Stopped w) (reached q kind to w))
+drawn_meets q va kind k to w true is leads drawn calm = inl ((calms_replies _ w).by calm)
+drawn_meets q va kind k to w false is leads drawn calm = reached_meets q va kind k to w is leads drawn calm
 
-drawn_meets : (x : View) (d : ℕ) (b : Bool) (t u : Told Answer) → CalmOrMet x d t → CalmOrMet x d u →
-    CalmOrMet x d (cond b t u)
-drawn_meets x d true t u one two = one
-drawn_meets x d false t u one two = two
-
-reach_meets : (d : ℕ) (q : PageId) (va : ℕ) (kind : Kind) (c : Cloak) → q.domain ≡ d → IsCalm c →
-    CalmOrMet c.view d (reach_by_table q va kind (Cloaked c))
+reach_meets : (q : PageId) (va : ℕ) (kind : Kind) (k : Cloak) → IsCalm k →
+    CalmOrMet q va kind k (reach_by_table q va kind (Cloaked k))
 unfolding reach_by_table if_drawn
-reach_meets d q va kind c own calm =
-    let to = ask_inside_address va kind (Cloaked c) in
-    let there = (calms_inside_address va kind (Cloaked c)).by calm in
-    drawn_meets c.view d _ _ _ (inl ((calms_replies _ to.world).by there))
-    (reached_meets c.view d q va kind to.answer to.world own (λ pa is. address_leads va kind c pa calm.kept is) there)
+reach_meets q va kind k calm =
+    let to = ask_inside_address va kind (Cloaked k) in
+    drawn_meets q va kind k to.answer to.world _ refl (λ pa is. address_leads va kind k pa calm.kept is) refl
+    ((calms_inside_address va kind (Cloaked k)).by calm)
 
--- The questions, and what a program changes.
+pub asked_meets : (q : PageId) (va : ℕ) (kind : Kind) (k : Cloak) → IsCalm k →
+    CalmOrMet q va kind k (ask_reach q va kind (Cloaked k))
+unfolding ask_reach
+asked_meets q va kind k calm = reach_meets q va kind k calm
 
-asked_meets : {d : ℕ} (question : Question d) (w : World) → Calm w → CalmOrMet (view_of w) d (asked question w)
-unfolding ask_reach ask_get ask_put ask_clear
-asked_meets question (Flat ram) calm = absurd calm
-asked_meets {d} (Reach q own va kind) (Cloaked c) calm = reach_meets d q va kind c own calm
-asked_meets (Get va width) (Cloaked c) calm = inl ((calms_get va width (Cloaked c)).by calm)
-asked_meets (Put va width value) (Cloaked c) calm = inl ((calms_put va width value (Cloaked c)).by calm)
-asked_meets {d} (Clear marked) (Cloaked c) calm = inl ((calms_clear d marked 0 _ (Cloaked c)).by calm)
-asked_meets question (Alone h) calm = absurd calm
+-- The other questions, and what a program changes, meet nothing.
 
-changed_calm : {d : ℕ} (change : Change d) (w : World) → Calm w → Calm (changed change w).world
-unfolding ask_write ask_copy ask_forget copy_pages drop_pages
-changed_calm change (Flat ram) calm = absurd calm
-changed_calm (Write q own at width value) (Cloaked c) calm =
-    record { kept = record { places = calm.kept.places; once = calm.kept.once }; none = calm.none }
-changed_calm (Copy from to) (Cloaked c) calm =
-    record { kept = record { places = calm.kept.places; once = calm.kept.once }; none = calm.none }
-changed_calm (Forget resource) (Cloaked c) calm =
-    record { kept = record { places = calm.kept.places; once = calm.kept.once }; none = calm.none }
-changed_calm change (Alone h) calm = absurd calm
+pub calms_asks_get : (va width : ℕ) (w : World) → Calms w (ask_get va width w).world
+unfolding ask_get
+calms_asks_get va width (Flat ram) = no_flat ram _
+calms_asks_get va width (Cloaked c) = calms_get va width (Cloaked c)
+calms_asks_get va width (Alone h) = no_alone h _
 
--- A step.
+pub calms_asks_put : (va width value : ℕ) (w : World) → Calms w (ask_put va width value w).world
+unfolding ask_put
+calms_asks_put va width value (Flat ram) = no_flat ram _
+calms_asks_put va width value (Cloaked c) = calms_put va width value (Cloaked c)
+calms_asks_put va width value (Alone h) = no_alone h _
 
-is_cloaked_calm : (w : World) → Calm w → is_cloaked w ≡ true
+pub calms_asks_clear : (d : ℕ) (marked : List Bool) (w : World) → Calms w (ask_clear d marked w).world
+unfolding ask_clear
+calms_asks_clear d marked (Flat ram) = no_flat ram _
+calms_asks_clear d marked (Cloaked c) = calms_clear d marked 0 _ (Cloaked c)
+calms_asks_clear d marked (Alone h) = no_alone h _
+
+pub calms_writes : (q : PageId) (at width value : ℕ) (w : World) → Calms w (ask_write q at width value w).world
+unfolding ask_write
+calms_writes q at width value (Flat ram) = no_flat ram _
+calms_writes q at width value (Cloaked c) = record {
+  by = λ calm. record {
+    kept = record { places = calm.kept.places; once = calm.kept.once };
+    none = calm.none;
+  };
+}
+calms_writes q at width value (Alone h) = no_alone h _
+
+calms_copy : (d from to : ℕ) (w : World) → Calms w (ask_copy d from to w).world
+unfolding ask_copy copy_pages
+calms_copy d from to (Flat ram) = no_flat ram _
+calms_copy d from to (Cloaked c) = record {
+  by = λ calm. record {
+    kept = record { places = calm.kept.places; once = calm.kept.once };
+    none = calm.none;
+  };
+}
+calms_copy d from to (Alone h) = no_alone h _
+
+calms_forget : (d resource : ℕ) (w : World) → Calms w (ask_forget d resource w).world
+unfolding ask_forget drop_pages
+calms_forget d resource (Flat ram) = no_flat ram _
+calms_forget d resource (Cloaked c) = record {
+  by = λ calm. record {
+    kept = record { places = calm.kept.places; once = calm.kept.once };
+    none = calm.none;
+  };
+}
+calms_forget d resource (Alone h) = no_alone h _
+
+pub calms_copies : (d : ℕ) (list : List (ℕ × ℕ)) (w : World) → Calms w (ask_copies d list w).world
+unfolding ask_copies
+calms_copies d [] w = Calms-refl w
+calms_copies d (copy ∷ rest) w = Calms-trans _ _ _ (calms_copy d copy.0 copy.1 w) (calms_copies d rest _)
+
+pub calms_forgets : (d : ℕ) (list : List ℕ) (w : World) → Calms w (ask_forgets d list w).world
+unfolding ask_forgets
+calms_forgets d [] w = Calms-refl w
+calms_forgets d (n ∷ rest) w = Calms-trans _ _ _ (calms_forget d n w) (calms_forgets d rest _)
+
+pub is_cloaked_calm : (w : World) → Calm w → is_cloaked w ≡ true
 is_cloaked_calm (Flat ram) calm = absurd calm
 is_cloaked_calm (Cloaked c) calm = refl
 is_cloaked_calm (Alone h) calm = absurd calm
-
--- it leaves all calm, or was stopped at a page of domain d
-abbrev pub EndsCalmOrMet : {A : Type 0} → Ending A → View → ℕ → Told A → Type 0
-EndsCalmOrMet e x d t = Calm t.world ⊎ (e.stopped t.answer × Met x d t.world)
-
-stop_meets : {d : ℕ} {A : Type 0} (e : Ending A) (x : View) (s : Script d A) (w : World) → IsStop e s → Met x d w →
-    EndsCalmOrMet e x d (played s w)
-unfolding IsStop
-stop_meets e x (Gives a) w is met = inr (is, met)
-stop_meets e x (Asks question more) w is met = absurd is
-stop_meets e x (Reads q own at width more) w is met = absurd is
-stop_meets e x (Changes change more) w is met = absurd is
-
-pub played_meets : {d : ℕ} {A : Type 0} (e : Ending A) (x : View) (s : Script d A) (w : World) → EndsSo e s →
-    view_of w ≡ x → Calm w → EndsCalmOrMet e x d (played s w)
-unfolding EndsSo ask_read
-played_meets e x (Gives a) w ends view calm = inl calm
-played_meets {d} e x (Asks question more) w ends view calm =
-    let t = asked question w in
-    let view' = (question_answered question w (is_cloaked_calm w calm)).replied.view in
-    elim (asked_meets question w calm) [
-      | inl there ↦ played_meets e x (more t.answer) t.world (ends.0 t.answer) (view' ∙ view) there
-      | inr stopped ↦
-          stop_meets e x (more t.answer) t.world
-          (subst (λ (a : Answer). IsStop e (more a)) (sym stopped.0) ends.1)
-          (subst (λ (y : View). Met y d t.world) view stopped.1)
-    ]
-played_meets e x (Reads q own at width more) w ends view calm =
-    played_meets e x (more (ask_read q at width w).answer) w (ends (ask_read q at width w).answer) view calm
-played_meets e x (Changes change more) w ends view calm =
-    played_meets e x more (changed change w).world ends
-    ((change_leaves change w (is_cloaked_calm w calm)).view ∙ view) (changed_calm change w calm)

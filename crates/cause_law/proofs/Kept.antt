@@ -13,7 +13,7 @@ use Rattle.cloak_base.specs.declared.names.PageId.{PageId}
 use Rattle.cloak_model.specs.Cloaking.{CloakedMemory, AfterSettling, AfterOffer, Ready, Mismatch, Missed, owed_in, owes, owing_frame, settle, settle_frame_if, with_owed, with_comparison, taken, compared, unless_missed, offer}
 use Rattle.domain_isolation.proofs.InOrder.{decided, same_some}
 use Rattle.kernel_isolation.proofs.Settlings.{HasPlaces}
-use Rattle.cause_law.specs.Causes.{Differs}
+use Rattle.cause_law.specs.Presented.{Differs}
 use Rattle.cause_law.proofs.Settled.{Settles, settles, owed_within}
 
 pub record IsKept (m : CloakedMemory) : Type 0 where
@@ -95,7 +95,7 @@ owes_page q (Some p) is = elim (same_page_tells p q) [
   | inr told ↦ absurd (false≢true (sym told.0 ∙ is))
 ]
 
-record Housed (q : PageId) (m : CloakedMemory) (s : AfterSettling) : Type 0 where
+pub record Housed (q : PageId) (m : CloakedMemory) (s : AfterSettling) : Type 0 where
   pub kept : IsKept s.memory
   pub home : IsHome q s.memory
   pub more : Extends m s.memory
@@ -129,7 +129,7 @@ housed_by q m false kept is =
       more = Extends-refl m;
     }
 
-housed : (q : PageId) (m : CloakedMemory) → IsKept m → Housed q m (settle_frame_if (owing_frame m q) m)
+pub housed : (q : PageId) (m : CloakedMemory) → IsKept m → Housed q m (settle_frame_if (owing_frame m q) m)
 housed q m kept = housed_by q m _ kept refl
 
 -- A frame is owed a page that no frame was owed.

@@ -1,12 +1,14 @@
 pub mod Settled
 pub mod Closed
 pub mod Kept
+pub mod Compared
 pub mod Leading
 pub mod Asked
+pub mod Accessed
 pub mod Resumed
 pub mod Steps
 pub mod Opened
 pub mod Refused
 pub mod Stopped
-pub mod Fetched
+pub mod Presented
 pub mod Runs

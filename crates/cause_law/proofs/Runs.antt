@@ -17,10 +17,10 @@ use Rattle.cloak_model.specs.Run.{Run, joint_run, unless_stopped, turns_from, jo
 use Rattle.kernel_isolation.proofs.Isolated.{of_opened}
 use Rattle.kernel_isolation.proofs.Opened.{is_opened}
 use Rattle.kernel_isolation.proofs.Turns.{IsSteady, turn_is_alone}
-use Rattle.cause_law.specs.Causes.{moment_at, LastStepPresents, ViolationHasCause, IsStoppedBy, ContextIsRefused, MappingIsRefused, presented_root, can_run, context_running, HasStopped, StopsTheRun, StoppedIsLast, FetchIsRefused}
-use Rattle.cause_law.proofs.Fetched.{fetch_violates}
+use Rattle.cause_law.specs.Causes.{moment_at, LastStepPresents, ViolationHasCause, IsStoppedBy, PresentsContext, PresentsMapping, Presents, PresentedIsRefused, presented_root, can_run, context_running, HasStopped, StopsTheRun, StoppedIsLast}
 use Rattle.cause_law.proofs.Kept.{IsKept}
 use Rattle.cause_law.proofs.Opened.{opened_kept}
+use Rattle.cause_law.proofs.Presented.{page_violates}
 use Rattle.cause_law.proofs.Resumed.{space_id, refusal}
 use Rattle.cause_law.proofs.Steps.{turn_presents, resumed_so}
 use Rattle.cause_law.proofs.Stopped.{StepStops, told_stops}
@@ -186,12 +186,10 @@ has_cause b r so v is =
     let at = so.reaches n (omega (arith, some)) in
     let t = joint_step (moment_at b r n) in
     elim at.goes [
-      | inl end ↦ record {
-        before = n;
-        last = long;
-        presents = (turn_presents (moment_at b r n) at.steady at.kept).presents v
-            (violation_of_stop t.joint.memory.ledger.missed t.violation t.halt v (sym end.1 ∙ last));
-      }
+      | inl end ↦
+          let cause = (turn_presents (moment_at b r n) at.steady at.kept).presents v
+          (violation_of_stop t.joint.memory.ledger.missed t.violation t.halt v (sym end.1 ∙ last)) in
+          record { before = n; last = long; presents = cause.presents; left = cause.left }
       | inr more ↦ let low = more.0 in absurd (omega (arith, low, long))
     ]
 
@@ -248,14 +246,12 @@ refused_context j satp ctx (Some c) cannot = by c.on cannot
     by (Some h) is = refl
     by None is = absurd (false≢true (sym is))
 
-pub context_is_refused : ContextIsRefused
-context_is_refused b stream budget r is n low ctx presents =
-    let so = run_so b stream budget r is in
-    let m : Moment = moment_at b r n in
+context_violates : (m : Moment) (ctx : ℕ) → IsKept m.joint.memory → PresentsContext m ctx →
+    (joint_step m).violation ≡ Some (violation.Context ctx)
+context_violates m ctx kept presents =
     let a = presents.asks in
-    let resumed = resumed_so m ctx a.answer a.outside a.asks (so.reaches n low).kept in
-    stopped_by b r so n low (violation.Context ctx)
-    (resumed.violates ∙ refused_context m.joint (presented_root m) ctx (context_running m.joint ctx) presents.cannot)
+    let resumed = resumed_so m ctx a.answer a.outside a.asks kept in
+    resumed.violates ∙ refused_context m.joint (presented_root m) ctx (context_running m.joint ctx) presents.cannot
 
 refused_mapping : (j : Joint) (satp ctx first : ℕ) (c : Context) → c.on ≡ None →
     j.memory.ledger.root (space_id ctx c) ≡ Some first → first ≢ satp →
@@ -266,18 +262,28 @@ refused_mapping j satp ctx first c rests recorded other =
     ∙ (ap (λ (o : Option ℕ). cond (is_root satp o) None (Some (violation.Mapping ctx satp))) recorded
     ∙ ap (λ (b : Bool). cond b None (Some (violation.Mapping ctx satp))) (ne_eqb first satp other))
 
-pub mapping_is_refused : MappingIsRefused
-mapping_is_refused b stream budget r is n low ctx root presents =
-    let so = run_so b stream budget r is in
-    let m : Moment = moment_at b r n in
+mapping_violates : (m : Moment) (ctx root : ℕ) → IsKept m.joint.memory → PresentsMapping m ctx root →
+    (joint_step m).violation ≡ Some (violation.Mapping ctx root)
+mapping_violates m ctx root kept presents =
     let a = presents.asks in
-    let resumed = resumed_so m ctx a.answer a.outside a.asks (so.reaches n low).kept in
-    stopped_by b r so n low (violation.Mapping ctx root)
-    (resumed.violates
+    let resumed = resumed_so m ctx a.answer a.outside a.asks kept in
+    resumed.violates
     ∙ (ap (refusal m.joint (presented_root m) ctx) presents.there
     ∙ (refused_mapping m.joint (presented_root m) ctx presents.first presents.context presents.rests
     presents.recorded (λ same. presents.other (same ∙ sym presents.presented))
-    ∙ ap (λ (x : ℕ). Some (violation.Mapping ctx x)) (sym presents.presented))))
+    ∙ ap (λ (x : ℕ). Some (violation.Mapping ctx x)) (sym presents.presented)))
+
+-- the step ends with the violation that was presented
+presented_violates : (m : Moment) (v : Violation) → IsKept m.joint.memory → Presents m v →
+    (joint_step m).violation ≡ Some v
+presented_violates m (violation.Page q frame) kept presents = page_violates m q frame.0 presents
+presented_violates m (violation.Context ctx) kept presents = context_violates m ctx kept presents
+presented_violates m (violation.Mapping ctx root) kept presents = mapping_violates m ctx root kept presents
+
+pub presented_is_refused : PresentedIsRefused
+presented_is_refused b stream budget r is n low v presents =
+    let so = run_so b stream budget r is in
+    stopped_by b r so n low v (presented_violates (moment_at b r n) v (so.reaches n low).kept presents)
 
 -- A step in which a question was stopped is the last one.
 
@@ -320,8 +326,3 @@ pub stopped_is_last : StoppedIsLast
 stopped_is_last b stream budget r is n low d before after told =
     let so = run_so b stream budget r is in
     step_is_last b r so n low (told_stops (moment_at b r n) d before after (so.reaches n low).steady told)
-
-pub fetch_is_refused : FetchIsRefused
-fetch_is_refused b stream budget r is n low q f presents =
-    stopped_by b r (run_so b stream budget r is) n low (violation.Page q (record { 0 = f }))
-    (fetch_violates (moment_at b r n) q f presents)

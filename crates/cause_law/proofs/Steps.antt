@@ -6,7 +6,6 @@ use Rattle.std.specs.List.{find}
 use Rattle.std.proofs.lemmas.Bool.{false≢true}
 use Rattle.cloak_base.specs.declared.causes.Violation.{Violation}
 use Rattle.cloak_base.specs.declared.causes.Violation.TheVariants as violation
-use Rattle.cloak_base.specs.declared.names.Kind.{Kind}
 use Rattle.cloak_base.specs.declared.names.PageId.{PageId}
 use Rattle.cloak_model.specs.declared.access.Walked.{Walked}
 use Rattle.cloak_model.specs.declared.inside.Went.{Went}
@@ -19,9 +18,9 @@ use Rattle.cloak_model.specs.Ahead.{is_owed, settle_found, settle_while, settle_
 use Rattle.cloak_model.specs.Asking.{Told}
 use Rattle.cloak_model.specs.Cloaking.{CloakedMemory, AfterSettling, settle}
 use Rattle.cloak_model.specs.Contexts.{Context, context_at, domain_of, slot_of, is_root}
-use Rattle.cloak_model.specs.Csr.{satp_of, sum_of, mxr_of}
+use Rattle.cloak_model.specs.Csr.{satp_of, interrupt_due}
 use Rattle.cloak_model.specs.DomainState.{Domain}
-use Rattle.cloak_model.specs.DomainStep.{domain_step, interrupt}
+use Rattle.cloak_model.specs.DomainStep.{step_if, domain_step, interrupt}
 use Rattle.cloak_model.specs.Hart.{Hart, started}
 use Rattle.cloak_model.specs.HostCalls.{After}
 use Rattle.cloak_model.specs.Joint.{Moment, Turn, next_hart, hart_in, cloak_of, cloak_outside, memory_of, after_kernel_step, outside_ended, after_outside, outside_step, domain_ended, with_domain, after_domain_step, pages_for, interrupt_ended, after_interrupt, by_interrupt, inside_step, turn_of, joint_step}
@@ -30,15 +29,19 @@ use Rattle.cloak_model.specs.Memory.{frame_of}
 use Rattle.cloak_model.specs.Parts.{Joint}
 use Rattle.cloak_model.specs.Resuming.{resume}
 use Rattle.cloak_model.specs.Touched.{touched}
+use Rattle.cloak_model.specs.Walk.{walk}
 use Rattle.cloak_model.specs.World.{World, Cloak, Flat, Cloaked, Alone, items_of}
 use Rattle.settling_ahead.proofs.Laws.{keeps_rest}
 use Rattle.settling_ahead.proofs.Touching.{writes_touched_alone}
 use Rattle.kernel_isolation.proofs.Numbers.{number_at}
 use Rattle.kernel_isolation.proofs.Turns.{IsSteady}
-use Rattle.domain_isolation.proofs.StepScripts.{of_domain, step_scripted}
-use Rattle.cause_law.specs.Causes.{Differs, hart_of_step, table_leads, kernel_ending, AsksToResume, context_running, can_run, presented_root, Presents}
+use Rattle.domain_isolation.proofs.InstructionScripts.{IsOwn, own_page}
+use Rattle.cause_law.specs.Causes.{kernel_ending, AsksToResume, context_running, can_run, presented_root, Presents, table_leads, IsLeft}
+use Rattle.cause_law.specs.Presented.{hart_of_step, StepsInside, world_inside, Differs, PresentsPage}
 use Rattle.cause_law.proofs.Kept.{IsKept, kept_settled}
-use Rattle.cause_law.proofs.Asked.{IsCalm, HasMet, Calm, Met, EndsCalmOrMet, played_meets}
+use Rattle.cause_law.proofs.Accessed.{MetIn, phase_meets}
+use Rattle.cause_law.proofs.Asked.{IsCalm, Calm}
+use Rattle.cause_law.proofs.Leading.{access_of}
 use Rattle.cause_law.proofs.Resumed.{space_id, refusal, resume_refuses, resume_leaves}
 
 no_violation : {P : Type 0} (v : Violation) → None ≡ Some v → P
@@ -47,114 +50,149 @@ no_violation v is = absurd cc
 same_violation : (v w : Violation) → Some v ≡ Some w → v ≡ w
 same_violation v w is = cc
 
--- A program's step met a page that differs.
-record PageMet (h : Hart) (d : ℕ) (t : Turn) (v : Violation) : Type 0 where
+-- A program's step found a page in another frame.
+record PageMet (m : Moment) (t : Turn) (v : Violation) : Type 0 where
   pub page : PageId
   pub frame : ℕ
   pub is : v ≡ violation.Page page (record { 0 = frame })
-  pub own : page.domain ≡ d
-  pub differs : Differs page frame t.joint.memory
-  pub va : ℕ
-  pub kind : Kind
+  pub presents : PresentsPage m page frame
+  pub own : page.domain ≡ domain_of presents.step.ctx
   pub walked : Walked
-  pub leads : table_leads h t.joint.memory.ram kind va ≡ Ok walked
+  pub leads : table_leads (ticked (hart_of_step m)) t.joint.memory.ram presents.kind presents.va ≡ Ok walked
   pub there : frame_of walked.pa ≡ frame
+  pub differs : Differs page frame t.joint.memory
 
--- how a program on this hart sees memory
-abbrev view_on : Hart → ℕ → View
-view_on h d = record { satp = satp_of h.csrs; sum = sum_of h.csrs; mxr = mxr_of h.csrs; domain = d }
-
-record Meets (h : Hart) (d : ℕ) (t : Turn) : Type 0 where
+record Meets (m : Moment) (t : Turn) : Type 0 where
   pub kept : IsKept t.joint.memory
-  pub met : (v : Violation) → t.violation ≡ Some v → PageMet h d t v
+  pub met : (v : Violation) → t.violation ≡ Some v → PageMet m t v
 
-quiet_meets : (h : Hart) (d : ℕ) (t : Turn) → IsKept t.joint.memory → t.violation ≡ None → Meets h d t
-quiet_meets h d t kept none = record { kept = kept; met = λ v is. no_violation v (sym none ∙ is) }
+quiet_meets : (m : Moment) (t : Turn) → IsKept t.joint.memory → t.violation ≡ None → Meets m t
+quiet_meets m t kept none = record { kept = kept; met = λ v is. no_violation v (sym none ∙ is) }
 
 -- A hart inside.
 
-ended_calm : (j : Joint) (number : ℕ) (h : Hart) (d e : ℕ) (c : Cloak) (g : Went) → IsKept j.memory → IsCalm c →
-    Meets h d (domain_ended j number h e (Cloaked c) g)
+ended_calm : (m : Moment) (j : Joint) (number : ℕ) (h : Hart) (e : ℕ) (c : Cloak) (g : Went) → IsKept j.memory →
+    IsCalm c → Meets m (domain_ended j number h e (Cloaked c) g)
 unfolding domain_ended
-ended_calm j number h d e c went.Stay kept calm = quiet_meets h d _ kept refl
-ended_calm j number h d e c went.Stopped kept calm = quiet_meets h d _ kept calm.none
-ended_calm j number h d e c (went.Remapped space) kept calm = quiet_meets h d _ kept refl
-ended_calm j number h d e c (went.Leave s) kept calm = quiet_meets h d _ kept refl
-ended_calm j number h d e c (went.SpaceGone space s) kept calm =
-    quiet_meets h d _ (record { places = kept.places; once = kept.once }) refl
+ended_calm m j number h e c went.Stay kept calm = quiet_meets m _ kept refl
+ended_calm m j number h e c went.Stopped kept calm = quiet_meets m _ kept calm.none
+ended_calm m j number h e c (went.Remapped space) kept calm = quiet_meets m _ kept refl
+ended_calm m j number h e c (went.Leave s) kept calm = quiet_meets m _ kept refl
+ended_calm m j number h e c (went.SpaceGone space s) kept calm =
+    quiet_meets m _ (record { places = kept.places; once = kept.once }) refl
 
-ended_met : (j : Joint) (number : ℕ) (h : Hart) (d e : ℕ) (c : Cloak) (g : Went) → j.memory ≡ c.memory →
-    g ≡ went.Stopped → HasMet (view_on h e) d c → Meets h d (domain_ended j number h e (Cloaked c) g)
+-- the page is of the program whose context made the step
+own_at : (d : Domain) (c : Context) (va : ℕ) (q : PageId) → pages_for d (Some c) va ≡ Some q →
+    q.domain ≡ d.control.number
+own_at d c va q lies =
+    subst (IsOwn d.control.number) lies (own_page d.control.number d.control.resources c.space va)
+
+ended_met : (m : Moment) (s : StepsInside m) (j : Joint) (number : ℕ) (h : Hart) (e : ℕ) (c : Cloak) (g : Went) →
+    j.memory ≡ c.memory → s.domain.control.number ≡ domain_of s.ctx → g ≡ went.Stopped →
+    MetIn s.domain s.context (world_inside m s) (Cloaked c) → Meets m (domain_ended j number h e (Cloaked c) g)
 unfolding domain_ended
-ended_met j number h d e c went.Stopped same is met = record {
-  kept = subst IsKept (sym same) met.kept;
-  met = λ v violates. record {
-    page = met.page;
-    frame = met.frame;
-    is = same_violation v _ (sym violates ∙ met.violation);
-    own = met.own;
-    differs = subst (Differs met.page met.frame) (sym same) met.differs;
-    va = met.va;
-    kind = met.kind;
-    walked = met.walked;
-    leads = subst (λ (x : CloakedMemory). table_leads h x.ram met.kind met.va ≡ Ok met.walked) (sym same) met.leads;
-    there = met.there;
-  };
-}
-ended_met j number h d e c went.Stay same is met = absurd cc
-ended_met j number h d e c (went.Remapped space) same is met = absurd cc
-ended_met j number h d e c (went.Leave s) same is met = absurd cc
-ended_met j number h d e c (went.SpaceGone space s) same is met = absurd cc
+ended_met m s j number h e c went.Stopped same owner is at =
+    let met = at.met in
+    record {
+      kept = subst IsKept (sym same) met.kept;
+      met = λ v violates. record {
+        page = at.page;
+        frame = met.frame;
+        is = same_violation v _ (sym violates ∙ met.violation);
+        presents = record {
+          step = s;
+          va = at.va;
+          kind = at.kind;
+          lies = at.lies;
+          at = at.at;
+          asks = at.asks;
+          finds = met.finds;
+        };
+        own = own_at s.domain s.context at.va at.page at.lies ∙ owner;
+        walked = met.walked;
+        leads = subst (λ (x : CloakedMemory).
+            table_leads (ticked (hart_of_step m)) x.ram at.kind at.va ≡ Ok met.walked) (sym same)
+            (subst (λ (view : View). walk c.memory.ram view.satp (access_of view at.kind at.va) ≡ Ok met.walked) at.view
+            met.leads);
+        there = met.there;
+        differs = subst (Differs at.page met.frame) (sym same) met.differs;
+      };
+    }
+ended_met m s j number h e c went.Stay same owner is at = absurd cc
+ended_met m s j number h e c (went.Remapped space) same owner is at = absurd cc
+ended_met m s j number h e c (went.Leave shown) same owner is at = absurd cc
+ended_met m s j number h e c (went.SpaceGone space shown) same owner is at = absurd cc
 
-told_meets : (j : Joint) (number : ℕ) (h : Hart) (d e : ℕ) (v : World) (g : Went) (new : Domain) →
-    Calm v ⊎ ((g ≡ went.Stopped) × Met (view_on h e) d v) →
-    Meets h d (domain_ended (record (with_domain e new j) { memory = memory_of v j.memory }) number h e v g)
-told_meets j number h d e (Flat ram) g new (inl calm) = absurd calm
-told_meets j number h d e (Flat ram) g new (inr met) = absurd met.1
-told_meets j number h d e (Cloaked c) g new (inl calm) = ended_calm _ number h d e c g calm.kept calm
-told_meets j number h d e (Cloaked c) g new (inr met) = ended_met _ number h d e c g refl met.0 met.1
-told_meets j number h d e (Alone x) g new (inl calm) = absurd calm
-told_meets j number h d e (Alone x) g new (inr met) = absurd met.1
+told_meets : (m : Moment) (s : StepsInside m) (j : Joint) (number : ℕ) (h : Hart) (e : ℕ) (v : World) (g : Went)
+    (new : Domain) → s.domain.control.number ≡ domain_of s.ctx →
+    Calm v ⊎ ((g ≡ went.Stopped) × MetIn s.domain s.context (world_inside m s) v) →
+    Meets m (domain_ended (record (with_domain e new j) { memory = memory_of v j.memory }) number h e v g)
+told_meets m s j number h e (Flat ram) g new owner (inl calm) = absurd calm
+told_meets m s j number h e (Flat ram) g new owner (inr met) = absurd met.1.met
+told_meets m s j number h e (Cloaked c) g new owner (inl calm) = ended_calm m _ number h e c g calm.kept calm
+told_meets m s j number h e (Cloaked c) g new owner (inr met) =
+    ended_met m s _ number h e c g refl owner met.0 met.1
+told_meets m s j number h e (Alone x) g new owner (inl calm) = absurd calm
+told_meets m s j number h e (Alone x) g new owner (inr met) = absurd met.1.met
 
-played_turn : (j : Joint) (number : ℕ) (h : Hart) (e slot : ℕ) (was : Domain) (c : Cloak) → c.view ≡ view_on h e →
-    IsCalm c →
-    Meets h was.control.number (after_domain_step j number h e (domain_step slot was (Cloaked c)))
-unfolding after_domain_step
-played_turn j number h e slot was c view calm =
-    let s = step_scripted slot was in
-    let ends : EndsCalmOrMet (of_domain slot was) (view_on h e) was.control.number (domain_step slot was (Cloaked c)) =
-    subst (EndsCalmOrMet (of_domain slot was) (view_on h e) was.control.number) (sym (s.plays (Cloaked c)))
-    (played_meets (of_domain slot was) (view_on h e) s.script (Cloaked c) s.ends view calm) in
-    told_meets j number h was.control.number e _ _ _ ends
-
-interrupt_meets : (j : Joint) (number : ℕ) (h : Hart) (d : ℕ) (items : List Item) (g : Went) → IsKept j.memory →
-    Meets h d (interrupt_ended j number h items g)
+interrupt_meets : (m : Moment) (j : Joint) (number : ℕ) (h : Hart) (items : List Item) (g : Went) → IsKept j.memory →
+    Meets m (interrupt_ended j number h items g)
 unfolding interrupt_ended
-interrupt_meets j number h d items went.Stay kept = quiet_meets h d _ kept refl
-interrupt_meets j number h d items went.Stopped kept = quiet_meets h d _ kept refl
-interrupt_meets j number h d items (went.Remapped space) kept = quiet_meets h d _ kept refl
-interrupt_meets j number h d items (went.Leave s) kept = quiet_meets h d _ kept refl
-interrupt_meets j number h d items (went.SpaceGone space s) kept = quiet_meets h d _ kept refl
+interrupt_meets m j number h items went.Stay kept = quiet_meets m _ kept refl
+interrupt_meets m j number h items went.Stopped kept = quiet_meets m _ kept refl
+interrupt_meets m j number h items (went.Remapped space) kept = quiet_meets m _ kept refl
+interrupt_meets m j number h items (went.Leave s) kept = quiet_meets m _ kept refl
+interrupt_meets m j number h items (went.SpaceGone space s) kept = quiet_meets m _ kept refl
 
-domain_meets : (due : Bool) (j : Joint) (number : ℕ) (h : Hart) (ctx : ℕ) (was : Domain) → IsKept j.memory →
-    was.control.number ≡ domain_of ctx →
-    Meets h (domain_of ctx) (by_interrupt due j number h (domain_of ctx) (slot_of ctx) was)
-unfolding by_interrupt after_interrupt
-domain_meets true j number h ctx was kept same =
-    interrupt_meets _ number h (domain_of ctx) _ (interrupt (slot_of ctx) was.control).went kept
-domain_meets false j number h ctx was kept same =
-    let e = domain_of ctx in
-    let c : Cloak = cloak_of j.memory h e (pages_for was (context_at was.control.contexts (slot_of ctx))) in
-    subst (λ (n : ℕ). Meets h n (after_domain_step j number h e (domain_step (slot_of ctx) was (Cloaked c)))) same
-    (played_turn j number h e (slot_of ctx) was c refl (record { kept = kept; none = refl }))
+-- What is known of a step of a hart that runs a context of this program.
+record Running (m : Moment) (ctx : ℕ) (was : Domain) : Type 0 where
+  pub runs : (hart_of_step m).inside ≡ Some ctx
+  pub program : slice_get m.joint.domains (domain_of ctx) ≡ Some was
+  pub owner : was.control.number ≡ domain_of ctx
+  pub kept : IsKept m.joint.memory
 
-inside_meets : (j : Joint) (number : ℕ) (h : Hart) (ctx : ℕ) (found : Option Domain) → IsSteady j → IsKept j.memory →
-    slice_get j.domains (domain_of ctx) ≡ found →
-    Meets h (domain_of ctx) (inside_step j number h (domain_of ctx) (slot_of ctx) found)
+context_meets : (m : Moment) (ctx : ℕ) (was : Domain) (o : Option Context) → Running m ctx was →
+    interrupt_due (ticked (hart_of_step m)).mode (ticked (hart_of_step m)).csrs ≡ false →
+    context_at was.control.contexts (slot_of ctx) ≡ o →
+    let h = ticked (hart_of_step m) in
+    Meets m (after_domain_step m.joint (next_hart m) h (domain_of ctx)
+    (step_if o (slot_of ctx) was (Cloaked (cloak_of m.joint.memory h (domain_of ctx) (pages_for was o)))))
+unfolding after_domain_step step_if domain_ended
+context_meets m ctx was None r goes there = quiet_meets m _ r.kept refl
+context_meets m ctx was (Some c) r goes there =
+    let s : StepsInside m = record {
+      ctx = ctx;
+      runs = r.runs;
+      goes = goes;
+      domain = was;
+      program = r.program;
+      context = c;
+      there = there;
+    } in
+    told_meets m s m.joint (next_hart m) (ticked (hart_of_step m)) (domain_of ctx) _ _ _ r.owner
+    (phase_meets c.phase (slot_of ctx) was c (world_inside m s) refl (record { kept = r.kept; none = refl }))
+
+due_meets : (m : Moment) (ctx : ℕ) (was : Domain) (due : Bool) → Running m ctx was →
+    interrupt_due (ticked (hart_of_step m)).mode (ticked (hart_of_step m)).csrs ≡ due →
+    Meets m (by_interrupt due m.joint (next_hart m) (ticked (hart_of_step m)) (domain_of ctx) (slot_of ctx) was)
+unfolding by_interrupt after_interrupt domain_step
+due_meets m ctx was true r is =
+    interrupt_meets m _ (next_hart m) _ _ (interrupt (slot_of ctx) was.control).went r.kept
+due_meets m ctx was false r is = context_meets m ctx was (context_at was.control.contexts (slot_of ctx)) r is refl
+
+inside_meets : (m : Moment) (ctx : ℕ) (found : Option Domain) → (hart_of_step m).inside ≡ Some ctx →
+    IsSteady m.joint → IsKept m.joint.memory → slice_get m.joint.domains (domain_of ctx) ≡ found →
+    Meets m (inside_step m.joint (next_hart m) (ticked (hart_of_step m)) (domain_of ctx) (slot_of ctx) found)
 unfolding inside_step
-inside_meets j number h ctx None steady kept is = quiet_meets h (domain_of ctx) _ kept refl
-inside_meets j number h ctx (Some was) steady kept is =
-    domain_meets _ j number h ctx was kept (number_at (domain_of ctx) j.domains was steady.programs is)
+inside_meets m ctx None runs steady kept is = quiet_meets m _ kept refl
+inside_meets m ctx (Some was) runs steady kept is =
+    due_meets m ctx was _
+    (record {
+      runs = runs;
+      program = is;
+      owner = number_at (domain_of ctx) m.joint.domains was steady.programs is;
+      kept = kept;
+    }) refl
 
 -- A hart outside.
 
@@ -209,17 +247,21 @@ outside_turn m e outside is =
 
 -- Every step.
 
+-- a violation was presented, and is left so
+pub record Cause (m : Moment) (v : Violation) : Type 0 where
+  pub presents : Presents m v
+  pub left : IsLeft m v presents
+
 pub record TurnPresents (m : Moment) : Type 0 where
   pub kept : IsKept (joint_step m).joint.memory
-  pub presents : (v : Violation) → (joint_step m).violation ≡ Some v → Presents m v
+  pub presents : (v : Violation) → (joint_step m).violation ≡ Some v → Cause m v
 
 inside_turn : (m : Moment) (ctx : ℕ) → (hart_of_step m).inside ≡ Some ctx → IsSteady m.joint →
-    IsKept m.joint.memory → Meets (ticked (hart_of_step m)) (domain_of ctx) (joint_step m)
+    IsKept m.joint.memory → Meets m (joint_step m)
 unfolding joint_step turn_of
 inside_turn m ctx inside steady kept =
-    subst (λ (t : Turn). Meets (ticked (hart_of_step m)) (domain_of ctx) t)
-    (sym (ap (turn_of m.joint (next_hart m) (hart_of_step m)) inside))
-    (inside_meets m.joint (next_hart m) (ticked (hart_of_step m)) ctx _ steady kept refl)
+    subst (Meets m) (sym (ap (turn_of m.joint (next_hart m) (hart_of_step m)) inside))
+    (inside_meets m ctx _ inside steady kept refl)
 
 inside_presents : (m : Moment) (ctx : ℕ) → (hart_of_step m).inside ≡ Some ctx → IsSteady m.joint →
     IsKept m.joint.memory → TurnPresents m
@@ -229,17 +271,16 @@ inside_presents m ctx inside steady kept =
       kept = meets.kept;
       presents = λ v violates.
           let met = meets.met v violates in
-          subst (Presents m) (sym met.is)
+          subst (Cause m) (sym met.is)
           (record {
-            ctx = ctx;
-            runs = inside;
-            own = met.own;
-            va = met.va;
-            kind = met.kind;
-            walked = met.walked;
-            leads = met.leads;
-            there = met.there;
-            differs = met.differs;
+            presents = met.presents;
+            left = record {
+              own = met.own;
+              walked = met.walked;
+              leads = met.leads;
+              there = met.there;
+              differs = met.differs;
+            };
           });
     }
 
@@ -283,40 +324,40 @@ resumed_so m ctx reply outside is kept =
 refused_root : (m : Moment) (ctx : ℕ) (asks : AsksToResume m ctx) (c : Context) (v : Violation) (first : Option ℕ)
     (b : Bool) → context_running m.joint ctx ≡ Some c → c.on ≡ None →
     m.joint.memory.ledger.root (space_id ctx c) ≡ first → is_root (presented_root m) first ≡ b →
-    cond b None (Some (violation.Mapping ctx (presented_root m))) ≡ Some v → Presents m v
+    cond b None (Some (violation.Mapping ctx (presented_root m))) ≡ Some v → Cause m v
 refused_root m ctx asks c v first true there rests recorded is violates = no_violation v violates
 refused_root m ctx asks c v None false there rests recorded is violates = absurd (false≢true (sym is))
 refused_root m ctx asks c v (Some first) false there rests recorded is violates =
-    subst (Presents m) (same_violation (violation.Mapping ctx (presented_root m)) v violates)
+    subst (Cause m) (same_violation (violation.Mapping ctx (presented_root m)) v violates)
     (record {
-      asks = asks;
-      context = c;
-      there = there;
-      rests = rests;
-      presented = refl;
-      first = first;
-      recorded = recorded;
-      other = λ same. absurd (false≢true (sym is ∙ eq-eqb first (presented_root m) same));
+      presents = record {
+        asks = asks;
+        context = c;
+        there = there;
+        rests = rests;
+        presented = refl;
+        first = first;
+        recorded = recorded;
+        other = λ same. absurd (false≢true (sym is ∙ eq-eqb first (presented_root m) same));
+      };
+      left = tt;
     })
 
 refused_on : (m : Moment) (ctx : ℕ) (asks : AsksToResume m ctx) (c : Context) (v : Violation) (on : Option _) →
     context_running m.joint ctx ≡ Some c → c.on ≡ on →
     cond (is_some on) (Some (violation.Context ctx))
     (cond (is_root (presented_root m) (m.joint.memory.ledger.root (space_id ctx c))) None
-    (Some (violation.Mapping ctx (presented_root m)))) ≡ Some v → Presents m v
+    (Some (violation.Mapping ctx (presented_root m)))) ≡ Some v → Cause m v
 refused_on m ctx asks c v (Some h) there is violates =
-    subst (Presents m) (same_violation (violation.Context ctx) v violates)
-    (record {
-      asks = asks;
-      cannot = ap can_run there ∙ ap is_none is;
-    })
+    subst (Cause m) (same_violation (violation.Context ctx) v violates)
+    (record { presents = record { asks = asks; cannot = ap can_run there ∙ ap is_none is }; left = tt })
 refused_on m ctx asks c v None there is violates = refused_root m ctx asks c v _ _ there is refl refl violates
 
 refused : (m : Moment) (ctx : ℕ) (asks : AsksToResume m ctx) (v : Violation) (o : Option Context) →
-    context_running m.joint ctx ≡ o → refusal m.joint (presented_root m) ctx o ≡ Some v → Presents m v
+    context_running m.joint ctx ≡ o → refusal m.joint (presented_root m) ctx o ≡ Some v → Cause m v
 refused m ctx asks v None there violates =
-    subst (Presents m) (same_violation (violation.Context ctx) v violates)
-    (record { asks = asks; cannot = ap can_run there })
+    subst (Cause m) (same_violation (violation.Context ctx) v violates)
+    (record { presents = record { asks = asks; cannot = ap can_run there }; left = tt })
 refused m ctx asks v (Some c) there violates = refused_on m ctx asks c v c.on there refl violates
 
 plain_presents : (m : Moment) (t : Turn) → joint_step m ≡ t → IsKept t.joint.memory → t.violation ≡ None →

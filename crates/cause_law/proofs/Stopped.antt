@@ -37,7 +37,8 @@ use Rattle.domain_isolation.proofs.Played.{answers_of, answer_items, played_item
 use Rattle.domain_isolation.proofs.Scripts.{played}
 use Rattle.domain_isolation.proofs.Steady.{is_halted}
 use Rattle.domain_isolation.proofs.StepScripts.{of_domain, step_scripted}
-use Rattle.cause_law.specs.Causes.{hart_of_step, kernel_ending}
+use Rattle.cause_law.specs.Causes.{kernel_ending}
+use Rattle.cause_law.specs.Presented.{hart_of_step}
 use Rattle.cause_law.proofs.Steps.{joint_outside, outside_turn}
 
 abbrev is_stop : Item → Bool

@@ -1,40 +1,34 @@
--- Why a run is stopped by a violation: what the kernel's side presented in its last step.
-use Rattle.std.specs.Prelude.{ℕ, ◌≡◌, ◌≢◌, ◌<◌, ◌⊎◌, suc, Bool, true, false, List, [], ◌∷◌, ◌++◌, length, take, Option, Some, None, Ok, slice_get, slice_index_or, option_and_then, is_none}
-use Rattle.std.specs.List.{find}
+-- Why a run is stopped by a violation: what the kernel's side presented in its last step. And presented so, it is stopped.
+use Rattle.std.specs.Prelude.{ℕ, ◌≡◌, ◌≢◌, ◌<◌, ◌⊎◌, suc, Bool, false, List, ◌∷◌, ◌++◌, length, take, Option, Some, None, Ok, slice_get, option_and_then, is_none}
 use Rattle.cloak_base.specs.Random.{Random}
 use Rattle.cloak_base.specs.declared.causes.Stop.TheVariants as stop
 use Rattle.cloak_base.specs.declared.causes.Violation.{Violation}
 use Rattle.cloak_base.specs.declared.causes.Violation.TheVariants as violation
 use Rattle.cloak_base.specs.declared.names.Kind.{Kind}
-use Rattle.cloak_base.specs.declared.names.Kind.TheVariants.{Fetch}
 use Rattle.cloak_base.specs.declared.names.Mode.TheVariants.{U}
 use Rattle.cloak_base.specs.declared.names.PageId.{PageId}
 use Rattle.cloak_model.specs.declared.image.Bundle.{Bundle}
-use Rattle.cloak_model.specs.declared.access.Access.{Access}
 use Rattle.cloak_model.specs.declared.access.Walked.{Walked}
 use Rattle.cloak_model.specs.declared.answer.Answer.{Answer}
 use Rattle.cloak_model.specs.declared.answer.Answer.TheVariants as answer
-use Rattle.cloak_model.specs.declared.context.Phase.TheVariants.{Plain}
 use Rattle.cloak_model.specs.declared.item.Item.{Item}
 use Rattle.cloak_model.specs.declared.item.Item.TheVariants as item
 use Rattle.cloak_model.specs.declared.outcome.Kernel.{Kernel}
 use Rattle.cloak_model.specs.declared.outcome.Kernel.TheVariants as kernel
-use Rattle.cloak_model.specs.Ahead.{is_owed, settled_step}
+use Rattle.cloak_model.specs.Ahead.{settled_step}
 use Rattle.cloak_model.specs.Asking.{Told}
-use Rattle.cloak_model.specs.AskPages.{ask_inside_address, ask_reach}
-use Rattle.cloak_model.specs.Cloaking.{CloakedMemory, owed_in}
+use Rattle.cloak_model.specs.AskPages.{ask_reach}
 use Rattle.cloak_model.specs.Contexts.{Context, context_at, domain_of, slot_of}
-use Rattle.cloak_model.specs.Csr.{satp_of, sum_of, mxr_of, interrupt_due}
-use Rattle.cloak_model.specs.DomainState.{Domain}
+use Rattle.cloak_model.specs.Csr.{satp_of, sum_of, mxr_of}
 use Rattle.cloak_model.specs.Hart.{Hart}
 use Rattle.cloak_model.specs.Joint.{Moment, Turn, next_hart, hart_in, cloak_outside, joint_step}
-use Rattle.cloak_model.specs.Parts.{Joint}
 use Rattle.cloak_model.specs.KernelStep.{ticked}
-use Rattle.cloak_model.specs.Memory.{frame_of, is_in_ram}
-use Rattle.cloak_model.specs.Resources.{page_at}
+use Rattle.cloak_model.specs.Memory.{frame_of}
+use Rattle.cloak_model.specs.Parts.{Joint}
 use Rattle.cloak_model.specs.Run.{Run, joint_run, joint_after}
-use Rattle.cloak_model.specs.Walk.{Walk, walk, walk_tables}
+use Rattle.cloak_model.specs.Walk.{Walk, walk}
 use Rattle.cloak_model.specs.World.{Cloak, Cloaked, violation_of}
+use Rattle.cause_law.specs.Presented.{hart_of_step, Differs, FindsOther, PresentsPage}
 
 -- The machine as a run goes on.
 
@@ -45,45 +39,6 @@ moment_at b r n = record {
   steps = n;
   joint = joint_after r.opened.joint (take n r.turns);
 }
-
--- the hart of the next step
-abbrev pub hart_of_step : Moment → Hart
-hart_of_step m = hart_in m.joint (next_hart m)
-
--- A page that is not the recorded one.
-
--- A frame has other bytes than those that the kernel was last shown of a page. The kernel sees the frame's bytes, and
--- no frame hides newer ones of the page.
-pub record Differs (q : PageId) (f : ℕ) (m : CloakedMemory) : Type 0 where
-  pub shown : List ℕ
-  pub recorded : m.ledger.recorded q ≡ Some shown
-  pub other : slice_index_or m.ram f [] ≢ shown
-  pub visible : owed_in m f ≡ None
-  pub newest : (g : ℕ) → owed_in m g ≢ Some q
-
--- an access of a program on this hart
-abbrev pub access_on : Hart → Kind → ℕ → Access
-access_on h kind va = record { mode = U; sum = sum_of h.csrs; mxr = mxr_of h.csrs; va = va; kind = kind }
-
--- where the page table of a hart leads it, in RAM as the kernel sees it, and by which frames
-abbrev pub table_leads : Hart → List (List ℕ) → Kind → ℕ → Walk
-table_leads h ram kind va = walk ram (satp_of h.csrs) (access_on h kind va)
-
-abbrev pub table_frames : Hart → List (List ℕ) → Kind → ℕ → List ℕ
-table_frames h ram kind va = walk_tables ram (satp_of h.csrs) (access_on h kind va)
-
--- In a step of a context, whose program page q is, the kernel's page table leads an access to a frame that differs from
--- what was last shown of q.
-pub record PresentsPage (m : Moment) (q : PageId) (f : ℕ) : Type 0 where
-  pub ctx : ℕ
-  pub runs : (hart_of_step m).inside ≡ Some ctx
-  pub own : q.domain ≡ domain_of ctx
-  pub va : ℕ
-  pub kind : Kind
-  pub walked : Walked
-  pub leads : table_leads (ticked (hart_of_step m)) (joint_step m).joint.memory.ram kind va ≡ Ok walked
-  pub there : frame_of walked.pa ≡ f
-  pub differs : Differs q f (joint_step m).joint.memory
 
 -- A context that cannot run, and a page table that is not the recorded one.
 
@@ -133,11 +88,33 @@ Presents m (violation.Page q frame) = PresentsPage m q frame.0
 Presents m (violation.Context ctx) = PresentsContext m ctx
 Presents m (violation.Mapping ctx root) = PresentsMapping m ctx root
 
+-- As a step leaves it.
+
+-- where the page table of a hart leads a program's access, in RAM as the kernel sees it
+abbrev pub table_leads : Hart → List (List ℕ) → Kind → ℕ → Walk
+table_leads h ram kind va =
+    walk ram (satp_of h.csrs) (record { mode = U; sum = sum_of h.csrs; mxr = mxr_of h.csrs; va = va; kind = kind })
+
+-- A page was presented, which is of the context's program: in the memory that the step leaves, the page table still leads
+-- to the frame, and this still differs from what was last shown of the page.
+pub record PageIsLeft (m : Moment) (q : PageId) (f : ℕ) (p : PresentsPage m q f) : Type 0 where
+  pub own : q.domain ≡ domain_of p.step.ctx
+  pub walked : Walked
+  pub leads : table_leads (ticked (hart_of_step m)) (joint_step m).joint.memory.ram p.kind p.va ≡ Ok walked
+  pub there : frame_of walked.pa ≡ f
+  pub differs : Differs q f (joint_step m).joint.memory
+
+abbrev pub IsLeft : (m : Moment) (v : Violation) → Presents m v → Type 0
+IsLeft m (violation.Page q frame) presents = PageIsLeft m q frame.0 presents
+IsLeft m (violation.Context ctx) presents = Unit {0}
+IsLeft m (violation.Mapping ctx root) presents = Unit {0}
+
 -- A run that is stopped by a violation made a last step, in which that was presented.
 pub record LastStepPresents (b : Bundle) (r : Run) (v : Violation) : Type 0 where
   pub before : ℕ
   pub last : length r.turns ≡ suc before
   pub presents : Presents (moment_at b r before) v
+  pub left : IsLeft (moment_at b r before) v presents
 
 abbrev pub ViolationHasCause : Type 0
 ViolationHasCause =
@@ -149,16 +126,13 @@ pub record IsStoppedBy (r : Run) (n : ℕ) (v : Violation) : Type 0 where
   pub last : length r.turns ≡ suc n
   pub stop : (r.stop ≡ stop.Violation v) ⊎ (r.stop ≡ stop.NoRandom)
 
-abbrev pub ContextIsRefused : Type 0
-ContextIsRefused =
-    (b : Bundle) (stream : Random) (budget : ℕ) (r : Run) → joint_run b stream budget ≡ Ok r → (n : ℕ) →
-    n < length r.turns → (ctx : ℕ) → PresentsContext (moment_at b r n) ctx → IsStoppedBy r n (violation.Context ctx)
+abbrev pub RefusesPresented : Bundle → Run → Type 0
+RefusesPresented b r =
+    (n : ℕ) → n < length r.turns → (v : Violation) → Presents (moment_at b r n) v → IsStoppedBy r n v
 
-abbrev pub MappingIsRefused : Type 0
-MappingIsRefused =
-    (b : Bundle) (stream : Random) (budget : ℕ) (r : Run) → joint_run b stream budget ≡ Ok r → (n : ℕ) →
-    n < length r.turns → (ctx root : ℕ) → PresentsMapping (moment_at b r n) ctx root →
-    IsStoppedBy r n (violation.Mapping ctx root)
+abbrev pub PresentedIsRefused : Type 0
+PresentedIsRefused =
+    (b : Bundle) (stream : Random) (budget : ℕ) (r : Run) → joint_run b stream budget ≡ Ok r → RefusesPresented b r
 
 -- Pages are asked for in the middle of a step, at most twice, and in no other way than by this question.
 
@@ -167,42 +141,12 @@ pub record QuestionIsRefused (q : PageId) (f : ℕ) (told : Told Answer) : Type 
   pub answer : told.answer ≡ answer.Stopped
   pub violation : violation_of told.world ≡ Some (violation.Page q (record { 0 = f }))
 
--- A program asks for its page q at an address, in whatever memory. The kernel's page table leads there to a frame that
--- differs from what was last shown of q, and no draw is missing: the question is stopped so.
+-- A program asks for its page q at an address, in whatever memory, and it is found there in another frame: the question
+-- is stopped so.
 abbrev pub PageIsRefused : Type 0
 PageIsRefused =
-    (q : PageId) (va : ℕ) (kind : Kind) (c c' : Cloak) (pa : ℕ) →
-    ask_inside_address va kind (Cloaked c) ≡ record { answer = Ok pa; world = Cloaked c' } →
-    c'.memory.ledger.missed ≡ false → Differs q (frame_of pa) c'.memory →
-    QuestionIsRefused q (frame_of pa) (ask_reach q va kind (Cloaked c))
-
--- The context that a hart runs is to fetch its next instruction from page q. As the step begins, the kernel's page
--- table leads the fetch to a frame in RAM that differs from what was last shown of q, and none of its table frames is
--- owed a page, so that nothing is settled on the way.
-pub record PresentsFetch (m : Moment) (q : PageId) (f : ℕ) : Type 0 where
-  pub ctx : ℕ
-  pub runs : (hart_of_step m).inside ≡ Some ctx
-  pub domain : Domain
-  pub program : slice_get m.joint.domains (domain_of ctx) ≡ Some domain
-  pub context : Context
-  pub there : context_at domain.control.contexts (slot_of ctx) ≡ Some context
-  pub plain : context.phase ≡ Plain
-  pub goes : interrupt_due (ticked (hart_of_step m)).mode (ticked (hart_of_step m)).csrs ≡ false
-  pub lies : page_at domain.control.number domain.control.resources context.space context.pc ≡ Some q
-  pub walked : Walked
-  pub leads : table_leads (ticked (hart_of_step m)) m.joint.memory.ram Fetch context.pc ≡ Ok walked
-  pub tables : find (is_owed m.joint.memory)
-      (table_frames (ticked (hart_of_step m)) m.joint.memory.ram Fetch context.pc) ≡ None
-  pub inside : is_in_ram m.joint.memory.ram walked.pa ≡ true
-  pub frame : frame_of walked.pa ≡ f
-  pub drawn : m.joint.memory.ledger.missed ≡ false
-  pub differs : Differs q f m.joint.memory
-
-abbrev pub FetchIsRefused : Type 0
-FetchIsRefused =
-    (b : Bundle) (stream : Random) (budget : ℕ) (r : Run) → joint_run b stream budget ≡ Ok r → (n : ℕ) →
-    n < length r.turns → (q : PageId) (f : ℕ) → PresentsFetch (moment_at b r n) q f →
-    IsStoppedBy r n (violation.Page q (record { 0 = f }))
+    (q : PageId) (va : ℕ) (kind : Kind) (f : ℕ) (c : Cloak) → FindsOther q va kind f c →
+    QuestionIsRefused q f (ask_reach q va kind (Cloaked c))
 
 -- The run stopped with the violation of this step.
 pub record HasStopped (r : Run) (t : Turn) : Type 0 where

@@ -4,18 +4,18 @@
 //! of a space. And presented so, the run stops so, unless a draw is missing, which goes before. When a run was closed,
 //! no frame has anything left to show: all of RAM, of which the report gives the digest, is what the kernel may see.
 //!
-//! A page is presented in the middle of a step. So it is said in parts that this stops the run: the question that meets
-//! it is stopped with the violation that names page and frame, and a step with a stopped question is the last one. Of
-//! the fetch it is said of the memory as the step begins. Of a violation it is not said that the page lies at the
-//! address, in the space of the context, from which the page table leads to the frame.
+//! A page is presented to an access of a step (`specs/Presented`): the fetch of an instruction, its load or store, or the
+//! byte that a call's copy reaches next. The page lies at the address of the access in the context's space, and is found
+//! there in memory as the access finds it: a load comes behind its fetch, which may have shown frames.
 //!
 //! No body turns a law, so there is no wrong body to refuse here. These changed definitions were tried on a copy, and
 //! with none of them did the proofs go through. Of the closing: the last frame is not settled. Of violations and
 //! refusals: a resume with another page table stops the run as one of a context that cannot run; the violation of a
-//! page names the next frame.
+//! page names the next frame; the frame of a page is compared before it is settled; the step of an access is one in
+//! which an interrupt is due.
 #![tactic(auto)]
 
-ghost use Rattle.cause_law.specs.Causes.{ContextIsRefused, FetchIsRefused, MappingIsRefused, PageIsRefused, StoppedIsLast, ViolationHasCause};
+ghost use Rattle.cause_law.specs.Causes.{PageIsRefused, PresentedIsRefused, StoppedIsLast, ViolationHasCause};
 ghost use Rattle.cause_law.specs.Closing.{ClosingOwesNothing, ClosingShowsOwed, ClosingSparesOthers};
 
 /// What the closing of a run shows, and that it leaves nothing to show. It does nothing: its contract is the law.
@@ -32,9 +32,7 @@ pub fn law_of_violations()
 
 /// What is presented in place of what is recorded stops the run. It does nothing: its contract is the law.
 pub fn law_of_refusals()
-    ensures context { ContextIsRefused }
-    ensures mapping { MappingIsRefused }
+    ensures presented { PresentedIsRefused }
     ensures page { PageIsRefused }
-    ensures fetch { FetchIsRefused }
     ensures stopped { StoppedIsLast }
 {}

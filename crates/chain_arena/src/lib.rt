@@ -25,6 +25,3 @@ pub use cells::{Base, Cells, Deed};
 pub use chain::{Chain, Slot};
 #[doc(hidden)]
 pub use node::{Link, Links, Node};
-
-#[cfg(test)]
-mod tests;

@@ -26,7 +26,7 @@ fn image(alloc: Global, code: &[u32], blocks: u32) -> Result<Vec<u8>, Fail> {
 }
 
 /// `lui x17,0x4F560`; `ecall`: no program has a context that could be resumed.
-static RESUMES: [u32; 2] = [0x4f56_08b7, 0x0000_0073];
+const RESUMES: &[u32] = &[0x4f56_08b7, 0x0000_0073];
 
 const RESUMED: &str = "
 stop violation context 0
@@ -41,7 +41,7 @@ csrs 00000000 00000000 00000000 00000000 00000000 00000000 00000000 00000000 000
 ";
 
 /// `addi x17,x0,2`; `addi x10,x0,64`; `lui x11,0x80000`; `ecall`, a READ of block 64; `addi x17,x0,4`; `ecall`.
-static READS_BLOCK_64: [u32; 6] = [
+const READS_BLOCK_64: &[u32] = &[
     0x0020_0893,
     0x0400_0513,
     0x8000_05b7,
@@ -64,7 +64,7 @@ csrs 00000000 00000000 00000000 00000000 00000000 00000000 00000000 00000000 000
 
 /// Stores a superpage for its own code, a pointer, and a leaf that leads from 0x00401000 to frame 5; stores 7
 /// in that frame at 0x80005ABC; turns paging on; loads the word at 0x00401ABC into x10, and halts with it.
-static LOADS_BY_A_TABLE: [u32; 28] = [
+const LOADS_BY_A_TABLE: &[u32] = &[
     0x8000_22b7,
     0x8002_8293,
     0x2000_0337,
@@ -108,27 +108,28 @@ csrs 00000000 00000000 00000000 00000000 00000000 00000000 00000000 00000000 800
 ";
 
 /// The digests are those of the stores and registers above, by another program.
+static CODES: [(&str, &[u32], u32, Status, &str); 3] = [
+    ("a resume", RESUMES, 0, Status::Violation, RESUMED),
+    ("a refused READ", READS_BLOCK_64, 64, Status::Done, REFUSED),
+    (
+        "a load by a page table",
+        LOADS_BY_A_TABLE,
+        0,
+        Status::Done,
+        LOADED,
+    ),
+];
+
 #[test]
 fn runs_of_code(rt: HostRuntime) -> Result<(), Fail> {
-    let rows: [(&str, &[u32], u32, Status, &str); 3] = [
-        ("a resume", &RESUMES, 0, Status::Violation, RESUMED),
-        ("a refused READ", &READS_BLOCK_64, 64, Status::Done, REFUSED),
-        (
-            "a load by a page table",
-            &LOADS_BY_A_TABLE,
-            0,
-            Status::Done,
-            LOADED,
-        ),
-    ];
-    for (name, code, blocks, status, output) in rows {
+    for (name, code, blocks, status, output) in CODES {
         let bundle = image(rt.alloc(), code, blocks)?;
         let left = called(
             rt.alloc(),
             "run a.b a.r --steps 100 --number 0",
             bundle.as_slice(),
-            Vec::new(rt.alloc()),
-            Vec::new(rt.alloc()),
+            b"",
+            (0, 0),
         )?;
         assert_eq!(rt; left.status, status, "{name}");
         assert_eq!(rt; left.sink.taken(), output.as_bytes(), "{name}");
@@ -164,8 +165,8 @@ fn harts_take_their_turns(rt: HostRuntime) -> Result<(), Fail> {
         rt.alloc(),
         "run a.b a.r --steps 3 --number 0",
         &TWO_HARTS,
-        Vec::new(rt.alloc()),
-        Vec::new(rt.alloc()),
+        b"",
+        (0, 0),
     )?;
     assert_eq!(rt; left.status, Status::Done);
     assert_eq!(rt; left.sink.taken(), TURNS.as_bytes());

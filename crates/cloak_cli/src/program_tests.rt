@@ -1,9 +1,8 @@
 //! Runs of a guest image with one program, of one page in frame 8.
 
-use crate::program::{run_program, sentence};
-use crate::tests::Left;
+use crate::program::sentence;
+use crate::tests::{Left, called};
 use crate::words::Words;
-use outside_io::{MemoryShelf, MemorySink};
 use program_parts::Status;
 use std::alloc::Global;
 use std::test::*;
@@ -39,25 +38,18 @@ fn ran(alloc: Global, bundle: &[u8], bytes: u8) -> Result<Left, Fail> {
     for byte in 0..bytes {
         stream.push(byte)?;
     }
-    let mut shelf = MemoryShelf::open(alloc, Vec::new(alloc));
-    shelf.add("a.b", bundle)?;
-    shelf.add("random", stream.as_slice())?;
-    let mut sink = MemorySink::open(alloc, Vec::new(alloc));
-    let mut words = Vec::new(alloc);
-    for word in "run a.b a.r --steps 100 --stream random".split_whitespace() {
-        words.push(String::from_str(alloc, word)?)?;
-    }
-    let status = run_program(alloc, &Words::Taken(words), &mut shelf, &mut sink);
-    Ok(Left {
-        status,
-        shelf,
-        sink,
-    })
+    called(
+        alloc,
+        "run a.b a.r --steps 100 --stream other",
+        bundle,
+        stream.as_slice(),
+        (0, 0),
+    )
 }
 
 /// Sets the trap's vector to the handler behind it, and resumes context 0: `auipc x6,0`; `addi x6,x6,20`;
 /// `csrrw x0,0x105,x6`; `lui x17,0x4F560`; `ecall`. The handler halts: `addi x17,x0,4`; `ecall`.
-static HALTS: [u32; 7] = [
+const HALTS: &[u32] = &[
     0x0000_0317,
     0x0143_0313,
     0x1053_1073,
@@ -69,7 +61,7 @@ static HALTS: [u32; 7] = [
 
 /// The handler flips a bit of frame 8 and resumes: `auipc x6,8`; `lw x7,0(x6)`; `xori x7,x7,1`; `sw x7,0(x6)`;
 /// `lui x17,0x4F560`; `ecall`.
-static FLIPS: [u32; 11] = [
+const FLIPS: &[u32] = &[
     0x0000_0317,
     0x0143_0313,
     0x1053_1073,
@@ -84,7 +76,7 @@ static FLIPS: [u32; 11] = [
 ];
 
 /// The handler writes 0x00400000 to satp and resumes: `lui x6,0x400`; `csrrw x0,0x180,x6`; `lui x17,0x4F560`; `ecall`.
-static MAPS_ELSEWHERE: [u32; 9] = [
+const MAPS_ELSEWHERE: &[u32] = &[
     0x0000_0317,
     0x0143_0313,
     0x1053_1073,
@@ -97,7 +89,7 @@ static MAPS_ELSEWHERE: [u32; 9] = [
 ];
 
 /// The handler resumes what left: `lui x17,0x4F560`; `ecall`.
-static RESUMES_AGAIN: [u32; 7] = [
+const RESUMES_AGAIN: &[u32] = &[
     0x0000_0317,
     0x0143_0313,
     0x1053_1073,
@@ -108,11 +100,11 @@ static RESUMES_AGAIN: [u32; 7] = [
 ];
 
 /// Resumes context 3: `addi x5,x0,3`; `lui x17,0x4F560`; `ecall`.
-static RESUMES_CONTEXT_3: [u32; 3] = [0x0030_0293, 0x4f56_08b7, 0x0000_0073];
+const RESUMES_CONTEXT_3: &[u32] = &[0x0030_0293, 0x4f56_08b7, 0x0000_0073];
 
 /// Stores 7, loads it, and calls number 9: `addi x10,x0,7`; `sw x10,0(x2)`; `lw x11,0(x2)`; `addi x16,x0,9`;
 /// `lui x17,0x4F560`; `addi x17,x17,8`; `ecall`.
-static CALLS: [u32; 7] = [
+const CALLS: &[u32] = &[
     0x0070_0513,
     0x00a1_2023,
     0x0001_2583,
@@ -123,7 +115,7 @@ static CALLS: [u32; 7] = [
 ];
 
 /// Ends its context: `lui x17,0x4F560`; `addi x17,x17,7`; `ecall`.
-static EXITS: [u32; 3] = [0x4f56_08b7, 0x0078_8893, 0x0000_0073];
+const EXITS: &[u32] = &[0x4f56_08b7, 0x0078_8893, 0x0000_0073];
 
 const CALLED: &str = "
 stop halt 7
@@ -139,22 +131,24 @@ domain 0 state 57f402f27d52d0ab34baac3ab1c5a3062548b040812cf8c40e61e161f4c6d610 
 ";
 
 /// The status, the first lines behind the console's, and the length of the record of runs by the bytes of their stream.
+static ENDS: [(u8, Status, &str, usize); 6] = [
+    (48, Status::Done, CALLED, 8355),
+    (255, Status::Done, CALLED, 8355),
+    (
+        47,
+        Status::NoRandom,
+        "\nstop norandom\nsteps 14\ndraws 1\n",
+        8355,
+    ),
+    (31, Status::NoRandom, "random: opening\n", 0),
+    (16, Status::NoRandom, "random: opening\n", 0),
+    (15, Status::NoRandom, "random: no key\n", 0),
+];
+
 #[test]
 fn streams_that_end(rt: HostRuntime) -> Result<(), Fail> {
-    let bundle = image(rt.alloc(), &[0], &HALTS, &CALLS)?;
-    for (bytes, status, begins, record) in [
-        (48, Status::Done, CALLED, 8355),
-        (255, Status::Done, CALLED, 8355),
-        (
-            47,
-            Status::NoRandom,
-            "\nstop norandom\nsteps 14\ndraws 1\n",
-            8355,
-        ),
-        (31, Status::NoRandom, "random: opening\n", 0),
-        (16, Status::NoRandom, "random: opening\n", 0),
-        (15, Status::NoRandom, "random: no key\n", 0),
-    ] {
+    let bundle = image(rt.alloc(), &[0], HALTS, CALLS)?;
+    for (bytes, status, begins, record) in ENDS {
         let left = ran(rt.alloc(), bundle.as_slice(), bytes)?;
         assert_eq!(rt; left.status, status, "{bytes} bytes");
         assert!(rt;
@@ -167,31 +161,32 @@ fn streams_that_end(rt: HostRuntime) -> Result<(), Fail> {
 }
 
 /// The first lines behind the console's of runs that stop with a violation.
+static VIOLATIONS: [(&[u8], &[u32], &[u32], &str); 5] = [
+    (
+        &[0],
+        FLIPS,
+        CALLS,
+        "\nstop violation page domain 0 resource 0 page 0 frame 8\nsteps 19\ndraws 2\n",
+    ),
+    (
+        &[0],
+        MAPS_ELSEWHERE,
+        CALLS,
+        "\nstop violation mapping 0 root 00400000\n",
+    ),
+    (&[0], RESUMES_AGAIN, EXITS, "\nstop violation context 0\n"),
+    (
+        &[0],
+        RESUMES_CONTEXT_3,
+        CALLS,
+        "\nstop violation context 3\n",
+    ),
+    (&[0, 1], HALTS, CALLS, "\nstop violation context 0\n"),
+];
+
 #[test]
 fn violations(rt: HostRuntime) -> Result<(), Fail> {
-    let rows: [(&[u8], &[u32], &[u32], &str); 5] = [
-        (
-            &[0],
-            &FLIPS,
-            &CALLS,
-            "\nstop violation page domain 0 resource 0 page 0 frame 8\nsteps 19\ndraws 2\n",
-        ),
-        (
-            &[0],
-            &MAPS_ELSEWHERE,
-            &CALLS,
-            "\nstop violation mapping 0 root 00400000\n",
-        ),
-        (&[0], &RESUMES_AGAIN, &EXITS, "\nstop violation context 0\n"),
-        (
-            &[0],
-            &RESUMES_CONTEXT_3,
-            &CALLS,
-            "\nstop violation context 3\n",
-        ),
-        (&[0, 1], &HALTS, &CALLS, "\nstop violation context 0\n"),
-    ];
-    for (schedule, kernel, program, begins) in rows {
+    for (schedule, kernel, program, begins) in VIOLATIONS {
         let bundle = image(rt.alloc(), schedule, kernel, program)?;
         let left = ran(rt.alloc(), bundle.as_slice(), 255)?;
         assert_eq!(rt; left.status, Status::Violation, "{begins}");
@@ -204,36 +199,38 @@ fn violations(rt: HostRuntime) -> Result<(), Fail> {
 }
 
 /// What is said of a status, with the names of the files that these words name.
+static SENTENCES: [(&str, Status, &str); 6] = [
+    ("demo 9 --steps 10", Status::Done, ""),
+    (
+        "run a.b a.r --steps 10 --number 7",
+        Status::ReadFault,
+        "cloak: the bundle `a.b` cannot be read\n",
+    ),
+    (
+        "run a.b a.r --steps 10 --stream s",
+        Status::NoRandom,
+        "cloak: the stream `s` has too few bytes for this run\n",
+    ),
+    (
+        "solo 3 a.b a.r",
+        Status::Usage,
+        "cloak: program 3 is not in the bundle `a.b`\n",
+    ),
+    (
+        "view a.b a.r",
+        Status::BadRecord,
+        "cloak: the record `a.r` is damaged, or is none of the bundle `a.b`, and the line `record` says where\n",
+    ),
+    (
+        "gen 9 a.b",
+        Status::WriteFault,
+        "cloak: the bundle `a.b` or the output cannot be written, and what was written before stands\n",
+    ),
+];
+
 #[test]
 fn sentences(rt: HostRuntime) -> Result<(), Fail> {
-    for (line, status, said) in [
-        ("demo 9 --steps 10", Status::Done, ""),
-        (
-            "run a.b a.r --steps 10 --number 7",
-            Status::ReadFault,
-            "cloak: the bundle `a.b` cannot be read\n",
-        ),
-        (
-            "run a.b a.r --steps 10 --stream s",
-            Status::NoRandom,
-            "cloak: the stream `s` has too few bytes for this run\n",
-        ),
-        (
-            "solo 3 a.b a.r",
-            Status::Usage,
-            "cloak: program 3 is not in the bundle `a.b`\n",
-        ),
-        (
-            "view a.b a.r",
-            Status::BadRecord,
-            "cloak: the record `a.r` is damaged, or is none of the bundle `a.b`, and the line `record` says where\n",
-        ),
-        (
-            "gen 9 a.b",
-            Status::WriteFault,
-            "cloak: the bundle `a.b` or the output cannot be written, and what was written before stands\n",
-        ),
-    ] {
+    for (line, status, said) in SENTENCES {
         let mut words = Vec::new(rt.alloc());
         for word in line.split_whitespace() {
             words.push(String::from_str(rt.alloc(), word)?)?;

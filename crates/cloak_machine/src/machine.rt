@@ -70,7 +70,7 @@ impl Machine {
     ghost use Rattle.cloak_machine.specs.Standing.{StandsForMoment, steps_made};
 
     /// The machine of a guest image, before its first step. Its key is the first draw of the stream, and each page of
-    /// a program takes the next one. The memory of the kernel's image is given back.
+    /// a program takes the next one. The memory of the kernel's image is taken over or given back.
     pub fn open(
         alloc: Global,
         kernel: KernelImage,

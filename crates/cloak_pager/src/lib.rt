@@ -26,6 +26,3 @@ pub use law::law_of_calls;
 pub use offering::Offered;
 pub use pager::Pager;
 pub use touching::Touched;
-
-#[cfg(test)]
-mod tests;

@@ -65,6 +65,8 @@ impl Pager {
     }
 
     /// The page was shown before: its frame is opened where the bytes are those that were shown.
+    #[cold]
+    #[inline(never)]
     fn offer_shown(&mut self, q: PageId, g: Frame, write: bool, m: &Meta) -> Offered
         requires inside { g.0 < length self.old.frames }
         requires domain { q.domain < domains_of self.old.table }

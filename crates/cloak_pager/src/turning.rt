@@ -17,6 +17,8 @@ impl Pager {
     ghost use Rattle.page_states.specs.Opening.{OpensTo};
     ghost use Rattle.cloak_pager.specs.Turns.{IsClean, IsChanged, IsResealed, IsSealed, IsWiped, HoldsNow};
 
+    #[cold]
+    #[inline(never)]
     pub(crate) fn reseal_frame(&mut self, f: Frame)
         requires inside { f.0 < length self.old.frames }
         requires clean { IsClean (right_at self.old f.0) }
@@ -40,6 +42,8 @@ impl Pager {
         }
     }
 
+    #[cold]
+    #[inline(never)]
     pub(crate) fn seal_frame(&mut self, f: Frame, iv: [u8; 16])
         requires inside { f.0 < length self.old.frames }
         requires changed { IsChanged (right_at self.old f.0) }
@@ -56,6 +60,8 @@ impl Pager {
         }
     }
 
+    #[cold]
+    #[inline(never)]
     pub(crate) fn wipe_frame(&mut self, f: Frame)
         requires inside { f.0 < length self.old.frames }
         requires changed { IsChanged (right_at self.old f.0) }
@@ -103,6 +109,8 @@ impl Pager {
     }
 
     /// Gives the outside frame to page `q`, of which nothing was shown yet.
+    #[cold]
+    #[inline(never)]
     pub(crate) fn first_frame(&mut self, q: PageId, g: Frame)
         requires inside { g.0 < length self.old.frames }
         requires domain { q.domain < domains_of self.old.table }

@@ -28,6 +28,3 @@ pub fn file_resource(r: &mut Resources, number: u32, pages: u32) -> Result<u32, 
         _ => Err(MapFault::BadArg),
     }
 }
-
-#[cfg(test)]
-mod tests;

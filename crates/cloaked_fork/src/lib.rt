@@ -10,8 +10,6 @@ mod ending;
 mod forking;
 mod pages;
 mod slots;
-#[cfg(test)]
-mod tests;
 
 pub use cloak_model::{Ended, MapFault};
 pub use ending::end_context;

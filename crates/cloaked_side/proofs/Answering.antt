@@ -1,15 +1,14 @@
 -- The questions of a cloaked program, over plain variables.
-use Rattle.std.proofs.Common.{◌≡◌, ℕ, Bool, true, false, cond, List, ◌++◌, Option, Some, ◌*◌, ◌%◌, ◌^◌, Result, Ok}
+use Rattle.std.proofs.Common.{◌≡◌, ℕ, Bool, true, false, cond, List, length, ◌++◌, Option, Some, ◌*◌, ◌%◌, ◌^◌, Result, Ok}
 use Rattle.std.proofs.Common.{Err, refl, ap, sym, ◌∙◌, subst}
 use Rattle.cloak_model.specs.declared.answer.Answer.{Answer}
 use Rattle.cloak_model.specs.declared.answer.Answer.TheVariants.{Stopped, Absent, Word, Ok as Granted}
 use Rattle.cloak_base.specs.declared.names.Kind.{Kind}
 use Rattle.cloak_model.specs.declared.item.Item.TheVariants as item
 use Rattle.cloak_model.specs.Memory.{frame_of, with_value_in}
-use Rattle.cloak_model.specs.Ask.{ask_value}
+use Rattle.cloak_model.specs.Ask.{ask_value, shown_value}
 use Rattle.cloak_model.proofs.Later.{IsLater}
-use Rattle.cloak_model.proofs.PagesLater.{later_drawn, later_answers, later_offered}
-use Rattle.cloak_model.specs.declared.item.Item.{Item}
+use Rattle.cloak_model.proofs.PagesLater.{later_drawn, later_offered}
 use Rattle.cloak_model.specs.World.{World, Cloak, Flat, Cloaked, Alone, cipher_items, is_clashed, stored_at, settled}
 use Rattle.cloak_model.specs.World.{view_of, is_missed, written}
 use Rattle.cloak_model.specs.Asking.{Told, Asking, FollowsFrom, then_ask}
@@ -25,7 +24,7 @@ use Rattle.cloaked_side.specs.Offering.{Offers, offer_of}
 use Rattle.cloaked_side.specs.declared.memory.Offer.{Offer as Ended}
 use Rattle.cloaked_side.specs.declared.memory.Offer.TheVariants as ended
 use Rattle.cloaked_side.proofs.Emitting.{emits_items}
-use Rattle.cloaked_side.proofs.Sided.{Repaged, sees_moved}
+use Rattle.cloaked_side.proofs.Sided.{Repaged, still_turned, sees_moved}
 use Rattle.cloak_model.specs.PageMoves.{with_newest}
 use Rattle.cloak_pager.specs.AfterCall.{ReadsNewest, MeetsStill, after_write_plain}
 use Rattle.cloaked_side.specs.Seeing.{Sees}
@@ -110,7 +109,7 @@ pub asked_undrawn : {E : Type 0} (gave : E → E → List Piece → Type 0) (fir
     (is_clashed (ask_inside_address va kind w).world ≡ false →
     FollowsFrom (Sees gave first) now r (ask_inside_address va kind w)) →
     now.memory.now.missed ≡ false →
-    ((v : World) → Sees gave first now v → is_clashed (next r v).world ≡ false →
+    (let v = (ask_inside_address va kind w).world in is_clashed v ≡ false → Sees gave first now v → is_clashed (next r v).world ≡ false →
     FollowsFrom (Sees gave first) new a (next r v)) →
     FollowsFrom (Sees gave first) new a (then_ask (ask_inside_address va kind) (λ to. if_drawn (next to)) w)
 asked_undrawn gave first now new a va kind next r w later unclashed address missed goes_on =
@@ -120,7 +119,7 @@ asked_undrawn gave first now new a va kind next r w later unclashed address miss
     let clash = subst (λ x. is_clashed (if_drawn (next x) told.world).world ≡ false) (sym f.answer) unclashed in
     then_told gave first now new r a (ask_inside_address va kind) (λ to. if_drawn (next to)) w f
     (λ stands. undrawn_told gave first now new a (next r) told.world stands missed
-    (goes_on told.world stands (undrawn_clash gave first now (next r) told.world stands missed clash)))
+    (goes_on u stands (undrawn_clash gave first now (next r) told.world stands missed clash)))
 
 pub got_err : {E : Type 0} (gave : E → E → List Piece → Type 0) (first new : Side E) (width cause : ℕ) (a : Answer)
     (to : Result ℕ ℕ) (w : World) → to ≡ Err cause →
@@ -130,24 +129,17 @@ unfolding got
 got_err gave first new width cause a to w is told =
     subst (λ t. FollowsFrom (Sees gave first) new a (got width t w)) (sym is) told
 
-pub got_ok : {E : Type 0} (gave : E → E → List Piece → Type 0) (first now new : Side E) (width pa value low : ℕ)
-    (a : Answer) (to : Result ℕ ℕ) (w : World) → to ≡ Ok pa → is_clashed (got width to w).world ≡ false →
-    (is_clashed (ask_value pa width w).world ≡ false →
-    FollowsFrom (λ side v. Sees gave first side v) now value (ask_value pa width w)) →
+pub got_led : {E : Type 0} (gave : E → E → List Piece → Type 0) (first now new : Side E) (width pa value low : ℕ)
+    (a : Answer) (w : World) →
+    FollowsFrom (λ side v. Sees gave first side v) now value (shown_value pa width (settled (frame_of pa) w)) →
     low ≡ value % 2 ^ (8 * width) →
     ((v : World) → Sees gave first now v → FollowsFrom (Sees gave first) new a (if_drawn (replies (Word low)) v)) →
-    FollowsFrom (Sees gave first) new a (got width to w)
-unfolding got
-got_ok gave first now new width pa value low a to w is unclashed read cut told =
-    let e = subst (λ t. is_clashed (got width t w).world ≡ false) is unclashed in
-    let v = ask_value pa width w in
-    let u = (later_drawn (replies (Word (v.answer % 2 ^ (8 * width)))) v.world
-    (later_answers (Word (v.answer % 2 ^ (8 * width))))).mark e in
-    subst (λ t. FollowsFrom (Sees gave first) new a (got width t w)) (sym is)
-    (then_told gave first now new value a (ask_value pa width)
-    (λ x. if_drawn (replies (Word (x % 2 ^ (8 * width))))) w (read u)
-    (λ stands. subst (λ (n : ℕ). FollowsFrom (Sees gave first) new a (if_drawn (replies (Word n)) v.world)) cut
-    (told v.world stands)))
+    FollowsFrom (Sees gave first) new a (got width (Ok pa) w)
+unfolding got ask_value
+got_led gave first now new width pa value low a w read cut told =
+    let v = settled (frame_of pa) w in
+    let same : low ≡ (shown_value pa width v).answer % 2 ^ (8 * width) = cut ∙ ap (λ (n : ℕ). n % 2 ^ (8 * width)) read.answer in
+    subst (λ (n : ℕ). FollowsFrom (Sees gave first) new a (if_drawn (replies (Word n)) v)) same (told v read.stands)
 
 -- A value was stored, that was written, and it was granted.
 pub put_told : {E : Type 0} (gave : E → E → List Piece → Type 0) (first mid after new : Side E) (pa width value : ℕ)
@@ -169,13 +161,12 @@ unfolding stored_inside
 stored_err gave first new width value cause a to w is told =
     subst (λ t. FollowsFrom (Sees gave first) new a (stored_inside width value t w)) (sym is) told
 
-pub stored_ok : {E : Type 0} (gave : E → E → List Piece → Type 0) (first new : Side E) (width value pa : ℕ)
-    (a : Answer) (to : Result ℕ ℕ) (w : World) → to ≡ Ok pa →
+pub put_at_led : {E : Type 0} (gave : E → E → List Piece → Type 0) (first new : Side E) (width value pa : ℕ)
+    (a : Answer) (w : World) →
     FollowsFrom (Sees gave first) new a (if_drawn (put_at pa width value) (settled (frame_of pa) w)) →
-    FollowsFrom (Sees gave first) new a (stored_inside width value to w)
+    FollowsFrom (Sees gave first) new a (stored_inside width value (Ok pa) w)
 unfolding stored_inside
-stored_ok gave first new width value pa a to w is told =
-    subst (λ t. FollowsFrom (Sees gave first) new a (stored_inside width value t w)) (sym is) told
+put_at_led gave first new width value pa a w told = told
 
 -- A page was offered.
 pub sees_offered : {E : Type 0} (gave : E → E → List Piece → Type 0) (first old mid : Side E) (given : Ended)
@@ -294,16 +285,20 @@ plain_told gave first now q at width value (Cloaked c) sees drawn reads =
     record { answer = reads sees.holds.wiped c.memory sees.holds.pager (sees.holds.whole drawn q); stands = sees }
 
 pub plain_stored : {E : Type 0} (gave : E → E → List Piece → Type 0) (first old new : Side E) (q : PageId)
-    (at width value : ℕ) (w : World) → Repaged old new →
+    (at width value : ℕ) (w : World) → Repaged old new → new.memory.now.shadows ≡ old.memory.now.shadows →
+    new.memory.now.pager.rights ≡ old.memory.now.pager.rights →
+    length new.memory.now.pager.frames ≡ length old.memory.now.pager.frames →
     MeetsStill old.memory.now.pager new.memory.now.pager (tt {0})
     (after_write_plain q (record { at = at; width = width; value = value })) →
     Sees gave first old w → FollowsFrom (λ side v. Sees gave first side v) new (tt {0}) (ask_write q at width value w)
 unfolding ask_write
-plain_stored gave first old new q at width value (Flat ram) same meets sees = absurd sees
-plain_stored gave first old new q at width value (Alone handed) same meets sees = absurd sees
-plain_stored gave first old new q at width value (Cloaked c) same meets sees = record {
+plain_stored gave first old new q at width value (Flat ram) same shadows rights count meets sees = absurd sees
+plain_stored gave first old new q at width value (Alone handed) same shadows rights count meets sees = absurd sees
+plain_stored gave first old new q at width value (Cloaked c) same shadows rights count meets sees = record {
   answer = refl;
   stands = sees_moved gave first old new c
       (with_newest q (with_value_in (c.memory.plain q) at width value) c.memory) same
-      (record { stream = refl; draws = refl; missed = refl }) (λ wiped s. (meets wiped c.memory s).stands) sees;
+      (record { stream = refl; draws = refl; missed = refl })
+      (still_turned old.memory.now new.memory.now c.memory _ rights count shadows (λ held. refl))
+      (λ wiped s. (meets wiped c.memory s).stands) sees;
 }

@@ -27,7 +27,7 @@ use Rattle.cloaked_side.specs.Holding.{HoldsNoMore, frames_of, is_some_of}
 use Rattle.cloaked_side.specs.Seeing.{Sees}
 use Rattle.cloaked_side.specs.declared.side.Side.{Side}
 use Rattle.cloaked_side.proofs.Rooming.{changed_or_not, unheld_unowed}
-use Rattle.cloaked_side.proofs.Sided.{Repaged, sees_moved, count_of}
+use Rattle.cloaked_side.proofs.Sided.{Repaged, AgreesAlways, sees_moved, count_of}
 use Rattle.cloaked_side.proofs.Answering.{drawn_told, undrawn_told}
 
 -- what a frame is owed in a world
@@ -208,13 +208,15 @@ none_copied b false d e f = ap (λ x. x || false) e
 -- The pages of a resource were copied.
 pub sees_copied : {E : Type 0} (gave : E → E → List Piece → Type 0) (first old new : Side E) (domain from to : ℕ)
     (w : World) → Repaged old new →
+    AgreesAlways old.memory.now new.memory.now →
     MeetsStill old.memory.now.pager new.memory.now.pager (tt {0}) (after_copy_pages domain from to) →
     Sees gave first old w → FollowsFrom (λ side v. Sees gave first side v) new (tt {0}) (ask_copy domain from to w)
 unfolding ask_copy copy_pages
-sees_copied gave first old new domain from to (Flat ram) same meets sees = absurd sees
-sees_copied gave first old new domain from to (Alone handed) same meets sees = absurd sees
-sees_copied gave first old new domain from to (Cloaked c) same meets sees =
+sees_copied gave first old new domain from to (Flat ram) same still meets sees = absurd sees
+sees_copied gave first old new domain from to (Alone handed) same still meets sees = absurd sees
+sees_copied gave first old new domain from to (Cloaked c) same still meets sees =
     let h = sees.holds in
+    let agreed = still c.memory (copy_pages domain from to c.memory) (λ held. refl) in
     record {
       answer = refl;
       stands = record {
@@ -226,6 +228,8 @@ sees_copied gave first old new domain from to (Cloaked c) same meets sees =
           stream = h.stream ∙ sym same.stream;
           draws = same.draws ∙ h.draws;
           missed = same.missed ∙ h.missed;
+          agrees = agreed.agrees h.agrees;
+          room = agreed.room ∙ h.room ∙ sym agreed.count;
         };
         emits = subst (λ e. Emits gave first.emitter.now e (item_pieces c.items)) (sym same.emitter) sees.emits;
         violation = same.violation ∙ sees.violation;
@@ -236,15 +240,17 @@ sees_copied gave first old new domain from to (Cloaked c) same meets sees =
 -- The pages of a resource were dropped.
 pub sees_dropped : {E : Type 0} (gave : E → E → List Piece → Type 0) (first old new : Side E) (domain r : ℕ)
     (w : World) → Repaged old new →
+    AgreesAlways old.memory.now new.memory.now →
     MeetsStill old.memory.now.pager new.memory.now.pager (tt {0}) (after_drop_pages domain r) →
     Sees gave first old w → FollowsFrom (λ side v. Sees gave first side v) new (tt {0}) (ask_forget domain r w)
 unfolding ask_forget drop_pages
-sees_dropped gave first old new domain r (Flat ram) same meets sees = absurd sees
-sees_dropped gave first old new domain r (Alone handed) same meets sees = absurd sees
-sees_dropped gave first old new domain r (Cloaked c) same meets sees = record {
+sees_dropped gave first old new domain r (Flat ram) same still meets sees = absurd sees
+sees_dropped gave first old new domain r (Alone handed) same still meets sees = absurd sees
+sees_dropped gave first old new domain r (Cloaked c) same still meets sees = record {
   answer = refl;
   stands = sees_moved gave first old new c (drop_pages domain r c.memory) same
-      (record { stream = refl; draws = refl; missed = refl }) (λ wiped s. (meets wiped c.memory s).stands) sees;
+      (record { stream = refl; draws = refl; missed = refl }) (still c.memory (drop_pages domain r c.memory) (λ held. refl))
+      (λ wiped s. (meets wiped c.memory s).stands) sees;
 }
 
 -- one frame more was cleared

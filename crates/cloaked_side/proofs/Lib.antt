@@ -1,9 +1,12 @@
 pub mod Emitting
 pub mod Holders
 pub mod Settling
+pub mod Presents
+pub mod Translating
 pub mod Rooming
 pub mod Sided
 pub mod Answering
 pub mod Cleared
 pub mod Serving
 pub mod Telling
+pub mod Known

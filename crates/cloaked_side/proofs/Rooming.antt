@@ -25,6 +25,10 @@ use Rattle.cloak_pager.proofs.Offers.{unowed_nowhere, unowed_clean, none_owing, 
 use Rattle.cloak_model.specs.World.{cipher_items}
 use Rattle.cloak_model.specs.Exchange.{Piece, Emits, item_pieces}
 use Rattle.cloak_pager.specs.AfterCall.{MeetsUnclashed, after_offer}
+use Rattle.shadow_fold.specs.Keeping.{Agrees}
+use Rattle.shadow_law.specs.Agreeing.{present}
+use Rattle.cloaked_side.specs.Holding.{Holds}
+use Rattle.cloaked_side.proofs.Emitting.{emits_none}
 use Rattle.cloaked_side.specs.Offering.{behind_ciphers, offer_left, Rooms, Offers, offer_of}
 use Rattle.cloaked_side.specs.declared.memory.Memory.{Memory}
 use Rattle.cloaked_side.specs.declared.memory.Offer.{Offer as Ended}
@@ -311,14 +315,23 @@ offer_same q g write m none drawn = let s = same in (s.draws, s.missed)
     same : Same m (offer q g write m)
     same = by_owes (owes q (owed_in m g)) refl
 
+-- a frame that holds the page has room for it
+abbrev pub rooms_self : {E : Type 0} (gave : E → E → List Piece → Type 0) (e : E) (memory : Memory) (q : PageId) (g : ℕ) (m : CloakedMemory) →
+    Holds memory m → Rooms gave e e memory true q g m
+rooms_self gave e memory q g m h =
+    record { memory = m; ciphers = []; holds = h; emits = emits_none gave e; offers = λ write. refl }
+
 -- What an offer of the pager comes to, once there is room, of the memory around it.
 pub offers_so : {E : Type 0} (gave : E → E → List Piece → Type 0) (e e' : E) (old new : Memory) (given : Ended)
     (answer : Offer) (q : PageId) (g : ℕ) (write : Bool) (m : CloakedMemory) →
-    Rooms gave e e' old true q g m → (answer ≢ Missed) → offer_of given ≡ answer →
+    (r : Rooms gave e e' old true q g m) → (answer ≢ Missed) → offer_of given ≡ answer →
     MeetsUnclashed old.pager new.pager ([], answer) (after_offer q g write) →
     new.stream ≡ old.stream → new.draws ≡ old.draws → new.missed ≡ old.missed →
+    (answer ≡ (offer q g write r.memory).answer →
+    Agrees (present (held_in new.pager) (offer q g write r.memory).memory) new.shadows) →
+    new.shadows.frames ≡ old.shadows.frames → length new.pager.frames ≡ length old.pager.frames →
     (offer q g write m).memory.ledger.clashed ≡ false → Offers gave e e' new given (offer q g write m)
-offers_so {E} gave e e' old new given answer q g write m r not_missed is moves stream draws missed clash =
+offers_so {E} gave e e' old new given answer q g write m r not_missed is moves stream draws missed agrees room count clash =
     let x : CloakedMemory = r.memory in
     let o : AfterOffer = offer q g write x in
     let whole : offer q g write m ≡ behind_ciphers r.ciphers o = r.offers write in
@@ -336,6 +349,8 @@ offers_so {E} gave e e' old new given answer q g write m r not_missed is moves s
         stream = v.drawn ∙ r.holds.stream ∙ sym stream;
         draws = draws ∙ r.holds.draws ∙ sym same.0;
         missed = missed ∙ r.holds.missed ∙ sym same.1;
+        agrees = agrees ends;
+        room = room ∙ r.holds.room ∙ sym count;
       };
       emits = subst (λ (cs : List (ℕ × List ℕ)). Emits gave e e' (item_pieces (cipher_items cs)))
           (sym (ap (λ cs. r.ciphers ++ cs) none ∙ append-nil r.ciphers)) r.emits;

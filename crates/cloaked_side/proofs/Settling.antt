@@ -1,16 +1,18 @@
 -- A memory that settled a frame.
 use Rattle.std.proofs.Common.{◌≡◌, ℕ, ◌+◌, ◌-◌, ◌^◌, Bool, true, false, List, [], ◌∷◌, Option, None, Some, refl, ap}
 use Rattle.std.proofs.Common.{sym, ◌∙◌, subst}
-use Rattle.std.specs.Prelude.{min}
+use Rattle.std.specs.Prelude.{min, length}
 use Rattle.std.proofs.lemmas.Bool.{false≢true}
 use Rattle.cloak_base.specs.declared.names.PageId.{PageId}
 use Rattle.cloak_base.specs.Random.{Random}
 use Rattle.cloak_model.specs.Cloaking.{CloakedMemory, AfterSettling, settle, settle_if, settle_owed, owed_in}
 use Rattle.cloak_model.specs.Exchange.{Piece, Emits, item_pieces}
 use Rattle.cloak_model.specs.World.{cipher_items}
-use Rattle.cloak_pager.specs.State.{PagerState}
+use Rattle.cloak_pager.specs.State.{PagerState, held_in}
 use Rattle.cloak_pager.specs.Relation.{StandsForMemory}
 use Rattle.cloak_pager.specs.AfterCall.{Meets, after_touch, wiped_with}
+use Rattle.shadow_fold.specs.Keeping.{Agrees}
+use Rattle.shadow_law.specs.Agreeing.{present}
 use Rattle.cloaked_side.specs.Holding.{Holds, Settles}
 use Rattle.cloaked_side.specs.declared.memory.Memory.{Memory}
 
@@ -56,8 +58,10 @@ pub settled_so : {E : Type 0} (gave : E → E → List Piece → Type 0) (e e' :
     ((w : PageId → Bool) (m : CloakedMemory) → StandsForMemory p w m → StandsForMemory new.pager w m) →
     new.stream ≡ left → new.draws ≡ draws_by shown missed old.draws → new.missed ≡ missed_by missed old.missed →
     Emits gave e e' (item_pieces (cipher_items shown)) →
+    ((m : CloakedMemory) → Holds old m → Agrees (present (held_in new.pager) (settle f m).memory) new.shadows) →
+    (new.shadows.frames ≡ old.shadows.frames) → length new.pager.frames ≡ length old.pager.frames →
     (m : CloakedMemory) → Holds old m → Settles gave e e' new (settle f m)
-settled_so {E} gave e e' old new p left f shown missed meets again stream draws mark emits m h =
+settled_so {E} gave e e' old new p left f shown missed meets again stream draws mark emits agrees room count m h =
     let s : AfterSettling = settle f m in
     let v = meets h.wiped m h.pager h.stream in
     let cs : shown ≡ s.ciphers = ap (λ (x : List (ℕ × List ℕ) × Bool). x.0) v.answered in
@@ -72,6 +76,8 @@ settled_so {E} gave e e' old new p left f shown missed meets again stream draws 
         draws = draws ∙ ap (λ (x : List (ℕ × List ℕ) × Bool). draws_by x.0 x.1 old.draws) v.answered
             ∙ ap (λ n. draws_by s.ciphers s.missed n) h.draws ∙ sym (counts f m).draws;
         missed = mark' ∙ ap (λ b. missed_by s.missed b) h.missed ∙ sym (counts f m).missed;
+        agrees = agrees m h;
+        room = room ∙ h.room ∙ sym count;
       };
       emits = subst (λ (x : List (ℕ × List ℕ)). Emits gave e e' (item_pieces (cipher_items x))) cs emits;
     }

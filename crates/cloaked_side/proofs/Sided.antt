@@ -16,13 +16,20 @@ use Rattle.cloak_pager.specs.Relation.{StandsForMemory}
 use Rattle.cloak_pager.specs.AfterCall.{SeesFrame}
 use Rattle.cloak_pager.specs.Turns.{IsReadOnce, HasBytes, MetasTurn}
 use Rattle.cloak_pager.proofs.Calls.{stands_read}
+use Rattle.cloak_base.specs.declared.names.Frame.{Frame}
+use Rattle.shadow_fold.specs.Keeping.{Agrees}
+use Rattle.shadow_fold.specs.Entries.{is_table}
+use Rattle.shadow_fold.specs.Table.{Table, ending}
+use Rattle.shadow_law.specs.Agreeing.{present}
+use Rattle.shadow_law.proofs.Tables.{write_agrees}
 use Rattle.cloaked_side.specs.Holding.{Holds, Settles, SameSize, HoldsNoMore, HoldsNoOther, frames_of}
 use Rattle.cloaked_side.specs.Seeing.{Sees, SeesCloak, Stays, StaysWithin}
 use Rattle.protect_meta.specs.declared.meta.Meta.{Meta}
 use Rattle.protect_meta.specs.Table.{domains_of}
-use Rattle.cloak_pager.specs.State.{PagerState}
+use Rattle.cloak_pager.specs.State.{PagerState, held_in}
 use Rattle.cloaked_side.proofs.Emitting.{emits_none, emits_items, some_then}
 use Rattle.cloaked_side.proofs.Holders.{no_more_self, no_more_then, no_more_rights}
+use Rattle.cloaked_side.proofs.Translating.{agrees_read, agrees_rights, ending_frames}
 use Rattle.cloaked_side.specs.declared.memory.Memory.{Memory}
 use Rattle.cloaked_side.specs.declared.side.Side.{Side}
 
@@ -145,12 +152,66 @@ pub record SameDraws (m m' : CloakedMemory) : Type 0 where
   pub draws : m'.ledger.draws ≡ m.ledger.draws
   pub missed : m'.ledger.missed ≡ m.ledger.missed
 
+-- the known translations agree with what the memory is now, and there is room for as many frames
+pub record AgreesStill (old new : Memory) (m m' : CloakedMemory) : Type 0 where
+  pub agrees : Agrees (present (held_in old.pager) m) old.shadows → Agrees (present (held_in new.pager) m') new.shadows
+  pub room : new.shadows.frames ≡ old.shadows.frames
+  pub count : length new.pager.frames ≡ length old.pager.frames
+
+pub still_read : (old new : Memory) (m : CloakedMemory) → IsReadOnce old.pager new.pager → new.shadows ≡ old.shadows →
+    AgreesStill old new m m
+still_read old new m read same = record {
+  agrees = λ agrees. subst (λ (t : Table). Agrees (present (held_in new.pager) m) t) (sym same)
+      (agrees_read old.pager new.pager m old.shadows read agrees);
+  room = ap (λ (t : Table). t.frames) same;
+  count = ap (λ (p : PagerState). length p.frames) read;
+}
+
+-- rights, frames and what is owed are as they were
+pub still_turned : (old new : Memory) (m m' : CloakedMemory) → new.pager.rights ≡ old.pager.rights →
+    length new.pager.frames ≡ length old.pager.frames → new.shadows ≡ old.shadows →
+    ((held : ℕ → Option PageId) → present held m' ≡ present held m) → AgreesStill old new m m'
+still_turned old new m m' rights count same seen = record {
+  agrees = λ agrees. subst (λ (t : Table). Agrees (present (held_in new.pager) m') t) (sym same)
+      (subst (λ p. Agrees p old.shadows) (sym (seen (held_in new.pager)))
+      (agrees_rights old.pager new.pager m old.shadows rights agrees));
+  room = ap (λ (t : Table). t.frames) same;
+  count = count;
+}
+
+-- so it is of every memory that shows the same
+abbrev pub AgreesAlways : Memory → Memory → Type 0
+AgreesAlways old new = (m m' : CloakedMemory) → ((held : ℕ → Option PageId) → present held m' ≡ present held m) → AgreesStill old new m m'
+
+pub written_count : (old new : PagerState) (f : ℕ) (bytes : List ℕ) → HasBytes old new f bytes →
+    length new.frames ≡ length old.frames
+written_count old new f bytes written =
+    ap (λ (xs : List (List ℕ)). length xs) written.frames_are ∙ length-set old.frames f bytes
+
+pub turned_count : (old new : PagerState) (metas : PageId → Option Meta) → MetasTurn old new metas →
+    length new.frames ≡ length old.frames
+turned_count old new metas turned = ap (λ (xs : List (List ℕ)). length xs) turned.frames_are
+
+-- a frame was written, and the translations through it ended
+pub still_written : (old new : Memory) (m : CloakedMemory) (f : Frame) (n : ℕ) (bytes shown : List ℕ) → f.0 ≡ n →
+    HasBytes old.pager new.pager f.0 bytes → new.shadows ≡ ending (is_table f) old.shadows →
+    AgreesStill old new m (with_shown_frame n shown m)
+still_written old new m f n bytes shown is written same = record {
+  agrees = λ agrees. subst (λ (t : Table). Agrees (present (held_in new.pager) (with_shown_frame n shown m)) t) (sym same)
+      (subst (λ (k : ℕ). Agrees (present (held_in new.pager) (with_shown_frame k shown m)) (ending (is_table f) old.shadows)) is
+      (write_agrees (held_in new.pager) m f.0 shown old.shadows
+      (agrees_rights old.pager new.pager m old.shadows written.rights_are agrees)));
+  room = ap (λ (t : Table). t.frames) same ∙ ending_frames (is_table f) old.shadows;
+  count = written_count old.pager new.pager f.0 bytes written;
+}
+
 pub sees_moved : {E : Type 0} (gave : E → E → List Piece → Type 0) (first old new : Side E) (c : Cloak)
     (m' : CloakedMemory) → Repaged old new → SameDraws c.memory m' →
+    AgreesStill old.memory.now new.memory.now c.memory m' →
     ((w : PageId → Bool) → StandsForMemory old.memory.now.pager w c.memory →
     StandsForMemory new.memory.now.pager w m') →
     SeesCloak gave first old c → SeesCloak gave first new (record c { memory = m' })
-sees_moved gave first old new c m' same kept stands sees =
+sees_moved gave first old new c m' same kept still stands sees =
     let h = sees.holds in
     record {
       holds = record {
@@ -160,6 +221,8 @@ sees_moved gave first old new c m' same kept stands sees =
         stream = kept.stream ∙ h.stream ∙ sym same.stream;
         draws = same.draws ∙ h.draws ∙ sym kept.draws;
         missed = same.missed ∙ h.missed ∙ sym kept.missed;
+        agrees = still.agrees h.agrees;
+        room = still.room ∙ h.room ∙ sym still.count;
       };
       emits = subst (λ e. Emits gave first.emitter.now e (item_pieces c.items)) (sym same.emitter) sees.emits;
       violation = same.violation ∙ sees.violation;
@@ -169,46 +232,50 @@ sees_moved gave first old new c m' same kept stands sees =
 -- Frame f was read: what is shown of it is what the world shows.
 pub read_after : {E A : Type 0} (gave : E → E → List Piece → Type 0) (first old new : Side E) (f : ℕ) (v : World)
     (show : List ℕ → A) (bytes : List ℕ) (a : A) → Repaged old new →
+    new.memory.now.shadows ≡ old.memory.now.shadows →
     SeesFrame old.memory.now.pager f bytes → IsReadOnce old.memory.now.pager new.memory.now.pager → a ≡ show bytes →
     Sees gave first old v → FollowsFrom (λ side w. Sees gave first side w) new a
     (record { answer = show (slice_index_or (ram_of v) f []); world = v })
-read_after gave first old new f (Flat ram) show bytes a same sees_frame read is sees = absurd sees
-read_after gave first old new f (Alone handed) show bytes a same sees_frame read is sees = absurd sees
-read_after gave first old new f (Cloaked c) show bytes a same sees_frame read is sees = record {
+read_after gave first old new f (Flat ram) show bytes a same shadows sees_frame read is sees = absurd sees
+read_after gave first old new f (Alone handed) show bytes a same shadows sees_frame read is sees = absurd sees
+read_after gave first old new f (Cloaked c) show bytes a same shadows sees_frame read is sees = record {
   answer = is ∙ ap show (sees_frame sees.holds.wiped c.memory sees.holds.pager);
   stands = sees_moved gave first old new c c.memory same (record { stream = refl; draws = refl; missed = refl })
-      (λ w s. stands_read _ _ read w c.memory s) sees;
+      (still_read old.memory.now new.memory.now c.memory read shadows) (λ w s. stands_read _ _ read w c.memory s) sees;
 }
 
 -- A value was stored in a frame.
 pub stored_after : {E : Type 0} (gave : E → E → List Piece → Type 0) (first old new : Side E) (pa width value : ℕ)
     (v : World) → Repaged old new →
+    ((m : CloakedMemory) → AgreesStill old.memory.now new.memory.now m (with_shown_frame (frame_of pa)
+    (with_value_in (slice_index_or m.ram (frame_of pa) []) (place_of pa) width value) m)) →
     ((w : PageId → Bool) (m : CloakedMemory) → StandsForMemory old.memory.now.pager w m →
     StandsForMemory new.memory.now.pager w
     (with_shown_frame (frame_of pa)
     (with_value_in (slice_index_or m.ram (frame_of pa) []) (place_of pa) width value) m)) →
     Sees gave first old v → FollowsFrom (λ side w. Sees gave first side w) new (tt {0})
     (record { answer = tt; world = stored_at pa width value v })
-stored_after gave first old new pa width value (Flat ram) same stands sees = absurd sees
-stored_after gave first old new pa width value (Alone handed) same stands sees = absurd sees
-stored_after gave first old new pa width value (Cloaked c) same stands sees = record {
+stored_after gave first old new pa width value (Flat ram) same still stands sees = absurd sees
+stored_after gave first old new pa width value (Alone handed) same still stands sees = absurd sees
+stored_after gave first old new pa width value (Cloaked c) same still stands sees = record {
   answer = refl;
-  stands = sees_moved gave first old new c _ same (record { stream = refl; draws = refl; missed = refl })
+  stands = sees_moved gave first old new c _ same (record { stream = refl; draws = refl; missed = refl }) (still c.memory)
       (λ w s. stands w c.memory s) sees;
 }
 
 -- A frame was filled.
 pub filled_after : {E : Type 0} (gave : E → E → List Piece → Type 0) (first old new : Side E) (f : ℕ) (bytes : List ℕ)
     (v : World) → Repaged old new →
+    ((m : CloakedMemory) → AgreesStill old.memory.now new.memory.now m (with_shown_frame f bytes m)) →
     ((w : PageId → Bool) (m : CloakedMemory) → StandsForMemory old.memory.now.pager w m →
     StandsForMemory new.memory.now.pager w (with_shown_frame f bytes m)) →
     Sees gave first old v → FollowsFrom (λ side w. Sees gave first side w) new (tt {0})
     (record { answer = tt; world = filled_frame f bytes v })
-filled_after gave first old new f bytes (Flat ram) same stands sees = absurd sees
-filled_after gave first old new f bytes (Alone handed) same stands sees = absurd sees
-filled_after gave first old new f bytes (Cloaked c) same stands sees = record {
+filled_after gave first old new f bytes (Flat ram) same still stands sees = absurd sees
+filled_after gave first old new f bytes (Alone handed) same still stands sees = absurd sees
+filled_after gave first old new f bytes (Cloaked c) same still stands sees = record {
   answer = refl;
-  stands = sees_moved gave first old new c _ same (record { stream = refl; draws = refl; missed = refl })
+  stands = sees_moved gave first old new c _ same (record { stream = refl; draws = refl; missed = refl }) (still c.memory)
       (λ w s. stands w c.memory s) sees;
 }
 
@@ -274,3 +341,8 @@ turned_size old new metas t =
 pub within_of : {E : Type 0} (gave : E → E → List Piece → Type 0) (old new : Side E) →
     Keeps (StaysWithin gave) old new → StaysWithin gave old new
 within_of gave old new keeps = keeps old (within_self gave old)
+
+-- the same of one that offers a page
+pub stays_of : {E : Type 0} (gave : E → E → List Piece → Type 0) (old new : Side E) →
+    Keeps (Stays gave) old new → Stays gave old new
+stays_of gave old new keeps = keeps old (stays_self gave old)

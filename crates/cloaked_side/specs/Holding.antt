@@ -8,10 +8,12 @@ use Rattle.cloak_model.specs.World.{cipher_items}
 use Rattle.cloak_model.specs.Exchange.{Piece, Emits, item_pieces}
 use Rattle.cloak_pager.specs.State.{PagerState, held_in, owed_at}
 use Rattle.cloak_pager.specs.Relation.{StandsForMemory}
+use Rattle.shadow_fold.specs.Keeping.{Agrees}
+use Rattle.shadow_law.specs.Agreeing.{present}
 use Rattle.cloaked_side.specs.declared.memory.Memory.{Memory}
 
 -- The memory stands for these frames, pages and this ledger. The newest bytes of a page are lost only where a draw was
--- missing.
+-- missing. Each live translation leads where a walk would lead now.
 pub record Holds (memory : Memory) (m : CloakedMemory) : Type 0 where
   pub wiped : PageId → Bool
   pub pager : StandsForMemory memory.pager wiped m
@@ -19,6 +21,8 @@ pub record Holds (memory : Memory) (m : CloakedMemory) : Type 0 where
   pub stream : m.ledger.stream ≡ memory.stream
   pub draws : memory.draws ≡ m.ledger.draws
   pub missed : memory.missed ≡ m.ledger.missed
+  pub agrees : Agrees (present (held_in memory.pager) m) memory.shadows
+  pub room : memory.shadows.frames ≡ length memory.pager.frames
 
 -- how many frames and domains there are
 abbrev pub frames_of : Memory → ℕ

@@ -1,14 +1,15 @@
 //! The questions of a cloaked program.
-ghost use Rattle.std.specs.Prelude.{◌≡◌, ◌<◌, ◌%◌, ◌^◌, ◌*◌, ◌≤◌, false};
+ghost use Rattle.std.specs.Prelude.{◌≡◌, ◌<◌, ◌%◌, ◌^◌, ◌*◌, ◌≤◌, false, Ok};
 ghost use Rattle.cloak_model.specs.AskPages as inside;
 ghost use Rattle.cloak_model.specs.Effect.{IsWidth};
 
 use crate::kept_items::{set_ok, set_put, set_word};
+use crate::leading::Led;
 use crate::memory::{self, Offer};
 use crate::side::Side;
-use cloak_base::{Frame, Kind, Mode, PageId, Violation};
+use cloak_base::{Frame, Kind, PageId, SpaceId, Violation};
 use cloak_model::{Answer, Emit, Item};
-use host_calls::Ram;
+use multi_shadow::ShadowView;
 
 /// The lowest bytes of a value.
 fn low_bytes(width: u32, v: u32) -> u32
@@ -32,28 +33,46 @@ fn is_store(kind: Kind) -> bool
 }
 
 impl<'m, 'e, E: Emit> Side<'m, 'e, E> {
-    ghost use Rattle.std.specs.Prelude.{IsTrue, IfOk};
+    ghost use Rattle.std.specs.Prelude.{IsTrue};
     ghost use Rattle.cloak_model.specs.declared.item.Item.TheVariants as item;
-    ghost use Rattle.cloak_model.specs.World.{written};
-    ghost use Rattle.cloak_model.specs.Asking.{Follows, Keeps};
+    ghost use Rattle.cloak_model.specs.World.{World, is_clashed, written};
+    ghost use Rattle.cloak_model.specs.Asking.{Follows, FollowsFrom, Keeps};
     ghost use Rattle.cloak_model.specs.Memory.{is_in_frames, frame_of};
     ghost use Rattle.cloak_model.specs.AskPages.{replies, if_drawn, got, put_at, stored_inside, ask_offer, reached};
-    ghost use Rattle.cloak_model.specs.AskPages.{reach_by_table, get_by_table, put_by_table, ask_inside_address};
+    ghost use Rattle.cloak_model.specs.AskPages.{reach_by_table, get_by_table, put_by_table};
     ghost use Rattle.cloak_pager.specs.State.{held_in, owed_at};
     ghost use Rattle.cloaked_side.specs.Holding.{HoldsNoOther, frames_of, domains_in};
+    ghost use Rattle.cloaked_side.specs.Leading.{AreLedOutside, IsLedBy, inside_view};
     ghost use Rattle.cloaked_side.specs.Seeing.{Sees, Becomes, FollowsAlways, Stays, StaysWithin, CanRead, CanWrite};
 
-    /// Writes an item.
-    fn write_item(&mut self, i: &Item)
-        ensures sees { Becomes E.gave self.old self.new (written i.now) }
+    /// Writes that a page is absent. Apart, since to build an item clears room for a page.
+    #[cold]
+    #[inline(never)]
+    fn write_absent(&mut self, cause: u32)
+        ensures sees { Becomes E.gave self.old self.new (written (item.Absent self.old.view.domain cause)) }
         ensures keeps { Keeps (StaysWithin E.gave) self.old self.new }
         ensures same { self.new.memory ≡ self.old.memory }
         ensures view { self.new.view ≡ self.old.view }
     {
-        self.emitter.item(i);
+        let domain = self.view.domain;
+        self.emitter.item(&Item::Absent { domain, cause });
+    }
+
+    /// Writes that a question stopped the run. Apart, as `write_absent` is.
+    #[cold]
+    #[inline(never)]
+    fn write_stopped(&mut self)
+        ensures sees { Becomes E.gave self.old self.new (written (item.Stopped self.old.view.domain)) }
+        ensures keeps { Keeps (StaysWithin E.gave) self.old self.new }
+        ensures same { self.new.memory ≡ self.old.memory }
+        ensures view { self.new.view ≡ self.old.view }
+    {
+        let domain = self.view.domain;
+        self.emitter.item(&Item::Stopped { domain });
     }
 
     /// Writes that a question was granted.
+    #[inline(always)]
     fn write_ok(&mut self)
         ensures sees { Becomes E.gave self.old self.new (written (item.Ok self.old.view.domain)) }
         ensures keeps { Keeps (StaysWithin E.gave) self.old self.new }
@@ -65,6 +84,7 @@ impl<'m, 'e, E: Emit> Side<'m, 'e, E> {
     }
 
     /// Writes a value that was asked for.
+    #[inline(always)]
     fn write_word(&mut self, value: u32)
         ensures sees { Becomes E.gave self.old self.new (written (item.Word self.old.view.domain value)) }
         ensures keeps { Keeps (StaysWithin E.gave) self.old self.new }
@@ -76,36 +96,38 @@ impl<'m, 'e, E: Emit> Side<'m, 'e, E> {
     }
 
     /// Writes an answer.
+    #[inline(always)]
     fn write_answer(&mut self, a: Answer)
         ensures sees { Becomes E.gave self.old self.new (written (inside.answer_item self.old.view.domain a)) }
         ensures keeps { Keeps (StaysWithin E.gave) self.old self.new }
         ensures same { self.new.memory ≡ self.old.memory }
         ensures view { self.new.view ≡ self.old.view }
     {
-        let domain = self.view.domain;
         match a {
             Answer::Ok => self.write_ok(),
-            Answer::Absent(cause) => self.write_item(&Item::Absent { domain, cause }),
+            Answer::Absent(cause) => self.write_absent(cause),
             Answer::Word(value) => self.write_word(value),
-            Answer::Stopped => self.write_item(&Item::Stopped { domain }),
+            Answer::Stopped => self.write_stopped(),
         }
     }
 
-    /// The address in RAM where an access of the domain leads, or its fault.
-    #[tactic(auto, unfolding(cloak_model::specs::AskPages::ask_inside_address))]
-    fn inside_address(&mut self, va: u32, kind: Kind) -> Result<u32, u32>
-        ensures follows { Follows (Sees E.gave) self.old self.new result (ask_inside_address va kind) }
-        ensures keeps { Keeps (StaysWithin E.gave) self.old self.new }
-        ensures inside { IfOk result (λ pa. IsTrue (is_in_frames (frames_of self.old.memory.now) pa)) }
-        ensures offset { IfOk result (λ pa. pa % 4096 ≡ va % 4096) }
-        ensures same_domains { domains_in self.new.memory.now ≡ domains_in self.old.memory.now }
-        ensures same_count { frames_of self.new.memory.now ≡ frames_of self.old.memory.now }
+    /// Who translates for the questions of the context that asks.
+    fn inside_view(&self) -> ShadowView
+        ensures { result ≡ inside_view self.now }
     {
-        let view = self.view;
-        self.translate(view.satp, Mode::U, view.sum, view.mxr, va, kind)
+        ShadowView::Inside {
+            satp: self.view.satp,
+            sum: self.view.sum,
+            mxr: self.view.mxr,
+            space: SpaceId {
+                domain: self.view.domain as u32,
+                number: self.space,
+            },
+        }
     }
 
     /// Answers a question, and writes that.
+    #[inline(always)]
     pub(crate) fn answer(&mut self, a: Answer) -> Answer
         ensures told { FollowsAlways E.gave self.old self.new result (replies a) }
         ensures keeps { Keeps (StaysWithin E.gave) self.old self.new }
@@ -129,21 +151,19 @@ impl<'m, 'e, E: Emit> Side<'m, 'e, E> {
         self.answer(Answer::Word(value))
     }
 
-    /// The value where an address leads that is not cloaked.
-    fn got(&mut self, width: u32, to: Result<u32, u32>) -> Answer
-        requires inside { IfOk to (λ pa. IsTrue (is_in_frames (frames_of self.old.memory.now) pa)) }
+    /// The value to which an access was led that is not cloaked.
+    fn got(&mut self, view: &ShadowView, va: u32, width: u32, led: &Led) -> Answer
+        requires inside { IsTrue (is_in_frames (frames_of self.old.memory.now) led.now.pa) }
+        requires tables { AreLedOutside (held_in self.old.memory.now.pager) led.now }
         requires width { IsWidth width }
-        requires aligned { IfOk to (λ pa. pa % width ≡ 0) }
-        ensures follows { Follows (Sees E.gave) self.old self.new result (got width to) }
+        requires aligned { led.now.pa % width ≡ 0 }
+        ensures told { (first : _) (w : World) → Sees E.gave first self.old w → IsLedBy w view.now va Kind.Load led.now →
+            FollowsFrom (Sees E.gave first) self.new result (got width (Ok led.now.pa) w) }
         ensures keeps { Keeps (StaysWithin E.gave) self.old self.new }
     {
-        match to {
-            Err(cause) => self.answer(Answer::Absent(cause)),
-            Ok(pa) => {
-                let value = Ram::read(self, pa, width);
-                self.answer_word(low_bytes(width, value))
-            }
-        }
+        self.settle_led(view, va, Kind::Load, led);
+        let value = self.read_settled(led.pa, width);
+        self.answer_word(low_bytes(width, value))
     }
 
     /// The value at an address that is not cloaked.
@@ -153,11 +173,15 @@ impl<'m, 'e, E: Emit> Side<'m, 'e, E> {
         ensures follows { Follows (Sees E.gave) self.old self.new result (get_by_table va width) }
         ensures keeps { Keeps (StaysWithin E.gave) self.old self.new }
     {
-        let to = self.inside_address(va, Kind::Load);
+        let view = self.inside_view();
+        let to = self.led(&view, va, Kind::Load);
         if self.memory.missed {
             return self.answer(Answer::Stopped);
         }
-        self.got(width, to)
+        match to {
+            Err(cause) => self.answer(Answer::Absent(cause)),
+            Ok(led) => self.got(&view, va, width, &led),
+        }
     }
 
     /// Writes that a value was stored.
@@ -175,8 +199,7 @@ impl<'m, 'e, E: Emit> Side<'m, 'e, E> {
 
     /// Stores a value at a settled address, and writes that, unless a draw was missing.
     fn put_settled(&mut self, pa: u32, width: u32, v: u32) -> Answer
-        requires low { 0x80000000 ≤ pa }
-        requires inside { frame_of pa < frames_of self.old.memory.now }
+        requires inside { IsTrue (is_in_frames (frames_of self.old.memory.now) pa) }
         requires outside { held_in self.old.memory.now.pager (frame_of pa) ≡ None }
         requires width { IsWidth width }
         requires aligned { pa % width ≡ 0 }
@@ -186,31 +209,23 @@ impl<'m, 'e, E: Emit> Side<'m, 'e, E> {
         if self.memory.missed {
             return self.answer(Answer::Stopped);
         }
-        self.memory.pager.write_outside(
-            memory::frame_of(pa),
-            memory::place_of(pa) as u32,
-            width,
-            v,
-        );
+        self.write_settled(pa, width, v);
         self.write_put(pa, width, v);
         self.answer(Answer::Ok)
     }
 
-    /// Stores a value where an address leads that is not cloaked.
-    fn put_inside(&mut self, width: u32, v: u32, to: Result<u32, u32>) -> Answer
-        requires inside { IfOk to (λ pa. IsTrue (is_in_frames (frames_of self.old.memory.now) pa)) }
+    /// Stores a value to where an access was led that is not cloaked.
+    fn put_led(&mut self, view: &ShadowView, va: u32, width: u32, v: u32, led: &Led) -> Answer
+        requires inside { IsTrue (is_in_frames (frames_of self.old.memory.now) led.now.pa) }
+        requires tables { AreLedOutside (held_in self.old.memory.now.pager) led.now }
         requires width { IsWidth width }
-        requires aligned { IfOk to (λ pa. pa % width ≡ 0) }
-        ensures told { FollowsAlways E.gave self.old self.new result (stored_inside width v to) }
+        requires aligned { led.now.pa % width ≡ 0 }
+        ensures told { (first : _) (w : World) → Sees E.gave first self.old w → IsLedBy w view.now va Kind.Store led.now →
+            FollowsFrom (Sees E.gave first) self.new result (stored_inside width v (Ok led.now.pa) w) }
         ensures keeps { Keeps (StaysWithin E.gave) self.old self.new }
     {
-        match to {
-            Err(cause) => self.answer(Answer::Absent(cause)),
-            Ok(pa) => {
-                self.settle(memory::frame_of(pa));
-                self.put_settled(pa, width, v)
-            }
-        }
+        self.settle_led(view, va, Kind::Store, led);
+        self.put_settled(led.pa, width, v)
     }
 
     /// Stores a value at an address that is not cloaked.
@@ -220,14 +235,19 @@ impl<'m, 'e, E: Emit> Side<'m, 'e, E> {
         ensures follows { Follows (Sees E.gave) self.old self.new result (put_by_table va width v) }
         ensures keeps { Keeps (StaysWithin E.gave) self.old self.new }
     {
-        let to = self.inside_address(va, Kind::Store);
+        let view = self.inside_view();
+        let to = self.led(&view, va, Kind::Store);
         if self.memory.missed {
             return self.answer(Answer::Stopped);
         }
-        self.put_inside(width, v, to)
+        match to {
+            Err(cause) => self.answer(Answer::Absent(cause)),
+            Ok(led) => self.put_led(&view, va, width, v, &led),
+        }
     }
 
     /// Offers a page in a frame, and answers whether the frame holds it.
+    #[inline(always)]
     fn offered(&mut self, q: PageId, g: Frame, write: bool) -> Answer
         requires inside { g.0 < frames_of self.old.memory.now }
         requires domain { q.domain < domains_in self.old.memory.now }
@@ -253,27 +273,34 @@ impl<'m, 'e, E: Emit> Side<'m, 'e, E> {
         }
     }
 
-    /// Brings a page to where its address leads.
-    fn reached(&mut self, q: PageId, kind: Kind, to: Result<u32, u32>) -> Answer
-        requires inside { IfOk to (λ pa. IsTrue (is_in_frames (frames_of self.old.memory.now) pa)) }
+    /// Brings a page to where its access was led.
+    #[inline(always)]
+    fn reached(&mut self, q: PageId, view: &ShadowView, va: u32, kind: Kind, led: &Led) -> Answer
+        requires inside { IsTrue (is_in_frames (frames_of self.old.memory.now) led.now.pa) }
+        requires tables { AreLedOutside (held_in self.old.memory.now.pager) led.now }
         requires domain { q.domain < domains_in self.old.memory.now }
         requires own { q.domain ≡ self.old.view.domain }
         requires resource { q.resource < 16 }
         requires page { q.page < 1024 }
         requires drawn { self.old.memory.now.missed ≡ false }
-        ensures follows { Follows (Sees E.gave) self.old self.new result (reached q kind to) }
+        ensures told { (first : _) (w : World) → Sees E.gave first self.old w → IsLedBy w view.now va kind led.now →
+            is_clashed (reached q kind (Ok led.now.pa) w).world ≡ false →
+            FollowsFrom (Sees E.gave first) self.new result (reached q kind (Ok led.now.pa) w) }
         ensures keeps { Keeps (Stays E.gave) self.old self.new }
         ensures others { HoldsNoOther q self.old.memory.now.pager self.new.memory.now.pager }
         ensures readable { result ≡ Answer.Ok → CanRead self.new q }
         ensures writable { result ≡ Answer.Ok → kind ≡ Kind.Store → CanWrite self.new q }
     {
-        match to {
-            Err(cause) => self.answer(Answer::Absent(cause)),
-            Ok(pa) => self.offered(q, memory::frame_of(pa), is_store(kind)),
+        let answer = self.offered(q, memory::frame_of(led.pa), is_store(kind));
+        match answer {
+            Answer::Ok => self.learn_page(q, view, va, kind, led),
+            _ => {}
         }
+        answer
     }
 
     /// Brings the page to where the kernel's page table leads from this address.
+    #[inline(always)]
     pub(crate) fn reach_page(&mut self, q: PageId, va: u32, kind: Kind) -> Answer
         requires domain { q.domain < domains_in self.old.memory.now }
         requires own { q.domain ≡ self.old.view.domain }
@@ -285,10 +312,14 @@ impl<'m, 'e, E: Emit> Side<'m, 'e, E> {
         ensures readable { result ≡ Answer.Ok → CanRead self.new q }
         ensures writable { result ≡ Answer.Ok → kind ≡ Kind.Store → CanWrite self.new q }
     {
-        let to = self.inside_address(va, kind);
+        let view = self.inside_view();
+        let to = self.led(&view, va, kind);
         if self.memory.missed {
             return self.answer(Answer::Stopped);
         }
-        self.reached(q, kind, to)
+        match to {
+            Err(cause) => self.answer(Answer::Absent(cause)),
+            Ok(led) => self.reached(q, &view, va, kind, &led),
+        }
     }
 }

@@ -29,17 +29,37 @@ impl KeptItems {
     }
 }
 
+/// Builds the item of a question that was granted. Apart, since that clears room for a page.
+#[cold]
+#[inline(never)]
+fn build_ok(kept: &mut Item, domain: u8)
+    ensures { kept.new ≡ Item.Ok domain }
+{
+    *kept = Item::Ok { domain };
+}
+
 /// Makes an item that of a question that was granted.
+#[inline(always)]
 pub(crate) fn set_ok(kept: &mut Item, domain: u8)
     ensures { kept.new ≡ Item.Ok domain }
 {
     match kept {
         Item::Ok { domain: d } => *d = domain,
-        _ => *kept = Item::Ok { domain },
+        _ => build_ok(kept, domain),
     }
 }
 
+/// Builds the item of a value that was asked for. Apart, as `build_ok` is.
+#[cold]
+#[inline(never)]
+fn build_word(kept: &mut Item, domain: u8, value: u32)
+    ensures { kept.new ≡ Item.Word domain value }
+{
+    *kept = Item::Word { domain, value };
+}
+
 /// Makes an item that of a value that was asked for.
+#[inline(always)]
 pub(crate) fn set_word(kept: &mut Item, domain: u8, value: u32)
     ensures { kept.new ≡ Item.Word domain value }
 {
@@ -51,7 +71,7 @@ pub(crate) fn set_word(kept: &mut Item, domain: u8, value: u32)
             *d = domain;
             *v = value;
         }
-        _ => *kept = Item::Word { domain, value },
+        _ => build_word(kept, domain, value),
     }
 }
 

@@ -16,6 +16,7 @@
 mod clearing;
 mod inside;
 mod kept_items;
+mod leading;
 mod memory;
 mod outside;
 mod page_side;
@@ -25,6 +26,3 @@ pub use kept_items::KeptItems;
 pub use memory::{Memory, Offer};
 pub use outside::{outside_step, view_of};
 pub use side::Side;
-
-#[cfg(test)]
-mod tests;

@@ -2,10 +2,13 @@ ghost use Rattle.std.specs.Prelude.{◌≡◌, ◌≢◌, ◌^◌, IsTrue, ◌�
 ghost use Rattle.cloak_model.specs.Memory as memory;
 ghost use Rattle.cloak_model.specs.Memory.{is_in_frames};
 ghost use Rattle.cloak_model.specs.declared.item.Item.TheVariants.{Cipher};
+ghost use Rattle.shadow_fold.specs.Entries.{is_of_space};
+ghost use Rattle.shadow_fold.specs.Table.{ending, killed};
 
-use cloak_base::{Frame, PageId};
+use cloak_base::{Frame, PageId, SpaceId};
 use cloak_model::Emit;
 use cloak_pager::{Offered, Pager, Touched};
+use multi_shadow::Shadows;
 use outside_io::Stream;
 
 /// Where RAM begins.
@@ -41,7 +44,7 @@ pub enum Offer {
     Missed,
 }
 
-/// The frames of RAM with the cloaked pages in them, and the random stream.
+/// The frames of RAM with the cloaked pages in them, the random stream, and the translations that are known.
 #[derive(Drop)]
 pub struct Memory {
     pub pager: Pager,
@@ -50,6 +53,16 @@ pub struct Memory {
     pub draws: u64,
     /// A draw was missing.
     pub missed: bool,
+    /// The translations that are known.
+    pub shadows: Shadows,
+}
+
+/// Ends the translations that lead to a frame or through it.
+fn end_entries(shadows: &mut Shadows, f: Frame)
+    ensures { shadows.new ≡ killed f shadows.old }
+{
+    shadows.kill_target(f);
+    shadows.kill_dependents(f);
 }
 
 impl Memory {
@@ -72,12 +85,14 @@ impl Memory {
     {
         match self.pager.touch(f, &mut self.stream) {
             Touched::Quiet => {}
-            Touched::Resealed => {}
+            Touched::Resealed => end_entries(&mut self.shadows, f),
             Touched::Sealed => {
+                end_entries(&mut self.shadows, f);
                 self.draws = self.draws.saturating_add(1);
                 self.emit_frame(f, e);
             }
             Touched::Wiped => {
+                end_entries(&mut self.shadows, f);
                 self.missed = true;
                 self.emit_frame(f, e);
             }
@@ -85,6 +100,7 @@ impl Memory {
     }
 
     /// Whether the frame holds the page.
+    #[inline(always)]
     fn is_held(&self, q: PageId, g: Frame) -> bool
         requires { g.0 < frames_of self.now }
         ensures held { IsTrue result → held_in self.now.pager g.0 ≡ Some q }
@@ -105,26 +121,24 @@ impl Memory {
         }
     }
 
-    /// Settles what is to be before this page comes into this frame: the frame, unless it holds the page, and the frame
-    /// that holds the page. Whether no draw was missing.
+    /// Settles what is to be before this page comes into this frame, which does not hold it: the frame, and the frame that
+    /// holds the page. Whether no draw was missing.
     fn make_room<E: Emit>(&mut self, q: PageId, g: Frame, e: &mut E) -> bool
         requires inside { g.0 < frames_of self.old }
         requires domain { q.domain < domains_in self.old }
         requires resource { q.resource < 16 }
         requires page { q.page < 1024 }
         requires drawn { self.old.missed ≡ false }
+        requires away { held_in self.old.pager g.0 ≢ Some q }
         ensures same { SameSize self.old self.new }
         ensures emits_some { EmitsSome E.gave e.old e.new }
         ensures missed { result ≡ not self.new.missed }
-        ensures room { IsTrue result → (held_in self.new.pager g.0 ≡ None) ⊎ (held_in self.new.pager g.0 ≡ Some q) }
+        ensures room { IsTrue result → held_in self.new.pager g.0 ≡ None }
         ensures alone { IsTrue result → (k : ℕ) → held_in self.new.pager k ≡ Some q → k ≡ g.0 }
         ensures no_more { HoldsNoMore self.old.pager self.new.pager }
         ensures rooms { (m : CloakedMemory) → Holds self.old m → Rooms E.gave e.old e.new self.new result q g.0 m }
     {
         self.pager.whole();
-        if self.is_held(q, g) {
-            return true;
-        }
         self.settle(g, e);
         if self.missed {
             return false;
@@ -138,6 +152,7 @@ impl Memory {
     }
 
     /// Offers a page in a frame, for reading or for writing.
+    #[inline(always)]
     pub fn offer<E: Emit>(&mut self, q: PageId, g: Frame, write: bool, e: &mut E) -> Offer
         requires inside { g.0 < frames_of self.old }
         requires domain { q.domain < domains_in self.old }
@@ -154,13 +169,30 @@ impl Memory {
         ensures owed { result ≡ Offer.Ready → IsTrue write → owed_at self.new.pager g.0 ≡ Some q }
         ensures drawn { result ≡ Offer.Ready → self.new.missed ≡ false }
     {
+        if self.is_held(q, g) {
+            self.pager.whole();
+            return match self.pager.offer(q, g, write) {
+                Offered::Ready => Offer::Ready,
+                Offered::Mismatch => Offer::Mismatch,
+            };
+        }
         if !self.make_room(q, g, e) {
             return Offer::Missed;
         }
         match self.pager.offer(q, g, write) {
-            Offered::Ready => Offer::Ready,
+            Offered::Ready => {
+                end_entries(&mut self.shadows, g);
+                Offer::Ready
+            }
             Offered::Mismatch => Offer::Mismatch,
         }
+    }
+
+    /// The regions of a space changed, or it ended: what was known of its pages ends.
+    pub fn end_space(&mut self, s: SpaceId)
+        ensures { self.new ≡ record self.old { shadows = ending (is_of_space s) self.old.shadows } }
+    {
+        self.shadows.kill_space(s);
     }
 
     /// The address lies in RAM.
@@ -181,6 +213,7 @@ impl Memory {
         ensures stream { self.new.stream ≡ self.old.stream }
         ensures draws { self.new.draws ≡ self.old.draws }
         ensures missed { self.new.missed ≡ self.old.missed }
+        ensures shadows { self.new.shadows ≡ self.old.shadows }
         ensures emits { Emits E.gave e.old e.new (item_pieces (Cipher f.0 (bytes_in self.old.pager f.0) ∷ [])) }
     {
         e.cipher(f.0, self.pager.read_outside(f));

@@ -52,6 +52,7 @@ pub fn outside_step<E: Emit>(
         items,
         violation: None,
         view,
+        space: 0,
     };
     let ending = kernel_step(h, d, &mut side);
     // No effect at run time. The proof reads what was lent from these uses.

@@ -34,6 +34,8 @@ impl<'m, 'e, E: Emit> PageSide for Side<'m, 'e, E> {
 
     ghost is_unused = { λ side n. IsUnused side n };
 
+    // In its callers the name of the page stays in registers.
+    #[inline(always)]
     fn reach(&mut self, q: PageId, va: u32, kind: Kind) -> Answer {
         self.served_domain(q.domain);
         self.reach_page(q, va, kind)

@@ -1,11 +1,12 @@
-ghost use Rattle.std.specs.Prelude.{◌≡◌, ◌<◌, ◌≤◌, length};
+ghost use Rattle.std.specs.Prelude.{◌≡◌, ◌<◌, ◌≤◌, ◌%◌, IsTrue, length};
 
 use crate::kept_items::KeptItems;
 use crate::memory::{Memory, frame_of, place_of};
-use cloak_base::{Frame, Kind, Mode, Violation};
-use cloak_model::{Emit, View, access_fault, set_value_in, value_in, word_in};
+use cloak_base::{Frame, Violation};
+use cloak_model::{Access, Emit, View, value_in, word_in};
 use host_calls::Ram;
-use sv32_walk::{Words, walk};
+use multi_shadow::ShadowView;
+use sv32_walk::Words;
 
 /// What the step of a hart reaches: memory, and the emitter of what it writes.
 #[derive(Drop)]
@@ -18,6 +19,8 @@ pub struct Side<'m, 'e, E: Emit> {
     pub violation: Option<Violation>,
     /// For the questions of a cloaked program.
     pub view: View,
+    /// The number of the space of the context that asks; of no use outside.
+    pub space: u32,
 }
 
 impl<'m, 'e, E: Emit> Side<'m, 'e, E> {
@@ -25,7 +28,11 @@ impl<'m, 'e, E: Emit> Side<'m, 'e, E> {
     ghost use Rattle.cloak_model.specs.Asking.{Keeps};
     ghost use Rattle.cloak_pager.specs.State.{held_in};
     ghost use Rattle.cloaked_side.specs.Holding.{frames_of};
-    ghost use Rattle.cloaked_side.specs.Seeing.{Becomes, StaysWithin};
+    ghost use Rattle.cloaked_side.specs.Seeing.{Becomes, FollowsAlways, StaysWithin};
+    ghost use Rattle.cloak_model.specs.Ask.{shown_value, stored_value};
+    ghost use Rattle.cloak_model.specs.Effect.{IsWidth};
+    ghost use Rattle.cloak_model.specs.Memory as model;
+    ghost use Rattle.cloak_model.specs.Memory.{is_in_frames};
 
     /// Settles a frame.
     pub fn settle(&mut self, f: Frame)
@@ -36,6 +43,41 @@ impl<'m, 'e, E: Emit> Side<'m, 'e, E> {
         ensures outside { held_in self.new.memory.now.pager f.0 ≡ None }
     {
         self.memory.settle(f, self.emitter);
+    }
+
+    /// The value at an address in an outside frame.
+    pub(crate) fn read_settled(&mut self, pa: u32, width: u32) -> u32
+        requires inside { IsTrue (is_in_frames (frames_of self.old.memory.now) pa) }
+        requires outside { held_in self.old.memory.now.pager (model.frame_of pa) ≡ None }
+        requires width { IsWidth width }
+        requires aligned { pa % width ≡ 0 }
+        ensures told { FollowsAlways E.gave self.old self.new result (shown_value pa width) }
+        ensures keeps { Keeps (StaysWithin E.gave) self.old self.new }
+        ensures same_count { frames_of self.new.memory.now ≡ frames_of self.old.memory.now }
+    {
+        value_in(
+            self.memory.pager.read_outside(frame_of(pa)),
+            place_of(pa),
+            width,
+        )
+    }
+
+    /// Stores the lowest bytes of a word at an address in an outside frame. Translations through the frame end.
+    pub(crate) fn write_settled(&mut self, pa: u32, width: u32, v: u32)
+        requires inside { IsTrue (is_in_frames (frames_of self.old.memory.now) pa) }
+        requires outside { held_in self.old.memory.now.pager (model.frame_of pa) ≡ None }
+        requires width { IsWidth width }
+        requires aligned { pa % width ≡ 0 }
+        ensures told { FollowsAlways E.gave self.old self.new tt (stored_value pa width v) }
+        ensures keeps { Keeps (StaysWithin E.gave) self.old self.new }
+        ensures view { self.new.view ≡ self.old.view }
+        ensures same_count { frames_of self.new.memory.now ≡ frames_of self.old.memory.now }
+    {
+        let f = frame_of(pa);
+        self.memory
+            .pager
+            .write_outside(f, place_of(pa) as u32, width, v);
+        self.memory.shadows.kill_dependents(f);
     }
 }
 
@@ -68,40 +110,37 @@ impl<'m, 'e, E: Emit> Ram for Side<'m, 'e, E> {
 
     ghost count = { λ side. frames_of side.memory.now };
 
-    #[tactic(auto, using(cloak_model::proofs::Later::laters), unfolding(cloak_model::specs::Ask::ask_translate, cloak_model::specs::Ask::ask_inside))]
-    fn translate(
-        &mut self,
-        satp: u32,
-        mode: Mode,
-        sum: bool,
-        mxr: bool,
-        va: u32,
-        kind: Kind,
-    ) -> Result<u32, u32> {
-        match walk(satp, mode, sum, mxr, va, kind, self) {
+    fn load(&mut self, satp: u32, access: Access, width: u32) -> Result<u32, u32> {
+        let view = ShadowView::Outside {
+            satp,
+            mode: access.mode,
+            sum: access.sum,
+            mxr: access.mxr,
+        };
+        match self.led(&view, access.va, access.kind) {
             Err(cause) => Err(cause),
-            Ok(walked) => {
-                if self.memory.is_inside(walked.pa) {
-                    Ok(walked.pa as u32)
-                } else {
-                    Err(access_fault(kind))
-                }
+            Ok(led) => {
+                self.settle_led(&view, access.va, access.kind, &led);
+                Ok(self.read_settled(led.pa, width))
             }
         }
     }
 
-    fn read(&mut self, pa: u32, width: u32) -> u32 {
-        let f = frame_of(pa);
-        self.settle(f);
-        value_in(self.memory.pager.read_outside(f), place_of(pa), width)
-    }
-
-    fn write(&mut self, pa: u32, width: u32, v: u32) {
-        let f = frame_of(pa);
-        self.settle(f);
-        self.memory
-            .pager
-            .write_outside(f, place_of(pa) as u32, width, v);
+    fn store(&mut self, satp: u32, access: Access, width: u32, v: u32) -> Result<(), u32> {
+        let view = ShadowView::Outside {
+            satp,
+            mode: access.mode,
+            sum: access.sum,
+            mxr: access.mxr,
+        };
+        match self.led(&view, access.va, access.kind) {
+            Err(cause) => Err(cause),
+            Ok(led) => {
+                self.settle_led(&view, access.va, access.kind, &led);
+                self.write_settled(led.pa, width, v);
+                Ok(())
+            }
+        }
     }
 
     fn frame(&mut self, f: Frame) -> &[u8; 4096] {
@@ -112,6 +151,7 @@ impl<'m, 'e, E: Emit> Ram for Side<'m, 'e, E> {
     fn fill(&mut self, f: Frame, b: &[u8; 4096]) {
         self.settle(f);
         self.memory.pager.fill_outside(f, b);
+        self.memory.shadows.kill_dependents(f);
     }
 
     #[tactic(auto, unfolding(cloak_model::specs::Ask::ask_count))]

@@ -19,6 +19,3 @@ pub use record_request::{RecordRequest, SoloRequest};
 pub use request::{Request, read_words};
 pub use run_request::{Randomness, RunRequest};
 pub use usage_fault::UsageFault;
-
-#[cfg(test)]
-mod tests;

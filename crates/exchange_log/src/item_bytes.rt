@@ -65,6 +65,35 @@ fn write_leave(s: &Shown, into: &mut [u8; LONGEST]) -> usize
     write_words(into, end, &s.args)
 }
 
+/// The bytes of a Step.
+#[tactic(auto, unfolding(cloak_model::specs::Exchange::item_bytes))]
+#[inline(always)]
+pub fn step_bytes(number: u32) -> [u8; 5]
+    ensures { result ≡ item_bytes (Item.Step number) }
+{
+    let [a, b, c, d] = number.to_le_bytes();
+    [0x10, a, b, c, d]
+}
+
+/// The bytes of an Ok.
+#[tactic(auto, unfolding(cloak_model::specs::Exchange::item_bytes))]
+#[inline(always)]
+pub fn ok_bytes(domain: u8) -> [u8; 2]
+    ensures { result ≡ item_bytes (Item.Ok domain) }
+{
+    [0x20, domain]
+}
+
+/// The bytes of a Word.
+#[tactic(auto, unfolding(cloak_model::specs::Exchange::item_bytes))]
+#[inline(always)]
+pub fn word_bytes(domain: u8, value: u32) -> [u8; 6]
+    ensures { result ≡ item_bytes (Item.Word domain value) }
+{
+    let [a, b, c, d] = value.to_le_bytes();
+    [0x22, domain, a, b, c, d]
+}
+
 /// Writes the bytes of an item, and answers how many they are.
 #[tactic(auto, unfolding(cloak_model::specs::Exchange::item_bytes))]
 pub fn write_item(i: &Item, into: &mut [u8; LONGEST]) -> usize
@@ -83,24 +112,18 @@ pub fn write_item(i: &Item, into: &mut [u8; LONGEST]) -> usize
             write_front(into, &[0x02, a, b, c, d, *width, e, f, g, h])
         }
         Item::Leave(s) => write_leave(s, into),
-        Item::Step { number } => {
-            let [a, b, c, d] = number.to_le_bytes();
-            write_front(into, &[0x10, a, b, c, d])
-        }
+        Item::Step { number } => write_front(into, &step_bytes(*number)),
         Item::Close { steps } => {
             let [a, b, c, d] = steps.to_le_bytes();
             write_front(into, &[0x11, a, b, c, d])
         }
         Item::End => write_front(into, &[0x12]),
-        Item::Ok { domain } => write_front(into, &[0x20, *domain]),
+        Item::Ok { domain } => write_front(into, &ok_bytes(*domain)),
         Item::Absent { domain, cause } => {
             let [a, b, c, d] = cause.to_le_bytes();
             write_front(into, &[0x21, *domain, a, b, c, d])
         }
-        Item::Word { domain, value } => {
-            let [a, b, c, d] = value.to_le_bytes();
-            write_front(into, &[0x22, *domain, a, b, c, d])
-        }
+        Item::Word { domain, value } => write_front(into, &word_bytes(*domain, *value)),
         Item::Timer { domain } => write_front(into, &[0x23, *domain]),
         Item::Resume {
             domain,

@@ -12,6 +12,3 @@
 mod rights;
 
 pub use rights::{ChangedRight, CleanRight, FrameStore, OutsideRight, promote};
-
-#[cfg(test)]
-mod tests;

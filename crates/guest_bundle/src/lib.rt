@@ -16,6 +16,3 @@ mod writing;
 pub use cloak_model::BundleFault;
 pub use reading::read;
 pub use writing::write;
-
-#[cfg(test)]
-mod tests;

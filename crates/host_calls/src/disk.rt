@@ -20,13 +20,18 @@ impl Model for Disk {
 }
 
 impl Disk {
-    /// A disk of these bytes. The bytes behind the last whole block are kept, and belong to no block.
+    /// A disk of a copy of these bytes, as `of` makes it.
     pub fn open(alloc: Global, blocks: &[u8]) -> Result<Disk, NoMemory>
         ensures { IfOk result (λ d. d ≡ blocks.now) }
     {
-        Ok(Disk {
-            blocks: Vec::from_slice(alloc, blocks)?,
-        })
+        Ok(Disk::of(Vec::from_slice(alloc, blocks)?))
+    }
+
+    /// A disk in the memory of these bytes. The bytes behind the last whole block are kept, and belong to no block.
+    pub fn of(blocks: Vec<u8>) -> Disk
+        ensures { result ≡ blocks.items }
+    {
+        Disk { blocks }
     }
 
     /// The bytes of all blocks, in order.

@@ -22,6 +22,3 @@ pub use disk::Disk;
 pub use hart::{Hart, leave};
 pub use plain_step::{kernel_step, tick};
 pub use ram::Ram;
-
-#[cfg(test)]
-mod tests;

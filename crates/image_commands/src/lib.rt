@@ -11,6 +11,3 @@ mod unheard;
 
 pub use demonstrating::demo_command;
 pub use generating::gen_command;
-
-#[cfg(test)]
-mod tests;

@@ -9,6 +9,3 @@ mod instruction;
 
 pub use cloak_model::Ran;
 pub use instruction::instruction_step;
-
-#[cfg(test)]
-mod tests;

@@ -2,6 +2,9 @@
 //! so that the bytes of its record are the record of its exchange (`specs/Record`), and of nothing else (`record_law`).
 //! The law holds of each bundle of the grammar whose bytes are bytes, under each stream of bytes, and of each budget that
 //! the program takes.
+//!
+//! No body turns a law, so there is no wrong body to refuse here. With this changed definition, tried on a copy, its
+//! proof did not go through: a stream that is handed in has any numbers in the place of bytes.
 #![tactic(auto)]
 
 ghost use Rattle.item_law.specs.Writing.{WritesARecord};

@@ -56,6 +56,8 @@ holds_rooted memory m root h = record {
   stream = h.stream;
   draws = h.draws;
   missed = h.missed;
+  agrees = h.agrees;
+  room = h.room;
 }
 
 module _ {E : Type 0} (gave : E → E → List Piece → Type 0) (e : E) (h : Hart) (d : ℕ) (roots : List (List (Option ℕ))) (given : Option Violation) (j : model.Joint) (number : ℕ) (w : World) (ended : Went) where

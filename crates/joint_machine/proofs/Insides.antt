@@ -232,6 +232,17 @@ pub turns_now : {E : Type 0} (gave : E → E → List Piece → Type 0) (e e' : 
 turns_now gave e e' h h' domain roots memory given j number d slot was due now is turns =
     subst (λ (b : Bool). (by_interrupt b j number h d slot was).joint.memory.ledger.clashed ≡ false → TurnsIn gave e e' h' domain roots memory given j number d (by_interrupt b j number h d slot was)) (sym is) turns
 
+-- what a step came to stays where the memory stands for all that it stood for
+world_on : (old new : Memory) (w : World) → ((m : CloakedMemory) → Holds old m → Holds new m) → HoldsWorld old w → HoldsWorld new w
+world_on old new (Flat ram) keeps holds = absurd holds
+world_on old new (Alone handed) keeps holds = absurd holds
+world_on old new (Cloaked c) keeps holds = keeps c.memory holds
+
+pub steps_on : {E : Type 0} (gave : E → E → List Piece → Type 0) (e e' : E) (old new : Memory) (domain : Domain) (given : Stepped) (told : Told DomainStepped) →
+    ((m : CloakedMemory) → Holds old m → Holds new m) → StepsDomain gave e e' old domain given told → StepsDomain gave e e' new domain given told
+steps_on gave e e' old new domain given told keeps s =
+    record { went = s.went; violation = s.violation; emits = s.emits; holds = world_on old new told.world keeps s.holds; stands = s.stands }
+
 -- A program's step over the memory as it begins, and what followed.
 pub turns_stepping : {E : Type 0} (gave : E → E → List Piece → Type 0) (e e' e'' : E) (h h' : Hart) (domain : Domain) (roots roots' : List (List (Option ℕ))) (memory : Memory) (stepped : Stepped) (given : Option Violation) (j : model.Joint) (number d slot : ℕ) (was : program.Domain) (view : View) →
     begun j.memory view slot was ≡ cloak_of j.memory h d (pages_for was (context_at was.control.contexts slot)) → AreRoots roots j.memory.ledger.root →

@@ -1,13 +1,13 @@
 -- The pages of programs as a run begins, over plain variables.
 use Rattle.std.proofs.Common.{◌≡◌, ◌≢◌, ◌<◌, ◌≤◌, ◌+◌, ◌-◌, ◌^◌, ℕ, zero, suc, Bool, true, false, List, [], ◌∷◌, length, drop, slice_index_or, Option, None, Some, is_some, unwrap_or, min, refl, ap, sym, ◌∙◌, subst, arith, add-one, inl, inr}
-use Rattle.std.specs.Prelude.{option_and_then}
+use Rattle.std.specs.Prelude.{option_and_then, IfSome}
 use Rattle.std.proofs.lemmas.List.{at_drop_more, at_drop_all}
 use Rattle.std.proofs.lemmas.Bool.{cases_lt}
 use Rattle.cloak_base.specs.declared.names.PageId.{PageId}
 use Rattle.cloak_base.specs.declared.names.SpaceId.{SpaceId}
 use Rattle.cloak_base.specs.Random.{Random}
 use Rattle.cloak_model.specs.declared.image.Program.{Program}
-use Rattle.cloak_model.specs.Cloaking.{CloakedMemory}
+use Rattle.cloak_model.specs.Cloaking.{CloakedMemory, ciphertext_of}
 use Rattle.cloak_model.specs.Ledger.{vector_of}
 use Rattle.cloak_model.specs.Opening.{place_pages, place_programs, program_page}
 use Rattle.cloak_model.specs.PageMoves.{place, place_with}
@@ -19,7 +19,13 @@ use Rattle.cloak_pager.specs.AfterCall.{Meets, after_place}
 use Rattle.cloak_pager.specs.declared.held.Held.{Held}
 use Rattle.cloak_pager.specs.declared.held.Held.TheVariants.{Spent}
 use Rattle.cloak_pager.proofs.Pages.{with_page-other}
+use Rattle.shadow_fold.specs.Entries.{is_table}
+use Rattle.shadow_fold.specs.Keeping.{Agrees}
+use Rattle.shadow_fold.specs.Table.{Table, ending}
+use Rattle.shadow_law.specs.Agreeing.{present, frame}
+use Rattle.shadow_law.proofs.Tables.{write_agrees}
 use Rattle.cloaked_side.specs.Holding.{Holds}
+use Rattle.cloaked_side.proofs.Translating.{agrees_rights, ending_frames}
 use Rattle.cloaked_side.specs.declared.memory.Memory.{Memory}
 use Rattle.joint_machine.specs.Starting.{IsReady, PlacesTo}
 
@@ -93,28 +99,50 @@ places_by : (old new : Memory) (given : Bool) (w : PageId → Bool) (m : Cloaked
     given ≡ is_some o → StandsForMemory new.pager w (unwrap_or o m) → (unwrap_or o m).ledger.stream ≡ new.stream →
     KeepsLedgerIf m o → (new.missed ≡ false → (q : PageId) → w q ≡ false) → new.missed ≡ old.missed →
     new.draws ≡ draws_if given old.draws → old.draws ≡ m.ledger.draws → old.missed ≡ m.ledger.missed →
-    PlacesTo new given o
-places_by old new true w m None answer stands stream keeps whole missed draws counted marked = absurd (cc)
-places_by old new false w m None answer stands stream keeps whole missed draws counted marked = tt
-places_by old new false w m (Some m') answer stands stream keeps whole missed draws counted marked = absurd (cc)
-places_by old new true w m (Some m') answer stands stream keeps whole missed draws counted marked = record {
+    (given ≡ true → IfSome o (λ m'. Agrees (present (held_in new.pager) m') new.shadows)) →
+    (given ≡ true → new.shadows.frames ≡ length new.pager.frames) → PlacesTo new given o
+places_by old new true w m None answer stands stream keeps whole missed draws counted marked agrees room = absurd (cc)
+places_by old new false w m None answer stands stream keeps whole missed draws counted marked agrees room = tt
+places_by old new false w m (Some m') answer stands stream keeps whole missed draws counted marked agrees room = absurd (cc)
+places_by old new true w m (Some m') answer stands stream keeps whole missed draws counted marked agrees room = record {
   wiped = w;
   pager = stands;
   whole = whole;
   stream = stream;
   draws = draws ∙ (ap (λ n. min (n + 1) (2 ^ 64 - 1)) counted ∙ sym keeps.draws);
   missed = missed ∙ (marked ∙ sym keeps.missed);
+  agrees = agrees refl;
+  room = room refl;
 }
+
+-- the translations through the frame of a page that was placed ended
+agrees_with : (held : ℕ → Option PageId) (q : PageId) (f : ℕ) (bytes : List ℕ) (draw : Option (List ℕ × Random)) (m : CloakedMemory)
+    (t : Table) → Agrees (present held m) t →
+    IfSome (place_with q f bytes draw m) (λ m'. Agrees (present held m') (ending (is_table (frame f)) t))
+unfolding place_with
+agrees_with held q f bytes None m t agrees = tt
+agrees_with held q f bytes (Some draw) m t agrees = write_agrees held m f (ciphertext_of m.ledger q draw.0 bytes) t agrees
+
+placed_agrees : (held : ℕ → Option PageId) (q : PageId) (f : ℕ) (bytes : List ℕ) (m : CloakedMemory) (t : Table) →
+    Agrees (present held m) t → IfSome (place q f bytes m) (λ m'. Agrees (present held m') (ending (is_table (frame f)) t))
+unfolding place
+placed_agrees held q f bytes m t agrees = agrees_with held q f bytes (vector_of m.ledger q) m t agrees
 
 -- a page was placed in the memory's pager, or not
 pub page_placed : (old new : Memory) (given : Bool) (q : PageId) (f : ℕ) (there bytes : List ℕ) → there ≡ bytes →
     Meets old.pager old.stream new.pager new.stream given (after_place q f there) → new.missed ≡ old.missed →
-    new.draws ≡ draws_if given old.draws → (m : CloakedMemory) → Holds old m → PlacesTo new given (place q f bytes m)
-page_placed old new given q f there bytes same meets missed draws m h =
+    new.draws ≡ draws_if given old.draws → new.pager.rights ≡ old.pager.rights →
+    length new.pager.frames ≡ length old.pager.frames →
+    (given ≡ true → new.shadows ≡ ending (is_table (frame f)) old.shadows) →
+    (m : CloakedMemory) → Holds old m → PlacesTo new given (place q f bytes m)
+page_placed old new given q f there bytes same meets missed draws rights count ended m h =
     let v = meets h.wiped m h.pager h.stream in
     subst (λ (x : List ℕ). PlacesTo new given (place q f x m)) same
     (places_by old new given h.wiped m (place q f there m) v.answered v.stands v.drawn (keeps_ledger q f there m)
-    (λ none. h.whole (sym missed ∙ none)) missed draws h.draws h.missed)
+    (λ none. h.whole (sym missed ∙ none)) missed draws h.draws h.missed
+    (λ is. subst (λ (u : Table). IfSome (place q f there m) (λ m'. Agrees (present (held_in new.pager) m') u)) (sym (ended is))
+    (placed_agrees (held_in new.pager) q f there m old.shadows (agrees_rights old.pager new.pager m old.shadows rights h.agrees)))
+    (λ is. ap (λ (u : Table). u.frames) (ended is) ∙ ending_frames (is_table (frame f)) old.shadows ∙ h.room ∙ sym count))
 
 -- Pages one after another.
 

@@ -21,6 +21,7 @@ use Rattle.cloak_pager.proofs.Calls.{stands_read}
 use Rattle.cloaked_side.specs.Holding.{Holds, frames_of}
 use Rattle.cloaked_side.specs.declared.memory.Memory.{Memory}
 use Rattle.cloaked_side.proofs.Emitting.{emits_none, emits_items}
+use Rattle.cloaked_side.proofs.Sided.{still_read as still}
 use Rattle.joint_machine.specs.Starting.{IsReadOnly, frame_item, placed_among}
 
 -- One frame.
@@ -81,8 +82,8 @@ read_then a b c first second = record {
 }
 
 pub read_once : (a b : Memory) → IsReadOnce a.pager b.pager → b.stream ≡ a.stream → b.draws ≡ a.draws →
-    b.missed ≡ a.missed → IsReadOnly a b
-read_once a b once stream draws missed = record {
+    b.missed ≡ a.missed → b.shadows ≡ a.shadows → IsReadOnly a b
+read_once a b once stream draws missed shadows = record {
   frames = ap (λ (p : PagerState). p.frames) once;
   rights = ap (λ (p : PagerState). p.rights) once;
   domains = ap (λ (p : PagerState). domains_of p.table) once;
@@ -93,6 +94,8 @@ read_once a b once stream draws missed = record {
     stream = h.stream ∙ sym stream;
     draws = draws ∙ h.draws;
     missed = missed ∙ h.missed;
+    agrees = (still a b m once shadows).agrees h.agrees;
+    room = (still a b m once shadows).room ∙ h.room ∙ sym (still a b m once shadows).count;
   };
 }
 

@@ -1,7 +1,8 @@
 -- RAM as a run begins, over plain variables.
-use Rattle.std.proofs.Common.{◌≡◌, ◌<◌, ◌≤◌, ◌+◌, ◌-◌, ◌*◌, ◌/◌, ◌%◌, ℕ, false, List, [], ◌∷◌, ◌++◌, length, drop, take, slice_index_or, slice_set, All, refl, ap, sym, ◌∙◌, subst, arith, add-one, None, Some, Option, map}
-use Rattle.std.proofs.lemmas.List.{set_split, length-set, length-replicate, at_drop_more, at_drop_all}
-use Rattle.std.proofs.lemmas.List.Elements.{All-set, All-replicate}
+use Rattle.std.proofs.Common.{inl, inr, ◌≡◌, ◌<◌, ◌≤◌, ◌+◌, ◌-◌, ◌*◌, ◌/◌, ◌%◌, ℕ, false, List, [], ◌∷◌, ◌++◌, length, drop, take, slice_index_or, slice_set, All, refl, ap, sym, ◌∙◌, subst, arith, add-one, None, Some, Option, map}
+use Rattle.std.proofs.lemmas.List.{get_or_past, set_split, length-set, length-replicate, at_drop_more, at_drop_all}
+use Rattle.std.proofs.lemmas.Bool.{cases_lt}
+use Rattle.std.proofs.lemmas.List.Elements.{All-nil, All-set, All-replicate}
 use Rattle.cloak_base.specs.Pages.{zero_page}
 use Rattle.cloak_base.specs.Random.{Random}
 use Rattle.cloak_base.specs.declared.names.PageId.{PageId}
@@ -13,14 +14,17 @@ use Rattle.cloak_model.specs.Memory.{frame_of, place_of, with_byte, with_bytes, 
 use Rattle.cloak_model.specs.Opening.{with_segments, started_kernel, started_ledger, started_memory}
 use Rattle.protect_meta.specs.declared.meta.Meta.{Meta}
 use Rattle.protect_meta.specs.Table.{meta_at}
-use Rattle.cloak_pager.specs.State.{PagerState, IsWholePager, owed_under}
+use Rattle.cloak_pager.specs.State.{PagerState, IsWholePager, page_of, owed_under, held_in}
 use Rattle.cloak_pager.specs.Turns.{IsNewPager, HasBytes}
 use Rattle.cloak_pager.specs.Relation.{StandsForMemory, FrameStands, PageStands}
 use Rattle.cloak_pager.specs.AfterCall.{none_wiped, StandsBlank}
 use Rattle.cloak_pager.specs.declared.held.Held.{Held}
 use Rattle.cloak_pager.specs.declared.held.Held.TheVariants.{Spent}
+use Rattle.shadow_fold.specs.Keeping.{Agrees}
+use Rattle.shadow_fold.specs.Table.{Table, empty_table}
+use Rattle.shadow_law.specs.Agreeing.{present}
 use Rattle.cloaked_side.specs.Holding.{Holds}
-use Rattle.joint_machine.specs.Starting.{ArePages, HasFrames}
+use Rattle.joint_machine.specs.Starting.{ArePages, HasFrames, IsReady}
 
 -- One byte.
 
@@ -168,6 +172,24 @@ loads_none n domains key p segments new = record {
   stored = refl;
 }
 
+-- no frame holds a page yet
+pub loads_outside : (n domains : ℕ) (key : List ℕ) (old p : PagerState) (i : ℕ) (segments : List Segment) →
+    IsNewPager n domains key old → LoadsFrom old p i segments → (k : ℕ) → held_in p k ≡ None
+loads_outside n domains key old p i segments new so_far k =
+    ap (λ (rights : List Held). page_of (slice_index_or rights k Spent)) so_far.stays.rights_are ∙ elim (cases_lt k n) [
+      | inl inside ↦ ap page_of (new.outside k inside)
+      | inr past ↦ ap page_of (get_or_past old.rights k Spent (let count = new.count in omega (arith, past, count)))
+    ]
+
+-- and none was shown
+pub loads_ready : (n domains : ℕ) (key : List ℕ) (old p : PagerState) (i : ℕ) (segments : List Segment) →
+    IsNewPager n domains key old → LoadsFrom old p i segments → IsReady p 0 0
+loads_ready n domains key old p i segments new so_far = record {
+  outside = loads_outside n domains key old p i segments new so_far;
+  rest = λ q here past. so_far.stays.metas_are q ∙ new.no_metas q;
+  later = λ q past. so_far.stays.metas_are q ∙ new.no_metas q;
+}
+
 loads_more : (old p p' : PagerState) (i : ℕ) (s : Segment) (segments : List Segment) → LoadsFrom old p i segments →
     i < length segments → s ≡ slice_index_or segments i s → 0x80000000 ≤ s.address →
     s.address + length s.bytes ≤ 0x80000000 + 4096 * length old.frames →
@@ -281,15 +303,17 @@ loaded_stands old p k domains key stream is =
       drained = s.drained;
     }
 
-pub loaded_holds : (old p : PagerState) (k : KernelImage) (domains : ℕ) (key : List ℕ) (stream : Random) →
-    IsLoaded old p k domains key →
-    Holds (record { pager = p; stream = stream; draws = 0; missed = false }) (started_memory k key stream)
+pub loaded_holds : (old p : PagerState) (k : KernelImage) (domains : ℕ) (key : List ℕ) (stream : Random) (t : Table) →
+    IsLoaded old p k domains key → t ≡ empty_table k.frames →
+    Holds (record { pager = p; stream = stream; draws = 0; missed = false; shadows = t }) (started_memory k key stream)
 unfolding started_memory started_ledger
-loaded_holds old p k domains key stream is = record {
+loaded_holds old p k domains key stream t is empty = record {
   wiped = none_wiped;
   pager = loaded_stands old p k domains key stream is;
   whole = λ drawn q. refl;
   stream = refl;
   draws = refl;
   missed = refl;
+  agrees = subst (λ (u : Table). Agrees (present (held_in p) (started_memory k key stream)) u) (sym empty) (All-nil _);
+  room = ap (λ (u : Table). u.frames) empty ∙ sym (loaded_count old p k domains key is);
 }

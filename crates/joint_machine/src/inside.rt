@@ -1,5 +1,6 @@
 //! The step of a hart inside.
 ghost use Rattle.std.specs.Prelude.{◌≡◌, ◌≢◌, ◌<◌, ℕ, false, Some, IsSome};
+ghost use Rattle.cloak_model.specs.Cloaking.{CloakedMemory};
 ghost use Rattle.cloak_model.specs.Contexts.{context_at};
 ghost use Rattle.cloak_model.specs.Csr.{interrupt_due};
 ghost use Rattle.cloak_model.specs.DomainState as model;
@@ -15,8 +16,8 @@ use crate::ended::Ended;
 use crate::going::{go_on, leave_context};
 use crate::joint::Joint;
 use crate::stepping::step_domain;
-use cloak_base::Violation;
-use cloak_model::{Emit, Item};
+use cloak_base::{SpaceId, Violation};
+use cloak_model::{Emit, Item, Went};
 use cloaked_side::{KeptItems, Memory, view_of};
 use host_calls::{Hart, tick};
 use hypercalls::Domain;
@@ -35,6 +36,21 @@ fn take_interrupt<E: Emit>(h: &mut Hart, d: u8, slot: u32, domain: &mut Domain, 
     if domain.context(slot).is_some() {
         let shown = domain.interrupt(slot);
         leave_context(h, &shown, e);
+    }
+}
+
+/// The translations of a space of the domain end whose regions the step changed, or which it ended.
+fn end_space(memory: &mut Memory, domain: u32, went: &Went)
+    ensures size { SameSize memory.old memory.new }
+    ensures same_pager { memory.new.pager ≡ memory.old.pager }
+    ensures holds { (m : CloakedMemory) → Holds memory.old m → Holds memory.new m }
+{
+    match went {
+        Went::Remapped(number) | Went::SpaceGone(number, _) => memory.end_space(SpaceId {
+            domain,
+            number: *number,
+        }),
+        _ => {}
     }
 }
 
@@ -69,11 +85,12 @@ fn step_context<E: Emit>(
         take_interrupt(h, d, slot, domain, e);
         return None;
     }
-    if domain.context(slot).is_none() {
+    let Some((space, _)) = domain.context(slot) else {
         return None;
-    }
+    };
     let view = view_of(h, d);
-    let stepped = step_domain(domain, slot, view, memory, items, e);
+    let stepped = step_domain(domain, slot, view, space, memory, items, e);
+    end_space(memory, d as u32, &stepped.went);
     go_on(h, d as u32, roots, &stepped, e)
 }
 

@@ -30,6 +30,3 @@ pub use joint::Joint;
 pub use opened::OpenFault;
 pub use reading::JointParts;
 pub use turned::Turned;
-
-#[cfg(test)]
-mod tests;

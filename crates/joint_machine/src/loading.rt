@@ -11,6 +11,7 @@ use cloak_base::{Frame, NoMemory};
 use cloak_model::KernelImage;
 use cloak_pager::Pager;
 use cloaked_side::Memory;
+use multi_shadow::Shadows;
 use outside_io::Stream;
 use std::alloc::Global;
 
@@ -48,6 +49,7 @@ pub(crate) fn load(
     ensures ready { IfOk result (λ memory. IsReady memory.pager 0 0) }
 {
     let mut pager = Pager::open(alloc, k.frames, domains, key)?;
+    let shadows = Shadows::open(alloc, k.frames)?;
     let segments = k.segments.as_slice();
     for segment in segments {
         store(&mut pager, segment.address, segment.bytes.as_slice());
@@ -58,5 +60,6 @@ pub(crate) fn load(
         stream,
         draws: 0,
         missed: false,
+        shadows,
     })
 }

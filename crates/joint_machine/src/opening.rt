@@ -15,8 +15,8 @@ use crate::loading::load;
 use crate::opened::OpenFault;
 use crate::placing::place_programs;
 use crate::starting::{start_domains, start_harts};
-use cloak_base::{Frame, NoMemory};
-use cloak_model::{Emit, KernelImage, Program, Sequence};
+use cloak_base::Frame;
+use cloak_model::{Emit, KernelImage, Program};
 use cloaked_side::{KeptItems, Memory};
 use host_calls::Disk;
 use outside_io::Stream;
@@ -61,27 +61,20 @@ fn show_placed<E: Emit>(memory: &mut Memory, programs: &[Program], e: &mut E)
     }
 }
 
-/// The bytes of the disk of a kernel's image. All other memory of the image is given back.
-fn disk_bytes(kernel: KernelImage) -> Sequence<u8>
+/// The disk of a kernel's image, in its memory. All other memory of the image is given back.
+fn disk_of(kernel: KernelImage) -> Disk
     ensures { result ≡ kernel.disk }
 {
     let KernelImage { disk, .. } = kernel;
-    disk
-}
-
-/// The disk of a kernel's image, of which nothing else is needed any more.
-fn disk_of(alloc: Global, kernel: KernelImage) -> Result<Disk, NoMemory>
-    ensures { IfOk result (λ disk. disk ≡ kernel.disk) }
-{
-    let bytes = disk_bytes(kernel);
-    Disk::open(alloc, bytes.as_slice())
+    Disk::of(disk.into_vec())
 }
 
 impl Joint {
     ghost use Rattle.joint_machine.specs.Standing.{harts_of, AllOutside, OpensAs, ShowsAs, StandsForJoint};
 
     /// The joint machine of a guest image as its run begins. Its key is the first draw of the stream, and each page of
-    /// a program takes the next one. The memory of the kernel's image is given back.
+    /// a program takes the next one. The disk takes over the memory of the image's disk, and the rest of the kernel's image is
+    /// given back.
     pub fn open(
         alloc: Global,
         kernel: KernelImage,
@@ -99,7 +92,7 @@ impl Joint {
         };
         let harts = start_harts(alloc, kernel.entry, kernel.harts)?;
         let mut memory = load(alloc, &kernel, programs.len() as u32, key, stream)?;
-        let disk = disk_of(alloc, kernel)?;
+        let disk = disk_of(kernel);
         let domains = start_domains(alloc, programs)?;
         if !place_programs(&mut memory, programs) {
             return Err(OpenFault::NoRandom);

@@ -50,6 +50,7 @@ fn place_page(memory: &mut Memory, domain: u32, p: &Program, page: u32) -> bool
     {
         return false;
     }
+    memory.shadows.kill_dependents(f);
     memory.draws = memory.draws.saturating_add(1);
     true
 }

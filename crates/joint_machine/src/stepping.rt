@@ -23,11 +23,12 @@ pub struct Stepped {
     pub violation: Option<Violation>,
 }
 
-/// Makes one step of the context of a slot, which runs on a hart that sees memory so.
+/// Makes one step of the context of a slot, which runs in this space on a hart that sees memory so.
 pub fn step_domain<E: Emit>(
     domain: &mut Domain,
     slot: u32,
     view: View,
+    space: u32,
     memory: &mut Memory,
     items: &mut KeptItems,
     e: &mut E,
@@ -51,6 +52,7 @@ pub fn step_domain<E: Emit>(
         items,
         violation: None,
         view,
+        space,
     };
     let went = domain.step(slot, &mut side);
     // No effect at run time. The proof reads what was lent from these uses.

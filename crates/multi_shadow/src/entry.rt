@@ -1,4 +1,4 @@
-ghost use Rattle.std.specs.Prelude.{◌≡◌};
+ghost use Rattle.std.specs.Prelude.{◌≡◌, ◌<◌, true, false, IfSome};
 ghost use Rattle.cloak_model.specs.Contexts.{same_space};
 ghost use Rattle.shadow_fold.specs.Entries as spec;
 
@@ -95,7 +95,7 @@ pub(crate) fn is_target(f: Frame, e: &Entry) -> bool
 
 /// The frame is one of the entry's table frames.
 #[tactic(auto, unfolding(shadow_fold::specs::Entries::is_table))]
-pub(crate) fn is_table(f: Frame, e: &Entry) -> bool
+pub fn is_table(f: Frame, e: &Entry) -> bool
     ensures { result ≡ spec.is_table f e.now }
 {
     is_frame(f, e.pt1) || is_frame(f, e.pt0)
@@ -110,4 +110,22 @@ pub(crate) fn is_of_space(s: SpaceId, e: &Entry) -> bool
         ShadowView::Inside { space, .. } => is_same_space(space, s),
         ShadowView::Outside { .. } => false,
     }
+}
+
+fn is_below(frames: u32, table: Option<Frame>) -> bool
+    ensures below { result ≡ true → IfSome table (λ f. f.0 < frames) }
+    ensures beyond { result ≡ false → IfSome table (λ f. f.0 < frames) → ⊥ }
+{
+    match table {
+        Some(f) => f.0 < frames,
+        None => true,
+    }
+}
+
+/// The entry's frames are among the first of so many.
+pub(crate) fn is_within(frames: u32, e: &Entry) -> bool
+    ensures within { result ≡ true → spec.IsWithin frames e.now }
+    ensures beyond { result ≡ false → spec.IsWithin frames e.now → ⊥ }
+{
+    e.frame.0 < frames && (is_below(frames, e.pt1) && is_below(frames, e.pt0))
 }

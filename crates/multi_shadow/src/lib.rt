@@ -13,6 +13,7 @@ mod entry;
 mod places;
 mod shadows;
 
+pub use entry::is_table;
 pub use shadow_fold::{Entry, ShadowCounts, ShadowView};
 pub use shadows::Shadows;
 

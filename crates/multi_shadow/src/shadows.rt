@@ -1,8 +1,10 @@
 ghost use Rattle.std.specs.Prelude.{◌≡◌, ◌∷◌, ◌<◌, ◌≤◌, true, false, length, find, IfOk};
 ghost use Rattle.std.specs.List.Sorted.{IsPermutation};
 ghost use Rattle.shadow_fold.specs.Entries.{is_for, is_target, is_table, is_of_space, IsWithin};
+ghost use Rattle.shadow_fold.specs.Following.{AreBirthCalls};
 ghost use Rattle.shadow_fold.specs.Table.{empty_table, is_known, looked, ending, emptied, with_room, with_live};
 
+use crate::entry::is_within;
 use crate::places::{place, prune_all, prune_frame, search};
 use chain_arena::{Chain, ChainArena};
 use cloak_base::{Frame, Kind, Mode, NoMemory, SpaceId};
@@ -84,8 +86,22 @@ impl Shadows {
         found
     }
 
+    /// Makes an entry live, unless one of its view, page and kind is, or one of its frames is none of the table's. Nothing
+    /// is counted as an access.
+    pub fn learn(&mut self, e: Entry)
+        ensures born { IsWithin self.old.frames e → AreBirthCalls (is_known e.view e.page e.kind self.old) e self.old self.new }
+        ensures beyond { (IsWithin self.old.frames e → ⊥) → self.new ≡ self.old }
+    {
+        if is_within(self.frames, &e) {
+            let known = search(&self.arena, self.heads, &e.view, e.page, e.kind).is_some();
+            if !known {
+                self.insert(e);
+            }
+        }
+    }
+
     /// The entry becomes live. Where 1024 are live, all of them end first, and a flush is counted.
-    pub fn insert(&mut self, e: Entry)
+    pub(crate) fn insert(&mut self, e: Entry)
         requires unknown { is_known e.view e.page e.kind self.old ≡ false }
         requires within { IsWithin self.old.frames e }
         ensures live { IsPermutation (e ∷ (with_room self.old).live) self.new.live }

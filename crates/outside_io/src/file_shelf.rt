@@ -86,6 +86,7 @@ impl<R: Files + Drop> FileShelf<R> {
     }
 
     /// Takes a piece for the file that is being written, and says whether it was taken whole.
+    #[inline(always)]
     fn write(&mut self, bytes: &[u8]) -> bool
         ensures whole { IsTrue result →
             Takes (length bytes.now) bytes.now self.old.gathered self.new.gathered self.old.written self.new.written }
@@ -115,6 +116,7 @@ impl<R: Files + Drop> FileShelf<R> {
     }
 
     /// Says whether the file of this name is now the one that is being written.
+    #[inline(always)]
     fn turn_to(&mut self, name: &str) -> bool
         ensures open { IsTrue result → IsOpen name.now self.new }
         ensures same { IsOpen name.now self.old → self.new ≡ self.old }
@@ -124,6 +126,18 @@ impl<R: Files + Drop> FileShelf<R> {
         if self.writing.is_open(name) {
             return true;
         }
+        self.turn_away(name)
+    }
+
+    /// Turns from what is being written to the file of this name, and says whether it is now the one that is being
+    /// written.
+    #[cold]
+    #[inline(never)]
+    fn turn_away(&mut self, name: &str) -> bool
+        ensures open { IsTrue result → IsOpen name.now self.new }
+        ensures start { IsTrue result → self.new.gathered ≡ [] }
+        ensures counts { SameCounts self.old self.new }
+    {
         if !self.write_out() {
             return false;
         }
@@ -213,6 +227,7 @@ impl<R: Files + Drop> Shelf for FileShelf<R> {
         }
     }
 
+    #[inline(always)]
     fn append(&mut self, name: &str, bytes: &[u8]) -> Result<(), Failed>
         ensures taken { OnOk result (TakesPiece name.now bytes.now self.old self.new) }
         ensures kept { IsOpen name.now self.old →
@@ -239,139 +254,5 @@ impl<R: Files + Drop> Shelf for FileShelf<R> {
         } else {
             self.fail_writing()
         }
-    }
-}
-
-#[cfg(test)]
-mod tests {
-    use super::*;
-    use std::test::Fail;
-
-    /// Two files by turns, the first of which had more bytes before it was begun.
-    #[test]
-    fn appended_pieces_stand_in_their_files(rt: HostRuntime) -> Result<(), Fail> {
-        let (a, b) = ("file_shelf_test_a.bytes", "file_shelf_test_b.bytes");
-        fs::write(&rt, a, "what stood there before")?;
-        let mut shelf = FileShelf::open(rt.clone()?)?;
-        shelf.begin(a)?;
-        for (name, piece) in [(a, "hello"), (b, "two"), (a, ", "), (a, "world")] {
-            shelf.append(name, piece.as_bytes())?;
-        }
-        assert_eq!(rt; shelf.size(b), Ok(3));
-        for (name, text) in [(a, "hello, world"), (b, "two")] {
-            assert_eq!(rt; fs::read_to_string(&rt, name)?.as_str(), text);
-            fs::remove_file(&rt, name)?;
-        }
-        Ok(())
-    }
-
-    /// Adds all bytes of a file, read in pieces, and says whether no call failed.
-    fn read_in_pieces<R: Files + Drop>(
-        shelf: &mut FileShelf<R>,
-        name: &str,
-        piece: &mut [u8],
-        seen: &mut Vec<u8>,
-    ) -> bool {
-        for _ in 0..200 {
-            let Ok(n) = shelf.read_at(name, seen.len() as u64, piece) else {
-                return false;
-            };
-            if seen.extend_from_slice(&piece[..n]).is_err() {
-                return false;
-            }
-        }
-        true
-    }
-
-    /// A file of more bytes than are read ahead, in short, long and longer pieces.
-    #[test]
-    fn pieces_that_are_read_follow_one_another(rt: HostRuntime) -> Result<(), Fail> {
-        let name = "file_shelf_test_read.bytes";
-        let bytes: Vec<u8> = (0..150_000u32)
-            .map(|i| (i % 251) as u8)
-            .collect(rt.alloc())?;
-        fs::write(&rt, name, bytes.as_slice())?;
-        let mut shelf = FileShelf::open(rt.clone()?)?;
-        for length in [999, 65_536, 70_000] {
-            let mut piece = vec![in rt.alloc(); 0u8; length]?;
-            let mut seen = Vec::new(rt.alloc());
-            assert!(rt; read_in_pieces(&mut shelf, name, &mut piece, &mut seen));
-            assert!(rt; seen.as_slice() == bytes.as_slice());
-        }
-        fs::remove_file(&rt, name)?;
-        Ok(())
-    }
-
-    /// A file that is begun, by whatever name, is not what was read ahead.
-    #[test]
-    fn what_was_read_ahead_is_forgotten(rt: HostRuntime) -> Result<(), Fail> {
-        let name = "file_shelf_test_ahead.bytes";
-        let mut shelf = FileShelf::open(rt.clone()?)?;
-        let mut into = [0u8; 8];
-        for (other, text) in [(name, "old"), ("./file_shelf_test_ahead.bytes", "new!")] {
-            shelf.begin(other)?;
-            shelf.append(other, text.as_bytes())?;
-            let n = shelf.read_at(name, 0, &mut into)?;
-            assert_eq!(rt; &into[..n], text.as_bytes());
-        }
-        fs::remove_file(&rt, name)?;
-        Ok(())
-    }
-
-    #[derive(Clone, Copy)]
-    enum Call {
-        Begin,
-        Append,
-        AppendLong,
-        Size,
-        Read,
-        Flush,
-    }
-
-    /// What a call answers, if it does not fail.
-    fn answer<R: Files + Drop>(shelf: &mut FileShelf<R>, call: Call, name: &str) -> Option<u64> {
-        match call {
-            Call::Begin => shelf.begin(name).ok().map(|()| 0),
-            Call::Append => shelf.append(name, b"a").ok().map(|()| 0),
-            Call::AppendLong => shelf.append(name, &[0; 70_000]).ok().map(|()| 0),
-            Call::Size => shelf.size(name).ok(),
-            Call::Read => shelf.read_at(name, 0, &mut [0; 8]).ok().map(|n| n as u64),
-            Call::Flush => shelf.flush().ok().map(|()| 0),
-        }
-    }
-
-    /// A name that is missing is empty, and a folder a fault. A fault of writing is answered by the call that meets it,
-    /// also by one that reads; what is gathered is not lost by it.
-    #[test]
-    fn faults_are_answered(rt: HostRuntime) -> Result<(), Fail> {
-        let mut shelf = FileShelf::open(rt.clone()?)?;
-        let (missing, folder, full) = ("no such file", ".", "/dev/full");
-        for (call, name, answered) in [
-            (Call::Size, missing, Some(0)),
-            (Call::Read, missing, Some(0)),
-            (Call::Size, folder, None),
-            (Call::Read, folder, None),
-            (Call::Begin, folder, None),
-            (Call::Append, folder, None),
-            (Call::Begin, full, Some(0)),
-            (Call::AppendLong, full, None),
-            (Call::Append, full, Some(0)),
-            (Call::Flush, full, None),
-            (Call::AppendLong, full, None),
-            (Call::Append, missing, None),
-            (Call::Size, missing, None),
-            (Call::Append, full, Some(0)),
-            (Call::Begin, missing, None),
-            (Call::Read, missing, None),
-        ] {
-            assert_eq!(rt; answer(&mut shelf, call, name), answered);
-        }
-        // From here on the disk has room.
-        let name = "file_shelf_test_full.bytes";
-        assert!(rt; shelf.writing.keep(name, File::create(&rt, name)?));
-        shelf.flush()?;
-        assert_eq!(rt; fs::read_to_string(&rt, name)?.as_str(), "aa");
-        fs::remove_file(&rt, name)?;
-        Ok(())
     }
 }

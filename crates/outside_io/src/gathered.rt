@@ -1,5 +1,5 @@
 //! Small pieces are gathered before they are written out.
-ghost use Rattle.std.specs.Prelude.{◌≡◌, ◌≤◌, ◌-◌, ◌++◌, ◌↔◌, [], length, take, IsTrue, IfOk, false};
+ghost use Rattle.std.specs.Prelude.{◌≡◌, ◌≤◌, ◌+◌, ◌-◌, ◌++◌, ◌↔◌, [], length, take, IsTrue, IfOk, false};
 ghost use Rattle.std.specs.Io.KnownBytes.{Appends};
 ghost use Rattle.outside_io.specs.Pieces.{MovesFront, Takes, TakesFront};
 
@@ -11,21 +11,25 @@ use std::marker::Model;
 /// How many bytes are gathered at the most.
 const CAPACITY: usize = 65536;
 
-/// Bytes that were taken, and are not written yet.
+/// Bytes that were taken, and are not written yet. They stand in a room of a fixed size, so a piece of a known length
+/// is stored at once.
 #[derive(Drop)]
 pub struct Gathered {
-    bytes: Vec<u8>,
+    room: Vec<u8>,
+    /// How many bytes of the room were taken.
+    filled: usize,
+    /// How many of these are written.
     written: usize,
 }
 
 impl Model for Gathered {
-    ghost use Rattle.std.specs.Prelude.{List, ℕ, drop, length, ◌≤◌, vec_len};
+    ghost use Rattle.std.specs.Prelude.{List, ℕ, take, drop, ◌≤◌, vec_len};
 
     ghost Value = { List ℕ };
 
-    ghost view = { λ s. drop s.written s.bytes.items };
+    ghost view = { λ s. drop s.written (take s.filled s.room.items) };
 
-    ghost invariant = { λ s. s.written ≤ vec_len s.bytes };
+    ghost invariant = { λ s. (s.written ≤ s.filled) × (s.filled ≤ vec_len s.room) };
 }
 
 impl Gathered {
@@ -33,21 +37,30 @@ impl Gathered {
     pub fn open(alloc: Global) -> Result<Gathered, NoMemory>
         ensures { IfOk result (λ gathered. gathered ≡ []) }
     {
-        let bytes = Vec::with_capacity(alloc, CAPACITY)?;
-        Ok(Gathered { bytes, written: 0 })
+        let room = vec![in alloc; 0; CAPACITY]?;
+        Ok(Gathered {
+            room,
+            filled: 0,
+            written: 0,
+        })
     }
 
     /// Takes the whole piece where there is room for it, and else nothing of it.
+    #[inline(always)]
     pub fn gather(&mut self, piece: &[u8]) -> bool
         ensures taken { IsTrue result → self.new ≡ self.old ++ piece.now }
         ensures no_room { result ≡ false → self.new ≡ self.old }
     {
-        piece.len() <= CAPACITY - self.bytes.len().min(CAPACITY)
-            && self.bytes.extend_from_slice(piece).is_ok()
+        if piece.len() > self.room.len() - self.filled {
+            return false;
+        }
+        self.filled = put_behind(&mut self.room, self.filled, piece);
+        true
     }
 
     /// Takes a whole piece: it is gathered, or written behind what was gathered where there is no room. Says whether
     /// that was done; where it was not, a front of the piece was taken.
+    #[inline(always)]
     pub fn append<W: Write>(&mut self, out: &mut W, piece: &[u8]) -> bool
         ensures whole { IsTrue result →
             Takes (length piece.now) piece.now self.old self.new (W.contents out.old) (W.contents out.new) }
@@ -56,6 +69,18 @@ impl Gathered {
         if self.gather(piece) {
             return true;
         }
+        self.append_behind(out, piece)
+    }
+
+    /// Takes a whole piece once what was gathered is written out. Says whether that was done; where it was not, a front
+    /// of the piece was taken.
+    #[cold]
+    #[inline(never)]
+    fn append_behind<W: Write>(&mut self, out: &mut W, piece: &[u8]) -> bool
+        ensures whole { IsTrue result →
+            Takes (length piece.now) piece.now self.old self.new (W.contents out.old) (W.contents out.new) }
+        ensures front { TakesFront piece.now self.old self.new (W.contents out.old) (W.contents out.new) }
+    {
         let is_written = self.write_out(out);
         if !is_written {
             return false;
@@ -90,8 +115,8 @@ impl Gathered {
         ensures left { self.new ≡ take (length self.old - count) self.old }
         ensures written { result ≡ count - length self.old }
     {
-        let back = count.min(self.bytes.len() - self.written);
-        self.bytes.truncate(self.bytes.len() - back);
+        let back = count.min(self.filled - self.written);
+        self.filled -= back;
         count - back
     }
 
@@ -99,7 +124,7 @@ impl Gathered {
     pub fn is_empty(&self) -> bool
         ensures { IsTrue result ↔ (self.now ≡ []) }
     {
-        if self.written < self.bytes.len() {
+        if self.written < self.filled {
             return false;
         }
         true
@@ -109,7 +134,7 @@ impl Gathered {
     pub fn clear(&mut self)
         ensures { self.new ≡ [] }
     {
-        self.bytes.clear();
+        self.filled = 0;
         self.written = 0;
     }
 
@@ -118,15 +143,28 @@ impl Gathered {
         ensures all { IsTrue result ↔ (self.new ≡ []) }
         ensures moved { MovesFront self.old self.new (W.contents out.old) (W.contents out.new) }
     {
-        let rest = &self.bytes[self.written..];
-        let n = write_front(out, rest);
+        let taken = &self.room[..self.filled];
+        let n = write_front(out, &taken[self.written..]);
         self.written += n;
-        if self.written < self.bytes.len() {
+        if self.written < self.filled {
             return false;
         }
         self.clear();
         true
     }
+}
+
+/// Puts these bytes behind the first `at`, and answers where they end.
+#[inline(always)]
+fn put_behind(room: &mut [u8], at: usize, bytes: &[u8]) -> usize
+    requires { at + length bytes.now ≤ length room.old }
+    ensures end { result ≡ at + length bytes.now }
+    ensures put { take result room.new ≡ take at room.old ++ bytes.now }
+    ensures same_room { length room.new ≡ length room.old }
+{
+    let end = at + bytes.len();
+    room[at..end].copy_from_slice(bytes);
+    end
 }
 
 /// Writes until the whole piece is written, a write fails, or one takes no bytes. Answers how many bytes

@@ -24,6 +24,7 @@ impl<F: Drop> NamedFile<F> {
     }
 
     /// Says whether the file of this name is open.
+    #[inline(always)]
     pub fn is_open(&self, name: &str) -> bool
         ensures { IsTrue result ↔ (IsSome self.now.file × (string_bytes self.now.name ≡ name.now)) }
     {

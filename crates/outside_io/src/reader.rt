@@ -63,13 +63,23 @@ impl<F: Read + Seek + Drop> Reader<F> {
     }
 
     /// Closes the file and forgets what was read ahead.
+    #[inline(always)]
     pub fn close(&mut self)
         ensures { IsNone self.new.source.file }
     {
         if self.source.file.is_some() {
-            self.filled = 0;
-            self.source.close();
+            self.forget();
         }
+    }
+
+    /// Closes the file that is open and forgets what was read ahead.
+    #[cold]
+    #[inline(never)]
+    fn forget(&mut self)
+        ensures { IsNone self.new.source.file }
+    {
+        self.filled = 0;
+        self.source.close();
     }
 
     /// Copies bytes of the open file from an offset on, and answers how many: none only at the end, or for an empty

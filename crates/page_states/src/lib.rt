@@ -13,6 +13,3 @@
 mod transitions;
 
 pub use transitions::{change, first_page, open_page, reseal, seal, wipe};
-
-#[cfg(test)]
-mod tests;

@@ -14,6 +14,3 @@ mod table;
 
 pub use meta::Meta;
 pub use table::MetaTable;
-
-#[cfg(test)]
-mod tests;

@@ -15,8 +15,6 @@ mod law;
 mod reader;
 mod reading;
 mod tags;
-#[cfg(test)]
-mod tests;
 
 pub use fault::NextFault;
 pub use kept::KeptItems;

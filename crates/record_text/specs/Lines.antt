@@ -10,13 +10,13 @@ use Rattle.record_text.specs.declared.lines.Line.{Line}
 use Rattle.record_text.specs.Items.{item_text}
 use Rattle.record_text.specs.Kinds.{has_item, has_place, place_marked}
 
-abbrev pub numbered : List ℕ → ℕ → List ℕ
-numbered words number = words ++ decimal number
+abbrev pub numbered_place : List ℕ → ℕ → List ℕ
+numbered_place words number = words ++ decimal number
 
 abbrev pub place_text : Place → List ℕ
 place_text place.Opening = codes "opening"
-place_text (place.Step number) = numbered (codes "step ") number
-place_text (place.Closing steps) = numbered (codes "closing after step ") steps
+place_text (place.Step number) = numbered_place (codes "step ") number
+place_text (place.Closing steps) = numbered_place (codes "closing after step ") steps
 place_text place.End = codes "end"
 
 abbrev pub has_every_kind : Option Kinds → Bool

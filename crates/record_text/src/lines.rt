@@ -21,7 +21,7 @@ pub struct Line {
 /// The name of a step or the closing.
 fn put_number<O: Sink>(out: &mut O, so_far: SoFar, words: &[u8], number: u32) -> SoFar
     ensures { PutsMore (putting O.taken O.faults out.old so_far) (putting O.taken O.faults out.new result)
-        (spec.numbered words.now number) }
+        (spec.numbered_place words.now number) }
 {
     let so_far = text(out, so_far, words);
     decimal(out, so_far, number as u64)

@@ -39,7 +39,7 @@ use Rattle.latest_store.proofs.Histories.{runs_give_latest}
 use Rattle.store_law.proofs.Ciphers.{ciphers_show_pages}
 use Rattle.store_law.proofs.OwnDraws.{ciphers_have_own_draws}
 use Rattle.cause_law.proofs.Closed.{closing_owes_nothing}
-use Rattle.cause_law.proofs.Runs.{violation_has_cause}
+use Rattle.cause_law.proofs.Runs.{violation_has_cause, presented_is_refused}
 use Rattle.kernel_isolation.proofs.Isolated.{kernel_ends_alone}
 use Rattle.domain_isolation.proofs.Isolated.{domain_ends_alone}
 use Rattle.program_parts.specs.NoRun.{NoRun, IsRefused}
@@ -280,6 +280,7 @@ lawful_run {asked} {held} {record_name} {steps} {ready} prepared =
       ciphers = ciphers_show_pages prepared.bundle prepared.stream steps r runs;
       draws = ciphers_have_own_draws prepared.bundle prepared.stream steps r runs;
       cause = violation_has_cause prepared.bundle prepared.stream steps r runs;
+      refused = presented_is_refused prepared.bundle prepared.stream steps r runs;
       closed = closing_owes_nothing prepared.bundle prepared.stream steps r runs;
     }
 

@@ -7,7 +7,7 @@ use Rattle.cloak_model.specs.Cloaking.{owed_in}
 use Rattle.cloak_model.specs.Run.{Run, joint_run}
 use Rattle.cloak_base.specs.declared.causes.Violation.{Violation}
 use Rattle.cloak_base.specs.declared.causes.Stop.TheVariants as stop
-use Rattle.cause_law.specs.Causes.{LastStepPresents}
+use Rattle.cause_law.specs.Causes.{LastStepPresents, RefusesPresented}
 use Rattle.cause_law.specs.Closing.{closed_memory}
 use Rattle.latest_store.specs.LatestStore.{GivesLatest}
 use Rattle.store_law.specs.Ciphers.{HaveOwnDraws, ShowsPages}
@@ -33,13 +33,15 @@ pub record AsksRun (asked : spec.Asked) (held : List ℕ → Option (List ℕ)) 
 
 -- What is so of a run, whatever its kernel does: its record reads back; its programs' loads give what was stored last; the
 -- kernel is shown pages as ciphertexts alone, each under a draw of its own; where it stopped with a violation, its last
--- step presented what that names; and as it was closed, no frame was owed a page any more.
+-- step presented what that names, and where a step presented such a thing, the run stopped so; and as it was closed, no
+-- frame was owed a page any more.
 pub record IsLawful (b : Bundle) (stream : Random) (r : Run) : Type 0 where
   pub reads_back : ReadsBack b r
   pub latest : GivesLatest b r
   pub ciphers : ShowsPages b stream r
   pub draws : HaveOwnDraws b r
   pub cause : (v : Violation) → r.stop ≡ stop.Violation v → LastStepPresents b r v
+  pub refused : RefusesPresented b r
   pub closed : (frame : ℕ) → owed_in (closed_memory r) frame ≡ None
 
 -- The run was made. Where no pages clashed in it, all that is due of it was written.

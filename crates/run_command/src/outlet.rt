@@ -1,13 +1,13 @@
 //! Where a run writes: the record to a shelf, the console and the report to a sink.
 ghost use Rattle.std.specs.Prelude.{◌≡◌, [], ◌∷◌, OnOk, OnErr};
 ghost use Rattle.outside_io.specs.Told.{Counts, Grows, GrowsByFront, OtherFiles};
-ghost use Rattle.cloak_model.specs.Exchange.{recorded, shown, Emits};
+ghost use Rattle.cloak_model.specs.Exchange.{recorded, shown, Emits, item_bytes};
 ghost use Rattle.cloak_machine.specs.Ending.{end_report};
 
 use cloak_base::Failed;
 use cloak_machine::End;
 use cloak_model::{Emit, Item};
-use exchange_log::{LONGEST, write_cipher, write_item};
+use exchange_log::{LONGEST, ok_bytes, step_bytes, word_bytes, write_cipher, write_item};
 use outside_io::{Shelf, Sink, put_all};
 
 /// Writes pieces up to the first that fails.
@@ -47,13 +47,15 @@ impl<'s, 'n, 'o, S: Shelf, O: Sink> Emit for Outlet<'s, 'n, 'o, S, O> {
 
     ghost gave = { Gave S.held S.reading_faults S.writing_faults O.taken O.faults };
 
+    // The most frequent items are appended where they are made, as pieces of a known length.
+    #[inline(always)]
     fn item(&mut self, i: &Item) {
-        if self.failed {
-            return;
+        match i {
+            Item::Step { number } => self.append(&step_bytes(*number)),
+            Item::Ok { domain } => self.append(&ok_bytes(*domain)),
+            Item::Word { domain, value } => self.append(&word_bytes(*domain, *value)),
+            _ => self.write(i),
         }
-        let n = write_item(i, &mut self.piece);
-        let is_last = matches!(i, Item::End);
-        self.failed = append_item(self.shelf, self.name, &self.piece[..n], is_last).is_err();
     }
 
     fn cipher(&mut self, frame: u32, bytes: &[u8; 4096]) {
@@ -76,7 +78,22 @@ impl<'s, 'n, 'o, S: Shelf, O: Sink> Emit for Outlet<'s, 'n, 'o, S, O> {
 impl<'s, 'n, 'o, S: Shelf, O: Sink> Outlet<'s, 'n, 'o, S, O> {
     ghost use Rattle.run_command.specs.Outlet.{Gave};
 
+    /// Appends an item to the record, by its bytes in the outlet's room.
+    #[inline(never)]
+    fn write(&mut self, i: &Item)
+        ensures { Emits (Gave S.held S.reading_faults S.writing_faults O.taken O.faults)
+            self.old self.new (recorded (item_bytes i.now) ∷ []) }
+    {
+        if self.failed {
+            return;
+        }
+        let n = write_item(i, &mut self.piece);
+        let is_last = matches!(i, Item::End);
+        self.failed = append_item(self.shelf, self.name, &self.piece[..n], is_last).is_err();
+    }
+
     /// Appends a piece to the record.
+    #[inline(always)]
     pub fn append(&mut self, bytes: &[u8])
         ensures same_shelf { self.new.shelf.ghost_name ≡ self.old.shelf.ghost_name }
         ensures same_out { self.new.out.ghost_name ≡ self.old.out.ghost_name }

@@ -20,6 +20,3 @@ mod words;
 
 pub use assembler::assemble;
 pub use fault::AsmFault;
-
-#[cfg(test)]
-mod tests;

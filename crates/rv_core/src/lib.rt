@@ -14,6 +14,3 @@ mod multiply;
 
 pub use cloak_model::Effect;
 pub use execute::effect;
-
-#[cfg(test)]
-mod tests;

@@ -16,6 +16,3 @@ mod opcode;
 pub use decoder::decode;
 pub use encoder::encode;
 pub use instr::Instr;
-
-#[cfg(test)]
-mod tests;

@@ -12,6 +12,3 @@ mod fields;
 mod numbers;
 
 pub use csrs::Csrs;
-
-#[cfg(test)]
-mod tests;

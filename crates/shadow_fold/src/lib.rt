@@ -1,5 +1,10 @@
 //! Shadow page tables as a matter of definitions: translations that are known, so that a hit needs no walk, which
 //! events of a run end them, and what is counted.
+//!
+//! No body turns a law, so there is no wrong body of one to refuse here. These changed definitions were tried on a
+//! copy, and with none of them did the proof of its law go through. Of following: an offer ends no entry of another
+//! frame that held the page. Of agreement: an entry becomes live that need not agree. Of the rows: each access counts
+//! as a miss.
 #![tactic(auto)]
 
 mod entry;

@@ -34,11 +34,11 @@ pub record Parts (P : ℕ → Type 0) (e : Entry) : Type 0 where
   pub first : IfSome e.pt1 (λ f. P f.0)
   pub second : IfSome e.pt0 (λ f. P f.0)
 
-map_some : (P Q : Frame → Type 0) (o : Option Frame) → ((f : Frame) → P f → Q f) → IfSome o P → IfSome o Q
+pub map_some : (P Q : Frame → Type 0) (o : Option Frame) → ((f : Frame) → P f → Q f) → IfSome o P → IfSome o Q
 map_some P Q None step h = h
 map_some P Q (Some f) step h = step f h
 
-both_some : (P Q R : Frame → Type 0) (o : Option Frame) → ((f : Frame) → P f → Q f → R f) → IfSome o P → IfSome o Q → IfSome o R
+pub both_some : (P Q R : Frame → Type 0) (o : Option Frame) → ((f : Frame) → P f → Q f → R f) → IfSome o P → IfSome o Q → IfSome o R
 both_some P Q R None step h k = h
 both_some P Q R (Some f) step h k = step f h k
 
@@ -75,7 +75,7 @@ other_number x y e same = elim (eqb_tells x y) [ inl h ↦ false≢true (sym e �
 pub number_other : (x y : ℕ) → (x ≡ y → ⊥) → (x == y) ≡ false
 number_other x y other = elim (eqb_tells x y) [ inl h ↦ absurd (other h.1) | inr h ↦ h.0 ]
 
-not_frame : (f : ℕ) (o : Option Frame) → is_frame (frame f) o ≡ false → IfSome o (λ g. g.0 ≡ f → ⊥)
+pub not_frame : (f : ℕ) (o : Option Frame) → is_frame (frame f) o ≡ false → IfSome o (λ g. g.0 ≡ f → ⊥)
 not_frame f None e = tt
 not_frame f (Some g) e = other_number g.0 f e
 
@@ -181,7 +181,7 @@ unfolding settle_if
 count_if f None m = refl
 count_if f (Some q) m = count_owed f q (vector_of m.ledger q) m
 
-settle_count : (f : ℕ) (m : CloakedMemory) → length (settle f m).memory.ram ≡ length m.ram
+pub settle_count : (f : ℕ) (m : CloakedMemory) → length (settle f m).memory.ram ≡ length m.ram
 unfolding settle
 settle_count f m = count_if f (owed_in m f) m
 

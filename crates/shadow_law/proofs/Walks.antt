@@ -298,7 +298,7 @@ walk_of_page ram satp a =
 
 -- Frames of RAM.
 
-low_frame : (ram : List (List ℕ)) (at : ℕ) → is_in_ram ram at ≡ true → frame_of at < length ram
+pub low_frame : (ram : List (List ℕ)) (at : ℕ) → is_in_ram ram at ≡ true → frame_of at < length ram
 low_frame ram at is = ltb-true (frame_of at) (length ram) (and_true _ _ is).1
 
 below_none : (n : ℕ) (o : Option Frame) → o ≡ None → IsBelow n o

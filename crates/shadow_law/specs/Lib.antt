@@ -1,3 +1,4 @@
 pub mod Agreeing
+pub mod Misses
 pub mod Tables
 pub mod Walks

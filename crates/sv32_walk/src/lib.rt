@@ -16,6 +16,3 @@ mod words;
 pub use cloak_model::{Access, Walked};
 pub use walk_levels::walk;
 pub use words::Words;
-
-#[cfg(test)]
-mod tests;

@@ -3,7 +3,7 @@ use Rattle.std.specs.Prelude.{is_some}
 use Rattle.cloak_model.specs.Csr.{interrupt_due}
 use Rattle.cloak_model.specs.Hart.{Hart}
 use Rattle.cloaked_side.proofs.Emitting.{some_then}
-use Rattle.joint_machine.proofs.Insides.{begun_is, free_slot, turns_interrupted, turns_none, turns_now, turns_stepping}
+use Rattle.joint_machine.proofs.Insides.{begun_is, free_slot, turns_interrupted, turns_none, turns_now, turns_stepping, steps_on}
 use Rattle.joint_machine.proofs.inside.step_context.Goals as goal
 
 pub returns-then-due-clause-turns : goal.returns-then-due-clause-turns
@@ -11,13 +11,6 @@ returns-then-due-clause-turns g c j number was stands holds are unclashed =
     let due = sym (ap (λ (h : Hart). interrupt_due h.mode h.csrs) c.h.view_is) ∙ sym c.due.ensures ∙ c.if-due.true in
     turns_now g.E.Emit.gave _ _ c.args.h.now _ _ _ _ _ j number c.args.d c.args.slot was _ true due
     (λ none. turns_interrupted g.E.Emit.gave _ _ c.args.h.now _ _ _ _ _ j number c.args.d c.args.slot was refl holds are (c.take_interrupt.ensures.interrupts j number was stands)) unclashed
-
-pub returns-then-is_none-clause-turns : goal.returns-then-is_none-clause-turns
-returns-then-is_none-clause-turns g c j number was stands holds are unclashed =
-    let due = sym (ap (λ (h : Hart). interrupt_due h.mode h.csrs) c.h.view_is) ∙ sym c.due.ensures ∙ c.if-due.false in
-    let free = free_slot c.args.domain.now was c.args.slot c.context.result (is_some c.context.result) stands c.context.ensures.value refl (c.is_none.ensures ∙ ap not c.if-is_none.true) in
-    turns_now g.E.Emit.gave _ _ c.args.h.now _ _ _ _ _ j number c.args.d c.args.slot was _ false due
-    (λ none. turns_none g.E.Emit.gave _ c.args.h.now _ _ _ _ j number c.args.d c.args.slot was free refl stands holds are) unclashed
 
 pub returns-clause-emits_some : goal.returns-clause-emits_some
 returns-clause-emits_some g c = some_then g.E.Emit.gave _ c.step_domain-stepped.new.e _ c.step_domain-stepped.ensures.emits_some c.go_on.ensures.emits_some
@@ -29,5 +22,13 @@ returns-clause-turns g c j number was stands holds are unclashed =
     let view = c.view_of-view.result in
     let begins = begun_is j.memory view c.args.slot was c.args.h.now c.args.d v.satp v.sum v.mxr v.domain in
     turns_now g.E.Emit.gave _ _ c.args.h.now _ _ _ _ _ j number c.args.d c.args.slot was _ false due
-    (turns_stepping g.E.Emit.gave _ _ _ c.args.h.now _ _ c.args.roots.now _ _ c.step_domain-stepped.result _ j number c.args.d c.args.slot was view begins are
-    (c.step_domain-stepped.ensures.steps j.memory was holds stands) (λ after w met same. c.go_on.ensures.goes_on after number w met same)) unclashed
+    (turns_stepping g.E.Emit.gave _ _ _ c.args.h.now _ _ c.args.roots.now _ c.end_space.new.memory c.step_domain-stepped.result _ j number c.args.d c.args.slot was view begins are
+    (λ u. steps_on g.E.Emit.gave _ _ c.step_domain-stepped.new.memory c.end_space.new.memory _ _ _ c.end_space.ensures.holds
+    (c.step_domain-stepped.ensures.steps j.memory was holds stands u)) (λ after w met same. c.go_on.ensures.goes_on after number w met same)) unclashed
+
+pub returns-in_default-clause-turns : goal.returns-in_default-clause-turns
+returns-in_default-clause-turns g c j number was stands holds are unclashed =
+    let due = sym (ap (λ (h : Hart). interrupt_due h.mode h.csrs) c.h.view_is) ∙ sym c.due.ensures ∙ c.if-due.false in
+    let free = free_slot c.args.domain.now was c.args.slot c.context.result (is_some c.context.result) stands c.context.ensures.value refl (ap is_some c.in_default.is) in
+    turns_now g.E.Emit.gave _ _ c.args.h.now _ _ _ _ _ j number c.args.d c.args.slot was _ false due
+    (λ none. turns_none g.E.Emit.gave _ c.args.h.now _ _ _ _ j number c.args.d c.args.slot was free refl stands holds are) unclashed

@@ -1,7 +1,7 @@
 use Rattle.std.proofs.Common.{All, List, sym, subst}
 use Rattle.cloak_model.specs.declared.image.Segment.{Segment}
 use Rattle.cloak_model.specs.Bundle.{IsSegmentIn}
-use Rattle.joint_machine.proofs.Stored.{loads_none, loads_next, loaded, loaded_holds}
+use Rattle.joint_machine.proofs.Stored.{loads_none, loads_next, loads_outside, loads_ready, loaded, loaded_holds}
 use Rattle.joint_machine.proofs.loading.load.Goals as goal
 
 pub loop-segment-init : goal.loop-segment-init
@@ -18,7 +18,17 @@ loop-segment-preserved c =
 
 pub returns-clause-holds : goal.returns-clause-holds
 returns-clause-holds c =
-    loaded_holds c.in_ok-pager.pager c.loop-segment.pager c.args.k.now c.args.domains c.args.key c.args.stream
+    loaded_holds c.in_ok-pager.pager c.loop-segment.pager c.args.k.now c.args.domains c.args.key c.args.stream _
     (loaded c.in_ok-pager.pager c.loop-segment.pager c.args.k.now c.args.domains c.loop-segment.segment-index c.args.key
     c.as_slice-segments.result.now c.as_slice-segments.ensures c.in_ok-pager.ensures.state c.in_ok-pager.ensures.model
-    c.loop-segment.invariant c.loop-segment-test.false c.whole.ensures)
+    c.loop-segment.invariant c.loop-segment-test.false c.whole.ensures) c.in_ok-shadows.ensures
+
+pub store-requires-clause-outside : goal.store-requires-clause-outside
+store-requires-clause-outside c =
+    loads_outside c.args.k.now.frames c.args.domains c.args.key c.in_ok-pager.pager c.loop-segment.pager c.loop-segment.segment-index _
+    c.in_ok-pager.ensures.state c.loop-segment.invariant
+
+pub returns-clause-ready : goal.returns-clause-ready
+returns-clause-ready c =
+    loads_ready c.args.k.now.frames c.args.domains c.args.key c.in_ok-pager.pager c.loop-segment.pager c.loop-segment.segment-index _
+    c.in_ok-pager.ensures.state c.loop-segment.invariant

@@ -1,4 +1,4 @@
-use Rattle.std.proofs.Common.{refl, arith, true, false}
+use Rattle.std.proofs.Common.{◌≡◌, refl, arith, true, false}
 use Rattle.joint_machine.proofs.Placed.{first_page, ready_next, page_placed}
 use Rattle.joint_machine.proofs.placing.place_page.Goals as goal
 
@@ -7,8 +7,9 @@ overflow_add-f c = omega (arith, c.requires.program.place, c.requires.page, c.wh
 
 pub returns-then-not-place-clause-places : goal.returns-then-not-place-clause-places
 returns-then-not-place-clause-places c m holds =
-    page_placed c.args.memory.now _ false (first_page c.args.domain c.args.page) _ c.page_bytes.result.now _
-    c.page_bytes.ensures c.if-not-place.ensures.model refl refl m holds
+    page_placed c.args.memory.now (record c.args.memory.now { pager = c.place.new.self; stream = c.place.new.s }) false (first_page c.args.domain c.args.page) _ c.page_bytes.result.now _
+    c.page_bytes.ensures c.if-not-place.ensures.model refl refl c.place.ensures.rights c.place.ensures.stays.count
+    (λ (is : false ≡ true). cc) m holds
 
 pub returns-clause-ready : goal.returns-clause-ready
 returns-clause-ready c =
@@ -18,4 +19,5 @@ returns-clause-ready c =
 pub returns-clause-places : goal.returns-clause-places
 returns-clause-places c m holds =
     page_placed c.args.memory.now _ true (first_page c.args.domain c.args.page) _ c.page_bytes.result.now _
-    c.page_bytes.ensures c.if-not-place.ensures.model refl c.saturating_add-memory.ensures m holds
+    c.page_bytes.ensures c.if-not-place.ensures.model refl c.saturating_add-memory.ensures c.place.ensures.rights
+    c.place.ensures.stays.count (λ is. c.kill_dependents.ensures) m holds

@@ -8,7 +8,7 @@ use Rattle.alone_views.proofs.kernel.KernelAlone.store.Goals as goal
 pub returns-then-may_store-clause-becomes : goal.returns-then-may_store-clause-becomes
 returns-then-may_store-clause-becomes c width = record {
   state = λ console. sym (put_stored (state_with c.args.self.now console) c.args.address c.args.width c.args.value _
-      (sym (c.if-may_store.ensures.value width)) c.store.ensures);
+      (sym (c.if-may_store.ensures.value width)) c.write_at.ensures.frames);
   console = refl;
   schedule = refl;
 }

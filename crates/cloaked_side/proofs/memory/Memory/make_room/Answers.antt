@@ -1,16 +1,16 @@
-use Rattle.std.proofs.Common.{rules, ◌≡◌, ◌≢◌, ◌∙◌, ◌++◌, refl, sym, not, Some}
+use Rattle.std.proofs.Common.{rules, ◌≡◌, ◌≢◌, ◌∙◌, ◌++◌, sym, not, Some}
 use Rattle.cloak_model.specs.Cloaking.{settle}
 use Rattle.cloak_pager.specs.State.{held_in}
 use Rattle.cloaked_side.proofs.Settling.{settle_missed}
 use Rattle.cloaked_side.proofs.Emitting.{emits_then, emits_ciphers}
 use Rattle.cloaked_side.proofs.Rooming.{rooms_missed, rooms_alone, rooms_home, rest_by, home_gone, outside_still}
-use Rattle.cloaked_side.proofs.Holders.{no_more_self, no_more_then, no_more_emptied}
+use Rattle.cloaked_side.proofs.Holders.{no_more_then, no_more_emptied}
 use Rattle.cloaked_side.proofs.memory.Memory.make_room.Goals as goal
 
 pub returns-then-self-clause-rooms : goal.returns-then-self-clause-rooms
 returns-then-self-clause-rooms g c m h =
     let f = c.args.g.0 in
-    let n : held_in c.args.self.now.pager f ≢ Some c.args.q = c.if-is_held.ensures.not_held refl in
+    let n : held_in c.args.self.now.pager f ≢ Some c.args.q = c.requires.away in
     let st = c.settle.ensures.settles m h in
     let missed = settle_missed f m (sym h.missed ∙ c.requires.drawn) ∙ sym st.holds.missed ∙ c.if-self.true in
     record {
@@ -24,7 +24,7 @@ returns-then-self-clause-rooms g c m h =
 pub returns-in_default-clause-rooms : goal.returns-in_default-clause-rooms
 returns-in_default-clause-rooms g c m h =
     let f = c.args.g.0 in
-    let n : held_in c.args.self.now.pager f ≢ Some c.args.q = c.if-is_held.ensures.not_held refl in
+    let n : held_in c.args.self.now.pager f ≢ Some c.args.q = c.requires.away in
     let st = c.settle.ensures.settles m h in
     let missed = settle_missed f m (sym h.missed ∙ c.requires.drawn) ∙ sym st.holds.missed ∙ c.if-self.false in
     record {
@@ -38,6 +38,8 @@ returns-in_default-clause-rooms g c m h =
             st.holds.stream;
         draws = st.holds.draws;
         missed = st.holds.missed;
+        agrees = st.holds.agrees;
+        room = st.holds.room;
       };
       emits = st.emits;
       offers = λ write. rooms_alone _ _ h.wiped st.holds.wiped m f c.args.q write h.pager n missed st.holds.pager
@@ -51,7 +53,7 @@ pub returns-clause-rooms : goal.returns-clause-rooms
 returns-clause-rooms g c m h =
     let f = c.args.g.0 in
     let home = c.in-Some.home.0 in
-    let n : held_in c.args.self.now.pager f ≢ Some c.args.q = c.if-is_held.ensures.not_held refl in
+    let n : held_in c.args.self.now.pager f ≢ Some c.args.q = c.requires.away in
     let st = c.settle.ensures.settles m h in
     let m1 = (settle f m).memory in
     let missed = settle_missed f m (sym h.missed ∙ c.requires.drawn) ∙ sym st.holds.missed ∙ c.if-self.false in
@@ -72,9 +74,6 @@ returns-clause-rooms g c m h =
           (home_gone c.settle.new.self.pager _ home c.args.q st.holds.pager.whole c.settle-2.ensures.stays
           c.settle-2.ensures.outside held));
     }
-
-pub returns-then-is_held-clause-no_more : goal.returns-then-is_held-clause-no_more
-returns-then-is_held-clause-no_more g c = no_more_self _
 
 pub returns-then-self-clause-no_more : goal.returns-then-self-clause-no_more
 returns-then-self-clause-no_more g c = no_more_emptied c.args.g.0 _ _ c.settle.ensures.stays c.settle.ensures.outside

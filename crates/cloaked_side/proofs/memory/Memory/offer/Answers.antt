@@ -1,39 +1,49 @@
-use Rattle.std.proofs.Common.{◌≡◌, refl}
-use Rattle.cloak_model.specs.Cloaking.{Ready, Mismatch, Missed}
+use Rattle.std.proofs.Common.{◌≡◌, refl, sym, ap, subst, ◌∙◌}
+use Rattle.cloak_model.specs.Cloaking.{Ready, Mismatch, Missed, offer}
+use Rattle.shadow_fold.specs.Keeping.{Agrees}
+use Rattle.shadow_law.specs.Agreeing.{present}
+use Rattle.cloak_pager.specs.State.{held_in}
 use Rattle.cloaked_side.specs.declared.memory.Offer.TheVariants as ended
-use Rattle.cloaked_side.proofs.Rooming.{offers_so, offers_missed}
-use Rattle.cloaked_side.proofs.Holders.{no_other_later, no_other_taken, no_other_same}
+use Rattle.cloaked_side.proofs.Rooming.{rooms_self, offers_so, offers_missed}
+use Rattle.cloaked_side.proofs.Translating.{killed_frames, offered_again, offered_new, offered_vain}
 use Rattle.cloaked_side.proofs.memory.Memory.offer.Goals as goal
+
+pub returns-in-Ready-clause-offers : goal.returns-in-Ready-clause-offers
+returns-in-Ready-clause-offers g c m h clash =
+    let old = c.args.self.now in
+    offers_so g.E.Emit.gave _ _ old _ ended.Ready Ready c.args.q c.args.g.0 c.args.write m
+    (rooms_self g.E.Emit.gave c.args.e.now old c.args.q c.args.g.0 m h) (λ (e : Ready ≡ Missed). cc) refl
+    c.in-Ready.ensures.model refl refl refl
+    (λ ends. offered_again old.pager c.offer.new.self h.wiped m c.args.q c.args.g.0 c.args.write old.shadows h.pager
+    c.offer.ensures.stays (c.if-is_held.ensures.held refl) (c.in-Ready.ensures.held refl) h.agrees)
+    refl c.offer.ensures.stays.count clash
 
 pub returns-then-not-make_room-clause-offers : goal.returns-then-not-make_room-clause-offers
 returns-then-not-make_room-clause-offers g c m h clash =
     offers_missed g.E.Emit.gave _ _ _ ended.Missed c.args.q c.args.g.0 c.args.write m
     (c.if-not-make_room.ensures.rooms m h) refl
 
-pub returns-in-Ready-clause-offers : goal.returns-in-Ready-clause-offers
-returns-in-Ready-clause-offers g c m h clash =
-    offers_so g.E.Emit.gave _ _ c.make_room.new.self _ ended.Ready Ready c.args.q c.args.g.0
-    c.args.write m (c.if-not-make_room.ensures.rooms m h) (λ (e : Ready ≡ Missed). cc) refl
-    c.in-Ready.ensures.model refl refl refl clash
+pub returns-in-Ready-offer-clause-offers : goal.returns-in-Ready-offer-clause-offers
+returns-in-Ready-offer-clause-offers g c m h clash =
+    let r = c.if-not-make_room.ensures.rooms m h in
+    let room = c.make_room.new.self in
+    offers_so g.E.Emit.gave _ _ room _ ended.Ready Ready c.args.q c.args.g.0
+    c.args.write m r (λ (e : Ready ≡ Missed). cc) refl
+    c.in-Ready-offer.ensures.model refl refl refl
+    (λ ends. subst (λ t. Agrees (present (held_in c.offer-2.new.self) (offer c.args.q c.args.g.0 c.args.write r.memory).memory) t)
+    (sym c.end_entries.ensures)
+    (offered_new room.pager c.offer-2.new.self r.holds.wiped r.memory c.args.q c.args.g.0 c.args.write
+    room.shadows r.holds.pager c.offer-2.ensures.stays (c.if-not-make_room.ensures.alone refl) r.holds.agrees))
+    (ap (λ t. t.frames) c.end_entries.ensures ∙ killed_frames c.args.g room.shadows) c.offer-2.ensures.stays.count clash
 
-pub returns-in-Mismatch-clause-offers : goal.returns-in-Mismatch-clause-offers
-returns-in-Mismatch-clause-offers g c m h clash =
-    offers_so g.E.Emit.gave _ _ c.make_room.new.self _ ended.Mismatch Mismatch c.args.q c.args.g.0
-    c.args.write m (c.if-not-make_room.ensures.rooms m h) (λ (e : Mismatch ≡ Missed). cc) refl
-    c.in-Mismatch.ensures.model refl refl refl clash
-
-pub returns-then-not-make_room-clause-others : goal.returns-then-not-make_room-clause-others
-returns-then-not-make_room-clause-others g c k p not_q e = c.make_room.ensures.no_more.held k p e
-
-pub returns-in-Ready-clause-others : goal.returns-in-Ready-clause-others
-returns-in-Ready-clause-others g c =
-    no_other_later c.args.q c.args.self.now.pager c.make_room.new.self.pager c.offer.new.self
-    c.make_room.ensures.no_more
-    (no_other_taken c.args.g.0 c.args.q c.make_room.new.self.pager c.offer.new.self c.offer.ensures.stays
-    (c.in-Ready.ensures.held refl))
-
-pub returns-in-Mismatch-clause-others : goal.returns-in-Mismatch-clause-others
-returns-in-Mismatch-clause-others g c =
-    no_other_later c.args.q c.args.self.now.pager c.make_room.new.self.pager c.offer.new.self
-    c.make_room.ensures.no_more
-    (no_other_same c.args.q c.make_room.new.self.pager c.offer.new.self c.in-Mismatch.ensures.state)
+pub returns-in-Mismatch-offer-clause-offers : goal.returns-in-Mismatch-offer-clause-offers
+returns-in-Mismatch-offer-clause-offers g c m h clash =
+    let r = c.if-not-make_room.ensures.rooms m h in
+    let room = c.make_room.new.self in
+    offers_so g.E.Emit.gave _ _ room _ ended.Mismatch Mismatch c.args.q c.args.g.0
+    c.args.write m r (λ (e : Mismatch ≡ Missed). cc) refl
+    c.in-Mismatch-offer.ensures.model refl refl refl
+    (λ ends. offered_vain room.pager c.offer-2.new.self r.holds.wiped r.memory c.args.q c.args.g.0 c.args.write
+    room.shadows r.holds.pager c.in-Mismatch-offer.ensures.state (c.if-not-make_room.ensures.alone refl)
+    (c.if-not-make_room.ensures.room refl) ends r.holds.agrees)
+    refl c.offer-2.ensures.stays.count clash

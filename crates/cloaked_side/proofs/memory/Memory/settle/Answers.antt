@@ -1,33 +1,60 @@
-use Rattle.std.proofs.Common.{refl, ◌∙◌, true, false, [], ◌∷◌}
-use Rattle.cloak_pager.specs.State.{bytes_in}
+use Rattle.std.proofs.Common.{refl, ap, ◌∙◌, true, false, [], ◌∷◌, length}
+use Rattle.cloak_model.specs.Cloaking.{settle}
+use Rattle.cloak_pager.specs.State.{PagerState, bytes_in, page_of}
 use Rattle.cloak_pager.proofs.Calls.{stands_read}
+use Rattle.shadow_fold.specs.Table.{Table}
 use Rattle.cloaked_side.proofs.Settling.{settled_so}
 use Rattle.cloaked_side.proofs.Emitting.{emits_none}
+use Rattle.cloaked_side.proofs.Translating.{quiet_agrees, settled_agrees, read_agrees, ended_frames}
 use Rattle.cloaked_side.proofs.memory.Memory.settle.Goals as goal
 
 pub returns-in-Quiet-clause-settles : goal.returns-in-Quiet-clause-settles
 returns-in-Quiet-clause-settles g c =
     settled_so _ _ _ c.args.self.now _ c.touch.new.self c.touch.new.s c.args.f.0 [] false c.in-Quiet.ensures.model
     (λ w m s. s) refl refl refl (emits_none _ _)
+    (λ m h. quiet_agrees c.args.self.now.pager c.touch.new.self h.wiped m c.args.f.0 _ c.args.self.now.shadows h.pager
+    c.in-Quiet.ensures.exact_cause c.touch.ensures.stays (ap page_of c.touch.ensures.outside) h.agrees)
+    refl c.touch.ensures.stays.count
 
 pub returns-in-Resealed-clause-settles : goal.returns-in-Resealed-clause-settles
 returns-in-Resealed-clause-settles g c =
-    settled_so _ _ _ c.args.self.now _ c.touch.new.self c.touch.new.s c.args.f.0 [] false c.in-Resealed.ensures.model
+    let old = c.args.self.now in
+    settled_so _ _ _ old _ c.touch.new.self c.touch.new.s c.args.f.0 [] false c.in-Resealed.ensures.model
     (λ w m s. s) refl refl refl (emits_none _ _)
+    (λ m h. settled_agrees old.pager c.touch.new.self m c.args.f old.shadows c.end_entries.new.shadows
+    c.touch.ensures.stays c.end_entries.ensures h.agrees)
+    (ended_frames c.args.f old.shadows c.end_entries.new.shadows c.end_entries.ensures) c.touch.ensures.stays.count
 
 pub returns-in-Sealed-clause-settles : goal.returns-in-Sealed-clause-settles
 returns-in-Sealed-clause-settles g c =
+    let old = c.args.self.now in
     let f = c.args.f.0 in
-    settled_so _ _ _ c.args.self.now _ c.touch.new.self c.touch.new.s f
+    settled_so _ _ _ old c.emit_frame.new.self c.touch.new.self c.touch.new.s f
     ((f, bytes_in c.touch.new.self f) ∷ []) false c.in-Sealed.ensures.model
     (λ w m s. stands_read _ _ c.emit_frame.ensures.read w m s) c.emit_frame.ensures.stream
     (c.emit_frame.ensures.draws ∙ c.saturating_add-self.ensures) c.emit_frame.ensures.missed
     c.emit_frame.ensures.emits
+    (λ m h. read_agrees c.touch.new.self c.emit_frame.new.self.pager (settle f m).memory c.end_entries-in-Sealed.new.shadows
+    c.emit_frame.new.self.shadows c.emit_frame.ensures.read c.emit_frame.ensures.shadows
+    (settled_agrees old.pager c.touch.new.self m c.args.f old.shadows c.end_entries-in-Sealed.new.shadows
+    c.touch.ensures.stays c.end_entries-in-Sealed.ensures h.agrees))
+    (ap (λ (t : Table). t.frames) c.emit_frame.ensures.shadows
+    ∙ ended_frames c.args.f old.shadows c.end_entries-in-Sealed.new.shadows c.end_entries-in-Sealed.ensures)
+    (ap (λ (p : PagerState). length p.frames) c.emit_frame.ensures.read ∙ c.touch.ensures.stays.count)
 
 pub returns-in-Wiped-clause-settles : goal.returns-in-Wiped-clause-settles
 returns-in-Wiped-clause-settles g c =
+    let old = c.args.self.now in
     let f = c.args.f.0 in
-    settled_so _ _ _ c.args.self.now _ c.touch.new.self c.touch.new.s f
+    settled_so _ _ _ old c.emit_frame-in-Wiped.new.self c.touch.new.self c.touch.new.s f
     ((f, bytes_in c.touch.new.self f) ∷ []) true c.in-Wiped.ensures.model
     (λ w m s. stands_read _ _ c.emit_frame-in-Wiped.ensures.read w m s) c.emit_frame-in-Wiped.ensures.stream
     c.emit_frame-in-Wiped.ensures.draws c.emit_frame-in-Wiped.ensures.missed c.emit_frame-in-Wiped.ensures.emits
+    (λ m h. read_agrees c.touch.new.self c.emit_frame-in-Wiped.new.self.pager (settle f m).memory
+    c.end_entries-in-Wiped.new.shadows c.emit_frame-in-Wiped.new.self.shadows c.emit_frame-in-Wiped.ensures.read
+    c.emit_frame-in-Wiped.ensures.shadows
+    (settled_agrees old.pager c.touch.new.self m c.args.f old.shadows c.end_entries-in-Wiped.new.shadows
+    c.touch.ensures.stays c.end_entries-in-Wiped.ensures h.agrees))
+    (ap (λ (t : Table). t.frames) c.emit_frame-in-Wiped.ensures.shadows
+    ∙ ended_frames c.args.f old.shadows c.end_entries-in-Wiped.new.shadows c.end_entries-in-Wiped.ensures)
+    (ap (λ (p : PagerState). length p.frames) c.emit_frame-in-Wiped.ensures.read ∙ c.touch.ensures.stays.count)

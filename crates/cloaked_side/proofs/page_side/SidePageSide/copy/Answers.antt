@@ -2,7 +2,7 @@ use Rattle.std.proofs.Common.{refl, sym, subst, ℕ}
 use Rattle.cloak_pager.specs.State.{IsNoneOwed, IsNoneHeld}
 use Rattle.cloaked_side.proofs.Holders.{no_more_rights}
 use Rattle.cloaked_side.proofs.Cleared.{sees_copied}
-use Rattle.cloaked_side.proofs.Sided.{stays_repaged, turned_size}
+use Rattle.cloaked_side.proofs.Sided.{stays_repaged, still_turned, turned_size, turned_count}
 use Rattle.cloaked_side.proofs.Serving.{served_is, cleared_still, unused_still, served_same}
 use Rattle.cloaked_side.proofs.page_side.SidePageSide.copy.Goals as goal
 
@@ -28,6 +28,8 @@ pub returns-clause-follows : goal.returns-clause-follows
 returns-clause-follows g c first w sees unclashed =
     sees_copied g.E.Emit.gave first c.args.self.now _ c.args.domain c.args.from c.args.to w
     (record { stream = refl; draws = refl; missed = refl; emitter = refl; violation = refl; view = refl })
+    (λ m m' seen. still_turned _ _ m m' c.copy_pages.ensures.state.rights_are
+    (turned_count _ _ _ c.copy_pages.ensures.state) refl seen)
     c.copy_pages.ensures.model sees
 
 pub returns-clause-keeps : goal.returns-clause-keeps

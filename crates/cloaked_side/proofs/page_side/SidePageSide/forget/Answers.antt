@@ -2,7 +2,7 @@ use Rattle.std.proofs.Common.{◌<◌, ◌∙◌, refl, sym, ap, subst, ℕ}
 use Rattle.cloak_pager.specs.State.{IsNoneOwed, IsNoneHeld}
 use Rattle.cloaked_side.proofs.Holders.{no_more_rights, no_more_then}
 use Rattle.cloaked_side.proofs.Cleared.{sees_dropped}
-use Rattle.cloaked_side.proofs.Sided.{within_of, stays_repaged, stays_on, turned_size}
+use Rattle.cloaked_side.proofs.Sided.{within_of, stays_repaged, stays_on, still_turned, turned_size, turned_count}
 use Rattle.cloaked_side.proofs.Serving.{served_is, cleared_still, unused_still, served_same}
 use Rattle.cloaked_side.proofs.page_side.SidePageSide.forget.Goals as goal
 
@@ -26,6 +26,8 @@ pub returns-clause-follows : goal.returns-clause-follows
 returns-clause-follows g c first w sees unclashed =
     sees_dropped g.E.Emit.gave first c.empty_frames.new.self _ c.args.domain c.args.resource w
     (record { stream = refl; draws = refl; missed = refl; emitter = refl; violation = refl; view = refl })
+    (λ m m' seen. still_turned _ _ m m' c.drop_pages.ensures.state.rights_are
+    (turned_count _ _ _ c.drop_pages.ensures.state) refl seen)
     c.drop_pages.ensures.model (c.empty_frames.ensures.sees first w sees)
 
 pub returns-clause-keeps : goal.returns-clause-keeps

@@ -4,14 +4,17 @@ use Rattle.cloak_pager.specs.declared.held.Held.{Held}
 use Rattle.cloak_pager.specs.declared.held.Held.TheVariants.{Spent}
 use Rattle.cloaked_side.proofs.Answering.{plain_stored}
 use Rattle.cloaked_side.proofs.Holders.{no_more_rights}
-use Rattle.cloaked_side.proofs.Sided.{stays_repaged, written_size}
+use Rattle.cloaked_side.proofs.Sided.{stays_repaged, written_size, written_count}
 use Rattle.cloaked_side.proofs.Serving.{unused_still, served_same}
 use Rattle.cloaked_side.proofs.page_side.SidePageSide.write.Goals as goal
 
 pub returns-clause-follows : goal.returns-clause-follows
 returns-clause-follows g c first w sees unclashed =
+    let owed = c.requires.writable.owed in
+    let state = c.write_plain.ensures.state owed.0 owed.1 in
     plain_stored g.E.Emit.gave first c.args.self.now _ c.args.q c.args.at c.args.width c.args.v w
-    (record { stream = refl; draws = refl; missed = refl; emitter = refl; violation = refl; view = refl })
+    (record { stream = refl; draws = refl; missed = refl; emitter = refl; violation = refl; view = refl }) refl
+    state.rights_are (written_count _ _ _ _ state)
     c.write_plain.ensures.model sees
 
 pub returns-clause-keeps : goal.returns-clause-keeps

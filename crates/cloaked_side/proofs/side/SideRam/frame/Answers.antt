@@ -18,7 +18,7 @@ returns g c =
           follows = λ first w sees unclashed.
               read_after g.E.Emit.gave first side _ c.args.f.0 (settled c.args.f.0 w)
               (λ b. b) c.read_outside.result.now c.read_outside.result.now
-              (record { stream = refl; draws = refl; missed = refl; emitter = refl; violation = refl; view = refl })
+              (record { stream = refl; draws = refl; missed = refl; emitter = refl; violation = refl; view = refl }) refl
               c.read_outside.ensures.model c.read_outside.follows.holds-at-none refl
               (c.settle.ensures.sees first w sees);
           keeps = λ first stays. within_repaged g.E.Emit.gave first side _

@@ -15,7 +15,7 @@ returns-clause-follows g c first w sees unclashed =
     (search rules)
     (read_after g.E.Emit.gave first side _ (frame_of pa) (settled (frame_of pa) w)
     (λ b. Some (value_in b (place_of pa) 4)) bytes _
-    (record { stream = refl; draws = refl; missed = refl; emitter = refl; violation = refl; view = refl })
+    (record { stream = refl; draws = refl; missed = refl; emitter = refl; violation = refl; view = refl }) refl
     (subst (λ (f : ℕ). SeesFrame side.memory.now.pager f bytes) c.frame_of-f.ensures c.read_outside.ensures.model)
     c.read_outside.follows.holds-at-none
     (ap (λ n. Some n) (c.word_in.ensures ∙ ap (λ n. value_in bytes n 4) c.place_of.ensures.value))

@@ -1,19 +1,16 @@
-use Rattle.std.proofs.Common.{◌≡◌, ◌<◌, ◌≤◌, length, arith, refl, false, true, sym, ◌∙◌}
-use Rattle.std.proofs.lemmas.List.{drop_all}
+use Rattle.std.proofs.Common.{◌≡◌, ◌<◌, ◌≤◌, length, take, arith, false, true, ◌∙◌}
+use Rattle.std.proofs.lemmas.List.{length-take-le}
 use Rattle.outside_io.proofs.Writes.{left_behind}
 use Rattle.outside_io.proofs.gathered.Gathered.is_empty.Goals as goal
 
-pub returns-then-self-len : goal.returns-then-self-len
-returns-then-self-len c =
-    let len = c.len.ensures in
-    let more : c.self.inside.written < length c.self.inside.bytes.items =
-    let room = c.self.inside.bytes.ok.0 in omega (arith, len, room) in (
+pub returns-then-self : goal.returns-then-self
+returns-then-self c =
+    let held = c.self.invariant.1 in
+    let room = c.self.inside.room.ok.0 in
+    let inside : c.self.inside.filled ≤ length c.self.inside.room.items = omega (arith, held, room) in
+    let all = take c.self.inside.filled c.self.inside.room.items in
+    let len = length-take-le c.self.inside.filled c.self.inside.room.items inside in
+    let more : c.self.inside.written < length all = omega (arith, len, c.if-self.true) in (
       λ (no : false ≡ true). cc,
-      λ none. absurd (left_behind c.self.inside.bytes.items c.self.inside.written more (c.self.view_is ∙ none)),
+      λ none. absurd (left_behind all c.self.inside.written more (c.self.view_is ∙ none)),
     )
-
-pub returns : goal.returns
-returns c =
-    let len = c.len.ensures in
-    let all : length c.self.inside.bytes.items ≤ c.self.inside.written = omega (arith, len) in
-    (λ yes. sym c.self.view_is ∙ drop_all c.self.inside.written c.self.inside.bytes.items all, λ none. refl)

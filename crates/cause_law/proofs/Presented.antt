@@ -1,0 +1,228 @@
+-- A page that is presented to the step of a context, in a frame that differs, is the step's violation.
+use Rattle.std.proofs.Common.{◌≡◌, ◌∙◌, ℕ, Bool, false, Option, Some, refl, sym, ap, subst}
+use Rattle.std.specs.Prelude.{nat_le}
+use Rattle.std.proofs.lemmas.Bool.{lt-leb}
+use Rattle.cloak_base.specs.declared.causes.Violation.{Violation}
+use Rattle.cloak_base.specs.declared.causes.Violation.TheVariants as violation
+use Rattle.cloak_base.specs.declared.names.Kind.{Kind}
+use Rattle.cloak_base.specs.declared.names.Kind.TheVariants.{Fetch, Load, Store}
+use Rattle.cloak_base.specs.declared.names.PageId.{PageId}
+use Rattle.rv_isa.specs.declared.instr.Instr.{Instr}
+use Rattle.cloak_model.specs.declared.answer.Answer.{Answer}
+use Rattle.cloak_model.specs.declared.answer.Answer.TheVariants as told
+use Rattle.cloak_model.specs.declared.context.Phase.{Phase}
+use Rattle.cloak_model.specs.declared.context.Phase.TheVariants.{Plain, CopyIn, CopyOut}
+use Rattle.cloak_model.specs.declared.inside.Went.{Went}
+use Rattle.cloak_model.specs.declared.inside.Went.TheVariants as went
+use Rattle.cloak_model.specs.declared.outcome.Effect.{Effect}
+use Rattle.cloak_model.specs.declared.outcome.Effect.TheVariants as does
+use Rattle.cloak_model.specs.Asking.{Told}
+use Rattle.cloak_model.specs.AskPages.{ask_reach, ask_read, ask_get}
+use Rattle.cloak_model.specs.Calls.{Copy, buffer, area, call_length, byte_address, is_cloaked, in_reached, in_placed, in_step, copy_in_step, out_reached, out_got, out_placed, out_step, copy_out_step}
+use Rattle.cloak_model.specs.Contexts.{Context, context_at, domain_of, slot_of}
+use Rattle.cloak_model.specs.DomainState.{Domain}
+use Rattle.cloak_model.specs.DomainStep.{DomainStepped, within, instruction_ended, copy_ended, phase_step, step_if, domain_step}
+use Rattle.cloak_model.specs.Effect.{effect}
+use Rattle.cloak_model.specs.Hart.{Hart}
+use Rattle.cloak_model.specs.Hypercalls.{stopped}
+use Rattle.cloak_model.specs.InsideStep.{AfterInstruction, load_reached, load_inside, store_reached, store_inside, done_inside, decoded_inside, executed_inside, fetched_inside, fetch, instruction_inside}
+use Rattle.cloak_model.specs.Joint.{Moment, next_hart, cloak_of, domain_ended, after_domain_step, pages_for, by_interrupt, inside_step, turn_of, joint_step}
+use Rattle.cloak_model.specs.KernelStep.{ticked}
+use Rattle.cloak_model.specs.Parts.{Joint}
+use Rattle.cloak_model.specs.World.{World, Cloaked, violation_of}
+use Rattle.cause_law.specs.Presented.{hart_of_step, StepsInside, world_inside, Executes, AsksAt, Fetches, LoadsAt, StoresAt, CopiesFrom, CopiesTo, PresentsPage}
+use Rattle.cause_law.proofs.Refused.{page_is_refused}
+
+-- what is left of a step that was stopped
+abbrev halted : Domain → World → Told DomainStepped
+halted d w = record { answer = within d (stopped d.control); world = w }
+
+-- the end of an instruction, and of a copy
+abbrev ended : ℕ → Domain → Told AfterInstruction → Told DomainStepped
+ended slot d t = instruction_ended slot d t.answer.context t.answer.ending t.world
+
+abbrev copied : ℕ → Domain → Told Copy → Told DomainStepped
+copied slot d t = record { answer = copy_ended slot d t.answer.context t.answer.ending; world = t.world }
+
+-- An instruction.
+
+plain_step : (slot : ℕ) (d : Domain) (c : Context) (w : World) → context_at d.control.contexts slot ≡ Some c →
+    c.phase ≡ Plain →
+    domain_step slot d w ≡ ended slot d (fetch d.control.number d.control.resources c (pages_for d (Some c) c.pc) w)
+unfolding domain_step step_if phase_step instruction_inside
+plain_step slot d c w there plain =
+    ap (λ (o : Option Context). step_if o slot d w) there ∙ ap (λ (p : Phase). phase_step p slot c d w) plain
+
+fetch_stops : (slot : ℕ) (d : Domain) (c : Context) (q : PageId) (w : World) (t : Told Answer) →
+    context_at d.control.contexts slot ≡ Some c → c.phase ≡ Plain → pages_for d (Some c) c.pc ≡ Some q →
+    ask_reach q c.pc Fetch w ≡ t → t.answer ≡ told.Stopped → domain_step slot d w ≡ halted d t.world
+unfolding fetch fetched_inside instruction_ended
+fetch_stops slot d c q w t there plain lies same stops =
+    let n = d.control.number in
+    let r = d.control.resources in
+    plain_step slot d c w there plain
+    ∙ (ap (λ (o : Option PageId). ended slot d (fetch n r c o w)) lies
+    ∙ (ap (λ (u : Told Answer). ended slot d (fetched_inside n r c q u.answer u.world)) same
+    ∙ ap (λ (a : Answer). ended slot d (fetched_inside n r c q a t.world)) stops))
+
+-- the instruction that a context executes
+executed_step : (slot : ℕ) (d : Domain) (c : Context) (w v : World) (i : Instr) →
+    context_at d.control.contexts slot ≡ Some c → Executes d c w i v →
+    domain_step slot d w
+    ≡ ended slot d (done_inside d.control.number d.control.resources c i (effect i c.regs c.pc) v)
+unfolding fetch fetched_inside executed_inside decoded_inside ask_read
+executed_step slot d c w v i there runs =
+    let n = d.control.number in
+    let r = d.control.resources in
+    plain_step slot d c w there runs.plain
+    ∙ (ap (λ (o : Option PageId). ended slot d (fetch n r c o w)) runs.lies
+    ∙ (ap (λ (u : Told Answer). ended slot d (fetched_inside n r c runs.page u.answer u.world)) runs.granted
+    ∙ ap (λ (o : Option Instr). ended slot d (decoded_inside n r c o v)) runs.word))
+
+load_stops : (slot : ℕ) (d : Domain) (c : Context) (q : PageId) (w v : World) (i : Instr) (rd va width : ℕ)
+    (is_signed : Bool) (t : Told Answer) → context_at d.control.contexts slot ≡ Some c → Executes d c w i v →
+    effect i c.regs c.pc ≡ does.Load rd va width is_signed → pages_for d (Some c) va ≡ Some q →
+    ask_reach q va Load v ≡ t → t.answer ≡ told.Stopped → domain_step slot d w ≡ halted d t.world
+unfolding done_inside load_inside load_reached instruction_ended
+load_stops slot d c q w v i rd va width is_signed t there runs loads lies same stops =
+    let n = d.control.number in
+    let r = d.control.resources in
+    executed_step slot d c w v i there runs
+    ∙ (ap (λ (e : Effect). ended slot d (done_inside n r c i e v)) loads
+    ∙ (ap (λ (o : Option PageId). ended slot d (load_inside c rd va width is_signed o v)) lies
+    ∙ (ap (λ (u : Told Answer). ended slot d (load_reached c q rd va width is_signed u.answer u.world)) same
+    ∙ ap (λ (a : Answer). ended slot d (load_reached c q rd va width is_signed a t.world)) stops)))
+
+store_stops : (slot : ℕ) (d : Domain) (c : Context) (q : PageId) (w v : World) (i : Instr) (va width value : ℕ)
+    (t : Told Answer) → context_at d.control.contexts slot ≡ Some c → Executes d c w i v →
+    effect i c.regs c.pc ≡ does.Store va width value → pages_for d (Some c) va ≡ Some q →
+    ask_reach q va Store v ≡ t → t.answer ≡ told.Stopped → domain_step slot d w ≡ halted d t.world
+unfolding done_inside store_inside store_reached instruction_ended
+store_stops slot d c q w v i va width value t there runs stores lies same stops =
+    let n = d.control.number in
+    let r = d.control.resources in
+    executed_step slot d c w v i there runs
+    ∙ (ap (λ (e : Effect). ended slot d (done_inside n r c i e v)) stores
+    ∙ (ap (λ (o : Option PageId). ended slot d (store_inside c va width value o v)) lies
+    ∙ (ap (λ (u : Told Answer). ended slot d (store_reached c q va width value u.answer u.world)) same
+    ∙ ap (λ (a : Answer). ended slot d (store_reached c q va width value a t.world)) stops)))
+
+-- A copy.
+
+in_stops : (slot : ℕ) (d : Domain) (c : Context) (q : PageId) (w : World) (done : ℕ) (t : Told Answer) →
+    context_at d.control.contexts slot ≡ Some c → c.phase ≡ CopyIn done → nat_le (call_length c) done ≡ false →
+    pages_for d (Some c) (byte_address (buffer c) done) ≡ Some q →
+    is_cloaked d.control.resources c (byte_address (area c) done) ≡ false →
+    ask_reach q (byte_address (buffer c) done) Load w ≡ t → t.answer ≡ told.Stopped →
+    domain_step slot d w ≡ halted d t.world
+unfolding domain_step step_if phase_step copy_in_step in_step in_placed in_reached copy_ended
+in_stops slot d c q w done t there phase more lies clear same stops =
+    let n = d.control.number in
+    let r = d.control.resources in
+    let at : ℕ = byte_address (buffer c) done in
+    ap (λ (o : Option Context). step_if o slot d w) there
+    ∙ (ap (λ (p : Phase). phase_step p slot c d w) phase
+    ∙ (ap (λ (all : Bool). copied slot d (in_step all n r c done w)) more
+    ∙ (ap (λ (o : Option PageId).
+    copied slot d (in_placed c done o (is_cloaked r c (byte_address (area c) done)) w)) lies
+    ∙ (ap (λ (b : Bool). copied slot d (in_placed c done (Some q) b w)) clear
+    ∙ (ap (λ (u : Told Answer). copied slot d (in_reached c q done u.answer u.world)) same
+    ∙ ap (λ (a : Answer). copied slot d (in_reached c q done a t.world)) stops)))))
+
+out_stops : (slot : ℕ) (d : Domain) (c : Context) (q : PageId) (w v : World) (done total byte : ℕ)
+    (t : Told Answer) → context_at d.control.contexts slot ≡ Some c → c.phase ≡ CopyOut done total →
+    nat_le total done ≡ false → pages_for d (Some c) (byte_address (buffer c) done) ≡ Some q →
+    is_cloaked d.control.resources c (byte_address (area c) done) ≡ false →
+    ask_get (byte_address (area c) done) 1 w ≡ record { answer = told.Word byte; world = v } →
+    ask_reach q (byte_address (buffer c) done) Store v ≡ t → t.answer ≡ told.Stopped →
+    domain_step slot d w ≡ halted d t.world
+unfolding domain_step step_if phase_step copy_out_step out_step out_placed out_got out_reached copy_ended
+out_stops slot d c q w v done total byte t there phase more lies clear got same stops =
+    let n = d.control.number in
+    let r = d.control.resources in
+    ap (λ (o : Option Context). step_if o slot d w) there
+    ∙ (ap (λ (p : Phase). phase_step p slot c d w) phase
+    ∙ (ap (λ (all : Bool). copied slot d (out_step all n r c done total w)) more
+    ∙ (ap (λ (o : Option PageId).
+    copied slot d (out_placed c done total o (is_cloaked r c (byte_address (area c) done)) w)) lies
+    ∙ (ap (λ (b : Bool). copied slot d (out_placed c done total (Some q) b w)) clear
+    ∙ (ap (λ (u : Told Answer). copied slot d (out_got c q done total u.answer u.world)) got
+    ∙ (ap (λ (u : Told Answer). copied slot d (out_reached c q done total byte u.answer u.world)) same
+    ∙ ap (λ (a : Answer). copied slot d (out_reached c q done total byte a t.world)) stops))))))
+
+-- Every step: where a page for which it asks is refused, it is stopped.
+
+question_at : (q : PageId) (va va' : ℕ) (kind kind' : Kind) (w w' : World) → va ≡ va' → kind ≡ kind' → w ≡ w' →
+    ask_reach q va' kind' w' ≡ ask_reach q va kind w
+question_at q va va' kind kind' w w' at is begins =
+    sym (ap (λ (x : ℕ). ask_reach q x kind w) at
+    ∙ (ap (λ (k : Kind). ask_reach q va' k w) is ∙ ap (λ (v : World). ask_reach q va' kind' v) begins))
+
+asked_stops : (slot : ℕ) (d : Domain) (c : Context) (q : PageId) (va : ℕ) (kind : Kind) (begun w : World) →
+    context_at d.control.contexts slot ≡ Some c → pages_for d (Some c) va ≡ Some q →
+    AsksAt d c begun va kind w → (ask_reach q va kind w).answer ≡ told.Stopped →
+    domain_step slot d begun ≡ halted d (ask_reach q va kind w).world
+asked_stops slot d c q va kind begun w there lies (Fetches plain at is begins) stops =
+    fetch_stops slot d c q begun (ask_reach q va kind w) there plain
+    (subst (λ (x : ℕ). pages_for d (Some c) x ≡ Some q) at lies)
+    (question_at q va c.pc kind Fetch w begun at is begins) stops
+asked_stops slot d c q va kind begun w there lies (LoadsAt i runs rd width is_signed loads is) stops =
+    load_stops slot d c q begun w i rd va width is_signed (ask_reach q va kind w) there runs loads lies
+    (question_at q va va kind Load w w refl is refl) stops
+asked_stops slot d c q va kind begun w there lies (StoresAt i runs width value stores is) stops =
+    store_stops slot d c q begun w i va width value (ask_reach q va kind w) there runs stores lies
+    (question_at q va va kind Store w w refl is refl) stops
+asked_stops slot d c q va kind begun w there lies (CopiesFrom done phase more at clear is begins) stops =
+    in_stops slot d c q begun done (ask_reach q va kind w) there phase (lt-leb (call_length c) done more)
+    (subst (λ (x : ℕ). pages_for d (Some c) x ≡ Some q) at lies) clear
+    (question_at q va (byte_address (buffer c) done) kind Load w begun at is begins) stops
+asked_stops slot d c q va kind begun w there lies (CopiesTo done total byte phase more at clear got is) stops =
+    out_stops slot d c q begun w done total byte (ask_reach q va kind w) there phase (lt-leb total done more)
+    (subst (λ (x : ℕ). pages_for d (Some c) x ≡ Some q) at lies) clear got
+    (question_at q va (byte_address (buffer c) done) kind Store w w at is refl) stops
+
+ended_violation : (j : Joint) (number : ℕ) (h : Hart) (e : ℕ) (w : World) (g : Went) (v : Violation) →
+    g ≡ went.Stopped → violation_of w ≡ Some v → (domain_ended j number h e w g).violation ≡ Some v
+unfolding domain_ended
+ended_violation j number h e w went.Stopped v stops is = is
+ended_violation j number h e w went.Stay v stops is = absurd cc
+ended_violation j number h e w (went.Remapped space) v stops is = absurd cc
+ended_violation j number h e w (went.Leave s) v stops is = absurd cc
+ended_violation j number h e w (went.SpaceGone space s) v stops is = absurd cc
+
+stopped_violation : (j : Joint) (number : ℕ) (h : Hart) (e : ℕ) (t u : Told DomainStepped) (v : Violation) → t ≡ u →
+    u.answer.went ≡ went.Stopped → violation_of u.world ≡ Some v →
+    (after_domain_step j number h e t).violation ≡ Some v
+unfolding after_domain_step
+stopped_violation j number h e t u v same stops is =
+    ap (λ (x : Told DomainStepped). (after_domain_step j number h e x).violation) same
+    ∙ ended_violation _ number h e u.world u.answer.went v stops is
+
+-- the step of the hart is that of its context
+context_turn : (m : Moment) (s : StepsInside m) (v : Violation) →
+    (after_domain_step m.joint (next_hart m) (ticked (hart_of_step m)) (domain_of s.ctx)
+    (domain_step (slot_of s.ctx) s.domain (world_inside m s))).violation ≡ Some v →
+    (joint_step m).violation ≡ Some v
+unfolding joint_step turn_of inside_step by_interrupt
+context_turn m s v is =
+    let j = m.joint in
+    let number = next_hart m in
+    let h = ticked (hart_of_step m) in
+    let e = domain_of s.ctx in
+    let slot = slot_of s.ctx in
+    ap (λ (o : Option ℕ). (turn_of j number (hart_of_step m) o).violation) s.runs
+    ∙ (ap (λ (o : Option Domain). (inside_step j number h e slot o).violation) s.program
+    ∙ (ap (λ (b : Bool). (by_interrupt b j number h e slot s.domain).violation) s.goes
+    ∙ (ap (λ (o : Option Context). (after_domain_step j number h e
+    (domain_step slot s.domain (Cloaked (cloak_of j.memory h e (pages_for s.domain o))))).violation) s.there
+    ∙ is)))
+
+pub page_violates : (m : Moment) (q : PageId) (f : ℕ) → PresentsPage m q f →
+    (joint_step m).violation ≡ Some (violation.Page q (record { 0 = f }))
+page_violates m q f p =
+    let s = p.step in
+    let refused = page_is_refused q p.va p.kind f p.at p.finds in
+    context_turn m s _
+    (stopped_violation m.joint (next_hart m) (ticked (hart_of_step m)) (domain_of s.ctx) _ _ _
+    (asked_stops (slot_of s.ctx) s.domain s.context q p.va p.kind (world_inside m s) (Cloaked p.at) s.there p.lies p.asks
+    refused.answer) refl refused.violation)

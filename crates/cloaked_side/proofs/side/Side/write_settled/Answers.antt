@@ -1,0 +1,31 @@
+use Rattle.std.proofs.Common.{refl, subst, ℕ}
+use Rattle.cloak_model.specs.Memory.{frame_of}
+use Rattle.cloak_pager.specs.AfterCall.{MeetsStill, after_write_outside}
+use Rattle.cloaked_side.proofs.Sided.{stored_after, still_written, within_repaged, written_size, written_count}
+use Rattle.cloaked_side.proofs.Holders.{no_more_rights}
+use Rattle.cloaked_side.proofs.side.Side.write_settled.Goals as goal
+
+pub returns-clause-told : goal.returns-clause-told
+returns-clause-told g c first w sees =
+    let pa = c.args.pa in
+    let side = c.args.self.now in
+    let at_frame = subst (λ (f : ℕ). MeetsStill side.memory.now.pager c.write_outside.new.self (tt {0})
+    (after_write_outside f (record { at = c.place_of.result; width = c.args.width; value = c.args.v })))
+    c.frame_of-f.ensures c.write_outside.ensures.model in
+    let meets = subst (λ (at : ℕ). MeetsStill side.memory.now.pager c.write_outside.new.self (tt {0})
+    (after_write_outside (frame_of pa) (record { at = at; width = c.args.width; value = c.args.v })))
+    c.place_of.ensures.value at_frame in
+    stored_after g.E.Emit.gave first side _ pa c.args.width c.args.v w
+    (record { stream = refl; draws = refl; missed = refl; emitter = refl; violation = refl; view = refl })
+    (λ m. still_written side.memory.now _ m c.frame_of-f.result (frame_of pa) _ _ c.frame_of-f.ensures
+    c.write_outside.ensures.state c.kill_dependents.ensures)
+    (λ wiped m stands. (meets wiped m stands).stands) sees
+
+pub returns-clause-keeps : goal.returns-clause-keeps
+returns-clause-keeps g c first stays =
+    within_repaged g.E.Emit.gave first c.args.self.now _ stays refl refl
+    (written_size _ _ _ _ c.write_outside.ensures.state) refl
+    (no_more_rights _ _ c.write_outside.ensures.state.rights_are)
+
+pub returns-clause-same_count : goal.returns-clause-same_count
+returns-clause-same_count g c = written_count _ _ _ _ c.write_outside.ensures.state

@@ -1,0 +1,242 @@
+//! Where an access leads: by a translation that is known, or else by a walk, which makes one known.
+ghost use Rattle.std.specs.Prelude.{◌≡◌, ◌/◌, ◌%◌, false, IsTrue, IfOk, IfSome, None, Ok};
+ghost use Rattle.shadow_fold.specs.Agreement.{satp_in, access_in};
+
+use crate::memory::frame_of;
+use crate::side::Side;
+use cloak_base::{Frame, Kind, Mode, PageId, SpaceId};
+use cloak_model::{Access, Emit, Walked, access_fault};
+use multi_shadow::{Entry, ShadowView, is_table};
+use sv32_walk::walk;
+
+/// Where RAM begins.
+const RAM_START: u64 = 0x8000_0000;
+
+/// Where an access leads.
+#[derive(Clone, Copy)]
+pub(crate) struct Led {
+    /// The address in RAM.
+    pub pa: u32,
+    /// The walk that led there through outside tables, where no translation was known and paging is on.
+    pub walked: Option<Walked>,
+}
+
+fn satp_of(view: &ShadowView) -> u32
+    ensures { result ≡ satp_in view.now }
+{
+    match *view {
+        ShadowView::Outside { satp, .. } => satp,
+        ShadowView::Inside { satp, .. } => satp,
+    }
+}
+
+/// Paging is on: the highest bit of `satp`.
+fn has_paging(satp: u32) -> bool {
+    satp >> 31 == 1
+}
+
+fn access_of(view: &ShadowView, va: u32, kind: Kind) -> Access
+    ensures { result ≡ access_in view.now va kind }
+{
+    match *view {
+        ShadowView::Outside { mode, sum, mxr, .. } => Access {
+            mode,
+            sum,
+            mxr,
+            va,
+            kind,
+        },
+        ShadowView::Inside { sum, mxr, .. } => Access {
+            mode: Mode::U,
+            sum,
+            mxr,
+            va,
+            kind,
+        },
+    }
+}
+
+/// The entry of a walk.
+fn entry_of(
+    view: &ShadowView,
+    va: u32,
+    kind: Kind,
+    frame: Frame,
+    walked: &Walked,
+    cloaked: Option<PageId>,
+) -> Entry
+    ensures { result ≡ record {
+      view = view.now;
+      page = va / 4096;
+      kind = kind;
+      frame = frame;
+      pt1 = walked.now.pt1;
+      pt0 = walked.now.pt0;
+      cloaked = cloaked;
+    } }
+{
+    Entry {
+        view: *view,
+        page: va / 4096,
+        kind,
+        frame,
+        pt1: walked.pt1,
+        pt0: walked.pt0,
+        cloaked,
+    }
+}
+
+impl<'m, 'e, E: Emit> Side<'m, 'e, E> {
+    ghost use Rattle.cloak_model.specs.Ask.{ask_translate};
+    ghost use Rattle.cloak_model.specs.Asking.{Follows, Keeps};
+    ghost use Rattle.cloak_model.specs.Memory.{is_in_frames};
+    ghost use Rattle.cloak_model.specs.Memory as model;
+    ghost use Rattle.cloak_model.specs.World.{World, is_clashed, settled};
+    ghost use Rattle.cloak_pager.specs.State.{held_in};
+    ghost use Rattle.cloaked_side.specs.Holding.{frames_of};
+    ghost use Rattle.cloaked_side.specs.Leading.{place_in, AreLedOutside, IsLedBy, IsEntryOf, IsReachedBy};
+    ghost use Rattle.cloaked_side.specs.Seeing.{Sees, Becomes, StaysWithin};
+    ghost use Rattle.shadow_law.specs.Agreeing.{AreOutside};
+
+    /// The address to which a known translation leads.
+    fn known(&mut self, view: &ShadowView, va: u32, kind: Kind) -> Option<u32>
+        ensures leads { IfSome result (λ pa. (first : _) (w : World) → Sees E.gave first self.old w →
+            ask_translate (satp_in view.now) (access_in view.now va kind) w ≡ record { answer = Ok pa; world = w }) }
+        ensures sees { Becomes E.gave self.old self.new (λ w. w) }
+        ensures keeps { Keeps (StaysWithin E.gave) self.old self.new }
+        ensures inside { IfSome result (λ pa. IsTrue (is_in_frames (frames_of self.old.memory.now) pa)) }
+        ensures offset { IfSome result (λ pa. pa % 4096 ≡ va % 4096) }
+        ensures same_count { frames_of self.new.memory.now ≡ frames_of self.old.memory.now }
+    {
+        let e = self.memory.shadows.find(view, va / 4096, kind)?;
+        let pa = RAM_START + 4096 * e.frame.0 as u64 + (va % 4096) as u64;
+        if self.memory.is_inside(pa) {
+            Some(pa as u32)
+        } else {
+            None
+        }
+    }
+
+    /// Whether a frame is none, or outside.
+    fn is_outside(&self, table: Option<Frame>) -> bool
+        ensures { IsTrue result → IfSome table (λ f. held_in self.now.memory.now.pager f.0 ≡ None) }
+    {
+        match table {
+            None => true,
+            Some(f) => f.0 < self.memory.pager.count() && self.memory.pager.holds(f).is_none(),
+        }
+    }
+
+    /// The walk, where it read tables and these are outside.
+    fn through_outside(&self, walked: Walked) -> Option<Walked>
+        ensures same { IfSome result (λ w. w ≡ walked) }
+        ensures tables { IfSome result (λ w. AreOutside (held_in self.now.memory.now.pager) w) }
+    {
+        if walked.pt1.is_some() && self.is_outside(walked.pt1) && self.is_outside(walked.pt0) {
+            Some(walked)
+        } else {
+            None
+        }
+    }
+
+    /// Where an access leads by a walk, or the cause of its fault.
+    #[tactic(auto, using(cloak_model::proofs::Later::laters), unfolding(cloak_model::specs::Ask::ask_translate, cloak_model::specs::Ask::ask_inside))]
+    fn led_by_walk(&mut self, view: &ShadowView, va: u32, kind: Kind) -> Result<Led, u32>
+        ensures follows { Follows (Sees E.gave) self.old self.new (place_in result)
+            (ask_translate (satp_in view.now) (access_in view.now va kind)) }
+        ensures keeps { Keeps (StaysWithin E.gave) self.old self.new }
+        ensures inside { IfOk result (λ led. IsTrue (is_in_frames (frames_of self.old.memory.now) led.pa)) }
+        ensures offset { IfOk result (λ led. led.pa % 4096 ≡ va % 4096) }
+        ensures same_count { frames_of self.new.memory.now ≡ frames_of self.old.memory.now }
+        ensures led_by { IfOk result (λ led. (first : _) (w : World) → Sees E.gave first self.old w →
+            let told = ask_translate (satp_in view.now) (access_in view.now va kind) w in
+            is_clashed told.world ≡ false → IsLedBy told.world view.now va kind led) }
+        ensures tables { IfOk result (AreLedOutside (held_in self.new.memory.now.pager)) }
+    {
+        let a = access_of(view, va, kind);
+        let walked = walk(satp_of(view), a.mode, a.sum, a.mxr, a.va, a.kind, self)?;
+        if !self.memory.is_inside(walked.pa) {
+            return Err(access_fault(kind));
+        }
+        Ok(Led {
+            pa: walked.pa as u32,
+            walked: self.through_outside(walked),
+        })
+    }
+
+    /// Where an access leads, or the cause of its fault. Without paging it leads to its own address, and nothing is kept.
+    pub(crate) fn led(&mut self, view: &ShadowView, va: u32, kind: Kind) -> Result<Led, u32>
+        ensures follows { Follows (Sees E.gave) self.old self.new (place_in result)
+            (ask_translate (satp_in view.now) (access_in view.now va kind)) }
+        ensures keeps { Keeps (StaysWithin E.gave) self.old self.new }
+        ensures inside { IfOk result (λ led. IsTrue (is_in_frames (frames_of self.old.memory.now) led.pa)) }
+        ensures offset { IfOk result (λ led. led.pa % 4096 ≡ va % 4096) }
+        ensures same_count { frames_of self.new.memory.now ≡ frames_of self.old.memory.now }
+        ensures led_by { IfOk result (λ led. (first : _) (w : World) → Sees E.gave first self.old w →
+            let told = ask_translate (satp_in view.now) (access_in view.now va kind) w in
+            is_clashed told.world ≡ false → IsLedBy told.world view.now va kind led) }
+        ensures tables { IfOk result (AreLedOutside (held_in self.new.memory.now.pager)) }
+    {
+        if !has_paging(satp_of(view)) {
+            return self.led_by_walk(view, va, kind);
+        }
+        match self.known(view, va, kind) {
+            Some(pa) => Ok(Led { pa, walked: None }),
+            None => self.led_by_walk(view, va, kind),
+        }
+    }
+
+    /// Makes a translation known.
+    fn learn(&mut self, e: Entry)
+        ensures sees { (first : _) (w : World) → Sees E.gave first self.old w →
+            IsEntryOf w (held_in self.old.memory.now.pager) e → Sees E.gave first self.new w }
+        ensures keeps { Keeps (StaysWithin E.gave) self.old self.new }
+        ensures same_pager { self.new.memory.now.pager ≡ self.old.memory.now.pager }
+        ensures same_missed { self.new.memory.now.missed ≡ self.old.memory.now.missed }
+    {
+        self.memory.shadows.learn(e);
+    }
+
+    /// Settles the frame to which an access was led that is not cloaked. Its translation is known then.
+    pub(crate) fn settle_led(&mut self, view: &ShadowView, va: u32, kind: Kind, led: &Led)
+        requires inside { IsTrue (is_in_frames (frames_of self.old.memory.now) led.now.pa) }
+        requires tables { AreLedOutside (held_in self.old.memory.now.pager) led.now }
+        ensures sees { (first : _) (w : World) → Sees E.gave first self.old w → IsLedBy w view.now va kind led.now →
+            Sees E.gave first self.new (settled (model.frame_of led.now.pa) w) }
+        ensures keeps { Keeps (StaysWithin E.gave) self.old self.new }
+        ensures same_count { frames_of self.new.memory.now ≡ frames_of self.old.memory.now }
+        ensures outside { held_in self.new.memory.now.pager (model.frame_of led.now.pa) ≡ None }
+    {
+        let f = frame_of(led.pa);
+        self.settle(f);
+        if let Some(walked) = &led.walked {
+            self.learn(entry_of(view, va, kind, f, walked, None));
+        }
+    }
+
+    /// Makes known the translation that led to a cloaked page, which its frame holds now. One through its own frame is
+    /// not kept.
+    pub(crate) fn learn_page(
+        &mut self,
+        q: PageId,
+        view: &ShadowView,
+        va: u32,
+        kind: Kind,
+        led: &Led,
+    )
+        requires inside { IsTrue (is_in_frames (frames_of self.old.memory.now) led.now.pa) }
+        ensures sees { (first : _) (w : World) → Sees E.gave first self.old w →
+            IsReachedBy w (held_in self.old.memory.now.pager) view.now va kind q led.now → Sees E.gave first self.new w }
+        ensures keeps { Keeps (StaysWithin E.gave) self.old self.new }
+        ensures same_pager { self.new.memory.now.pager ≡ self.old.memory.now.pager }
+        ensures same_missed { self.new.memory.now.missed ≡ self.old.memory.now.missed }
+    {
+        let f = frame_of(led.pa);
+        if let Some(walked) = &led.walked {
+            let e = entry_of(view, va, kind, f, walked, Some(q));
+            if !is_table(f, &e) {
+                self.learn(e);
+            }
+        }
+    }
+}

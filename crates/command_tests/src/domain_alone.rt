@@ -1,0 +1,91 @@
+//! A program of one page over the items of a run, of which the report's line is known.
+ghost use Rattle.std.specs.Prelude.{◌≡◌, IfOk};
+ghost use Rattle.cloak_model.specs.Bundle.{IsKernelImage, IsProgramIn};
+
+use alone_views::DomainAlone;
+use cloak_base::{NoMemory, Start};
+use cloak_model::{Item, KernelImage, Program, Sequence};
+use outside_io::MemorySink;
+use std::alloc::Global;
+use std::test::*;
+
+/// Stores 7, loads it, and calls number 9: `addi x10,x0,7`; `sw x10,0(x2)`; `lw x11,0(x2)`; `addi x16,x0,9`;
+/// `lui x17,0x4F560`; `addi x17,x17,8`; `ecall`.
+static CODE: [u8; 28] = [
+    0x13, 0x05, 0x70, 0x00, 0x23, 0x20, 0xa1, 0x00, 0x83, 0x25, 0x01, 0x00, 0x13, 0x08, 0x90, 0x00,
+    0xb7, 0x08, 0x56, 0x4f, 0x93, 0x88, 0x88, 0x00, 0x73, 0x00, 0x00, 0x00,
+];
+
+/// The line of the program in the report of a joint run that halts in step 14.
+const LINE: &str =
+    "domain 0 state 57f402f27d52d0ab34baac3ab1c5a3062548b040812cf8c40e61e161f4c6d610 loads 1 3bc4fec69186869eae2e7a3fbd93442330a26866e505d5eae0d9342ad904819c\n";
+
+/// The program.
+fn program(alloc: Global) -> Result<Program, NoMemory>
+    ensures { IfOk result (λ p. IsProgramIn 64 p) }
+{
+    let mut bytes = Vec::from_slice(alloc, &[0; 4096])?;
+    bytes[..28].copy_from_slice(&CODE);
+    Ok(Program {
+        place: 8,
+        start: Start {
+            pages: 1,
+            base: 0x8000_8000,
+            entry: 0x8000_8000,
+            sp: 0x8000_8100,
+        },
+        bytes: Sequence::new(bytes),
+    })
+}
+
+/// One hart, and a kernel without segments.
+fn kernel(alloc: Global) -> Result<KernelImage, NoMemory>
+    ensures image { IfOk result (λ k. IsKernelImage k) }
+    ensures frames { IfOk result (λ k. k.frames ≡ 64) }
+{
+    let schedule = Vec::from_slice(alloc, &[0])?;
+    Ok(KernelImage {
+        frames: 64,
+        harts: 1,
+        schedule: Sequence::new(schedule),
+        entry: 0x8000_0000,
+        segments: Sequence::new(Vec::new(alloc)),
+        disk: Sequence::new(Vec::new(alloc)),
+    })
+}
+
+/// Takes the items of a step: the fifth resumes the program, which asks once or twice in each of the next seven.
+fn take_step(machine: &mut DomainAlone, number: u32) -> bool {
+    let mut fit = machine.take(&Item::Step { number }).is_ok();
+    if number == 5 {
+        let resume = Item::Resume {
+            domain: 0,
+            ctx: 0,
+            answer: 0,
+        };
+        fit = fit && machine.take(&resume).is_ok();
+    }
+    if number > 5 && number < 13 {
+        fit = fit && machine.take(&Item::Ok { domain: 0 }).is_ok();
+    }
+    if number == 7 || number == 8 {
+        fit = fit && machine.take(&Item::Ok { domain: 0 }).is_ok();
+    }
+    fit
+}
+
+/// The line is that of the joint run.
+#[test]
+fn reports_the_line_of_the_run(rt: HostRuntime) -> Result<(), Fail> {
+    let k = kernel(rt.alloc())?;
+    let p = program(rt.alloc())?;
+    let mut machine = DomainAlone::open(rt.alloc(), &k, 0, &p)?;
+    for number in 1..15 {
+        assert!(rt; take_step(&mut machine, number), "step {number}");
+    }
+    assert!(rt; machine.take(&Item::Close { steps: 14 }).is_ok());
+    let mut sink = MemorySink::open(rt.alloc(), Vec::new(rt.alloc()));
+    assert!(rt; machine.report(&mut sink).is_ok());
+    assert_eq!(rt; sink.taken(), LINE.as_bytes());
+    Ok(())
+}

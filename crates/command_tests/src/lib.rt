@@ -1,0 +1,13 @@
+//! Tests of the words of the commands, of the images that they make, and of the machines as they open and as they run alone.
+#![tactic(auto)]
+
+#[cfg(test)]
+mod domain_alone;
+#[cfg(test)]
+mod images;
+#[cfg(test)]
+mod kernel_alone;
+#[cfg(test)]
+mod openings;
+#[cfg(test)]
+mod words;

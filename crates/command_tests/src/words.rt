@@ -1,0 +1,252 @@
+//! Words, and what they ask for.
+
+use cloak_base::NoMemory;
+use command_words::{Randomness, Request, RunRequest, SoloRequest, UsageFault, read_words};
+use std::alloc::{AllocError, Global};
+use std::test::*;
+
+fn command_line(alloc: Global, line: &[&str]) -> Result<Vec<String>, AllocError> {
+    let mut words = Vec::new(alloc);
+    for word in line {
+        words.push(String::from_str(alloc, word)?)?;
+    }
+    Ok(words)
+}
+
+/// What is wrong with words.
+fn fault_text(fault: UsageFault) -> &'static str {
+    match fault {
+        UsageFault::NoCommand => "no command",
+        UsageFault::UnknownCommand => "unknown command",
+        UsageFault::WrongWords => "words",
+        UsageFault::NoRandomness => "randomness",
+        UsageFault::WrongNumber => "number",
+    }
+}
+
+fn run_text(alloc: Global, run: &RunRequest<'_>) -> Result<String, AllocError> {
+    let (bundle, record_name, steps) = (run.bundle, run.record_name, run.steps);
+    match &run.randomness {
+        Randomness::Numbered(number) => format!(in alloc;
+            "run {bundle} {record_name} {steps} number {number}"
+        ),
+        Randomness::FromFile(name) => format!(in alloc;
+            "run {bundle} {record_name} {steps} stream {name}"
+        ),
+    }
+}
+
+fn solo_text(alloc: Global, solo: &SoloRequest<'_>) -> Result<String, AllocError> {
+    let (domain, bundle, record_name) = (solo.domain, solo.files.bundle, solo.files.record_name);
+    format!(in alloc; "solo {domain} {bundle} {record_name}")
+}
+
+/// What is asked for, as a line of text.
+fn text_of(alloc: Global, request: &Request<'_>) -> Result<String, AllocError> {
+    match request {
+        Request::NotBuilt => String::from_str(alloc, "not built"),
+        Request::Faulty(fault) => String::from_str(alloc, fault_text(*fault)),
+        Request::Run(run) => run_text(alloc, run),
+        Request::View(files) => format!(in alloc; "view {} {}", files.bundle, files.record_name),
+        Request::Solo(solo) => solo_text(alloc, solo),
+        Request::Gen(image) => format!(in alloc; "gen {} {}", image.number, image.bundle),
+        Request::Demo(demo) => format!(in alloc; "demo {} {}", demo.number, demo.steps),
+    }
+}
+
+/// What a line asks for.
+fn shown(alloc: Global, line: &[&str]) -> Result<String, NoMemory> {
+    let words = command_line(alloc, line)?;
+    let request = read_words(alloc, words.as_slice())?;
+    Ok(text_of(alloc, &request)?)
+}
+
+/// Words, and what they ask for by the rules of the words.
+static LINES: [(&[&str], &str); 47] = [
+    (&[], "no command"),
+    (&["stats", "a.b"], "not built"),
+    (&["walk"], "unknown command"),
+    (&["Run", "a.b", "a.r"], "unknown command"),
+    (&["--steps", "10"], "unknown command"),
+    // Options stand before, between and behind the positions.
+    (
+        &["run", "--number=0", "--steps=10", "a.b", "a.r"],
+        "run a.b a.r 10 number 0",
+    ),
+    (
+        &["run", "a.b", "a.r", "--steps", "10", "--number", "0"],
+        "run a.b a.r 10 number 0",
+    ),
+    (
+        &["run", "a.b", "--steps", "10", "a.r", "--stream", "s"],
+        "run a.b a.r 10 stream s",
+    ),
+    (
+        &["run", "--stream=s=t", "a.b", "--steps=010", "a.r"],
+        "run a.b a.r 10 stream s=t",
+    ),
+    (
+        &["run", "--steps=10", "--number=0", "--", "--a", "-b"],
+        "run --a -b 10 number 0",
+    ),
+    (
+        &["run", "a.b", "--steps=10", "--number=0", "--", "--"],
+        "run a.b -- 10 number 0",
+    ),
+    (
+        &["run", "-", "a.r", "--steps=10", "--stream=-x"],
+        "run - a.r 10 stream -x",
+    ),
+    // Each option at most once, with one value, and no other.
+    (
+        &[
+            "run", "a.b", "a.r", "--steps", "10", "--steps", "10", "--number", "0",
+        ],
+        "words",
+    ),
+    (
+        &[
+            "run",
+            "a.b",
+            "a.r",
+            "--steps=10",
+            "--number=0",
+            "--number=0",
+        ],
+        "words",
+    ),
+    (
+        &[
+            "run",
+            "a.b",
+            "a.r",
+            "--steps=10",
+            "--stream",
+            "s",
+            "--stream",
+            "s",
+        ],
+        "words",
+    ),
+    (&["run", "a.b", "a.r", "--steps=10", "--number"], "words"),
+    (
+        &["run", "a.b", "a.r", "--number=0", "--steps", "-10"],
+        "words",
+    ),
+    (&["run", "a.b", "a.r", "--number=0"], "words"),
+    (
+        &["run", "a.b", "a.r", "--steps=10", "--", "--number=0"],
+        "words",
+    ),
+    (&["run", "a.b", "--steps=10", "--number=0"], "words"),
+    (
+        &["run", "a.b", "a.r", "c", "--steps=10", "--number=0"],
+        "words",
+    ),
+    (
+        &["run", "a.b", "a.r", "--steps=10", "--number=0", "--fast"],
+        "words",
+    ),
+    (&["run", "a.b", "a.r", "--step=10", "--number=0"], "words"),
+    (
+        &["run", "a.b", "a.r", "--steps=10", "--number=0", "-h"],
+        "words",
+    ),
+    (&["run", "--help"], "words"),
+    (&["run", "--version"], "words"),
+    (&["view", "a.b", "a.r", "--steps=10"], "words"),
+    // Randomness comes behind words and before numbers.
+    (
+        &[
+            "run",
+            "a.b",
+            "a.r",
+            "--steps=10",
+            "--number",
+            "0",
+            "--stream",
+            "s",
+        ],
+        "randomness",
+    ),
+    (&["run", "a.b", "a.r", "--steps=ten"], "randomness"),
+    (
+        &[
+            "run",
+            "a.b",
+            "a.r",
+            "--steps",
+            "1000000001",
+            "--number",
+            "0",
+        ],
+        "number",
+    ),
+    (
+        &[
+            "run",
+            "a.b",
+            "a.r",
+            "--steps",
+            "1000000000",
+            "--number",
+            "0",
+        ],
+        "run a.b a.r 1000000000 number 0",
+    ),
+    (&["run", "a.b", "a.r", "--steps=", "--number=0"], "number"),
+    (
+        &["run", "a.b", "a.r", "--steps=-10", "--number=0"],
+        "number",
+    ),
+    (
+        &["run", "a.b", "a.r", "--steps=+10", "--number=0"],
+        "number",
+    ),
+    (
+        &[
+            "run",
+            "a.b",
+            "a.r",
+            "--steps=000000000000000000010",
+            "--number=0",
+        ],
+        "number",
+    ),
+    (
+        &[
+            "run",
+            "a.b",
+            "a.r",
+            "--steps=1",
+            "--number=18446744073709551616",
+        ],
+        "number",
+    ),
+    // The other commands.
+    (&["view", "a.b", "a.r"], "view a.b a.r"),
+    (&["view", "a.b"], "words"),
+    (&["solo", "3", "a.b", "a.r"], "solo 3 a.b a.r"),
+    (&["solo", "4", "a.b", "a.r"], "number"),
+    (&["solo", "-1", "a.b", "a.r"], "words"),
+    (&["solo", "a.b", "a.r"], "words"),
+    (
+        &["gen", "18446744073709551615", "a.b"],
+        "gen 18446744073709551615 a.b",
+    ),
+    (&["gen", "--", "-1", "a.b"], "number"),
+    (&["demo", "9", "--steps", "200000"], "demo 9 200000"),
+    (&["demo", "--steps=1000000001", "9"], "number"),
+    (&["demo", "9"], "words"),
+];
+
+#[test]
+fn lines_as_they_are_read(rt: HostRuntime) -> Result<(), Fail> {
+    for (line, want) in LINES {
+        let text = shown(rt.alloc(), line).ok().ok_or("no memory")?;
+        let found = text.as_str();
+        let command = line.first();
+        assert_eq!(rt; found, want, "{command:?}: {found}");
+    }
+    Ok(())
+}

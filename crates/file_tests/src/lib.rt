@@ -1,0 +1,20 @@
+//! Tests of the outside (files, output, random bytes), of the files and texts that are read (bundles, records, assembler
+//! text), and of the arena of chains.
+#![tactic(auto)]
+
+#[cfg(test)]
+mod assembler;
+#[cfg(test)]
+mod bundles;
+#[cfg(test)]
+mod file_shelf;
+#[cfg(test)]
+mod memory_shelf;
+#[cfg(test)]
+mod records;
+#[cfg(test)]
+mod slots;
+#[cfg(test)]
+mod std_sink;
+#[cfg(test)]
+mod stream;

@@ -1,0 +1,158 @@
+//! Records that were written, and files that are none.
+
+use cloak_base::Shown;
+use cloak_model::{Item, RecordFault};
+use exchange_log::{LONGEST, write_item};
+use outside_io::{MemoryShelf, Shelf};
+use record_reader::{KeptItems, NextFault, Reader};
+use std::test::*;
+
+/// How many items are read, and what comes behind them.
+fn read_on(shelf: &mut MemoryShelf, reader: &mut Reader<'_>) -> (usize, Result<(), NextFault>) {
+    let mut kept = KeptItems::new();
+    for count in 0..100 {
+        match reader.next(shelf, &mut kept) {
+            Ok(Some(_)) => {}
+            Ok(None) => return (count, Ok(())),
+            Err(fault) => return (count, Err(fault)),
+        }
+    }
+    (100, Ok(()))
+}
+
+/// One item of each kind, in the order of a record.
+fn items() -> [Item; 13] {
+    let shown = Shown {
+        cause: 8,
+        stval: 0,
+        ctx: 1,
+        number: 0x0102_0304,
+        args: [1, 2, 3, 4, 5, 6],
+    };
+    [
+        Item::Cipher {
+            frame: 3,
+            bytes: [0xa5; 4096],
+        },
+        Item::Step { number: 1 },
+        Item::Put {
+            address: 0x8000_1000,
+            width: 4,
+            value: 0xffff_fffe,
+        },
+        Item::Ok { domain: 0 },
+        Item::Absent {
+            domain: 1,
+            cause: 13,
+        },
+        Item::Word {
+            domain: 1,
+            value: 7,
+        },
+        Item::Timer { domain: 2 },
+        Item::Resume {
+            domain: 2,
+            ctx: 1,
+            answer: 9,
+        },
+        Item::Stopped { domain: 3 },
+        Item::Leave(shown),
+        Item::Close { steps: 1 },
+        Item::Cipher {
+            frame: 4,
+            bytes: [0x5a; 4096],
+        },
+        Item::End,
+    ]
+}
+
+#[test]
+fn what_was_written_is_read(rt: HostRuntime) -> Result<(), Fail> {
+    let mut shelf = MemoryShelf::open(rt.alloc(), Vec::new(rt.alloc()));
+    shelf.add("r", b"CLOAKREC")?;
+    let items = items();
+    let mut buffer = [0; LONGEST];
+    for item in &items {
+        let count = write_item(item, &mut buffer);
+        shelf.append("r", &buffer[..count])?;
+    }
+    let mut reader = Reader::open("r");
+    let mut kept = KeptItems::new();
+    for item in items {
+        match reader.next(&mut shelf, &mut kept) {
+            Ok(Some(tag)) => assert_eq!(rt; *kept.item(tag), item),
+            _ => assert!(rt; false, "no item"),
+        }
+    }
+    for _ in 0..2 {
+        assert!(rt; matches!(reader.next(&mut shelf, &mut kept), Ok(None)));
+    }
+    Ok(())
+}
+
+/// Files, how many items stand before their first fault, and the fault: the rules of the record's format.
+#[test]
+fn damaged_files(rt: HostRuntime) -> Result<(), Fail> {
+    let rows: [(&[u8], usize, RecordFault); 18] = [
+        (b"", 0, RecordFault::Short(0)),
+        (b"CLOAKRE", 0, RecordFault::Short(7)),
+        (b"CLOAKBND", 0, RecordFault::BadMagic),
+        (b"CLOAKREC", 0, RecordFault::Short(8)),
+        (b"CLOAKREC\x12", 0, RecordFault::BadTag(8)),
+        (b"CLOAKREC\x13", 0, RecordFault::BadTag(8)),
+        (b"CLOAKREC\x20\0", 0, RecordFault::BadTag(8)),
+        (b"CLOAKREC\x01\0\0\0\0\xff", 0, RecordFault::Short(14)),
+        (b"CLOAKREC\x10\x01\0\0", 0, RecordFault::Short(12)),
+        (b"CLOAKREC\x10\x02\0\0\0", 0, RecordFault::StepOrder(8)),
+        (b"CLOAKREC\x11\x01\0\0\0", 0, RecordFault::StepOrder(8)),
+        (b"CLOAKREC\x10\x01\0\0\0\x12", 1, RecordFault::BadTag(13)),
+        (
+            b"CLOAKREC\x10\x01\0\0\0\x10\x01\0\0\0",
+            1,
+            RecordFault::StepOrder(13),
+        ),
+        (
+            b"CLOAKREC\x10\x01\0\0\0\x02\0\0\0\x80",
+            1,
+            RecordFault::Short(18),
+        ),
+        (
+            b"CLOAKREC\x10\x01\0\0\0\x02\0\0\0\x80\x03",
+            1,
+            RecordFault::BadTag(13),
+        ),
+        (
+            b"CLOAKREC\x11\0\0\0\0\x02\0\0\0\x80\x01\0\0\0\0",
+            1,
+            RecordFault::BadTag(13),
+        ),
+        (b"CLOAKREC\x11\0\0\0\0", 1, RecordFault::Short(13)),
+        (b"CLOAKREC\x11\0\0\0\0\x12\0", 2, RecordFault::Extra(14)),
+    ];
+    for (file, count, fault) in rows {
+        let mut shelf = MemoryShelf::open(rt.alloc(), Vec::new(rt.alloc()));
+        shelf.add("r", file)?;
+        let mut reader = Reader::open("r");
+        let first = read_on(&mut shelf, &mut reader);
+        assert_eq!(rt; first, (count, Err(NextFault::Record(fault))), "{fault:?}");
+        let again = read_on(&mut shelf, &mut reader);
+        assert_eq!(rt; again, (0, Err(NextFault::Record(fault))), "{fault:?}");
+    }
+    Ok(())
+}
+
+/// The Nth call on the shelf fails, and how many items were read before. Then the reader goes on. A piece of the file is
+/// read by a call for its bytes and one that finds its end: from the magic on, from Close, from End, and behind it.
+#[test]
+fn failing_calls(rt: HostRuntime) -> Result<(), Fail> {
+    for (call, count) in [(1, 0), (2, 0), (3, 0), (4, 0), (5, 1), (6, 1), (7, 2)] {
+        let mut shelf = MemoryShelf::open(rt.alloc(), vec![in rt.alloc(); call]?);
+        shelf.add("r", b"CLOAKREC\x11\0\0\0\0\x12")?;
+        let mut reader = Reader::open("r");
+        let first = read_on(&mut shelf, &mut reader);
+        assert_eq!(rt; first, (count, Err(NextFault::Read)), "{call}");
+        let again = read_on(&mut shelf, &mut reader);
+        assert_eq!(rt; again, (2 - count, Ok(())), "{call}");
+    }
+    Ok(())
+}

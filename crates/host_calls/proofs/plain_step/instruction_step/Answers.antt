@@ -1,0 +1,19 @@
+use Rattle.std.proofs.Common.{◌∙◌, ℕ, ap, sym}
+use Rattle.cloak_model.specs.HartStep.{raised}
+use Rattle.cloak_model.specs.Hart.{Hart}
+use Rattle.cloak_model.specs.HostCalls.{over}
+use Rattle.host_calls.proofs.WholeAccess.{fault_follows, word_follows}
+use Rattle.host_calls.proofs.plain_step.instruction_step.Goals as goal
+
+pub returns-in-Err-clause-follows : goal.returns-in-Err-clause-follows
+returns-in-Err-clause-follows g c =
+    let same = ap (λ (h : Hart). h.pc) c.raise.view_is ∙ sym (ap (λ (h : Hart). h.pc) c.h.view_is) in
+    fault_follows g.M.Ram.stands_for _ _ c.args.h.now c.args.d.now c.h.inside.pc c.in-Err.cause _
+    (ap (λ (h : Hart). h.pc) c.h.view_is)
+    (ap (over c.args.d.now) (c.raise-in-Err.ensures ∙ ap (λ (va : ℕ). raised c.args.h.now c.in-Err.cause va) same))
+    c.in-Err.ensures.follows
+
+pub returns-in-Ok-clause-follows : goal.returns-in-Ok-clause-follows
+returns-in-Ok-clause-follows g c =
+    word_follows g.M.Ram.stands_for _ _ _ c.args.h.now c.args.d.now c.h.inside.pc c.in-Ok.word _ _
+    (ap (λ (h : Hart). h.pc) c.h.view_is) c.decode.ensures.table c.in-Ok.ensures.follows c.decoded.ensures.follows

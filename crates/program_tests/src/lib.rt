@@ -1,0 +1,11 @@
+//! Tests of the parts of a cloaked program: its resources, its files, its instructions, and the fork of a space.
+#![tactic(auto)]
+
+#[cfg(test)]
+mod files;
+#[cfg(test)]
+mod forks;
+#[cfg(test)]
+mod instructions;
+#[cfg(test)]
+mod resources;

@@ -1,0 +1,389 @@
+//! Steps as tables: rows of the privileged manual ("Supervisor Interrupt Registers", "Supervisor Instructions"),
+//! and the host calls.
+
+ghost use Rattle.std.specs.Prelude.{◌<◌, ◌≤◌, length, IfSome};
+
+use cloak_base::{Frame, Mode, Shown};
+use cloak_model::Access;
+use host_calls::{Disk, Hart, Kernel, Ram, kernel_step, leave};
+use rv_traps::Csrs;
+use std::test::Fail;
+
+/// Frames without paging. They stand for no world, since the rows compare what a step leaves.
+#[derive(Drop)]
+struct Bare {
+    frames: Vec<[u8; 4096]>,
+    ghost few: { length frames.items ≤ 4096 },
+}
+
+impl Bare {
+    /// The frame of an address, and its place there.
+    fn place_of(&self, pa: u32) -> Option<(usize, usize)>
+        ensures frame { IfSome result (λ at. at.0 < length self.now.frames.items) }
+        ensures place { IfSome result (λ at. at.1 < 4096) }
+    {
+        let frame = (pa.saturating_sub(0x8000_0000) / 4096) as usize;
+        if pa < 0x8000_0000 || frame >= self.frames.len() {
+            return None;
+        }
+        Some((frame, (pa % 4096) as usize))
+    }
+}
+
+impl Ram for Bare {
+    ghost use Rattle.std.specs.Prelude.{length};
+
+    ghost stands_for = { λ first side w. ⊥ };
+
+    ghost kept = { λ first side. Unit {0} };
+
+    ghost count = { λ side. length side.frames.items };
+
+    fn load(&mut self, _: u32, access: Access, _: u32) -> Result<u32, u32> {
+        let Some((frame, place)) = self.place_of(access.va) else {
+            return Err(1);
+        };
+        let page = &self.frames[frame];
+        let at = place / 4 * 4;
+        Ok(u32::from_le_bytes([page[at], page[at + 1], page[at + 2], page[at + 3]]))
+    }
+
+    fn store(&mut self, _: u32, access: Access, _: u32, v: u32) -> Result<(), u32> {
+        let Some((frame, place)) = self.place_of(access.va) else {
+            return Err(1);
+        };
+        self.frames[frame][place] = (v & 0xff) as u8;
+        Ok(())
+    }
+
+    fn frame(&mut self, f: Frame) -> &[u8; 4096] {
+        &self.frames[f.0 as usize]
+    }
+
+    fn fill(&mut self, f: Frame, b: &[u8; 4096]) {
+        self.frames[f.0 as usize] = *b;
+    }
+
+    fn frames(&self) -> u32 {
+        self.frames.len() as u32
+    }
+}
+
+/// Registers with these words in sstatus and sie, and with all traps to 0x80000800.
+fn registers(sstatus: u32, sie: u32) -> Csrs {
+    let mut csrs = Csrs::new();
+    for (number, value) in [
+        (0x100, sstatus),
+        (0x104, sie),
+        (0x105, 0x8000_0800),
+        (0x141, 0x8000_0100),
+    ] {
+        let _ = csrs.write(number, value);
+    }
+    csrs
+}
+
+/// A hart at 0x80000000 in this mode, with these words in sstatus and sie, and all traps to 0x80000800.
+fn hart(mode: Mode, sstatus: u32, sie: u32) -> Hart {
+    let mut hart = Hart::start(0x8000_0000, 0);
+    hart.mode = mode;
+    hart.csrs = registers(sstatus, sie);
+    hart
+}
+
+/// Three frames with this word at 0x80000000.
+fn frames_with(rt: &HostRuntime, word: u32) -> Result<Bare, Fail> {
+    let mut page = [0; 4096];
+    page[..4].copy_from_slice(&word.to_le_bytes());
+    let frames = Vec::from_array(rt.alloc(), [page, [0; 4096], [0; 4096]])?;
+    Ok(Bare { frames })
+}
+
+const ADDI: u32 = 0x0010_0093; // addi x1, x0, 1
+
+const ECALL: u32 = 0x0000_0073;
+
+const SRET: u32 = 0x1020_0073;
+
+const WFI: u32 = 0x1050_0073;
+
+const SFENCE: u32 = 0x1200_0073; // sfence.vma x0, x0
+
+const SIE: u32 = 0x2;
+
+const STIE: u32 = 0x20;
+
+/// The cause of the timer's interrupt.
+const TIMER: u32 = 0x8000_0005;
+
+/// Interrupts and the instructions of the supervisor: mode, sstatus, sie, whether the timer's interrupt is
+/// pending, and the timer before the step; its word; mode, program counter, scause and stval after it.
+static INTERRUPTS: [(&str, Mode, u32, u32, bool, u32, u32, (Mode, u32, u32, u32)); 15] = [
+    (
+        "not in S mode with SIE clear",
+        Mode::S,
+        0,
+        STIE,
+        true,
+        0,
+        ADDI,
+        (Mode::S, 0x8000_0004, 0, 0),
+    ),
+    (
+        "in S mode with SIE set",
+        Mode::S,
+        SIE,
+        STIE,
+        true,
+        0,
+        ADDI,
+        (Mode::S, 0x8000_0800, TIMER, 0),
+    ),
+    (
+        "in U mode with SIE clear",
+        Mode::U,
+        0,
+        STIE,
+        true,
+        0,
+        ADDI,
+        (Mode::S, 0x8000_0800, TIMER, 0),
+    ),
+    (
+        "not where it is not enabled",
+        Mode::U,
+        SIE,
+        0,
+        true,
+        0,
+        ADDI,
+        (Mode::U, 0x8000_0004, 0, 0),
+    ),
+    (
+        "not where none is pending",
+        Mode::U,
+        SIE,
+        STIE,
+        false,
+        0,
+        ADDI,
+        (Mode::U, 0x8000_0004, 0, 0),
+    ),
+    (
+        "as the timer reaches 0",
+        Mode::U,
+        0,
+        STIE,
+        false,
+        1,
+        ADDI,
+        (Mode::S, 0x8000_0800, TIMER, 0),
+    ),
+    (
+        "not before",
+        Mode::U,
+        0,
+        STIE,
+        false,
+        2,
+        ADDI,
+        (Mode::U, 0x8000_0004, 0, 0),
+    ),
+    (
+        "SRET to U mode",
+        Mode::S,
+        0x20,
+        0,
+        false,
+        0,
+        SRET,
+        (Mode::U, 0x8000_0100, 0, 0),
+    ),
+    (
+        "SRET to S mode",
+        Mode::S,
+        0x100,
+        0,
+        false,
+        0,
+        SRET,
+        (Mode::S, 0x8000_0100, 0, 0),
+    ),
+    (
+        "SRET in U mode",
+        Mode::U,
+        0,
+        0,
+        false,
+        0,
+        SRET,
+        (Mode::S, 0x8000_0800, 2, SRET),
+    ),
+    (
+        "WFI in U mode",
+        Mode::U,
+        0,
+        0,
+        false,
+        0,
+        WFI,
+        (Mode::S, 0x8000_0800, 2, WFI),
+    ),
+    (
+        "WFI in S mode",
+        Mode::S,
+        0,
+        0,
+        false,
+        0,
+        WFI,
+        (Mode::S, 0x8000_0004, 0, 0),
+    ),
+    (
+        "SFENCE.VMA in U mode",
+        Mode::U,
+        0,
+        0,
+        false,
+        0,
+        SFENCE,
+        (Mode::S, 0x8000_0800, 2, SFENCE),
+    ),
+    (
+        "SFENCE.VMA in S mode",
+        Mode::S,
+        0,
+        0,
+        false,
+        0,
+        SFENCE,
+        (Mode::S, 0x8000_0004, 0, 0),
+    ),
+    (
+        "ECALL in U mode",
+        Mode::U,
+        0,
+        0,
+        false,
+        0,
+        ECALL,
+        (Mode::S, 0x8000_0800, 8, 0),
+    ),
+];
+
+#[test]
+fn interrupts_and_returns(rt: HostRuntime) -> Result<(), Fail> {
+    for (name, mode, sstatus, sie, pending, count, word, want) in INTERRUPTS {
+        let mut h = hart(mode, sstatus, sie);
+        h.csrs.set_pending(pending);
+        h.timer = count;
+        let mut d = Disk::open(rt.alloc(), &[])?;
+        let mut m = frames_with(&rt, word)?;
+        assert_eq!(rt; kernel_step(&mut h, &mut d, &mut m), Kernel::Stay, "{name}");
+        let (cause, value) = (h.csrs.read(0x142), h.csrs.read(0x143));
+        assert_eq!(rt; (h.mode, h.pc), (want.0, want.1), "{name}");
+        assert_eq!(rt; (cause, value), (Some(want.2), Some(want.3)), "{name}");
+    }
+    Ok(())
+}
+
+/// Host calls: x17, x10 and x11; the ending, x10 and the timer after it.
+static CALLS: [(&str, u32, u32, u32, Kernel, u32, u32); 11] = [
+    ("PUT", 0, 0x141, 7, Kernel::Put(0x41), 0, 9),
+    ("TIMER", 1, 100, 7, Kernel::Stay, 0, 100),
+    ("READ", 2, 1, 0x8000_1000, Kernel::Stay, 0, 9),
+    ("READ of no block", 2, 2, 0x8000_1000, Kernel::Stay, 1, 9),
+    ("READ to no frame", 2, 1, 0x8000_3000, Kernel::Stay, 1, 9),
+    ("READ into a frame", 2, 1, 0x8000_1004, Kernel::Stay, 1, 9),
+    ("WRITE", 3, 0, 0x8000_0000, Kernel::Stay, 0, 9),
+    (
+        "WRITE of no block",
+        3,
+        u32::MAX,
+        0x8000_0000,
+        Kernel::Stay,
+        1,
+        9,
+    ),
+    ("WRITE below RAM", 3, 0, 0x7fff_f000, Kernel::Stay, 1, 9),
+    ("HALT", 4, 3, 7, Kernel::Halt(3), 3, 9),
+    ("no call", 5, 3, 7, Kernel::Stay, u32::MAX, 9),
+];
+
+#[test]
+fn calls_the_host(rt: HostRuntime) -> Result<(), Fail> {
+    for (name, call, first, second, ending, answer, timer) in CALLS {
+        let mut h = hart(Mode::S, 0, 0);
+        h.regs.set(17, call);
+        h.regs.set(10, first);
+        h.regs.set(11, second);
+        h.timer = 10;
+        let mut d = Disk::open(rt.alloc(), [5; 8192].as_slice())?;
+        let mut m = frames_with(&rt, ECALL)?;
+        assert_eq!(rt; kernel_step(&mut h, &mut d, &mut m), ending, "{name}");
+        assert_eq!(rt;
+            (h.regs.get(10), h.timer, h.pc),
+            (answer, timer, 0x8000_0004),
+            "{name}"
+        );
+    }
+    Ok(())
+}
+
+/// A block goes to a frame, and that frame to another block.
+#[test]
+fn transfers_pages(rt: HostRuntime) -> Result<(), Fail> {
+    let mut blocks = [0; 8192];
+    blocks[4096] = 7;
+    let mut d = Disk::open(rt.alloc(), blocks.as_slice())?;
+    let mut m = frames_with(&rt, ECALL)?;
+    for (call, block) in [(2, 1), (3, 0)] {
+        let mut h = hart(Mode::S, 0, 0);
+        h.regs.set(17, call);
+        h.regs.set(10, block);
+        h.regs.set(11, 0x8000_1000);
+        assert_eq!(rt; kernel_step(&mut h, &mut d, &mut m), Kernel::Stay);
+    }
+    assert_eq!(rt; d.bytes().first(), Some(&7));
+    Ok(())
+}
+
+/// A context is resumed from either mode, and left again.
+#[test]
+fn resumes_and_leaves(rt: HostRuntime) -> Result<(), Fail> {
+    for mode in [Mode::S, Mode::U] {
+        let mut h = hart(mode, 0, 0);
+        h.regs.set(17, 0x4f56_0000);
+        h.regs.set(5, 3);
+        h.regs.set(10, 8);
+        let mut d = Disk::open(rt.alloc(), &[])?;
+        let mut m = frames_with(&rt, ECALL)?;
+        let ending = kernel_step(&mut h, &mut d, &mut m);
+        assert_eq!(rt; ending, Kernel::Resume { ctx: 3, answer: 8 });
+        assert_eq!(rt; (h.inside, h.mode, h.pc), (Some(3), Mode::U, 0x1000));
+        assert_eq!(rt; h.regs.words().iter().max(), Some(&0));
+        let shown = Shown {
+            cause: 8,
+            stval: 0,
+            ctx: 3,
+            number: 9,
+            args: [1, 2, 3, 4, 5, 6],
+        };
+        leave(&mut h, &shown);
+        assert_eq!(rt; (h.inside, h.mode, h.pc), (None, Mode::S, 0x8000_0800));
+        assert_eq!(rt;
+            (h.csrs.read(0x141), h.csrs.read(0x142)),
+            (Some(0x1000), Some(8))
+        );
+        assert_eq!(rt;
+            (
+                h.regs.get(5),
+                h.regs.get(10),
+                h.regs.get(15),
+                h.regs.get(17)
+            ),
+            (3, 1, 6, 9)
+        );
+    }
+    Ok(())
+}

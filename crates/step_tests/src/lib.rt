@@ -1,0 +1,14 @@
+//! Tests of the instructions, of the control and status registers, of the page-table walk and of the plain step, with
+//! values from outside. They stand here, and not in the crates that they are of, since a crate with tests is proved twice.
+#![tactic(auto)]
+
+#[cfg(test)]
+mod encodings;
+#[cfg(test)]
+mod kernel_steps;
+#[cfg(test)]
+mod operations;
+#[cfg(test)]
+mod registers;
+#[cfg(test)]
+mod walks;
