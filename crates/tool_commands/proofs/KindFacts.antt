@@ -26,6 +26,6 @@ pub unnamed_at : (names : List (Bor (List ℕ))) (i : ℕ) (d : Bor (List ℕ)) 
 unnamed_at names i d kinds whole inside unnamed so_far =
     let rest = map (λ (name : Bor (List ℕ)). name.now) (drop (suc i) names) in
     let split : map (λ (name : Bor (List ℕ)). name.now) (drop i names)
-        ≡ (get_or names i d).now ∷ rest =
+    ≡ (get_or names i d).now ∷ rest =
     ap (map (λ (name : Bor (List ℕ)). name.now)) (drop-cons names i d inside) in
     sym (with_unnamed kinds (get_or names i d).now rest unnamed) ∙ (ap (fold with_name (Some kinds)) (sym split) ∙ so_far)
