@@ -1,0 +1,3 @@
+mod KindFacts
+mod WordFacts
+mod ExitFacts

@@ -1,0 +1,18 @@
+use Rattle.tool_commands.proofs.answering.carry_out.Goals as goal
+
+pub returns-in-Asm : goal.returns-in-Asm
+returns-in-Asm g c = rw c.in-Asm.is c.asm_command.ensures
+
+pub returns-in-Pack : goal.returns-in-Pack
+returns-in-Pack g c = rw c.in-Pack.is c.pack_command.ensures
+
+pub returns-in-Show : goal.returns-in-Show
+returns-in-Show g c = rw c.in-Show.is c.show.ensures
+
+pub returns-in-Explain : goal.returns-in-Explain
+returns-in-Explain g c =
+    rw c.in-Explain.is (record {
+      answers = c.explain_command.ensures.answers;
+      kept = c.explain_command.ensures.files;
+      writing = c.explain_command.ensures.writing;
+    })

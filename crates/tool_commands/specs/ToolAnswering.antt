@@ -1,0 +1,79 @@
+-- What the tools answer, by what the words ask for.
+use Rattle.std.specs.Prelude.{ℕ, ◌≡◌, ◌⊎◌, true, List, Option, Some, None, codes, string_bytes}
+use Rattle.outside_io.specs.Told.{SameFiles}
+use Rattle.clap.specs.Walk.{Text}
+use Rattle.asm_text.specs.Commanded.{AsmAnswers}
+use Rattle.manifest.specs.Packing.{PackAnswers}
+use Rattle.record_text.specs.Reading.{never_unfit, record_text}
+use Rattle.record_text.specs.declared.selection.Selection.{Selection}
+use Rattle.read_back.specs.Reading.{ShowsRecord}
+use Rattle.run_story.specs.Answering.{ExplainAnswers}
+use Rattle.program_parts.specs.Outside.{Outside}
+use Rattle.program_parts.specs.Refusing.{Refuses}
+use Rattle.program_parts.specs.declared.refusal.Refusal.TheVariants as refusal
+use Rattle.program_parts.specs.declared.status.Status.{Status}
+use Rattle.program_parts.specs.declared.status.Status.TheVariants as status
+use Rattle.tool_words.specs.ToolCommand.{ToolAsked, Asm, Pack, Show, Explain, AreFaulty, AreNotTaken, AsksTool}
+use Rattle.tool_words.specs.ToolRequest.{tool_asked_of}
+use Rattle.tool_words.specs.declared.request.ToolWords.{ToolWords}
+use Rattle.tool_words.specs.declared.request.ToolWords.TheVariants.{Asks, Help, Faulty}
+use Rattle.tool_commands.specs.KindNames.{selection_asked}
+use Rattle.tool_commands.specs.ToolSaying.{Says}
+
+-- a name is that of no kind
+abbrev pub kinds_line : List ℕ
+kinds_line = codes "error: --only has a name that is of no kind\n"
+
+-- What is meant of the record of this name was shown, up to its end or its first fault, and no file was changed.
+pub record ShowsSelection {S O : Type 0} (meant : Selection) (record_name : List ℕ) (before after : Outside S O) (answer : Status) : Type 0 where
+  pub shows : ShowsRecord never_unfit (record_text meant) record_name answer before after
+  pub kept : SameFiles before.files.held after.files.held
+  pub writing : after.files.writing ≡ before.files.writing
+
+abbrev pub ShowAnswers : {S O : Type 0} → Option Selection → List ℕ → Outside S O → Outside S O → Status → Type 0
+ShowAnswers None record_name before after answer = Says kinds_line status.Usage before after answer
+ShowAnswers (Some meant) record_name before after answer = ShowsSelection meant record_name before after answer
+
+-- Why the run of the record of this name was stopped was told, or why that cannot be, and no file was changed.
+pub record ExplainsRun {S O : Type 0} (bundle_name record_name : List ℕ) (before after : Outside S O) (answer : Status) : Type 0 where
+  pub answers : ExplainAnswers bundle_name record_name before after answer
+  pub kept : SameFiles before.files.held after.files.held
+  pub writing : after.files.writing ≡ before.files.writing
+
+-- What the tools answer to what is asked of them.
+abbrev pub ToolAnswers : {S O : Type 0} → ToolAsked → Outside S O → Outside S O → Status → Type 0
+ToolAnswers (Asm text_name words_name) before after answer = AsmAnswers text_name words_name before after answer
+ToolAnswers (Pack manifest bundle_name) before after answer = PackAnswers manifest bundle_name before after answer
+ToolAnswers (Show record_name from to only counts) before after answer =
+    ShowAnswers (selection_asked from to only counts) record_name before after answer
+ToolAnswers (Explain bundle_name record_name) before after answer = ExplainsRun bundle_name record_name before after answer
+
+-- what they answer to what was read of words
+abbrev pub ReadAnswers : {S O : Type 0} → ToolWords → Outside S O → Outside S O → Status → Type 0
+ReadAnswers (Asks request) before after answer = ToolAnswers (tool_asked_of request) before after answer
+ReadAnswers (Help text) before after answer = Says (string_bytes text) status.Done before after answer
+ReadAnswers (Faulty text) before after answer = Says (string_bytes text) status.Usage before after answer
+
+-- The words are taken, and this was answered to what they ask for.
+pub record DoesAsked {S O : Type 0} (words : List Text) (before after : Outside S O) (answer : Status) : Type 0 where
+  pub asked : ToolAsked
+  pub asks : AsksTool words asked
+  pub answers : ToolAnswers asked before after answer
+
+-- a text of `clap`
+pub record SaysSomething {S O : Type 0} (meant : Status) (before after : Outside S O) (answer : Status) : Type 0 where
+  pub text : List ℕ
+  pub says : Says text meant before after answer
+
+-- The line of want of memory was shown, and no file was asked for anything.
+pub record LacksToolMemory {S O : Type 0} (before after : Outside S O) (answer : Status) : Type 0 where
+  pub line : Refuses before.output after.output refusal.NoMemory answer
+  pub untouched : after.files ≡ before.files
+
+-- What the tools answer to words, of which the first is the program's name.
+abbrev pub WordsAnswers : {S O : Type 0} → List Text → Outside S O → Outside S O → Status → Type 0
+WordsAnswers words before after answer =
+    DoesAsked words before after answer
+    ⊎ ((AreNotTaken words true × SaysSomething status.Done before after answer)
+    ⊎ ((AreFaulty words × SaysSomething status.Usage before after answer)
+    ⊎ LacksToolMemory before after answer))

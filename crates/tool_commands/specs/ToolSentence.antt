@@ -1,0 +1,13 @@
+-- What is said on standard error of a status.
+use Rattle.std.specs.Prelude.{ℕ, List, [], codes}
+use Rattle.program_parts.specs.declared.status.Status.{Status}
+use Rattle.program_parts.specs.declared.status.Status.TheVariants as status
+
+abbrev pub tool_sentence : Status → List ℕ
+tool_sentence status.Usage = codes "tools: the words are faulty (tools help says which there are)\n"
+tool_sentence status.BadBundle = codes "tools: a text, a manifest or an image is faulty, and it was shown why\n"
+tool_sentence status.ReadFault = codes "tools: a file could not be read\n"
+tool_sentence status.WriteFault = codes "tools: a file or the output could not be written\n"
+tool_sentence status.NoMemory = codes "tools: there is not enough memory\n"
+tool_sentence status.BadRecord = codes "tools: the file is no record, or does not fit the image, and it was shown where\n"
+tool_sentence answer = []

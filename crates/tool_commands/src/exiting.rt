@@ -1,0 +1,54 @@
+//! All that the tools do, over any files and any output.
+ghost use Rattle.std.specs.Prelude.{◌≢◌};
+ghost use Rattle.program_parts.specs.Outside.{outside};
+ghost use Rattle.tool_commands.specs.ToolExiting.{LineAnswers, ToolsExit};
+
+use crate::answering::obey;
+use crate::line::CommandLine;
+use crate::saying::say;
+use outside_io::{Shelf, Sink};
+use program_parts::{Refusal, Status, refuse};
+use std::alloc::Global;
+
+/// Does what a command line asks for.
+fn answer<S: Shelf, O: Sink>(
+    alloc: Global,
+    line: &CommandLine,
+    shelf: &mut S,
+    out: &mut O,
+) -> Status
+    requires { S.is_settled shelf.old }
+    ensures { LineAnswers line.now
+        (outside S.held S.reading_faults S.writing_faults O.taken O.faults shelf.old out.old)
+        (outside S.held S.reading_faults S.writing_faults O.taken O.faults shelf.new out.new) result }
+{
+    match line {
+        CommandLine::Taken(words) => obey(alloc, words, shelf, out),
+        CommandLine::NotText => say(out, b"error: a word is no text\n", Status::Usage),
+        CommandLine::NoMemory => refuse(out, &Refusal::NoMemory),
+    }
+}
+
+/// Does what a command line asks for, with the files of a shelf on which nothing is gathered, and then writes out what is
+/// gathered for files and output.
+pub fn run_tools<S: Shelf, O: Sink>(
+    alloc: Global,
+    line: &CommandLine,
+    shelf: &mut S,
+    out: &mut O,
+) -> Status
+    requires { S.is_settled shelf.old }
+    ensures exits { ToolsExit line.now
+        (outside S.held S.reading_faults S.writing_faults O.taken O.faults shelf.old out.old)
+        (outside S.held S.reading_faults S.writing_faults O.taken O.faults shelf.new out.new) result }
+    ensures files { result ≢ Status.WriteFault → S.is_settled shelf.new }
+    ensures shown { result ≢ Status.WriteFault → O.is_settled out.new }
+{
+    let status = answer(alloc, line, shelf, out);
+    let are_unwritten = shelf.flush().is_err();
+    let is_unshown = out.flush().is_err();
+    if are_unwritten || is_unshown {
+        return Status::WriteFault;
+    }
+    status
+}

@@ -1,0 +1,16 @@
+//! A text that the tools say.
+ghost use Rattle.program_parts.specs.Outside.{output};
+ghost use Rattle.tool_commands.specs.ToolSaying.{ShowsText};
+
+use outside_io::{Sink, put_all};
+use program_parts::Status;
+
+/// Shows a text, and answers a status, or the write fault.
+pub fn say<O: Sink>(out: &mut O, text: &[u8], status: Status) -> Status
+    ensures { ShowsText text.now status (output O.taken O.faults out.old) (output O.taken O.faults out.new) result }
+{
+    match put_all(out, text) {
+        Ok(()) => status,
+        Err(_) => Status::WriteFault,
+    }
+}

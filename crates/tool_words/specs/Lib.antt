@@ -1,0 +1,4 @@
+pub mod ToolForms
+pub mod HasForm
+pub mod ToolCommand
+pub mod ToolRequest

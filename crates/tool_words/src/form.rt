@@ -1,0 +1,142 @@
+//! The tools as a command of `clap`, which reads their words and writes help.
+ghost use Rattle.std.specs.Prelude.{◌≡◌, IfOk, false};
+ghost use Rattle.clap.specs.Words.{App, app_of, rule_of, with_subcommand};
+ghost use Rattle.command_words.specs.Forms as forms;
+ghost use Rattle.tool_words.specs.HasForm.{AddsForm, HasForm};
+ghost use Rattle.tool_words.specs.ToolForms as spec;
+
+use clap::{Arg, ArgAction, Command, value_parser};
+use cloak_base::NoMemory;
+use std::alloc::Global;
+
+/// A position, which is not to be left out.
+fn position<'a>(alloc: Global, name: &'a str, help: &'a str) -> Arg<'a>
+    ensures rule { rule_of result ≡ forms.position name.entry.now }
+    ensures local { result.global ≡ false }
+{
+    Arg::new(alloc, name).required(true).help(help)
+}
+
+/// An option whose value is a step.
+fn step_option<'a>(alloc: Global, name: &'a str, help: &'a str) -> Arg<'a>
+    ensures rule { rule_of result ≡ spec.step_option name.entry.now }
+    ensures local { result.global ≡ false }
+{
+    Arg::new(alloc, name)
+        .long(name)
+        .value_name("N")
+        .value_parser(value_parser!(u32))
+        .help(help)
+}
+
+/// An option whose value is names of kinds.
+fn kinds_option<'a>(alloc: Global, name: &'a str, help: &'a str) -> Arg<'a>
+    ensures rule { rule_of result ≡ spec.named_option name.entry.now }
+    ensures local { result.global ≡ false }
+{
+    Arg::new(alloc, name)
+        .long(name)
+        .value_name("KINDS")
+        .help(help)
+}
+
+/// An option with no value.
+fn flag<'a>(alloc: Global, name: &'a str, help: &'a str) -> Arg<'a>
+    ensures rule { rule_of result ≡ spec.flag name.entry.now }
+    ensures local { result.global ≡ false }
+{
+    Arg::new(alloc, name)
+        .long(name)
+        .action(ArgAction::SetTrue)
+        .help(help)
+}
+
+fn asm_form<'a>(alloc: Global) -> Result<Command<'a>, NoMemory>
+    ensures { IfOk result (HasForm spec.asm_form) }
+{
+    let text = position(alloc, "TEXT", "The text, one statement a line");
+    let out = position(alloc, "OUT", "The file that gets the bytes");
+    let asm = Command::new(alloc, "asm")
+        .about("Assemble a text, and write the flat bytes of its words")
+        .arg(text)?
+        .arg(out)?;
+    Ok(asm)
+}
+
+fn pack_form<'a>(alloc: Global) -> Result<Command<'a>, NoMemory>
+    ensures { IfOk result (HasForm spec.pack_form) }
+{
+    let manifest = position(alloc, "MANIFEST", "The manifest, a TOML document");
+    let bundle = position(alloc, "BUNDLE", "The file that gets the image");
+    let pack = Command::new(alloc, "pack")
+        .about("Make the guest image that a manifest means")
+        .arg(manifest)?
+        .arg(bundle)?;
+    Ok(pack)
+}
+
+fn show_form<'a>(alloc: Global) -> Result<Command<'a>, NoMemory>
+    ensures { IfOk result (HasForm spec.show_form) }
+{
+    let record = position(alloc, "RECORD", "The record of a run");
+    let from = step_option(alloc, "from", "The first step; 0 is the opening");
+    let to = step_option(alloc, "to", "The last step");
+    let only = kinds_option(
+        alloc,
+        "only",
+        "Only these items: cipher, put, leave, ok, absent, word, timer, resume, stopped, outward, inward, with commas between",
+    );
+    let counts = flag(
+        alloc,
+        "counts",
+        "Show how many items there are of each kind",
+    );
+    let show = Command::new(alloc, "show")
+        .about("Show a record as text, a line for each step with its items")
+        .arg(record)?
+        .arg(from)?
+        .arg(to)?
+        .arg(only)?
+        .arg(counts)?;
+    Ok(show)
+}
+
+fn explain_form<'a>(alloc: Global) -> Result<Command<'a>, NoMemory>
+    ensures { IfOk result (HasForm spec.explain_form) }
+{
+    let bundle = position(alloc, "BUNDLE", "The guest image");
+    let record = position(alloc, "RECORD", "The record of its run");
+    let explain = Command::new(alloc, "explain")
+        .about("Tell why a run was stopped by a violation")
+        .arg(bundle)?
+        .arg(record)?;
+    Ok(explain)
+}
+
+/// The tools before their commands.
+fn top<'a>(alloc: Global) -> Command<'a>
+    ensures { app_of result ≡ spec.tools_top }
+{
+    Command::new(alloc, "tools")
+        .about("For people who make guest images and read records")
+        .version("1.0")
+        .arg_required_else_help(true)
+}
+
+/// One command more.
+fn with_command<'a>(tools: Command<'a>, command: Command<'a>) -> Result<Command<'a>, NoMemory>
+    ensures { IfOk result (λ more. (form : App) → AddsForm command.entry form →
+        app_of more ≡ with_subcommand (app_of tools.entry) form.top) }
+{
+    Ok(tools.subcommand(command)?)
+}
+
+/// All that the tools take.
+pub fn tools_form<'a>(alloc: Global) -> Result<Command<'a>, NoMemory>
+    ensures { IfOk result (λ tools. app_of tools ≡ spec.tools_form) }
+{
+    let asm = with_command(top(alloc), asm_form(alloc)?)?;
+    let pack = with_command(asm, pack_form(alloc)?)?;
+    let show = with_command(pack, show_form(alloc)?)?;
+    with_command(show, explain_form(alloc)?)
+}

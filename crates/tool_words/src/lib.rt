@@ -1,0 +1,14 @@
+//! The words of the tools' command line, read by `clap`: what they ask for, or the text that says what is wrong with them,
+//! or help.
+//!
+//! `specs/ToolCommand` says what is asked, over what `clap` says of a simple command. The layer above may rely on this:
+//! `read_tool_words` gives exactly what the words ask for, and a text exactly where `clap` has a fault of them.
+#![tactic(auto)]
+
+mod form;
+mod found;
+mod reading;
+mod request;
+
+pub use reading::read_tool_words;
+pub use request::{ShowRequest, ToolRequest, ToolWords};

@@ -1,0 +1,80 @@
+//! What the words come to.
+ghost use Rattle.std.specs.Prelude.{◌≡◌, IfOk, map, string_bytes};
+ghost use Rattle.clap.specs.Words.{found_of, kind_of, rows_of};
+ghost use Rattle.tool_words.specs.ToolCommand as spec;
+ghost use Rattle.tool_words.specs.ToolRequest.{ReadsTool, SaysFault, asked_of_show, tool_asked_of};
+
+use crate::form::tools_form;
+use crate::found::{given_names, is_flagged, needed_text, step_named};
+use crate::request::{ShowRequest, ToolRequest, ToolWords};
+use clap::error::ErrorKind;
+use clap::{ArgMatches, Error};
+use cloak_base::NoMemory;
+use std::alloc::Global;
+
+/// What is asked of a record with the texts that were found.
+fn show_request<'a>(alloc: Global, matches: &ArgMatches<'a>) -> Result<ShowRequest<'a>, NoMemory>
+    ensures { IfOk result (λ show. asked_of_show show ≡ spec.show_asked (rows_of (found_of matches.now))) }
+{
+    Ok(ShowRequest {
+        record_name: needed_text(matches, "RECORD"),
+        from: step_named(matches, "from", 0),
+        to: step_named(matches, "to", u32::MAX),
+        only: given_names(alloc, matches, "only")?,
+        counts: is_flagged(matches, "counts"),
+    })
+}
+
+/// What a command asks with the texts that it found.
+#[tactic(auto, unfolding(crate::specs::ToolCommand::tool_asked_with))]
+fn asked_with<'a>(
+    alloc: Global,
+    name: &str,
+    matches: &ArgMatches<'a>,
+) -> Result<ToolRequest<'a>, NoMemory>
+    ensures { IfOk result (λ request. tool_asked_of request
+        ≡ spec.tool_asked_with name.now (rows_of (found_of matches.now))) }
+{
+    match name {
+        "asm" => Ok(ToolRequest::Asm {
+            text: needed_text(matches, "TEXT"),
+            words: needed_text(matches, "OUT"),
+        }),
+        "pack" => Ok(ToolRequest::Pack {
+            manifest: needed_text(matches, "MANIFEST"),
+            bundle: needed_text(matches, "BUNDLE"),
+        }),
+        "show" => Ok(ToolRequest::Show(show_request(alloc, matches)?)),
+        _ => Ok(ToolRequest::Explain {
+            bundle: needed_text(matches, "BUNDLE"),
+            record_name: needed_text(matches, "RECORD"),
+        }),
+    }
+}
+
+/// What words come to that are not taken, or nothing for want of memory.
+fn not_taken<'a>(alloc: Global, error: &Error) -> Result<ToolWords<'a>, NoMemory>
+    ensures { IfOk result (SaysFault (kind_of error.now)) }
+{
+    match error.kind() {
+        ErrorKind::OutOfMemory => Err(NoMemory),
+        ErrorKind::DisplayHelp | ErrorKind::DisplayVersion => Ok(ToolWords::Help(error.to_string(
+            alloc,
+        )?)),
+        _ => Ok(ToolWords::Faulty(error.to_string(alloc)?)),
+    }
+}
+
+/// Reads the words, of which the first is the program's name.
+pub fn read_tool_words<'a>(alloc: Global, words: &'a [String]) -> Result<ToolWords<'a>, NoMemory>
+    ensures { IfOk result (ReadsTool (map string_bytes words.now)) }
+{
+    let matches = match tools_form(alloc)?.try_get_matches_from(words) {
+        Ok(matches) => matches,
+        Err(error) => return not_taken(alloc, &error),
+    };
+    match matches.subcommand() {
+        Some((name, found)) => Ok(ToolWords::Asks(asked_with(alloc, name, found)?)),
+        None => Ok(ToolWords::Faulty(String::from_str(alloc, "error: there is no command\n")?)),
+    }
+}

@@ -1,0 +1,43 @@
+//! What is asked of the tools.
+
+/// What of a record is to be shown.
+#[derive(Drop)]
+pub struct ShowRequest<'a> {
+    pub record_name: &'a str,
+    /// The first step; 0 is the opening.
+    pub from: u32,
+    /// The last step.
+    pub to: u32,
+    /// Names of kinds of items; where there are none, all items are meant.
+    pub only: Option<Vec<&'a str>>,
+    /// How many items there are of each kind, in the place of the items.
+    pub counts: bool,
+}
+
+/// What is asked for.
+#[derive(Drop)]
+pub enum ToolRequest<'a> {
+    Asm {
+        text: &'a str,
+        words: &'a str,
+    },
+    Pack {
+        manifest: &'a str,
+        bundle: &'a str,
+    },
+    Show(ShowRequest<'a>),
+    Explain {
+        bundle: &'a str,
+        record_name: &'a str,
+    },
+}
+
+/// What the words come to.
+#[derive(Drop)]
+pub enum ToolWords<'a> {
+    Asks(ToolRequest<'a>),
+    /// They ask for help or the version, which is this text.
+    Help(String),
+    /// They are faulty, as this text says.
+    Faulty(String),
+}

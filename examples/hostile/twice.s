@@ -1,0 +1,2 @@
+# Which attack
+    .word 4
