@@ -30,17 +30,20 @@ use Rattle.cloak_model.specs.declared.access.Access.{Access}
 use Rattle.cloak_model.specs.declared.view.View.{View}
 use Rattle.cloak_model.specs.declared.answer.Answer.{Answer}
 use Rattle.cloak_base.specs.declared.names.Mode.TheVariants.{U}
-use Rattle.cloak_model.specs.Ask.{ask_walk, ask_inside, ask_translate, ask_value, ask_store, shown_value, stored_value, loaded_at, ask_load, stored_to, ask_store_at}
+use Rattle.cloak_model.specs.Ask.{ask_walk, ask_inside, ask_translate, ask_value, ask_store, shown_value, stored_value, loaded_at, ask_load, stored_to, ask_store_at, ask_first}
 use Rattle.cloak_model.specs.Asking.{Told, FollowsFrom}
 use Rattle.cloak_model.specs.Exchange.{Piece}
-use Rattle.cloak_model.specs.Memory.{frame_of, is_in_frames}
-use Rattle.cloak_model.specs.Walk.{Walk}
+use Rattle.cloak_model.specs.Memory.{is_in_ram, frame_of, is_in_frames}
+use Rattle.cloak_model.specs.Walk.{Walk, walk, has_paging, without_paging, first_entry, access_fault}
 use Rattle.cloak_model.specs.World.{World, Cloak, Flat, Cloaked, Alone}
 use Rattle.shadow_fold.specs.Agreement.{Present, EntryAgrees, satp_in, access_in, start_of}
 use Rattle.shadow_fold.specs.Entries.{is_for}
 use Rattle.shadow_fold.specs.Table.{Table, looked}
 use Rattle.shadow_fold.specs.declared.entry.Entry.{Entry}
 use Rattle.shadow_fold.specs.declared.entry.ShadowView.{ShadowView}
+use Rattle.shadow_fold.specs.declared.entry.ShadowView.TheVariants.{Outside, Inside}
+use Rattle.cloak_model.specs.World.{ram_of}
+use Rattle.cloaked_side.proofs.Sided.{count_of}
 use Rattle.shadow_fold.proofs.Keys.{and_true, is_for-key}
 use Rattle.shadow_fold.proofs.Agreeing.{found}
 use Rattle.shadow_law.proofs.Hits.{hit_is_walk}
@@ -433,3 +436,31 @@ reached_told gave first new q kind pa g write a w at kind_is clash told =
     ap (λ n. ask_offer q n write w) at ∙ ap (λ b. ask_offer q (frame_of pa) b w) kind_is in
     subst (λ t. FollowsFrom (Sees gave first) new a t) there
     (told (ap (λ (t : Told Answer). is_clashed t.world) there ∙ clash))
+
+-- Without paging an access leads to its own address.
+
+bare_walk : (satp : ℕ) (a : Access) (w : World) → has_paging satp ≡ false
+    → ask_walk satp a w ≡ record { answer = without_paging a; world = w }
+unfolding ask_walk
+bare_walk satp a w off =
+    ap (λ (b : Bool). cond b (ask_first a (first_entry satp a.va) w) (let t : Told Walk = record { answer = without_paging a; world = w } in t)) off
+
+bare_access : {E : Type 0} (gave : E → E → List Piece → Type 0) (first now : Side E) (satp : ℕ) (a : Access) (b : Bool) (w : World)
+    → Sees gave first now w → has_paging satp ≡ false → b ≡ is_in_frames (frames_of now.memory.now) a.va
+    → FollowsFrom (Sees gave first) now (cond b (Ok a.va) (Err (access_fault a.kind))) (ask_translate satp a w)
+unfolding ask_translate ask_inside
+bare_access gave first now satp a b w sees off inside =
+    let there : b ≡ is_in_ram (ram_of w) a.va = inside ∙ sym (ap (λ (n : ℕ). is_in_frames n a.va) (count_of gave first now w sees)) in
+    let by : Told Walk → Told (Result ℕ ℕ) = λ t. ask_inside a t.answer t.world in
+    subst (λ (t : Told (Result ℕ ℕ)). FollowsFrom (Sees gave first) now (cond b (Ok a.va) (Err (access_fault a.kind))) t)
+    (sym (ap by (bare_walk satp a w off)))
+    (record { answer = ap (λ (x : Bool). cond x (Ok a.va) (Err (access_fault a.kind))) there; stands = sees })
+
+pub bare_follows : {E : Type 0} (gave : E → E → List Piece → Type 0) (first now : Side E) (view : ShadowView) (va : ℕ) (kind : Kind)
+    (b : Bool) (w : World) → Sees gave first now w → has_paging (satp_in view) ≡ false
+    → b ≡ is_in_frames (frames_of now.memory.now) va
+    → FollowsFrom (Sees gave first) now (cond b (Ok va) (Err (access_fault kind))) (ask_translate (satp_in view) (access_in view va kind) w)
+bare_follows gave first now (Outside satp mode sum mxr) va kind b w sees off inside =
+    bare_access gave first now satp (access_in (Outside satp mode sum mxr) va kind) b w sees off inside
+bare_follows gave first now (Inside satp sum mxr space) va kind b w sees off inside =
+    bare_access gave first now satp (access_in (Inside satp sum mxr space) va kind) b w sees off inside

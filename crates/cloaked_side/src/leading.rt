@@ -5,7 +5,7 @@ ghost use Rattle.shadow_fold.specs.Agreement.{satp_in, access_in};
 use crate::memory::frame_of;
 use crate::side::Side;
 use cloak_base::{Frame, Kind, Mode, PageId, SpaceId};
-use cloak_model::{Access, Emit, Walked, access_fault};
+use cloak_model::{Access, Emit, Walked, access_fault, has_bit};
 use multi_shadow::{Entry, ShadowView, is_table};
 use sv32_walk::walk;
 
@@ -28,11 +28,6 @@ fn satp_of(view: &ShadowView) -> u32
         ShadowView::Outside { satp, .. } => satp,
         ShadowView::Inside { satp, .. } => satp,
     }
-}
-
-/// Paging is on: the highest bit of `satp`.
-fn has_paging(satp: u32) -> bool {
-    satp >> 31 == 1
 }
 
 fn access_of(view: &ShadowView, va: u32, kind: Kind) -> Access
@@ -88,6 +83,7 @@ fn entry_of(
 
 impl<'m, 'e, E: Emit> Side<'m, 'e, E> {
     ghost use Rattle.cloak_model.specs.Ask.{ask_translate};
+    ghost use Rattle.cloak_model.specs.Walk.{has_paging};
     ghost use Rattle.cloak_model.specs.Asking.{Follows, Keeps};
     ghost use Rattle.cloak_model.specs.Memory.{is_in_frames};
     ghost use Rattle.cloak_model.specs.Memory as model;
@@ -127,12 +123,12 @@ impl<'m, 'e, E: Emit> Side<'m, 'e, E> {
         }
     }
 
-    /// The walk, where it read tables and these are outside.
+    /// The walk, where its tables are outside.
     fn through_outside(&self, walked: Walked) -> Option<Walked>
         ensures same { IfSome result (λ w. w ≡ walked) }
         ensures tables { IfSome result (λ w. AreOutside (held_in self.now.memory.now.pager) w) }
     {
-        if walked.pt1.is_some() && self.is_outside(walked.pt1) && self.is_outside(walked.pt0) {
+        if self.is_outside(walked.pt1) && self.is_outside(walked.pt0) {
             Some(walked)
         } else {
             None
@@ -164,6 +160,27 @@ impl<'m, 'e, E: Emit> Side<'m, 'e, E> {
         })
     }
 
+    /// Where an access leads without paging, or the cause of its fault.
+    #[inline]
+    fn led_bare(&mut self, view: &ShadowView, va: u32, kind: Kind) -> Result<Led, u32>
+        requires { has_paging (satp_in view.now) ≡ false }
+        ensures follows { Follows (Sees E.gave) self.old self.new (place_in result)
+            (ask_translate (satp_in view.now) (access_in view.now va kind)) }
+        ensures same { self.new ≡ self.old }
+        ensures inside { IfOk result (λ led. IsTrue (is_in_frames (frames_of self.old.memory.now) led.pa)) }
+        ensures offset { IfOk result (λ led. led.pa % 4096 ≡ va % 4096) }
+        ensures walked { IfOk result (λ led. led.walked ≡ None) }
+    {
+        if self.memory.is_inside(va as u64) {
+            Ok(Led {
+                pa: va,
+                walked: None,
+            })
+        } else {
+            Err(access_fault(kind))
+        }
+    }
+
     /// Where an access leads, or the cause of its fault. Without paging it leads to its own address, and nothing is kept.
     pub(crate) fn led(&mut self, view: &ShadowView, va: u32, kind: Kind) -> Result<Led, u32>
         ensures follows { Follows (Sees E.gave) self.old self.new (place_in result)
@@ -177,8 +194,8 @@ impl<'m, 'e, E: Emit> Side<'m, 'e, E> {
             is_clashed told.world ≡ false → IsLedBy told.world view.now va kind led) }
         ensures tables { IfOk result (AreLedOutside (held_in self.new.memory.now.pager)) }
     {
-        if !has_paging(satp_of(view)) {
-            return self.led_by_walk(view, va, kind);
+        if !has_bit(satp_of(view), 31) {
+            return self.led_bare(view, va, kind);
         }
         match self.known(view, va, kind) {
             Some(pa) => Ok(Led { pa, walked: None }),
