@@ -95,6 +95,7 @@ impl<'m, 'e, E: Emit> Side<'m, 'e, E> {
     ghost use Rattle.shadow_law.specs.Agreeing.{AreOutside};
 
     /// The address to which a known translation leads.
+    #[inline(always)]
     fn known(&mut self, view: &ShadowView, va: u32, kind: Kind) -> Option<u32>
         ensures leads { IfSome result (λ pa. (first : _) (w : World) → Sees E.gave first self.old w →
             ask_translate (satp_in view.now) (access_in view.now va kind) w ≡ record { answer = Ok pa; world = w }) }

@@ -205,7 +205,9 @@ pub(crate) fn prune_all(arena: &mut ChainArena<Entry>, heads: u32, space: Option
     }
 }
 
-/// The entry of a view, page and kind, by the chain of its bucket.
+/// The entry of a view, page and kind, by the chain of its bucket. Made where it is asked for, so that no entry is copied of
+/// which one field is wanted.
+#[inline(always)]
 pub(crate) fn search(
     arena: &ChainArena<Entry>,
     heads: u32,

@@ -74,6 +74,7 @@ impl Shadows {
     }
 
     /// The live entry of this view, page and kind. One access, and one miss where there is none.
+    #[inline(always)]
     pub fn find(&mut self, v: &ShadowView, page: u32, kind: Kind) -> Option<Entry>
         ensures exact { result ≡ find (is_for v.now page kind) self.old.live }
         ensures counted { self.new ≡ looked v.now page kind self.old }
