@@ -3,3 +3,4 @@ pub mod Listed
 pub mod Meant
 pub mod Kept
 pub mod Paths
+pub mod Told

@@ -6,6 +6,8 @@ use Rattle.manifest.specs.declared.key.Part.{Part}
 use Rattle.manifest.specs.declared.key.Part.TheVariants as part
 use Rattle.manifest.specs.declared.fault.Wrong.{Wrong}
 use Rattle.manifest.specs.declared.fault.Wrong.TheVariants.{Missing, NoSource, NoNumber, NoTurn, NoMultiple, NoName, NoList, NoTable, TooFew, TooMany, TwoSources, NoFile, NoRoom, PastRam, PastAddresses, TooLarge}
+use Rattle.manifest.specs.declared.fault.DocumentFault.{DocumentFault}
+use Rattle.manifest.specs.declared.fault.DocumentFault.TheVariants as inside
 use Rattle.manifest.specs.declared.fault.PackFault.{PackFault}
 use Rattle.manifest.specs.declared.fault.PackFault.TheVariants as fault
 use Rattle.manifest.specs.Keys.{key_name}
@@ -42,15 +44,20 @@ abbrev pub faulty_text_line : Part → (name text : List ℕ) → TextFault → 
 faulty_text_line at name text fault =
     part_text at ++ (codes "text: the file is no assembler text\n" ++ fault_text name text fault)
 
+-- what is said of a document
+abbrev pub document_line : DocumentFault → List ℕ
+document_line inside.NoMemory = codes "there is not enough memory\n"
+document_line (inside.AtKey at key wrong) = part_text at ++ key_name key ++ codes ": " ++ wrong_words wrong ++ codes "\n"
+document_line (inside.UnknownKey at name) =
+    part_text at ++ string_bytes name ++ codes ": there is no key of this name here\n"
+document_line (inside.FaultyText at name text wrong) = faulty_text_line at (string_bytes name) (string_bytes text) wrong
+
 -- what is said behind the manifest's name
 abbrev pub pack_fault_line : PackFault → List ℕ
-pack_fault_line fault.NoMemory = codes "there is not enough memory\n"
 pack_fault_line fault.TooLong = codes "the file has more than 1048576 bytes\n"
 pack_fault_line fault.NotText = codes "the file is no text in UTF-8\n"
 pack_fault_line (fault.NotToml words) = codes "no TOML document: " ++ string_bytes words ++ codes "\n"
-pack_fault_line (fault.AtKey at key wrong) = part_text at ++ key_name key ++ codes ": " ++ wrong_words wrong ++ codes "\n"
-pack_fault_line (fault.UnknownKey at name) = part_text at ++ string_bytes name ++ codes ": there is no key of this name here\n"
-pack_fault_line (fault.FaultyText at name text wrong) = faulty_text_line at (string_bytes name) (string_bytes text) wrong
+pack_fault_line (fault.InDocument wrong) = document_line wrong
 
 abbrev pub pack_text : List ℕ → PackFault → List ℕ
 pack_text manifest wrong = manifest ++ codes ": " ++ pack_fault_line wrong

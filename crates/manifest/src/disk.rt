@@ -7,7 +7,7 @@ ghost use Rattle.manifest.specs.Keys.{stands_at};
 ghost use Rattle.manifest.specs.Manifest.{IsDisk, IsDiskOf, IsSource, StoresFile, StoresFiles};
 ghost use Rattle.manifest.specs.Reading.{ReadsParts};
 
-use crate::fault::{PackError, PackFault, Wrong};
+use crate::fault::{DocumentFault, PackError, Wrong};
 use crate::fields::Place;
 use crate::key::{Key, Part};
 use crate::sources::source;
@@ -24,7 +24,7 @@ fn store(disk: &mut [u8], at: usize, bytes: &[u8])
 }
 
 /// Stores the bytes of the file that a table means at its block.
-fn place_file(place: Place<'_>, bytes: &[u8], disk: &mut [u8]) -> Result<(), PackFault>
+fn place_file(place: Place<'_>, bytes: &[u8], disk: &mut [u8]) -> Result<(), DocumentFault>
     ensures stored { (held : List ℕ → Option (List ℕ)) → (manifest : List ℕ) →
         IsSource held manifest (view place.entry.table.now) bytes.now →
         OnOk result (StoresFile held manifest (view place.entry.table.now) disk.old disk.new) }
@@ -68,7 +68,7 @@ fn place_files<S: Shelf>(
 }
 
 /// The blocks of zeros of a disk.
-fn blank_disk(alloc: Global, blocks: u32) -> Result<Vec<u8>, PackFault>
+fn blank_disk(alloc: Global, blocks: u32) -> Result<Vec<u8>, DocumentFault>
     requires { blocks ≤ 4096 }
     ensures { IfOk result (λ v. v.items ≡ replicate (4096 * blocks) 0) }
 {

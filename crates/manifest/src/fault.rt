@@ -1,6 +1,6 @@
 //! Why a manifest means no bundle.
 ghost use Rattle.std.specs.Prelude.{◌≡◌};
-ghost use Rattle.manifest.specs.declared.fault.PackFault.TheVariants as faults;
+ghost use Rattle.manifest.specs.declared.fault.DocumentFault.TheVariants as faults;
 ghost use Rattle.manifest.specs.declared.fault.PackError.TheVariants as errors;
 
 use crate::key::{Key, Part};
@@ -44,16 +44,10 @@ pub enum Wrong {
     TooLarge,
 }
 
-/// Why a manifest means no bundle, or there is no memory to see what it means.
+/// Why a document means no bundle, or there is no memory to see what it means.
 #[derive(Debug, Drop)]
-pub enum PackFault {
+pub enum DocumentFault {
     NoMemory,
-    /// The manifest has more than 1,048,576 bytes.
-    TooLong,
-    /// The manifest is no UTF-8.
-    NotText,
-    /// The manifest is no TOML document; what its reader says.
-    NotToml(String),
     /// What stands at a key is wrong.
     AtKey {
         part: Part,
@@ -74,34 +68,47 @@ pub enum PackFault {
     },
 }
 
-impl From<AllocError> for PackFault {
+/// Why a manifest means no bundle.
+#[derive(Debug, Drop)]
+pub enum PackFault {
+    /// It has more than 1,048,576 bytes.
+    TooLong,
+    /// It is no UTF-8.
+    NotText,
+    /// It is no TOML document; what its reader says.
+    NotToml(String),
+    /// The document means none.
+    InDocument(DocumentFault),
+}
+
+impl From<AllocError> for DocumentFault {
     ghost from_gives = { λ _ fault. fault ≡ faults.NoMemory };
 
-    fn from(_: AllocError) -> PackFault {
-        PackFault::NoMemory
+    fn from(_: AllocError) -> DocumentFault {
+        DocumentFault::NoMemory
     }
 }
 
-impl<T: Drop> From<AllocFailed<T>> for PackFault {
+impl<T: Drop> From<AllocFailed<T>> for DocumentFault {
     ghost from_gives = { λ _ fault. fault ≡ faults.NoMemory };
 
-    fn from(_: AllocFailed<T>) -> PackFault {
-        PackFault::NoMemory
+    fn from(_: AllocFailed<T>) -> DocumentFault {
+        DocumentFault::NoMemory
     }
 }
 
-/// Why there is no bundle.
+/// Why a document and the files that it names give no bundle.
 #[derive(Debug, Drop)]
 pub enum PackError {
     /// A file could not be read.
     ReadFault,
-    Faulty(PackFault),
+    Faulty(DocumentFault),
 }
 
-impl From<PackFault> for PackError {
+impl From<DocumentFault> for PackError {
     ghost from_gives = { λ fault error. error ≡ errors.Faulty fault };
 
-    fn from(fault: PackFault) -> PackError {
+    fn from(fault: DocumentFault) -> PackError {
         PackError::Faulty(fault)
     }
 }
@@ -110,6 +117,6 @@ impl<T: Drop> From<AllocFailed<T>> for PackError {
     ghost from_gives = { λ _ error. error ≡ errors.Faulty faults.NoMemory };
 
     fn from(_: AllocFailed<T>) -> PackError {
-        PackError::Faulty(PackFault::NoMemory)
+        PackError::Faulty(DocumentFault::NoMemory)
     }
 }

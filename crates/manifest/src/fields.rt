@@ -5,7 +5,7 @@ ghost use Rattle.toml.specs.View.{view, items_view};
 ghost use Rattle.manifest.specs.Keys.{stands_at};
 ghost use Rattle.manifest.specs.Manifest.{IsList, IsNumberOr};
 
-use crate::fault::{PackFault, Wrong};
+use crate::fault::{DocumentFault, Wrong};
 use crate::key::{Key, Part};
 use std::alloc::Global;
 use toml::Value;
@@ -19,8 +19,8 @@ pub struct Place<'a> {
 
 impl<'a> Place<'a> {
     /// What is wrong at a key.
-    pub fn fault(self, key: Key, wrong: Wrong) -> PackFault {
-        PackFault::AtKey {
+    pub fn fault(self, key: Key, wrong: Wrong) -> DocumentFault {
+        DocumentFault::AtKey {
             part: self.part,
             key,
             wrong,
@@ -35,7 +35,7 @@ impl<'a> Place<'a> {
     }
 
     /// The number from `least` to `most` at a key, where something stands there.
-    pub fn number(self, key: Key, least: u32, most: u32) -> Result<Option<u32>, PackFault>
+    pub fn number(self, key: Key, least: u32, most: u32) -> Result<Option<u32>, DocumentFault>
         ensures range { IfOk result (λ found. IfSome found (λ n. (least ≤ n) × (n ≤ most))) }
         ensures value { IfOk result (λ found.
             stands_at key (view self.entry.table.now) ≡ option_map (λ (n : ℕ). integer (pos n)) found) }
@@ -50,7 +50,7 @@ impl<'a> Place<'a> {
     }
 
     /// The number at a key that is needed.
-    pub fn needed_number(self, key: Key, least: u32, most: u32) -> Result<u32, PackFault>
+    pub fn needed_number(self, key: Key, least: u32, most: u32) -> Result<u32, DocumentFault>
         ensures range { IfOk result (λ n. (least ≤ n) × (n ≤ most)) }
         ensures value { IfOk result (λ n. stands_at key (view self.entry.table.now) ≡ Some (integer (pos n))) }
     {
@@ -67,7 +67,7 @@ impl<'a> Place<'a> {
         least: u32,
         most: u32,
         otherwise: u32,
-    ) -> Result<u32, PackFault>
+    ) -> Result<u32, DocumentFault>
         requires least { least ≤ otherwise }
         requires most { otherwise ≤ most }
         ensures range { IfOk result (λ n. (least ≤ n) × (n ≤ most)) }
@@ -80,7 +80,7 @@ impl<'a> Place<'a> {
     }
 
     /// The name of a file at a key, where something stands there.
-    pub fn file_name(self, key: Key) -> Result<Option<&'a str>, PackFault>
+    pub fn file_name(self, key: Key) -> Result<Option<&'a str>, DocumentFault>
         ensures { IfOk result (λ found. stands_at key (view self.entry.table.now) ≡ option_map (λ name. string name.now) found) }
     {
         let Some(value) = self.value(key) else {
@@ -93,7 +93,7 @@ impl<'a> Place<'a> {
     }
 
     /// The elements of the list at a key; none where nothing stands there.
-    pub fn list(self, key: Key) -> Result<&'a [Value], PackFault>
+    pub fn list(self, key: Key) -> Result<&'a [Value], DocumentFault>
         ensures { IfOk result (λ values. IsList (stands_at key (view self.entry.table.now)) (items_view values.now)) }
     {
         let Some(value) = self.value(key) else {
@@ -106,7 +106,7 @@ impl<'a> Place<'a> {
     }
 
     /// The elements of the list at a key, at most so many.
-    pub fn short_list(self, key: Key, most: u32) -> Result<&'a [Value], PackFault>
+    pub fn short_list(self, key: Key, most: u32) -> Result<&'a [Value], DocumentFault>
         ensures list { IfOk result (λ values. IsList (stands_at key (view self.entry.table.now)) (items_view values.now)) }
         ensures short { IfOk result (λ values. length values.now ≤ most) }
     {
@@ -118,14 +118,14 @@ impl<'a> Place<'a> {
     }
 
     /// The table has no keys but these.
-    pub fn has_only(self, alloc: Global, keys: &[Key]) -> Result<(), PackFault> {
+    pub fn has_only(self, alloc: Global, keys: &[Key]) -> Result<(), DocumentFault> {
         let Some(table) = self.table.as_table() else {
             return Ok(());
         };
         for (name, _) in table.iter() {
             if !keys.iter().any(|key| key.name() == name.as_str()) {
                 let name = String::from_str(alloc, name.as_str())?;
-                return Err(PackFault::UnknownKey {
+                return Err(DocumentFault::UnknownKey {
                     part: self.part,
                     name,
                 });

@@ -10,7 +10,7 @@ ghost use Rattle.manifest.specs.Manifest.{EachMeans, IsKernelOf, IsNumberOr, IsS
 ghost use Rattle.manifest.specs.Reading.{ReadsParts};
 
 use crate::disk::disk;
-use crate::fault::{PackError, PackFault, Wrong};
+use crate::fault::{DocumentFault, PackError, Wrong};
 use crate::fields::{Place, in_range};
 use crate::key::Key;
 use crate::segments::{RAM_START, segments};
@@ -20,7 +20,7 @@ use std::alloc::Global;
 use toml::Value;
 
 /// The harts in order, one turn each.
-fn plain_schedule(alloc: Global, harts: u32) -> Result<Vec<u8>, PackFault>
+fn plain_schedule(alloc: Global, harts: u32) -> Result<Vec<u8>, DocumentFault>
     requires { harts ≤ 4 }
     ensures count { IfOk result (λ v. length v.items ≡ harts) }
     ensures order { IfOk result (λ v. EachIndex v.items (λ turn. slice_index v.items turn ≡ turn)) }
@@ -39,7 +39,7 @@ fn given_schedule(
     place: Place<'_>,
     turns: &[Value],
     harts: u32,
-) -> Result<Vec<u8>, PackFault>
+) -> Result<Vec<u8>, DocumentFault>
     requires some { 1 ≤ harts }
     requires few { harts ≤ 4 }
     ensures mean { IfOk result (λ v. EachMeans (λ value turn. value ≡ integer (pos turn)) (items_view turns.now) v.items) }
@@ -58,7 +58,7 @@ fn given_schedule(
 }
 
 /// The schedule of a document for so many harts: 1 to 64 turns, or the harts in order where none is given.
-fn schedule(alloc: Global, place: Place<'_>, harts: u32) -> Result<Vec<u8>, PackFault>
+fn schedule(alloc: Global, place: Place<'_>, harts: u32) -> Result<Vec<u8>, DocumentFault>
     requires some { 1 ≤ harts }
     requires few { harts ≤ 4 }
     ensures means { IfOk result (λ v. IsSchedule (stands_at keys.Schedule (view place.entry.table.now)) harts v.items) }
@@ -82,7 +82,7 @@ fn schedule(alloc: Global, place: Place<'_>, harts: u32) -> Result<Vec<u8>, Pack
 }
 
 /// The program counter at which the harts begin.
-fn entry(place: Place<'_>) -> Result<u32, PackFault>
+fn entry(place: Place<'_>) -> Result<u32, DocumentFault>
     ensures value { IfOk result (IsNumberOr (stands_at keys.Entry (view place.entry.table.now)) 0x80000000) }
     ensures multiple { IfOk result (λ n. n % 4 ≡ 0) }
 {

@@ -17,7 +17,7 @@ mod segments;
 mod sources;
 mod telling;
 
-pub use fault::{PackError, PackFault, Wrong};
+pub use fault::{DocumentFault, PackFault, Wrong};
 pub use key::{Key, Part};
 pub use pack::pack_command;
 

@@ -9,7 +9,7 @@ ghost use Rattle.manifest.specs.Keys.{stands_at};
 ghost use Rattle.manifest.specs.Manifest.{EachMeans, IsNumberOr, IsProgramOf, IsSource, pages_needed};
 ghost use Rattle.manifest.specs.Reading.{ReadsParts};
 
-use crate::fault::{PackError, PackFault, Wrong};
+use crate::fault::{DocumentFault, PackError, Wrong};
 use crate::fields::Place;
 use crate::key::{Key, Part};
 use crate::sources::source;
@@ -31,7 +31,7 @@ const KEYS: [Key; 7] = [
 ];
 
 /// The number is a multiple of another one.
-fn expect_multiple(place: Place<'_>, key: Key, of: u32, number: u32) -> Result<(), PackFault>
+fn expect_multiple(place: Place<'_>, key: Key, of: u32, number: u32) -> Result<(), DocumentFault>
     requires { 0 < of }
     ensures { OnOk result (number % of ≡ 0) }
 {
@@ -43,7 +43,7 @@ fn expect_multiple(place: Place<'_>, key: Key, of: u32, number: u32) -> Result<(
 }
 
 /// These bytes with zeros behind them, in so many pages.
-fn padded(bytes: Vec<u8>, pages: u32) -> Result<Vec<u8>, PackFault>
+fn padded(bytes: Vec<u8>, pages: u32) -> Result<Vec<u8>, DocumentFault>
     requires few { pages ≤ 1024 }
     requires inside { length bytes.items ≤ 4096 * pages }
     ensures { IfOk result (λ v. v.items ≡ bytes.items ++ replicate (4096 * pages - length bytes.items) 0) }
@@ -54,7 +54,7 @@ fn padded(bytes: Vec<u8>, pages: u32) -> Result<Vec<u8>, PackFault>
 }
 
 /// Where a program of so many pages begins.
-fn start(place: Place<'_>, pages: u32) -> Result<Start, PackFault>
+fn start(place: Place<'_>, pages: u32) -> Result<Start, DocumentFault>
     requires { pages ≤ 1024 }
     ensures pages { IfOk result (λ s. s.pages ≡ pages) }
     ensures base { IfOk result (λ s. stands_at keys.Base (view place.entry.table.now) ≡ Some (integer (pos s.base))) }
@@ -84,7 +84,7 @@ fn start(place: Place<'_>, pages: u32) -> Result<Start, PackFault>
 }
 
 /// How many pages a program has, which its bytes fit in.
-fn page_count(place: Place<'_>, length: usize) -> Result<u32, PackFault>
+fn page_count(place: Place<'_>, length: usize) -> Result<u32, DocumentFault>
     ensures pages { IfOk result (IsNumberOr (stands_at keys.Pages (view place.entry.table.now)) (pages_needed length)) }
     ensures range { IfOk result (λ n. (1 ≤ n) × (n ≤ 1024)) }
     ensures inside { IfOk result (λ n. length ≤ 4096 * n) }
@@ -101,7 +101,7 @@ fn page_count(place: Place<'_>, length: usize) -> Result<u32, PackFault>
 }
 
 /// The frame of the first of some pages.
-fn first_frame(place: Place<'_>, frames: u32, pages: u32) -> Result<u32, PackFault>
+fn first_frame(place: Place<'_>, frames: u32, pages: u32) -> Result<u32, DocumentFault>
     ensures value { IfOk result (λ n. stands_at keys.Place (view place.entry.table.now) ≡ Some (integer (pos n))) }
     ensures inside { IfOk result (λ n. n + pages ≤ frames) }
 {
@@ -113,7 +113,7 @@ fn first_frame(place: Place<'_>, frames: u32, pages: u32) -> Result<u32, PackFau
 }
 
 /// The program of these bytes that a table means.
-fn placed_program(place: Place<'_>, bytes: Vec<u8>, frames: u32) -> Result<Program, PackFault>
+fn placed_program(place: Place<'_>, bytes: Vec<u8>, frames: u32) -> Result<Program, DocumentFault>
     ensures means { (held : List ℕ → Option (List ℕ)) → (manifest : List ℕ) →
         IsSource held manifest (view place.entry.table.now) bytes.items →
         IfOk result (IsProgramOf held manifest (view place.entry.table.now)) }

@@ -1,5 +1,5 @@
 //! The bytes that a table of a manifest names: those of a file, or of the words of an assembler text.
-ghost use Rattle.std.specs.Prelude.{◌≡◌, ◌<◌, ◌≤◌, IfOk, IfSome, length, string_bytes};
+ghost use Rattle.std.specs.Prelude.{◌≡◌, ◌<◌, ◌≤◌, None, IfOk, IfSome, length, string_bytes};
 ghost use Rattle.std.specs.Str.{IsUtf8};
 ghost use Rattle.outside_io.specs.Told.{Tells};
 ghost use Rattle.toml.specs.Data.{string};
@@ -10,7 +10,7 @@ ghost use Rattle.manifest.specs.Keys.{stands_at};
 ghost use Rattle.manifest.specs.Manifest.{IsNamedFile, IsPath, IsSource};
 ghost use Rattle.manifest.specs.Reading.{ReadsParts};
 
-use crate::fault::{PackError, PackFault, Wrong};
+use crate::fault::{DocumentFault, PackError, Wrong};
 use crate::fields::Place;
 use crate::key::{Key, Part};
 use asm_text::{TextFault, assembled, shown_text};
@@ -23,7 +23,7 @@ use std::alloc::Global;
 const LARGEST_FILE: u32 = 67_108_864;
 
 /// The name of a file that a manifest names, from the manifest's folder on.
-fn path_of(alloc: Global, manifest: &str, name: &str) -> Result<String, PackFault>
+fn path_of(alloc: Global, manifest: &str, name: &str) -> Result<String, DocumentFault>
     ensures { IfOk result (λ path. IsPath manifest.now name.now (string_bytes path)) }
 {
     if name.starts_with('/') {
@@ -45,7 +45,7 @@ pub fn read_whole<S: Shelf>(
 ) -> Result<Option<Vec<u8>>, PackError>
     requires { S.is_settled shelf.old }
     ensures told { IfOk result (λ found. IfSome found (λ v. Tells (S.held shelf.old name.now) v.items)) }
-    ensures fits { IfOk result (λ found. IfSome found (λ v. length v.items ≤ limit)) }
+    ensures longer { IfOk result (λ found. found ≡ None → IfSome (S.held shelf.old name.now) (λ bytes. limit < length bytes)) }
     ensures reads { ReadsParts (files S.held S.reading_faults S.writing_faults shelf.old)
         (files S.held S.reading_faults S.writing_faults shelf.new) result }
     ensures settled { S.is_settled shelf.new }
@@ -53,7 +53,7 @@ pub fn read_whole<S: Shelf>(
     let bytes = match read_front(alloc, shelf, name, u64::from(limit) + 1) {
         Ok(bytes) => bytes,
         Err(Refusal::ReadFault) => return Err(PackError::ReadFault),
-        Err(_) => return Err(PackError::Faulty(PackFault::NoMemory)),
+        Err(_) => return Err(PackError::Faulty(DocumentFault::NoMemory)),
     };
     if bytes.len() as u64 > u64::from(limit) {
         return Ok(None);
@@ -89,7 +89,7 @@ fn named_file<S: Shelf>(
 }
 
 /// The bytes of the words of the assembler text in the file of this name.
-fn words_of(alloc: Global, part: Part, name: String, text: &[u8]) -> Result<Vec<u8>, PackFault>
+fn words_of(alloc: Global, part: Part, name: String, text: &[u8]) -> Result<Vec<u8>, DocumentFault>
     ensures { IfOk result (λ bytes. IsAssembled text.now bytes.items) }
 {
     let fault = match assembled(alloc, text) {
@@ -97,10 +97,10 @@ fn words_of(alloc: Global, part: Part, name: String, text: &[u8]) -> Result<Vec<
         Err(fault) => fault,
     };
     if fault == TextFault::Faulty(AsmFault::NoMemory) {
-        return Err(PackFault::NoMemory);
+        return Err(DocumentFault::NoMemory);
     }
     let text = String::from_str(alloc, shown_text(text))?;
-    Err(PackFault::FaultyText {
+    Err(DocumentFault::FaultyText {
         part,
         name,
         text,

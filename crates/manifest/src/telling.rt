@@ -3,7 +3,7 @@ ghost use Rattle.std.specs.Prelude.{◌≡◌, Some};
 ghost use Rattle.std.specs.Fmt.{DisplaysOnOk};
 ghost use Rattle.manifest.specs.Telling as spec;
 
-use crate::fault::{PackFault, Wrong};
+use crate::fault::{DocumentFault, PackFault, Wrong};
 use crate::key::Part;
 use asm_text::{FaultyText, TextFault};
 use std::fmt;
@@ -76,28 +76,38 @@ fn write_faulty_text<W: fmt::Write>(
     write!(f, "{part}text: the file is no assembler text\n{faulty}")
 }
 
+impl fmt::Display for DocumentFault {
+    ghost output = { λ fault. Some (spec.document_line fault) };
+
+    fn fmt<W: fmt::Write>(&self, f: &mut fmt::Formatter<W>) -> fmt::Result {
+        match self {
+            DocumentFault::NoMemory => f.write_str("there is not enough memory\n"),
+            DocumentFault::AtKey { part, key, wrong } => {
+                let key = key.name();
+                write!(f, "{part}{key}: {wrong}\n")
+            }
+            DocumentFault::UnknownKey { part, name } => {
+                write!(f, "{part}{name}: there is no key of this name here\n")
+            }
+            DocumentFault::FaultyText {
+                part,
+                name,
+                text,
+                fault,
+            } => write_faulty_text(part, name.as_str(), text.as_str(), *fault, f),
+        }
+    }
+}
+
 impl fmt::Display for PackFault {
     ghost output = { λ fault. Some (spec.pack_fault_line fault) };
 
     fn fmt<W: fmt::Write>(&self, f: &mut fmt::Formatter<W>) -> fmt::Result {
         match self {
-            PackFault::NoMemory => f.write_str("there is not enough memory\n"),
             PackFault::TooLong => f.write_str("the file has more than 1048576 bytes\n"),
             PackFault::NotText => f.write_str("the file is no text in UTF-8\n"),
             PackFault::NotToml(words) => write!(f, "no TOML document: {words}\n"),
-            PackFault::AtKey { part, key, wrong } => {
-                let key = key.name();
-                write!(f, "{part}{key}: {wrong}\n")
-            }
-            PackFault::UnknownKey { part, name } => {
-                write!(f, "{part}{name}: there is no key of this name here\n")
-            }
-            PackFault::FaultyText {
-                part,
-                name,
-                text,
-                fault,
-            } => { write_faulty_text(part, name.as_str(), text.as_str(), *fault, f) }
+            PackFault::InDocument(fault) => write!(f, "{fault}"),
         }
     }
 }

@@ -1,4 +1,4 @@
-use Rattle.manifest.proofs.telling.PackFaultDisplay.fmt.Goals as goal
+use Rattle.manifest.proofs.telling.DocumentFaultDisplay.fmt.Goals as goal
 
 pub returns-in-FaultyText-clause-writes : goal.returns-in-FaultyText-clause-writes
 returns-in-FaultyText-clause-writes g c =
