@@ -1,5 +1,5 @@
 -- One more value of a list.
-use Rattle.std.proofs.Common.{◌≡◌, ◌<◌, ◌+◌, ℕ, List, [], ◌∷◌, ◌++◌, length, get_or, take, Option, refl, subst, sym, ◌∙◌, ap}
+use Rattle.std.proofs.Common.{◌≡◌, ◌<◌, ◌+◌, ℕ, List, [], ◌∷◌, ◌++◌, length, get_or, take, Option, refl, subst, ◌∙◌, ap}
 use Rattle.std.proofs.lemmas.List.{take_more}
 use Rattle.toml.specs.declared.value.Value.{Value}
 use Rattle.toml.specs.Data.{Data, Items, no_items, item, push_item}
@@ -23,7 +23,7 @@ means_more Means (item v vs) (y ∷ ys) value x each last = (each.0, means_more 
 pub stores_more : (held : List ℕ → Option (List ℕ)) (manifest : List ℕ) (tables : Items) (table : Data)
     (before between after : List ℕ) → StoresFiles held manifest tables before between →
     StoresFile held manifest table between after → StoresFiles held manifest (push_item tables table) before after
-stores_more held manifest no_items table before between after so_far last =
-    (after, subst (λ (x : List ℕ). StoresFile held manifest table x after) so_far last, refl)
-stores_more held manifest (item t ts) table before between after so_far last =
-    (so_far.0, so_far.1, stores_more held manifest ts table so_far.0 between after so_far.2 last)
+stores_more held manifest no_items part before between after so_far last =
+    (after, subst (λ (x : List ℕ). StoresFile held manifest part x after) so_far last, refl)
+stores_more held manifest (item t ts) part before between after so_far last =
+    (so_far.0, so_far.1, stores_more held manifest ts part so_far.0 between after so_far.2 last)

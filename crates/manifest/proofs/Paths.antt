@@ -1,5 +1,5 @@
 -- The folder of a manifest.
-use Rattle.std.proofs.Common.{◌≡◌, ◌∙◌, ℕ, List, [], ◌∷◌, ◌++◌, take, drop, sym, ap, inl, inr, refl}
+use Rattle.std.proofs.Common.{◌≡◌, ◌∙◌, ℕ, List, [], ◌∷◌, ◌++◌, take, drop, sym, ap, inr, refl}
 use Rattle.std.proofs.lemmas.List.{take-append-drop}
 use Rattle.std.specs.Char.{encode_utf8}
 use Rattle.std.specs.Str.Pattern.{SplitsAroundMatch, RFindsChar}

@@ -26,4 +26,4 @@ key_name Stack = codes "stack"
 
 -- what stands at a key of a table
 abbrev pub stands_at : Key → Data → Option Data
-stands_at key table = get (key_name key) table
+stands_at key part = get (key_name key) part

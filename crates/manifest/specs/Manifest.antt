@@ -8,7 +8,6 @@ use Rattle.cloak_model.specs.declared.image.Program.{Program as CloakedProgram}
 use Rattle.cloak_model.specs.declared.image.Bundle.{Bundle}
 use Rattle.asm_text.specs.Assembling.{IsAssembled}
 use Rattle.toml.specs.Data.{Data, string, integer, array, Items, no_items, item}
-use Rattle.manifest.specs.declared.key.Key.{Key}
 use Rattle.manifest.specs.declared.key.Key.TheVariants.{Frames, Harts, Schedule, Entry, Segment, Disk, Program, Address, Text, Bytes, Blocks, File, Block, Pages, Place, Base, Stack}
 use Rattle.manifest.specs.Keys.{stands_at}
 
@@ -79,7 +78,7 @@ module _ (held : List ℕ → Option (List ℕ)) (manifest : List ℕ) where
 
   -- the bytes that a table names
   abbrev pub IsSource : Data → List ℕ → Type 0
-  IsSource table bytes = IsFrom (stands_at Bytes table) (stands_at Text table) bytes
+  IsSource part bytes = IsFrom (stands_at Bytes part) (stands_at Text part) bytes
 
   -- ---- the kernel
 
@@ -99,7 +98,8 @@ module _ (held : List ℕ → Option (List ℕ)) (manifest : List ℕ) where
   -- the files of tables, one after another
   abbrev pub StoresFiles : Items → List ℕ → List ℕ → Type 0
   StoresFiles no_items before after = after ≡ before
-  StoresFiles (item table tables) before after = (between : List ℕ) × StoresFile table before between × StoresFiles tables between after
+  StoresFiles (item part parts) before after =
+      (between : List ℕ) × StoresFile part before between × StoresFiles parts between after
 
   -- blocks of zeros in which files are stored
   pub record IsDiskOf (table : Data) (disk : List ℕ) : Type 0 where
@@ -111,7 +111,7 @@ module _ (held : List ℕ → Option (List ℕ)) (manifest : List ℕ) where
 
   abbrev pub IsDisk : Option Data → List ℕ → Type 0
   IsDisk None disk = disk ≡ []
-  IsDisk (Some table) disk = IsDiskOf table disk
+  IsDisk (Some part) disk = IsDiskOf part disk
 
   pub record IsKernelOf (document : Data) (k : KernelImage) : Type 0 where
     pub frames : IsNumberOr (stands_at Frames document) 64 k.frames

@@ -1,6 +1,5 @@
-use Rattle.std.proofs.Common.{subst, List, ℕ}
 use Rattle.program_parts.specs.Outside.{files}
-use Rattle.asm_text.specs.Commanded.{IsTextRead, TellsTextFault}
+use Rattle.asm_text.specs.Commanded.{TellsTextFault}
 use Rattle.asm_text.proofs.ReasonFacts.{told_why}
 use Rattle.asm_text.proofs.command.words_of_file.Goals as goal
 

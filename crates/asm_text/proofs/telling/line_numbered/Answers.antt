@@ -1,5 +1,4 @@
-use Rattle.std.proofs.Common.{◌≡◌, ◌+◌, ◌-◌, [], get_or, suc, sym, ◌∙◌, arith, rules}
-use Rattle.rv_asm.specs.Assembly.{lines_of}
+use Rattle.std.proofs.Common.{◌≡◌, ◌+◌, ◌-◌, suc, sym, ◌∙◌, arith, rules}
 use Rattle.asm_text.proofs.LineFacts.{line_behind, line_here}
 use Rattle.asm_text.proofs.telling.line_numbered.Goals as goal
 

@@ -1,4 +1,4 @@
-use Rattle.std.proofs.Common.{◌≡◌, ◌∙◌, ℕ, List, Option, subst, sym}
+use Rattle.std.proofs.Common.{◌∙◌, ℕ, List, Option, subst, sym}
 use Rattle.toml.specs.View.{view}
 use Rattle.program_parts.specs.Outside.{files}
 use Rattle.manifest.specs.Manifest.{IsSource}

@@ -1,9 +1,5 @@
-use Rattle.std.proofs.Common.{◌≡◌, ◌<◌, ◌∷◌, sym, length-append, arith}
-use Rattle.std.specs.Prelude.{pos}
+use Rattle.std.proofs.Common.{◌<◌, sym, length-append, arith}
 use Rattle.std.proofs.lemmas.List.Elements.{All-push}
-use Rattle.toml.specs.Data.{integer}
-use Rattle.toml.specs.View.{items_view}
-use Rattle.manifest.specs.Manifest.{EachMeans}
 use Rattle.manifest.proofs.Listed.{items_view-more, means_more}
 use Rattle.manifest.proofs.kernel.given_schedule.Goals as goal
 

@@ -1,4 +1,4 @@
-use Rattle.std.proofs.Common.{◌≡◌, ℕ, List, Option, subst}
+use Rattle.std.proofs.Common.{ℕ, List, Option, subst}
 use Rattle.toml.specs.View.{view, items_view}
 use Rattle.manifest.specs.declared.key.Key.TheVariants as keys
 use Rattle.manifest.specs.Keys.{stands_at}

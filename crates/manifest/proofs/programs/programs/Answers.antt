@@ -1,4 +1,4 @@
-use Rattle.std.proofs.Common.{◌≡◌, ◌∷◌, ℕ, List, Option, subst, sym, length-append, arith}
+use Rattle.std.proofs.Common.{ℕ, List, Option, subst, sym, length-append, arith}
 use Rattle.std.proofs.lemmas.List.Elements.{All-push}
 use Rattle.toml.specs.View.{view}
 use Rattle.program_parts.specs.Outside.{files}
