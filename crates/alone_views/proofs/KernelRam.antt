@@ -1,10 +1,11 @@
 -- Where an access leads over frames without cloaked pages.
-use Rattle.std.proofs.Common.{◌≡◌, ◌∙◌, ℕ, Bool, true, false, cond, List, length, Result, Ok, Err, sym, ap}
+use Rattle.std.proofs.Common.{◌≡◌, ◌∙◌, ℕ, Bool, true, false, cond, List, [], ◌∷◌, length, Result, Ok, Err, sym, ap}
 use Rattle.cloak_model.specs.declared.access.Access.{Access}
-use Rattle.cloak_model.specs.World.{World, Flat, ram_of}
+use Rattle.cloak_model.specs.Events.{Look}
+use Rattle.cloak_model.specs.World.{World, Flat, ram_of, noted}
 use Rattle.cloak_model.specs.Walk.{Walk}
 use Rattle.cloak_model.specs.Asking.{Follows, FollowsFrom}
-use Rattle.cloak_model.specs.Ask.{ask_walk, ask_inside, ask_translate}
+use Rattle.cloak_model.specs.Ask.{ask_walk, ask_inside, ask_translate, ask_led}
 use Rattle.cloak_model.proofs.Later.{later_inside}
 use Rattle.cloak_model.proofs.Following.{then_follows}
 use Rattle.alone_views.specs.declared.kernel_ram.FlatRam.{FlatRam}
@@ -33,6 +34,13 @@ follows_translate old new satp a walk given follows answer =
     tested : (walk : Walk) → given ≡ (ask_inside a walk (Flat new.frames.items)).answer →
         Follows IsWorld new new given (ask_inside a walk)
     tested walk is first w stands unclashed = unmoved w given walk stands is
+
+-- frames without cloaked pages note nothing
+pub follows_led : (old new : FlatRam) (satp : ℕ) (a : Access) (given : Result ℕ ℕ) →
+    Follows IsWorld old new given (ask_translate satp a) → Follows IsWorld old new given (ask_led satp a)
+unfolding ask_led
+follows_led old new satp a given follows first w stands unclashed =
+    follows first (noted (Look satp a ∷ []) w) (ap (λ (v : World). noted (Look satp a ∷ []) v) stands) unclashed
 
 -- an address that is in RAM or not
 pub tested_inside : {A : Type 0} (b : Bool) (x y : A) → true ≡ b → x ≡ cond b x y

@@ -1,8 +1,9 @@
 //! The frames of a machine without cloaked pages.
-ghost use Rattle.std.specs.Prelude.{◌≡◌, ◌+◌, ◌*◌, ◌%◌, ◌≤◌, ◌<◌, length, nat_lt, slice_set, IfOk, All, IsTrue};
+ghost use Rattle.std.specs.Prelude.{ℕ, ◌≡◌, ◌+◌, ◌*◌, ◌%◌, ◌≤◌, ◌<◌, length, nat_lt, slice_set, IfOk, All, IsTrue};
 ghost use Rattle.std.specs.List.{concat};
 ghost use Rattle.sha2.specs.Sha256.{sha256};
 ghost use Rattle.cloak_base.specs.Pages.{zero_page};
+ghost use Rattle.cloak_model.specs.declared.access.Access.{Access};
 ghost use Rattle.cloak_model.specs.Ask as ask;
 ghost use Rattle.cloak_model.specs.Asking.{Follows};
 ghost use Rattle.cloak_model.specs.Bundle.{IsSegmentIn};
@@ -99,7 +100,8 @@ impl FlatRam {
         requires inside { IsTrue (is_in_frames (length self.now.frames.items) pa) }
         requires width { IsWidth width }
         requires aligned { pa % width ≡ 0 }
-        ensures { Follows IsWorld self.now self.now result (ask.ask_value pa width) }
+        ensures { (satp : ℕ) (access : Access) →
+            Follows IsWorld self.now self.now result (ask.ask_value satp access pa width) }
     {
         value_in(&self.frames[frame_of(pa)], place_of(pa), width)
     }
@@ -112,7 +114,8 @@ impl FlatRam {
         requires width { IsWidth width }
         requires aligned { pa % width ≡ 0 }
         ensures frames { self.new.frames.items ≡ with_value_at pa width value self.old.frames.items }
-        ensures follows { Follows IsWorld self.old self.new tt (ask.ask_store pa width value) }
+        ensures follows { (satp : ℕ) (access : Access) →
+            Follows IsWorld self.old self.new tt (ask.ask_store satp access pa width value) }
     {
         set_value_in(&mut self.frames[frame_of(pa)], place_of(pa), width, value)
     }

@@ -10,15 +10,16 @@ use Rattle.cloak_model.specs.declared.access.Access.{Access}
 use Rattle.cloak_model.specs.declared.access.Walked.{Walked}
 use Rattle.cloak_model.specs.declared.answer.Answer.{Answer}
 use Rattle.cloak_model.specs.declared.answer.Answer.TheVariants as told
-use Rattle.cloak_model.specs.Ask.{ask_word, ask_second, ask_after, ask_first, ask_walk, ask_inside, ask_translate, ask_value}
-use Rattle.cloak_model.specs.AskPages.{replies, if_drawn, is_store, ask_inside_address, offered_by, ask_offer, reached, reach_by_table, got, get_by_table, put_at, stored_inside, put_by_table, settled_if_marked, clear_from, ask_reach, ask_write, ask_get, ask_put, ask_clear, ask_copy, ask_forget}
+use Rattle.cloak_model.specs.Ask.{ask_word, ask_second, ask_after, ask_first, ask_walk, ask_inside, ask_translate, ask_led, opened, ask_value}
+use Rattle.cloak_model.specs.AskPages.{replies, if_drawn, is_store, offer_events, ask_inside_address, offered_by, ask_offer, reached, reach_by_table, got, get_by_table, put_at, stored_inside, put_by_table, settled_if_marked, clear_from, ask_reach, ask_write, ask_get, ask_put, ask_clear, ask_copy, ask_forget}
 use Rattle.cloak_model.specs.Asking.{Told, Asking}
 use Rattle.cloak_model.specs.Cloaking.{Offer, Ready, Mismatch, Missed, offer}
+use Rattle.cloak_model.specs.Events.{Event}
 use Rattle.cloak_model.specs.Fork.{ask_copies, ask_forgets}
 use Rattle.cloak_model.specs.Memory.{frame_of}
 use Rattle.cloak_model.specs.PageMoves.{copy_pages, drop_pages}
 use Rattle.cloak_model.specs.Walk.{FirstWord, Ends, GoesOn, Walk, first_entry, walk}
-use Rattle.cloak_model.specs.World.{World, Cloak, Flat, Cloaked, Alone, Handed, settled, cipher_items, is_missed}
+use Rattle.cloak_model.specs.World.{World, Cloak, Flat, Cloaked, Alone, Handed, noted, settled, cipher_items, is_missed}
 use Rattle.domain_isolation.proofs.Steady.{is_cloaked}
 use Rattle.cause_law.specs.Presented.{Differs, FindsOther}
 use Rattle.cause_law.proofs.Compared.{offer_compares}
@@ -80,6 +81,14 @@ Calms-settled f (Cloaked c) = record {
 }
 Calms-settled f (Alone h) = no_alone h _
 
+Calms-noted : (events : List Event) (w : World) → Calms w (noted events w)
+Calms-noted events (Flat ram) = no_flat ram _
+Calms-noted events (Cloaked c) = record { by = λ calm. record { kept = calm.kept; none = calm.none } }
+Calms-noted events (Alone h) = no_alone h _
+
+Calms-opened : (satp : ℕ) (a : Access) (pa : ℕ) (w : World) → Calms w (opened satp a pa w)
+Calms-opened satp a pa w = Calms-trans _ _ _ (Calms-settled (frame_of pa) w) (Calms-noted _ _)
+
 calms_word : (pa : ℕ) (w : World) → Calms w (ask_word pa w).world
 unfolding ask_word
 calms_word pa w = Calms-either _ _ _ w (Calms-settled (frame_of pa) w) (Calms-refl w)
@@ -107,8 +116,9 @@ calms_inside a (Err cause) w = Calms-refl w
 calms_inside a (Ok walked) w = Calms-refl w
 
 calms_inside_address : (va : ℕ) (kind : Kind) (w : World) → Calms w (ask_inside_address va kind w).world
-unfolding ask_inside_address ask_translate
-calms_inside_address va kind w = Calms-trans _ _ _ (calms_walk _ _ w) (calms_inside _ _ _)
+unfolding ask_inside_address ask_led ask_translate
+calms_inside_address va kind w =
+    Calms-trans _ _ _ (Calms-noted _ w) (Calms-trans _ _ _ (calms_walk _ _ _) (calms_inside _ _ _))
 
 -- Answers.
 
@@ -122,15 +132,14 @@ calms_drawn : (ask : Asking Answer) (w : World) → Calms w (ask w).world → Ca
 unfolding if_drawn
 calms_drawn ask w next = Calms-either _ _ _ w (calms_replies _ w) next
 
-calms_got : (width : ℕ) (to : Result ℕ ℕ) (w : World) → Calms w (got width to w).world
+calms_got : (va width : ℕ) (to : Result ℕ ℕ) (w : World) → Calms w (got va width to w).world
 unfolding got ask_value
-calms_got width (Err cause) w = calms_replies _ w
-calms_got width (Ok pa) w =
-    Calms-trans _ _ _ (Calms-settled (frame_of pa) w) (calms_drawn _ _ (calms_replies _ _))
+calms_got va width (Err cause) w = calms_replies _ w
+calms_got va width (Ok pa) w = Calms-trans _ _ _ (Calms-opened _ _ pa w) (calms_drawn _ _ (calms_replies _ _))
 
 calms_get : (va width : ℕ) (w : World) → Calms w (get_by_table va width w).world
 unfolding get_by_table
-calms_get va width w = Calms-trans _ _ _ (calms_inside_address va Load w) (calms_drawn _ _ (calms_got width _ _))
+calms_get va width w = Calms-trans _ _ _ (calms_inside_address va Load w) (calms_drawn _ _ (calms_got va width _ _))
 
 calms_put_at : (pa width value : ℕ) (w : World) → Calms w (put_at pa width value w).world
 unfolding put_at replies
@@ -146,16 +155,16 @@ calms_put_at pa width value (Cloaked c) = record {
 }
 calms_put_at pa width value (Alone h) = no_alone h _
 
-calms_stored : (width value : ℕ) (to : Result ℕ ℕ) (w : World) → Calms w (stored_inside width value to w).world
+calms_stored : (va width value : ℕ) (to : Result ℕ ℕ) (w : World) → Calms w (stored_inside va width value to w).world
 unfolding stored_inside
-calms_stored width value (Err cause) w = calms_replies _ w
-calms_stored width value (Ok pa) w =
-    Calms-trans _ _ _ (Calms-settled (frame_of pa) w) (calms_drawn _ _ (calms_put_at pa width value _))
+calms_stored va width value (Err cause) w = calms_replies _ w
+calms_stored va width value (Ok pa) w =
+    Calms-trans _ _ _ (Calms-opened _ _ pa w) (calms_drawn _ _ (calms_put_at pa width value _))
 
 calms_put : (va width value : ℕ) (w : World) → Calms w (put_by_table va width value w).world
 unfolding put_by_table
 calms_put va width value w =
-    Calms-trans _ _ _ (calms_inside_address va Store w) (calms_drawn _ _ (calms_stored width value _ _))
+    Calms-trans _ _ _ (calms_inside_address va Store w) (calms_drawn _ _ (calms_stored va width value _ _))
 
 either_world : (b : Bool) (w v : World) → Calms w v → Calms w (cond b v w)
 either_world true w v later = later
@@ -184,8 +193,13 @@ offered_meets : (q : PageId) (va pa : ℕ) (kind : Kind) (k c : Cloak) (a : Offe
     LeadsStill k.view kind va pa c.memory → c.memory.ledger.missed ≡ false → IsCalm c →
     let o = offer q (frame_of pa) (is_store kind) c.memory in
     o.answer ≡ a →
-    CalmOrMet q va kind k (offered_by q (frame_of pa) a
-    (Cloaked (record c { memory = o.memory; items = c.items ++ cipher_items o.ciphers })))
+    CalmOrMet q va kind k (offered_by q va kind (frame_of pa) a
+    (Cloaked
+    (record c {
+      memory = o.memory;
+      items = c.items ++ cipher_items o.ciphers;
+      events = c.events ++ offer_events q (frame_of pa) c.memory o.answer;
+    })))
 unfolding offered_by replies
 offered_meets q va pa kind k c Ready is leads drawn calm answers =
     inl (record { kept = (offer_offers q (frame_of pa) (is_store kind) c.memory calm.kept).kept; none = calm.none })
@@ -220,7 +234,7 @@ offered_meets q va pa kind k c Mismatch is leads drawn calm answers =
 reached_meets : (q : PageId) (va : ℕ) (kind : Kind) (k : Cloak) (to : Result ℕ ℕ) (w : World) →
     ask_inside_address va kind (Cloaked k) ≡ record { answer = to; world = w } →
     ((pa : ℕ) → to ≡ Ok pa → OfMemory (LeadsStill k.view kind va pa) w) → is_missed w ≡ false → Calm w →
-    CalmOrMet q va kind k (reached q kind to w)
+    CalmOrMet q va kind k (reached q va kind to w)
 unfolding reached ask_offer
 reached_meets q va kind k (Err cause) w is leads drawn calm = inl ((calms_replies _ w).by calm)
 reached_meets q va kind k (Ok pa) (Flat ram) is leads drawn calm = absurd calm
@@ -231,7 +245,7 @@ reached_meets q va kind k (Ok pa) (Alone h) is leads drawn calm = absurd calm
 drawn_meets : (q : PageId) (va : ℕ) (kind : Kind) (k : Cloak) (to : Result ℕ ℕ) (w : World) (missed : Bool) →
     ask_inside_address va kind (Cloaked k) ≡ record { answer = to; world = w } →
     ((pa : ℕ) → to ≡ Ok pa → OfMemory (LeadsStill k.view kind va pa) w) → is_missed w ≡ missed → Calm w →
-    CalmOrMet q va kind k (cond missed (replies told.Stopped w) (reached q kind to w))
+    CalmOrMet q va kind k (cond missed (replies told.Stopped w) (reached q va kind to w))
 drawn_meets q va kind k to w true is leads drawn calm = inl ((calms_replies _ w).by calm)
 drawn_meets q va kind k to w false is leads drawn calm = reached_meets q va kind k to w is leads drawn calm
 

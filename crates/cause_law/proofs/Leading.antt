@@ -1,15 +1,16 @@
 -- Where the kernel's page table leads a program's access: it leads there still, when other frames are settled.
-use Rattle.std.proofs.Common.{◌≡◌, ◌∙◌, ℕ, Bool, true, false, cond, List, Option, Some, None, Ok, Err, refl, sym, ap}
+use Rattle.std.proofs.Common.{◌≡◌, ◌∙◌, ℕ, Bool, true, false, cond, List, [], ◌∷◌, ◌++◌, Option, Some, None, Ok, Err, refl, sym, ap}
 use Rattle.std.proofs.lemmas.Bool.{false≢true}
 use Rattle.cloak_base.specs.declared.names.Kind.{Kind}
 use Rattle.cloak_base.specs.declared.names.Mode.TheVariants.{U}
 use Rattle.cloak_model.specs.declared.access.Access.{Access}
 use Rattle.cloak_model.specs.declared.access.Walked.{Walked}
 use Rattle.cloak_model.specs.declared.view.View.{View}
-use Rattle.cloak_model.specs.Ask.{shown_word, ask_word, ask_second, ask_after, ask_first, ask_walk, ask_inside, ask_translate}
+use Rattle.cloak_model.specs.Ask.{shown_word, ask_word, ask_second, ask_after, ask_first, ask_walk, ask_inside, ask_translate, ask_led}
 use Rattle.cloak_model.specs.AskPages.{ask_inside_address}
 use Rattle.cloak_model.specs.Asking.{Told}
 use Rattle.cloak_model.specs.Cloaking.{CloakedMemory, owed_in, settle}
+use Rattle.cloak_model.specs.Events.{Look}
 use Rattle.cloak_model.specs.Memory.{frame_of, place_of, is_in_frames, is_in_ram, value_in, value_at}
 use Rattle.cloak_model.specs.Walk.{Walk, FirstWord, Ends, GoesOn, has_paging, without_paging, first_entry, first_word, second_word, word_in_ram, walk_after, walk}
 use Rattle.cloak_model.specs.World.{World, Cloak, Flat, Cloaked, Alone, settled}
@@ -173,8 +174,9 @@ inside_leads v kind va pa (Ok walked) (Cloaked c) is walks =
 pub address_leads : (va : ℕ) (kind : Kind) (c : Cloak) (pa : ℕ) → IsKept c.memory →
     let t = ask_inside_address va kind (Cloaked c) in
     t.answer ≡ Ok pa → OfMemory (LeadsStill c.view kind va pa) t.world
-unfolding ask_inside_address ask_translate
+unfolding ask_inside_address ask_led ask_translate
 address_leads va kind c pa kept is =
     let a = access_of c.view kind va in
-    let t = ask_walk c.view.satp a (Cloaked c) in
-    inside_leads c.view kind va pa t.answer t.world is (walks c.view.satp a c kept)
+    let c' : Cloak = record c { events = c.events ++ Look c.view.satp a ∷ [] } in
+    let t = ask_walk c.view.satp a (Cloaked c') in
+    inside_leads c.view kind va pa t.answer t.world is (walks c.view.satp a c' kept)

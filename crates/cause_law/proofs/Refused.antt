@@ -4,7 +4,7 @@ use Rattle.std.proofs.lemmas.Bool.{false≢true}
 use Rattle.cloak_base.specs.declared.names.Kind.{Kind}
 use Rattle.cloak_base.specs.declared.names.PageId.{PageId}
 use Rattle.cloak_model.specs.declared.answer.Answer.{Answer}
-use Rattle.cloak_model.specs.AskPages.{replies, if_drawn, is_store, offered_by, ask_offer, reached, reach_by_table, ask_reach}
+use Rattle.cloak_model.specs.AskPages.{replies, if_drawn, is_store, offer_events, offered_by, ask_offer, reached, reach_by_table, ask_reach}
 use Rattle.cloak_model.specs.Asking.{Told}
 use Rattle.cloak_model.specs.Cloaking.{CloakedMemory, Offer, Mismatch, offer}
 use Rattle.cloak_model.specs.Memory.{frame_of}
@@ -12,32 +12,37 @@ use Rattle.cloak_model.specs.World.{Cloak, Cloaked, cipher_items}
 use Rattle.cause_law.specs.Causes.{QuestionIsRefused, PageIsRefused}
 use Rattle.cause_law.proofs.Compared.{drawn_so, offer_refuses}
 
-mismatch_refuses : (q : PageId) (g : ℕ) (o : Offer) (c : Cloak) → o ≡ Mismatch →
-    QuestionIsRefused q g (offered_by q g o (Cloaked c))
+mismatch_refuses : (q : PageId) (va : ℕ) (kind : Kind) (g : ℕ) (o : Offer) (c : Cloak) → o ≡ Mismatch →
+    QuestionIsRefused q g (offered_by q va kind g o (Cloaked c))
 unfolding offered_by replies
-mismatch_refuses q g o c is =
-    subst (λ (x : Offer). QuestionIsRefused q g (offered_by q g x (Cloaked c))) (sym is)
+mismatch_refuses q va kind g o c is =
+    subst (λ (x : Offer). QuestionIsRefused q g (offered_by q va kind g x (Cloaked c))) (sym is)
     (record { answer = refl; violation = refl })
 
-offered_refuses : (q : PageId) (g : ℕ) (write : Bool) (c : Cloak) → (offer q g write c.memory).answer ≡ Mismatch →
-    QuestionIsRefused q g (ask_offer q g write (Cloaked c))
+offered_refuses : (q : PageId) (va : ℕ) (kind : Kind) (g : ℕ) (c : Cloak) →
+    (offer q g (is_store kind) c.memory).answer ≡ Mismatch → QuestionIsRefused q g (ask_offer q va kind g (Cloaked c))
 unfolding ask_offer
-offered_refuses q g write c is =
-    let o = offer q g write c.memory in
-    mismatch_refuses q g o.answer (record c { memory = o.memory; items = c.items ++ cipher_items o.ciphers }) is
+offered_refuses q va kind g c is =
+    let o = offer q g (is_store kind) c.memory in
+    mismatch_refuses q va kind g o.answer
+    (record c {
+      memory = o.memory;
+      items = c.items ++ cipher_items o.ciphers;
+      events = c.events ++ offer_events q g c.memory o.answer;
+    }) is
 
 drawn_refuses : (q : PageId) (g : ℕ) (b : Bool) (t u : Told Answer) → b ≡ false → QuestionIsRefused q g u →
     QuestionIsRefused q g (cond b t u)
 drawn_refuses q g true t u is refuses = absurd (false≢true (sym is))
 drawn_refuses q g false t u is refuses = refuses
 
-reached_refuses : (q : PageId) (kind : Kind) (pa : ℕ) (c : Cloak) → c.memory.ledger.missed ≡ false →
+reached_refuses : (q : PageId) (va : ℕ) (kind : Kind) (pa : ℕ) (c : Cloak) → c.memory.ledger.missed ≡ false →
     (offer q (frame_of pa) (is_store kind) c.memory).answer ≡ Mismatch →
-    QuestionIsRefused q (frame_of pa) (if_drawn (reached q kind (Ok pa)) (Cloaked c))
+    QuestionIsRefused q (frame_of pa) (if_drawn (reached q va kind (Ok pa)) (Cloaked c))
 unfolding if_drawn reached
-reached_refuses q kind pa c drawn is =
+reached_refuses q va kind pa c drawn is =
     drawn_refuses q (frame_of pa) c.memory.ledger.missed _ _ drawn
-    (offered_refuses q (frame_of pa) (is_store kind) c is)
+    (offered_refuses q va kind (frame_of pa) c is)
 
 pub page_is_refused : PageIsRefused
 unfolding ask_reach reach_by_table
@@ -47,7 +52,7 @@ page_is_refused q va kind f c other =
     let refused : (offer q f (is_store kind) m).answer ≡ Mismatch =
     offer_refuses q f (is_store kind) m other.elsewhere other.drawn other.differs in
     subst (λ (x : ℕ). QuestionIsRefused q x (ask_reach q va kind (Cloaked c))) other.frame
-    (subst (λ (to : Told (Result ℕ ℕ)). QuestionIsRefused q g (if_drawn (reached q kind to.answer) to.world))
+    (subst (λ (to : Told (Result ℕ ℕ)). QuestionIsRefused q g (if_drawn (reached q va kind to.answer) to.world))
     (sym other.leads)
-    (reached_refuses q kind other.pa other.found (drawn_so q f m other.drawn).before
+    (reached_refuses q va kind other.pa other.found (drawn_so q f m other.drawn).before
     (subst (λ (x : ℕ). (offer q x (is_store kind) m).answer ≡ Mismatch) (sym other.frame) refused)))

@@ -14,6 +14,7 @@ use Rattle.image_commands.specs.Demonstrating.{DemoAnswers}
 use Rattle.image_commands.specs.Generating.{GenAnswers}
 use Rattle.read_back.proofs.Answered.{view_refuses, solo_refuses}
 use Rattle.run_command.proofs.AnswerFacts.{answers_no_run, same_files}
+use Rattle.stats_command.proofs.AnswerFacts.{answers_no_run as counts_no_run}
 use Rattle.cloak_cli.specs.Answering.{Answers, KeepsOthers}
 
 pub answers_asked : {S O : Type 0} (asked same : spec.Asked) (before after : Outside S O) (given : Status) →
@@ -57,8 +58,6 @@ demo_lacks number steps before after given low (inr front) =
 pub wants_memory : {S O : Type 0} (asked : spec.Asked) (before after : Outside S O) (given : Status) →
     after.files ≡ before.files → before.output.faults < 2 ^ 64 - 1 →
     Refuses before.output after.output refusal.NoMemory given → Answers asked before after given
-wants_memory spec.NotBuilt before after given same low refuses =
-    only_refuses {asked = spec.NotBuilt} {r = refusal.NoMemory} (no_run _ _ _ same) low refuses
 wants_memory (spec.Faulty fault) before after given same low refuses =
     only_refuses {asked = spec.Faulty fault} {r = refusal.NoMemory} (no_run _ _ _ same) low refuses
 wants_memory (spec.Run bundle record_name steps randomness) before after given same low refuses =
@@ -72,10 +71,11 @@ wants_memory (spec.Gen number bundle_name) before after given same low refuses =
     gen_lacks number bundle_name before after given same low refuses
 wants_memory (spec.Demo number steps) before after given same low refuses =
     record { answers = demo_lacks number steps before after given low refuses; untouched = same }
+wants_memory (spec.Stats bundle steps randomness) before after given same low refuses =
+    counts_no_run {asked = spec.Stats bundle steps randomness} {r = refusal.NoMemory} (no_run _ _ _ same) low refuses
 
 -- files that were not touched are kept, whatever the words ask for
 pub keeps_same : (asked : spec.Asked) (given : Status) (held : List ℕ → Option (List ℕ)) → KeepsOthers asked given held held
-keeps_same spec.NotBuilt given held = λ name. refl
 keeps_same (spec.Faulty fault) given held = λ name. refl
 keeps_same (spec.Run bundle record_name steps randomness) given held =
     same_files (spec.Run bundle record_name steps randomness) given held held (λ name. refl)
@@ -83,6 +83,7 @@ keeps_same (spec.View bundle record_name) given held = λ name. refl
 keeps_same (spec.Solo domain bundle record_name) given held = λ name. refl
 keeps_same (spec.Gen number bundle_name) given held = λ other apart. refl
 keeps_same (spec.Demo number steps) given held = λ name. refl
+keeps_same (spec.Stats bundle steps randomness) given held = λ name. refl
 
 -- `gen` changes the file that it writes, and no other
 pub gen_keeps : {S O : Type 0} (number : ℕ) (name : List ℕ) (before after : Outside S O) (given : Status) →
@@ -100,4 +101,3 @@ gen_keeps number name before after status.BadBundle never = absurd never
 gen_keeps number name before after status.ReadFault never = absurd never
 gen_keeps number name before after status.NoRandom never = absurd never
 gen_keeps number name before after status.BadRecord never = absurd never
-gen_keeps number name before after status.Unbuilt never = absurd never

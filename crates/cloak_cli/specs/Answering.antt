@@ -9,6 +9,7 @@ use Rattle.program_parts.specs.NoRun.{OnlyRefuses}
 use Rattle.program_parts.specs.Outside.{Outside}
 use Rattle.read_back.specs.Answering.{ViewAnswers, SoloAnswers}
 use Rattle.run_command.specs.Answering.{RunAnswers, KeepsFiles}
+use Rattle.stats_command.specs.Answering.{StatsAnswers}
 
 -- the image of a number and its run, without files
 pub record Demonstrates {S O : Type 0} (number steps : ℕ) (before after : Outside S O) (answer : Status) : Type 0 where
@@ -16,7 +17,6 @@ pub record Demonstrates {S O : Type 0} (number steps : ℕ) (before after : Outs
   pub untouched : after.files ≡ before.files
 
 abbrev pub Answers : {S O : Type 0} → spec.Asked → Outside S O → Outside S O → Status → Type 0
-Answers spec.NotBuilt before after answer = OnlyRefuses spec.NotBuilt before after answer
 Answers (spec.Faulty fault) before after answer = OnlyRefuses (spec.Faulty fault) before after answer
 Answers (spec.Run bundle record_name steps randomness) before after answer =
     RunAnswers (spec.Run bundle record_name steps randomness) before after answer
@@ -25,11 +25,12 @@ Answers (spec.Solo domain bundle record_name) before after answer =
     SoloAnswers (spec.Solo domain bundle record_name) before after answer
 Answers (spec.Gen number bundle_name) before after answer = GenAnswers number bundle_name before after answer
 Answers (spec.Demo number steps) before after answer = Demonstrates number steps before after answer
+Answers (spec.Stats bundle steps randomness) before after answer =
+    StatsAnswers (spec.Stats bundle steps randomness) before after answer
 
 -- Every file keeps its bytes, save the record of a run that was begun, or might have been, and the bundle that `gen`
 -- writes.
 abbrev pub KeepsOthers : spec.Asked → Status → (List ℕ → Option (List ℕ)) → (List ℕ → Option (List ℕ)) → Type 0
-KeepsOthers spec.NotBuilt answer held held' = SameFiles held held'
 KeepsOthers (spec.Faulty fault) answer held held' = SameFiles held held'
 KeepsOthers (spec.Run bundle record_name steps randomness) answer held held' =
     KeepsFiles (spec.Run bundle record_name steps randomness) answer held held'
@@ -37,3 +38,4 @@ KeepsOthers (spec.View bundle record_name) answer held held' = SameFiles held he
 KeepsOthers (spec.Solo domain bundle record_name) answer held held' = SameFiles held held'
 KeepsOthers (spec.Gen number bundle_name) answer held held' = OtherFiles bundle_name held held'
 KeepsOthers (spec.Demo number steps) answer held held' = SameFiles held held'
+KeepsOthers (spec.Stats bundle steps randomness) answer held held' = SameFiles held held'

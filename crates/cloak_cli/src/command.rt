@@ -11,6 +11,7 @@ use outside_io::{Shelf, Sink};
 use program_parts::{Refusal, Status, refuse};
 use read_back::{solo_command, view_command};
 use run_command::run_command;
+use stats_command::stats_command;
 use std::alloc::Global;
 
 /// Reads the words, and hands what they ask for to its command.
@@ -35,13 +36,13 @@ fn carry_out<S: Shelf, O: Sink>(
         Err(_) => return refuse(out, &Refusal::NoMemory),
     };
     match request {
-        Request::NotBuilt => refuse(out, &Refusal::NotBuilt),
         Request::Faulty(fault) => refuse(out, &Refusal::Usage(fault)),
         Request::Run(run) => run_command(alloc, &run, shelf, out),
         Request::View(files) => view_command(alloc, &files, shelf, out),
         Request::Solo(solo) => solo_command(alloc, &solo, shelf, out),
         Request::Gen(image) => gen_command(alloc, image.number, image.bundle, shelf, out),
         Request::Demo(demo) => demo_command(alloc, demo.number, demo.steps, out),
+        Request::Stats(stats) => stats_command(alloc, &stats, shelf, out),
     }
 }
 

@@ -1,7 +1,8 @@
 //! The program `cloak`: runs guest images, reads the records of runs back, and makes guest images.
 //!
 //! `command::cloak` reads the words and hands them to the command that they name: `run` (`run_command`), `view` and `solo`
-//! (`read_back`), `gen` and `demo` (`image_commands`). The program exits with the number of the command's status.
+//! (`read_back`), `gen` and `demo` (`image_commands`), `stats` (`stats_command`). The program exits with the number of the
+//! command's status.
 //! `program::run_program` is all of it over any words, files and output; its clause `exits` gives each status its cause
 //! and each command what it writes. `program::sentence` says why a status came, and `main` shows that on standard error.
 #![tactic(auto)]

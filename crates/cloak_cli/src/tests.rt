@@ -40,6 +40,13 @@ regs 00000000 00000000 00000000 00000000 00000000 00000000 00000000 00000000 000
 csrs 00000000 00000000 00000000 00000000 00000000 00000000 00000000 00000000 00000000
 ";
 
+/// The counts of that run: each step fetches, and all from one page.
+const COUNTS: &str = "stop halt 0
+accesses 4
+misses 1
+flushes 0
+";
+
 const NO_STEP: &str = "
 stop budget
 steps 0
@@ -129,13 +136,14 @@ fn comes_to(
 }
 
 /// Words of runs, their images, what they show, and their records.
-static RUNS: [(&str, &[u8], &str, &[u8]); 5] = [
+static RUNS: [(&str, &[u8], &str, &[u8]); 6] = [
     (
         "run a.b a.r --steps 10 --number 0",
         &SMALLEST,
         WHOLE_RUN,
         &RECORD,
     ),
+    ("stats a.b --steps 10 --number 0", &SMALLEST, COUNTS, b""),
     (
         "run a.b a.r --number 7 --steps 4",
         &SMALLEST,
@@ -177,7 +185,7 @@ fn whole_runs(rt: HostRuntime) -> Result<(), Fail> {
     Ok(())
 }
 
-static REFUSED: [(&str, Status, &str); 17] = [
+static REFUSED: [(&str, Status, &str); 20] = [
     ("", Status::Usage, "usage: no command\n"),
     ("walk a.b", Status::Usage, "usage: unknown command\n"),
     ("run a.b", Status::Usage, "usage: words\n"),
@@ -196,10 +204,17 @@ static REFUSED: [(&str, Status, &str); 17] = [
         Status::Usage,
         "usage: number\n",
     ),
+    ("stats a.b a.r", Status::Usage, "usage: words\n"),
+    ("stats a.b --steps 10", Status::Usage, "usage: randomness\n"),
     (
-        "stats a.b --steps 10 --number 0",
-        Status::Unbuilt,
-        "unbuilt 0\n",
+        "stats none --steps 10 --number 0",
+        Status::BadBundle,
+        "bundle: short at 0\n",
+    ),
+    (
+        "stats a.b --steps 10 --stream none",
+        Status::NoRandom,
+        "random: no key\n",
     ),
     ("view a.b", Status::Usage, "usage: words\n"),
     ("view a.b a.r", Status::BadRecord, "\nrecord: short at 0\n"),

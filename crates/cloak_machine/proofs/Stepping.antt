@@ -13,7 +13,7 @@ use Rattle.cloak_model.specs.declared.image.Bundle.{Bundle}
 use Rattle.cloak_model.specs.declared.item.Item.TheVariants as item
 use Rattle.cloak_model.specs.DomainState.{Domain, domain_line}
 use Rattle.cloak_model.specs.Exchange.{Piece, Emits, item_pieces, shown_each}
-use Rattle.cloak_model.specs.Joint.{Moment, Turn, joint_step}
+use Rattle.cloak_model.specs.Joint.{Moment, Turn, hart_in, joint_step, next_hart}
 use Rattle.cloak_model.specs.Opening.{Opened, opening}
 use Rattle.cloak_model.specs.Parts.{Joint, kernel_part}
 use Rattle.cloak_model.specs.Report.{stop_line, number_line, kernel_lines}
@@ -25,6 +25,10 @@ use Rattle.cloaked_side.proofs.Emitting.{emits_then, emits_items}
 use Rattle.kernel_report.specs.Console.{ConsoleShows}
 use Rattle.kernel_report.specs.KernelText.{kernel_text}
 use Rattle.kernel_report.proofs.KernelSaid.{IsSaid, kernel_text-is}
+use Rattle.shadow_fold.specs.Events.{after_step, after_step_of}
+use Rattle.shadow_fold.specs.Fold.{Fold}
+use Rattle.cloaked_side.specs.Tracking.{Tracks, TracksBy}
+use Rattle.cloak_machine.specs.Counting.{Counts}
 use Rattle.cloak_machine.specs.Lines.{lines_kept}
 use Rattle.cloak_machine.specs.Standing.{StandsForMoment, MakesTurn, FinishesAs, HaveFewLoads}
 use Rattle.cloak_machine.specs.Turns.{IsAt}
@@ -77,6 +81,25 @@ unfolding joint_step
 next_turn machine m number stands told = ap (turn_in m.joint)
     (told ∙ ap (slice_index machine.schedule.turns.items) stands.place
     ∙ ap (λ (turns : List ℕ). slice_index turns (m.steps % length turns)) (sym stands.schedule))
+
+-- so it is of its hart
+pub next_number : (machine : Machine) (m : Moment) (number : ℕ) → StandsForMoment machine m →
+    number ≡ slice_index machine.schedule.turns.items machine.schedule.place → number ≡ next_hart m
+next_number machine m number stands told =
+    told ∙ ap (slice_index machine.schedule.turns.items) stands.place
+    ∙ ap (λ (turns : List ℕ). slice_index turns (m.steps % length turns)) (sym stands.schedule)
+
+-- the counts go on with the fold behind the step
+pub counts_behind : (old new : Machine) (m : Moment) (number : ℕ) (s : Fold) → number ≡ next_hart m → Counts old s →
+    new.joint.memory.counting ≡ old.joint.memory.counting →
+    TracksBy old.joint.memory new.joint.memory (after_step_of m.joint (hart_in m.joint number) (hart_in m.joint number).inside) →
+    Counts new (after_step m s)
+unfolding after_step
+counts_behind old new m number s is counts same tracks = record {
+  counting = same ∙ counts.counting;
+  tracks = subst (λ (n : ℕ). Tracks new.joint.memory (after_step_of m.joint (hart_in m.joint n) (hart_in m.joint n).inside s)) is
+      (tracks s counts.tracks);
+}
 
 -- What a step left of a machine.
 pub record Leaves (old new : Machine) (m : Moment) (given : Turned) (t : Turn) : Type 0 where

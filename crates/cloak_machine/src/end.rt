@@ -87,7 +87,7 @@ fn put_violation<O: Sink>(out: &mut O, so_far: SoFar, violation: &Violation) -> 
 }
 
 /// The line that says why a run ended.
-fn put_stop_line<O: Sink>(out: &mut O, so_far: SoFar, stop: &Stop) -> SoFar
+pub fn put_stop_line<O: Sink>(out: &mut O, so_far: SoFar, stop: &Stop) -> SoFar
     ensures { PutsMore (putting O.taken O.faults out.old so_far) (putting O.taken O.faults out.new result)
         (spec.stop_line stop.now) }
 {
@@ -115,7 +115,7 @@ fn put_stop<O: Sink>(out: &mut O, so_far: SoFar, stop: &Stop) -> SoFar
 }
 
 /// A line of a name and a number.
-fn put_number<O: Sink>(out: &mut O, so_far: SoFar, name: &[u8], n: u64) -> SoFar
+pub fn put_number<O: Sink>(out: &mut O, so_far: SoFar, name: &[u8], n: u64) -> SoFar
     ensures { PutsMore (putting O.taken O.faults out.old so_far) (putting O.taken O.faults out.new result)
         (spec.number_line name.now n) }
 {

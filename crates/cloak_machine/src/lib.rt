@@ -13,6 +13,6 @@ mod machine;
 mod schedule;
 
 pub use cloak_model::{Bundle, Emit, Item, KernelImage, Program, Segment};
-pub use end::End;
+pub use end::{End, put_number, put_stop_line};
 pub use joint_machine::OpenFault;
 pub use machine::Machine;

@@ -1,4 +1,4 @@
-ghost use Rattle.std.specs.Prelude.{◌≡◌, ◌+◌, ◌<◌, ◌≤◌, ◌^◌, ◌++◌, ℕ, List, Ok, All, IfOk, false, if◌then◌else◌};
+ghost use Rattle.std.specs.Prelude.{◌≡◌, ◌+◌, ◌<◌, ◌≤◌, ◌^◌, ◌++◌, ℕ, List, Ok, All, IfOk, false, if◌then◌else◌, length};
 ghost use Rattle.cloak_base.specs.Random.{Random};
 ghost use Rattle.cloak_model.specs.declared.image.Bundle.{Bundle};
 ghost use Rattle.cloak_model.specs.Bundle.{IsInGrammar};
@@ -17,6 +17,7 @@ use cloak_model::{Emit, Item, KernelImage, Program};
 use cloak_pager::Pager;
 use joint_machine::{Joint, JointParts, OpenFault};
 use kernel_report::Console;
+use multi_shadow::ShadowCounts;
 use outside_io::Stream;
 use std::alloc::Global;
 
@@ -68,6 +69,9 @@ fn stop_of(missed: bool, stop: Stop) -> Stop
 impl Machine {
     ghost use Rattle.cloak_machine.specs.Standing.{FinishesAs, MakesTurn, Opens, ShowsOpening};
     ghost use Rattle.cloak_machine.specs.Standing.{StandsForMoment, steps_made};
+    ghost use Rattle.cloak_machine.specs.Counting.{Counts};
+    ghost use Rattle.shadow_fold.specs.Events.{after_step};
+    ghost use Rattle.shadow_fold.specs.Fold.{Fold, fresh_fold};
 
     /// The machine of a guest image, before its first step. Its key is the first draw of the stream, and each page of
     /// a program takes the next one. The memory of the kernel's image is taken over or given back.
@@ -108,6 +112,24 @@ impl Machine {
         }
     }
 
+    /// Begins to count accesses: what is known of translations ends, and from now on accesses without paging are kept too.
+    /// Is called before the first step.
+    pub fn count_accesses(&mut self)
+        ensures steps { steps_made self.new ≡ steps_made self.old }
+        ensures stands { (m : Moment) → StandsForMoment self.old m → StandsForMoment self.new m }
+        ensures counts { steps_made self.old ≡ 0 → (m : Moment) → StandsForMoment self.old m →
+            Counts self.new (fresh_fold (length m.joint.memory.ram)) }
+    {
+        self.joint.count_accesses();
+    }
+
+    /// How often a translation was asked for, was not known, and all that were known ended for want of room.
+    pub fn counts(&self) -> ShadowCounts
+        ensures { (s : Fold) → Counts self.now s → result ≡ s.table.counts }
+    {
+        self.joint.counts()
+    }
+
     /// Makes the next step of the schedule, and answers why it stopped the run, if it did.
     pub fn step<E: Emit>(&mut self, e: &mut E) -> Option<Stop>
         requires { steps_made self.old < most_steps }
@@ -116,6 +138,8 @@ impl Machine {
         ensures makes { (m : Moment) → StandsForMoment self.old m →
             (joint_step m).joint.memory.ledger.clashed ≡ false →
             MakesTurn E.gave e.old e.new self.new result m (joint_step m) }
+        ensures counts { (m : Moment) (s : Fold) → StandsForMoment self.old m → Counts self.old s →
+            (joint_step m).joint.memory.ledger.clashed ≡ false → Counts self.new (after_step m s) }
     {
         let number = self.schedule.next();
         self.steps += 1;

@@ -4,16 +4,17 @@ use Rattle.std.proofs.Common.{Err, refl, ap, sym, ◌∙◌, subst}
 use Rattle.cloak_model.specs.declared.answer.Answer.{Answer}
 use Rattle.cloak_model.specs.declared.answer.Answer.TheVariants.{Stopped, Absent, Word, Ok as Granted}
 use Rattle.cloak_base.specs.declared.names.Kind.{Kind}
+use Rattle.cloak_base.specs.declared.names.Kind.TheVariants.{Load, Store}
 use Rattle.cloak_model.specs.declared.item.Item.TheVariants as item
-use Rattle.cloak_model.specs.Memory.{frame_of, with_value_in}
-use Rattle.cloak_model.specs.Ask.{ask_value, shown_value}
+use Rattle.cloak_model.specs.Memory.{with_value_in}
+use Rattle.cloak_model.specs.Ask.{opened, ask_value, shown_value}
 use Rattle.cloak_model.proofs.Later.{IsLater}
 use Rattle.cloak_model.proofs.PagesLater.{later_drawn, later_offered}
-use Rattle.cloak_model.specs.World.{World, Cloak, Flat, Cloaked, Alone, cipher_items, is_clashed, stored_at, settled}
+use Rattle.cloak_model.specs.World.{World, Cloak, Flat, Cloaked, Alone, cipher_items, is_clashed, stored_at}
 use Rattle.cloak_model.specs.World.{view_of, is_missed, written}
-use Rattle.cloak_model.specs.Asking.{Told, Asking, FollowsFrom, then_ask}
-use Rattle.cloak_model.specs.AskPages.{answer_item, replies, if_drawn, ask_inside_address, got, put_at, stored_inside}
-use Rattle.cloak_model.specs.AskPages.{offered_by, ask_offer, reached, is_store, ask_read, ask_write}
+use Rattle.cloak_model.specs.Asking.{Asking, FollowsFrom, then_ask}
+use Rattle.cloak_model.specs.AskPages.{answer_item, replies, if_drawn, inside_access, ask_inside_address, got, put_at, stored_inside}
+use Rattle.cloak_model.specs.AskPages.{offer_events, offered_by, ask_offer, reached, is_store, ask_read, ask_write}
 use Rattle.cloak_base.specs.declared.names.PageId.{PageId}
 use Rattle.cloak_base.specs.declared.causes.Violation.{Violation}
 use Rattle.cloak_base.specs.declared.causes.Violation.TheVariants as violation
@@ -24,10 +25,17 @@ use Rattle.cloaked_side.specs.Offering.{Offers, offer_of}
 use Rattle.cloaked_side.specs.declared.memory.Offer.{Offer as Ended}
 use Rattle.cloaked_side.specs.declared.memory.Offer.TheVariants as ended
 use Rattle.cloaked_side.proofs.Emitting.{emits_items}
-use Rattle.cloaked_side.proofs.Sided.{Repaged, still_turned, sees_moved}
+use Rattle.cloaked_side.proofs.Sided.{Repaged, still_turned, sees_still}
+use Rattle.cloaked_side.proofs.Tracking.{respaced, tracks_on}
+use Rattle.cloaked_side.specs.Tracking.{Tracks, TracksBy}
+use Rattle.shadow_fold.specs.Fold.{Fold, after_events}
+use Rattle.cloak_base.specs.declared.names.SpaceId.{SpaceId}
+use Rattle.cloak_model.specs.Ask.{known}
+use Rattle.cloak_model.specs.Asking.{Told}
+use Rattle.cloak_model.specs.Memory.{frame_of}
 use Rattle.cloak_model.specs.PageMoves.{with_newest}
 use Rattle.cloak_pager.specs.AfterCall.{ReadsNewest, MeetsStill, after_write_plain}
-use Rattle.cloaked_side.specs.Seeing.{Sees}
+use Rattle.cloaked_side.specs.Seeing.{Sees, SeesCloak}
 use Rattle.cloaked_side.specs.declared.side.Side.{Side}
 
 -- the domain that is answered
@@ -121,23 +129,24 @@ asked_undrawn gave first now new a va kind next r w later unclashed address miss
     (λ stands. undrawn_told gave first now new a (next r) told.world stands missed
     (goes_on u stands (undrawn_clash gave first now (next r) told.world stands missed clash)))
 
-pub got_err : {E : Type 0} (gave : E → E → List Piece → Type 0) (first new : Side E) (width cause : ℕ) (a : Answer)
+pub got_err : {E : Type 0} (gave : E → E → List Piece → Type 0) (first new : Side E) (va width cause : ℕ) (a : Answer)
     (to : Result ℕ ℕ) (w : World) → to ≡ Err cause →
     FollowsFrom (Sees gave first) new a (replies (Absent cause) w) →
-    FollowsFrom (Sees gave first) new a (got width to w)
+    FollowsFrom (Sees gave first) new a (got va width to w)
 unfolding got
-got_err gave first new width cause a to w is told =
-    subst (λ t. FollowsFrom (Sees gave first) new a (got width t w)) (sym is) told
+got_err gave first new va width cause a to w is told =
+    subst (λ t. FollowsFrom (Sees gave first) new a (got va width t w)) (sym is) told
 
-pub got_led : {E : Type 0} (gave : E → E → List Piece → Type 0) (first now new : Side E) (width pa value low : ℕ)
+pub got_led : {E : Type 0} (gave : E → E → List Piece → Type 0) (first now new : Side E) (va width pa value low : ℕ)
     (a : Answer) (w : World) →
-    FollowsFrom (λ side v. Sees gave first side v) now value (shown_value pa width (settled (frame_of pa) w)) →
+    FollowsFrom (λ side v. Sees gave first side v) now value
+    (shown_value pa width (opened (view_of w).satp (inside_access w va Load) pa w)) →
     low ≡ value % 2 ^ (8 * width) →
     ((v : World) → Sees gave first now v → FollowsFrom (Sees gave first) new a (if_drawn (replies (Word low)) v)) →
-    FollowsFrom (Sees gave first) new a (got width (Ok pa) w)
+    FollowsFrom (Sees gave first) new a (got va width (Ok pa) w)
 unfolding got ask_value
-got_led gave first now new width pa value low a w read cut told =
-    let v = settled (frame_of pa) w in
+got_led gave first now new va width pa value low a w read cut told =
+    let v = opened (view_of w).satp (inside_access w va Load) pa w in
     let same : low ≡ (shown_value pa width v).answer % 2 ^ (8 * width) = cut ∙ ap (λ (n : ℕ). n % 2 ^ (8 * width)) read.answer in
     subst (λ (n : ℕ). FollowsFrom (Sees gave first) new a (if_drawn (replies (Word n)) v)) same (told v read.stands)
 
@@ -153,125 +162,130 @@ unfolding put_at
 put_told gave first mid after new pa width value a w stored written_so granted =
     granted _ (written_so (stored_at pa width value w) stored)
 
-pub stored_err : {E : Type 0} (gave : E → E → List Piece → Type 0) (first new : Side E) (width value cause : ℕ)
+pub stored_err : {E : Type 0} (gave : E → E → List Piece → Type 0) (first new : Side E) (va width value cause : ℕ)
     (a : Answer) (to : Result ℕ ℕ) (w : World) → to ≡ Err cause →
     FollowsFrom (Sees gave first) new a (replies (Absent cause) w) →
-    FollowsFrom (Sees gave first) new a (stored_inside width value to w)
+    FollowsFrom (Sees gave first) new a (stored_inside va width value to w)
 unfolding stored_inside
-stored_err gave first new width value cause a to w is told =
-    subst (λ t. FollowsFrom (Sees gave first) new a (stored_inside width value t w)) (sym is) told
+stored_err gave first new va width value cause a to w is told =
+    subst (λ t. FollowsFrom (Sees gave first) new a (stored_inside va width value t w)) (sym is) told
 
-pub put_at_led : {E : Type 0} (gave : E → E → List Piece → Type 0) (first new : Side E) (width value pa : ℕ)
+pub put_at_led : {E : Type 0} (gave : E → E → List Piece → Type 0) (first new : Side E) (va width value pa : ℕ)
     (a : Answer) (w : World) →
-    FollowsFrom (Sees gave first) new a (if_drawn (put_at pa width value) (settled (frame_of pa) w)) →
-    FollowsFrom (Sees gave first) new a (stored_inside width value (Ok pa) w)
+    FollowsFrom (Sees gave first) new a
+    (if_drawn (put_at pa width value) (opened (view_of w).satp (inside_access w va Store) pa w)) →
+    FollowsFrom (Sees gave first) new a (stored_inside va width value (Ok pa) w)
 unfolding stored_inside
-put_at_led gave first new width value pa a w told = told
+put_at_led gave first new va width value pa a w told = told
 
 -- A page was offered.
-pub sees_offered : {E : Type 0} (gave : E → E → List Piece → Type 0) (first old mid : Side E) (given : Ended)
-    (q : PageId) (g : ℕ) (write : Bool) (c : Cloak) → Sees gave first old (Cloaked c) →
+
+-- the memory and the step behind an offer
+abbrev pub offered_cloak : PageId → ℕ → Bool → Cloak → Cloak
+offered_cloak q g write c =
+    let o = offer q g write c.memory in
+    record c { memory = o.memory; items = c.items ++ cipher_items o.ciphers; events = c.events ++ offer_events q g c.memory o.answer }
+
+sees_offered : {E : Type 0} (gave : E → E → List Piece → Type 0) (first old mid : Side E) (given : Ended)
+    (q : PageId) (g : ℕ) (write : Bool) (c : Cloak) → SeesCloak gave first old c →
     Offers gave old.emitter.now mid.emitter.now mid.memory.now given (offer q g write c.memory) →
-    mid.violation ≡ old.violation → mid.view ≡ old.view →
-    Sees gave first mid (Cloaked
-    (record c {
-      memory = (offer q g write c.memory).memory;
-      items =
-          c.items ++ cipher_items (offer q g write c.memory).ciphers;
-    }))
-sees_offered gave first old mid given q g write c sees o violation view = record {
+    TracksBy old.memory.now mid.memory.now (after_events mid.space (offer_events q g c.memory (offer q g write c.memory).answer)) →
+    mid.violation ≡ old.violation → mid.view ≡ old.view → mid.space ≡ old.space →
+    SeesCloak gave first mid (offered_cloak q g write c)
+sees_offered gave first old mid given q g write c sees o tracks violation view space = record {
   holds = o.holds;
   emits = emits_items c.items (cipher_items (offer q g write c.memory).ciphers) sees.emits o.emits;
   violation = violation ∙ sees.violation;
   view = view ∙ sees.view;
+  tracks = tracks_on first.memory.now old.memory.now mid.memory.now mid.space c.events (offer_events q g c.memory (offer q g write c.memory).answer)
+      (respaced first.memory.now old.memory.now old.space mid.space c.events space sees.tracks) tracks;
 }
 
-abbrev answer_to : Ended → Answer
-answer_to ended.Ready = Granted
-answer_to ended.Mismatch = Stopped
-answer_to ended.Missed = Stopped
-
--- the side after it, with the violation where there is one
-abbrev violation_to : Ended → PageId → ℕ → Option Violation → Option Violation
-violation_to ended.Ready q g before = before
-violation_to ended.Mismatch q g before = Some (violation.Page q (record { 0 = g }))
-violation_to ended.Missed q g before = before
-
-same_side : {E : Type 0} (gave : E → E → List Piece → Type 0) (first mid after : Side E) (c : Cloak) →
-    Sees gave first mid (Cloaked c) → after.memory ≡ mid.memory → after.emitter ≡ mid.emitter →
-    after.view ≡ mid.view → after.violation ≡ mid.violation → Sees gave first after (Cloaked c)
-same_side gave first mid after c sees memory emitter view violated = record {
+-- the same side, but for a violation
+pub with_violation : {E : Type 0} (gave : E → E → List Piece → Type 0) (first mid after : Side E) (v : Option Violation) (c : Cloak) →
+    SeesCloak gave first mid c → after.memory ≡ mid.memory → after.emitter ≡ mid.emitter → after.view ≡ mid.view → after.space ≡ mid.space →
+    after.violation ≡ v → SeesCloak gave first after (record c { violation = v })
+with_violation gave first mid after v c sees memory emitter view space violated = record {
   holds = subst (λ x. Holds x.now c.memory) (sym memory) sees.holds;
   emits = subst (λ e. Emits gave first.emitter.now e.now (item_pieces c.items)) (sym emitter) sees.emits;
-  violation = violated ∙ sees.violation;
+  violation = violated;
   view = view ∙ sees.view;
+  tracks = subst (λ x. TracksBy first.memory.now x.now (after_events after.space c.events)) (sym memory)
+      (respaced first.memory.now mid.memory.now mid.space after.space c.events space sees.tracks);
 }
 
-offered_told : {E : Type 0} (gave : E → E → List Piece → Type 0) (first mid after new : Side E) (given : Ended)
-    (q : PageId) (g : ℕ) (a : Answer) (c : Cloak) → Sees gave first mid (Cloaked c) →
-    after.memory ≡ mid.memory → after.emitter ≡ mid.emitter → after.view ≡ mid.view →
-    after.violation ≡ violation_to given q g mid.violation →
-    ((v : World) → Sees gave first after v → FollowsFrom (Sees gave first) new a (replies (answer_to given) v)) →
-    FollowsFrom (Sees gave first) new a (offered_by q g (offer_of given) (Cloaked c))
-unfolding offered_by
-offered_told {E} gave first mid after new ended.Ready q g a c sees memory emitter view violated told =
-    told (Cloaked c) (same_side gave first mid after c sees memory emitter view violated)
-offered_told {E} gave first mid after new ended.Missed q g a c sees memory emitter view violated told =
-    told (Cloaked c) (same_side gave first mid after c sees memory emitter view violated)
-offered_told {E} gave first mid after new ended.Mismatch q g a c sees memory emitter view violated told =
-    told (Cloaked (record c { violation = Some (violation.Page q (record { 0 = g })) })) (record {
-      holds = subst (λ x. Holds x.now c.memory) (sym memory) sees.holds;
-      emits = subst (λ e. Emits gave first.emitter.now e.now (item_pieces c.items)) (sym emitter) sees.emits;
-      violation = violated;
-      view = view ∙ sees.view;
-    })
-
-pub asked_offer : {E : Type 0} (gave : E → E → List Piece → Type 0) (first old mid after new : Side E) (given : Ended)
-    (q : PageId) (g : ℕ) (write : Bool) (a : Answer) (w : World) → Sees gave first old w →
-    is_clashed (ask_offer q g write w).world ≡ false →
+-- What follows of an offer, by how it ended.
+pub asked_offer : {E : Type 0} (gave : E → E → List Piece → Type 0) (first old mid new : Side E) (given : Ended)
+    (q : PageId) (va : ℕ) (kind : Kind) (g : ℕ) (write : Bool) (a : Answer) (w : World) → write ≡ is_store kind →
+    Sees gave first old w → is_clashed (ask_offer q va kind g w).world ≡ false →
     ((m : CloakedMemory) → Holds old.memory.now m → (offer q g write m).memory.ledger.clashed ≡ false →
     Offers gave old.emitter.now mid.emitter.now mid.memory.now given (offer q g write m)) →
-    mid.violation ≡ old.violation → mid.view ≡ old.view →
-    after.memory ≡ mid.memory → after.emitter ≡ mid.emitter → after.view ≡ mid.view →
-    after.violation ≡ violation_to given q g mid.violation →
-    ((v : World) → Sees gave first after v → FollowsFrom (Sees gave first) new a (replies (answer_to given) v)) →
-    FollowsFrom (Sees gave first) new a (ask_offer q g write w)
+    ((m : CloakedMemory) → Holds old.memory.now m → (offer q g write m).memory.ledger.clashed ≡ false → (space : Option SpaceId) →
+    TracksBy old.memory.now mid.memory.now (after_events space (offer_events q g m (offer q g write m).answer))) →
+    mid.violation ≡ old.violation → mid.view ≡ old.view → mid.space ≡ old.space →
+    ((c c' : Cloak) → w ≡ Cloaked c → SeesCloak gave first old c → SeesCloak gave first mid c' →
+    c'.memory ≡ (offer q g (is_store kind) c.memory).memory → c'.view ≡ c.view →
+    FollowsFrom (Sees gave first) new a (offered_by q va kind g (offer_of given) (Cloaked c'))) →
+    FollowsFrom (Sees gave first) new a (ask_offer q va kind g w)
 unfolding ask_offer
-asked_offer gave first old mid after new given q g write a
-    (Flat ram) sees clash offers violation view memory emitter view' violated told = absurd sees
-asked_offer gave first old mid after new given q g write a
-    (Alone handed) sees clash offers violation view memory emitter view' violated told = absurd sees
-asked_offer {E} gave first old mid after new given q g write a
-    (Cloaked c) sees clash offers violation view memory emitter view' violated told =
-    let o = offer q g write c.memory in
-    let c' : Cloak = record c { memory = o.memory; items = c.items ++ cipher_items o.ciphers } in
-    let done = offers c.memory sees.holds ((later_offered q g o.answer (Cloaked c')).mark clash) in
-    subst (λ (x : Offer). FollowsFrom (Sees gave first) new a (offered_by q g x (Cloaked c'))) done.answer
-    (offered_told gave first mid after new given q g a c'
-    (sees_offered gave first old mid given q g write c sees done violation view) memory emitter view' violated told)
+asked_offer gave first old mid new given q va kind g write a (Flat ram) kind_is sees clash offered tracks violation view space told = absurd sees
+asked_offer gave first old mid new given q va kind g write a (Alone handed) kind_is sees clash offered tracks violation view space told = absurd sees
+asked_offer {E} gave first old mid new given q va kind g write a (Cloaked c) kind_is sees clash offered tracks violation view space told =
+    let store = is_store kind in
+    let o = offer q g store c.memory in
+    let c' = offered_cloak q g store c in
+    let unclashed = (later_offered q va kind g o.answer (Cloaked c')).mark clash in
+    let done = subst (λ (b : Bool). (offer q g b c.memory).memory.ledger.clashed ≡ false →
+    Offers gave old.emitter.now mid.emitter.now mid.memory.now given (offer q g b c.memory)) kind_is
+    (offered c.memory sees.holds) unclashed in
+    let goes = subst (λ (b : Bool). (offer q g b c.memory).memory.ledger.clashed ≡ false → (sp : Option SpaceId) →
+    TracksBy old.memory.now mid.memory.now (after_events sp (offer_events q g c.memory (offer q g b c.memory).answer))) kind_is
+    (tracks c.memory sees.holds) unclashed mid.space in
+    subst (λ (x : Offer). FollowsFrom (Sees gave first) new a (offered_by q va kind g x (Cloaked c'))) done.answer
+    (told c c' refl sees (sees_offered gave first old mid given q g store c sees done goes violation view space) refl refl)
 
-pub reached_err : {E : Type 0} (gave : E → E → List Piece → Type 0) (first new : Side E) (q : PageId) (kind : Kind)
+-- It is granted, once its translation is known.
+pub granted_told : {E : Type 0} (gave : E → E → List Piece → Type 0) (first after new : Side E) (q : PageId) (va : ℕ) (kind : Kind)
+    (g : ℕ) (a : Answer) (c : Cloak) → Sees gave first after (known (view_of (Cloaked c)).satp (inside_access (Cloaked c) va kind) (Some q) (Cloaked c)) →
+    ((v : World) → Sees gave first after v → FollowsFrom (Sees gave first) new a (replies Granted v)) →
+    FollowsFrom (Sees gave first) new a (offered_by q va kind g (offer_of ended.Ready) (Cloaked c))
+unfolding offered_by
+granted_told gave first after new q va kind g a c sees told = told _ sees
+
+-- The page was found in another frame, and that is a violation.
+pub mismatched_told : {E : Type 0} (gave : E → E → List Piece → Type 0) (first after new : Side E) (q : PageId) (va : ℕ) (kind : Kind)
+    (g : ℕ) (a : Answer) (c : Cloak) → SeesCloak gave first after (record c { violation = Some (violation.Page q (record { 0 = g })) }) →
+    ((v : World) → Sees gave first after v → FollowsFrom (Sees gave first) new a (replies Stopped v)) →
+    FollowsFrom (Sees gave first) new a (offered_by q va kind g (offer_of ended.Mismatch) (Cloaked c))
+unfolding offered_by
+mismatched_told gave first after new q va kind g a c sees told = told _ sees
+
+-- A draw was missing.
+pub missed_told : {E : Type 0} (gave : E → E → List Piece → Type 0) (first mid new : Side E) (q : PageId) (va : ℕ) (kind : Kind)
+    (g : ℕ) (a : Answer) (c : Cloak) → SeesCloak gave first mid c →
+    ((v : World) → Sees gave first mid v → FollowsFrom (Sees gave first) new a (replies Stopped v)) →
+    FollowsFrom (Sees gave first) new a (offered_by q va kind g (offer_of ended.Missed) (Cloaked c))
+unfolding offered_by
+missed_told gave first mid new q va kind g a c sees told = told (Cloaked c) sees
+
+-- A page is reached where its access was led.
+pub reached_told : {E : Type 0} (gave : E → E → List Piece → Type 0) (first new : Side E) (q : PageId) (va : ℕ) (kind : Kind)
+    (pa g : ℕ) (a : Answer) (w : World) → g ≡ frame_of pa → is_clashed (reached q va kind (Ok pa) w).world ≡ false →
+    (is_clashed (ask_offer q va kind g w).world ≡ false → FollowsFrom (Sees gave first) new a (ask_offer q va kind g w)) →
+    FollowsFrom (Sees gave first) new a (reached q va kind (Ok pa) w)
+unfolding reached
+reached_told gave first new q va kind pa g a w at clash told =
+    let there : ask_offer q va kind g w ≡ ask_offer q va kind (frame_of pa) w = ap (λ n. ask_offer q va kind n w) at in
+    subst (λ t. FollowsFrom (Sees gave first) new a t) there
+    (told (ap (λ (t : Told Answer). is_clashed t.world) there ∙ clash))
+
+pub reached_err : {E : Type 0} (gave : E → E → List Piece → Type 0) (first new : Side E) (q : PageId) (va : ℕ) (kind : Kind)
     (cause : ℕ) (a : Answer) (to : Result ℕ ℕ) (w : World) → to ≡ Err cause →
     FollowsFrom (Sees gave first) new a (replies (Absent cause) w) →
-    FollowsFrom (Sees gave first) new a (reached q kind to w)
+    FollowsFrom (Sees gave first) new a (reached q va kind to w)
 unfolding reached
-reached_err gave first new q kind cause a to w is told =
-    subst (λ t. FollowsFrom (Sees gave first) new a (reached q kind t w)) (sym is) told
-
-pub reached_ok : {E : Type 0} (gave : E → E → List Piece → Type 0) (first new : Side E) (q : PageId) (kind : Kind)
-    (pa g : ℕ) (write : Bool) (a : Answer) (to : Result ℕ ℕ) (w : World) → to ≡ Ok pa → g ≡ frame_of pa →
-    write ≡ is_store kind →
-    is_clashed (reached q kind to w).world ≡ false →
-    (is_clashed (ask_offer q g write w).world ≡ false → FollowsFrom (Sees gave first) new a (ask_offer q g write w)) →
-    FollowsFrom (Sees gave first) new a (reached q kind to w)
-unfolding reached
-reached_ok {E} gave first new q kind pa g write a to w is at kind_is clash told =
-    let clash' = subst (λ t. is_clashed (reached q kind t w).world ≡ false) is clash in
-    let there : ask_offer q g write w ≡ ask_offer q (frame_of pa) (is_store kind) w =
-    ap (λ n. ask_offer q n write w) at ∙ ap (λ b. ask_offer q (frame_of pa) b w) kind_is in
-    subst (λ t. FollowsFrom (Sees gave first) new a (reached q kind t w)) (sym is)
-    (subst (λ t. FollowsFrom (Sees gave first) new a t) there
-    (told (ap (λ (t : Told Answer). is_clashed t.world) there ∙ clash')))
+reached_err gave first new q va kind cause a to w is told =
+    subst (λ t. FollowsFrom (Sees gave first) new a (reached q va kind t w)) (sym is) told
 
 -- The page's newest bytes, where no draw is missing.
 pub plain_told : {E : Type 0} (gave : E → E → List Piece → Type 0) (first now : Side E) (q : PageId)
@@ -290,15 +304,16 @@ pub plain_stored : {E : Type 0} (gave : E → E → List Piece → Type 0) (firs
     length new.memory.now.pager.frames ≡ length old.memory.now.pager.frames →
     MeetsStill old.memory.now.pager new.memory.now.pager (tt {0})
     (after_write_plain q (record { at = at; width = width; value = value })) →
+    ((s : Fold) → Tracks old.memory.now s → Tracks new.memory.now s) →
     Sees gave first old w → FollowsFrom (λ side v. Sees gave first side v) new (tt {0}) (ask_write q at width value w)
 unfolding ask_write
-plain_stored gave first old new q at width value (Flat ram) same shadows rights count meets sees = absurd sees
-plain_stored gave first old new q at width value (Alone handed) same shadows rights count meets sees = absurd sees
-plain_stored gave first old new q at width value (Cloaked c) same shadows rights count meets sees = record {
+plain_stored gave first old new q at width value (Flat ram) same shadows rights count meets tracks sees = absurd sees
+plain_stored gave first old new q at width value (Alone handed) same shadows rights count meets tracks sees = absurd sees
+plain_stored gave first old new q at width value (Cloaked c) same shadows rights count meets tracks sees = record {
   answer = refl;
-  stands = sees_moved gave first old new c
+  stands = sees_still gave first old new c
       (with_newest q (with_value_in (c.memory.plain q) at width value) c.memory) same
       (record { stream = refl; draws = refl; missed = refl })
       (still_turned old.memory.now new.memory.now c.memory _ rights count shadows (λ held. refl))
-      (λ wiped s. (meets wiped c.memory s).stands) sees;
+      (λ wiped s. (meets wiped c.memory s).stands) tracks sees;
 }

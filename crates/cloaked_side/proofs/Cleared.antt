@@ -1,5 +1,5 @@
 -- What is asked for whole resources, over plain variables.
-use Rattle.std.proofs.Common.{◌≡◌, ◌<◌, ◌+◌, ℕ, suc, Bool, true, false, cond, ◌&&◌, ◌||◌, List, ◌++◌, Option, Some}
+use Rattle.std.proofs.Common.{◌≡◌, ◌<◌, ◌≤◌, ◌+◌, ℕ, suc, Bool, true, false, cond, ◌&&◌, ◌||◌, List, [], ◌∷◌, Option, Some}
 use Rattle.std.proofs.Common.{None, length, slice_index_or, nat_eq, refl, ap, sym, ◌∙◌, subst, inl, inr, arith}
 use Rattle.std.proofs.lemmas.Bool.{false≢true}
 use Rattle.std.proofs.lemmas.Bool.Decides.{Decides-eqb}
@@ -10,9 +10,10 @@ use Rattle.cloak_base.proofs.Pages.{is_of_tells}
 use Rattle.cloak_model.specs.declared.answer.Answer.{Answer}
 use Rattle.cloak_model.specs.declared.answer.Answer.TheVariants.{Stopped, Ok as Granted}
 use Rattle.cloak_model.specs.declared.item.Item.{Item}
-use Rattle.cloak_model.specs.Cloaking.{AfterSettling, owed_in}
+use Rattle.cloak_model.specs.Cloaking.{AfterSettling, CloakedMemory, owed_in, settle}
 use Rattle.cloak_model.specs.PageMoves.{copy_pages, drop_pages}
-use Rattle.cloak_model.specs.World.{World, Flat, Cloaked, Alone, cipher_items, settled, owed_of}
+use Rattle.cloak_model.specs.Events.{Drop}
+use Rattle.cloak_model.specs.World.{World, Flat, Cloaked, Alone, settled, owed_of}
 use Rattle.cloak_model.specs.Asking.{FollowsFrom}
 use Rattle.cloak_model.specs.AskPages.{replies, is_marked, settled_if_marked, clear_from, ask_clear, ask_copy}
 use Rattle.cloak_model.specs.AskPages.{ask_forget}
@@ -23,12 +24,16 @@ use Rattle.cloak_pager.proofs.Stands.{owed_by_right, owed_held}
 use Rattle.cloak_pager.proofs.Touches.{settle_none}
 use Rattle.cloak_pager.proofs.Writes.{held_within}
 use Rattle.cloak_pager.proofs.Pages.{same_or_not}
-use Rattle.cloaked_side.specs.Holding.{HoldsNoMore, frames_of, is_some_of}
-use Rattle.cloaked_side.specs.Seeing.{Sees}
+use Rattle.cloaked_side.specs.Holding.{Holds, HoldsNoMore, Settles, frames_of}
+use Rattle.cloaked_side.specs.Seeing.{Sees, Shows}
 use Rattle.cloaked_side.specs.declared.side.Side.{Side}
 use Rattle.cloaked_side.proofs.Rooming.{changed_or_not, unheld_unowed}
-use Rattle.cloaked_side.proofs.Sided.{Repaged, AgreesAlways, sees_moved, count_of}
+use Rattle.cloaked_side.proofs.Sided.{Repaged, AgreesAlways, count_of}
+use Rattle.cloaked_side.proofs.Tracking.{respaced, tracks_drop, tracks_on, tracks_same}
+use Rattle.cloaked_side.specs.Tracking.{Tracks, TracksBy}
+use Rattle.shadow_fold.specs.Fold.{Fold, holds, touched_where}
 use Rattle.cloaked_side.proofs.Answering.{drawn_told, undrawn_told}
+use Rattle.cloaked_side.proofs.Emitting.{emits_items}
 
 -- what a frame is owed in a world
 owed_by_world : {E : Type 0} (gave : E → E → List Piece → Type 0) (first now : Side E) (f : ℕ) (w : World) →
@@ -157,21 +162,31 @@ pub none_held : (p : PagerState) (domain r : ℕ) → IsWholePager p →
 none_held p domain r whole away k q e = away k (subst (λ (n : ℕ). k < n) whole.count (held_within p.rights k q e)) q e
 
 -- a frame that holds a page of a resource of which none is owed is owed nothing
-pub unowed_of : (p : PagerState) (domain r f : ℕ) → IsNoneOwed p domain r → is_some_of domain r (held_in p f) ≡ true →
+pub unowed_of : (p : PagerState) (domain r f : ℕ) → IsNoneOwed p domain r → holds (is_of domain r) (held_in p f) ≡ true →
     owed_at p f ≡ None
 unowed_of p domain r f none here = by_value (held_in p f) refl
   where
     by_value : (o : Option PageId) → held_in p f ≡ o → owed_at p f ≡ None
-    by_value None e = absurd (false≢true (sym (ap (λ x. is_some_of domain r x) e) ∙ here))
+    by_value None e = absurd (false≢true (sym (ap (λ x. holds (is_of domain r) x) e) ∙ here))
     by_value (Some q) e = elim (changed_or_not (right_at p f) q e) [
-      | inl owed ↦ absurd (false≢true (sym (none f q owed) ∙ sym (ap (λ x. is_some_of domain r x) e) ∙ here))
+      | inl owed ↦ absurd (false≢true (sym (none f q owed) ∙ sym (ap (λ x. holds (is_of domain r) x) e) ∙ here))
       | inr unowed ↦ unowed
     ]
 
 -- a frame that holds no page of a resource
-pub away_of : (p : PagerState) (domain r f : ℕ) → is_some_of domain r (held_in p f) ≡ false → (q : PageId) →
+pub away_of : (p : PagerState) (domain r f : ℕ) → holds (is_of domain r) (held_in p f) ≡ false → (q : PageId) →
     held_in p f ≡ Some q → is_of domain r q ≡ false
-away_of p domain r f here q e = sym (ap (λ x. is_some_of domain r x) e) ∙ here
+away_of p domain r f here q e = sym (ap (λ x. holds (is_of domain r) x) e) ∙ here
+
+-- past its frames a pager holds nothing
+pub none_past : (p : PagerState) → IsWholePager p → (k : ℕ) → length p.frames ≤ k → held_in p k ≡ None
+none_past p whole k high = by_value (held_in p k) refl
+  where
+    by_value : (o : Option PageId) → held_in p k ≡ o → held_in p k ≡ None
+    by_value None e = e
+    by_value (Some q) e =
+        let within : k < length p.frames = subst (λ (n : ℕ). k < n) whole.count (held_within p.rights k q e) in
+        absurd (omega (arith, high, within))
 
 -- no frame is owed more than before
 pub none_owed_still : (p p' : PagerState) (domain r : ℕ) → HoldsNoMore p p' → IsNoneOwed p domain r →
@@ -182,23 +197,30 @@ pub none_held_still : (p p' : PagerState) (domain r : ℕ) → HoldsNoMore p p' 
     IsNoneHeld p' domain r
 none_held_still p p' domain r less none k q e = none k q (less.held k q e)
 
--- A frame was settled that was owed nothing.
-pub sees_unowed : {E : Type 0} (gave : E → E → List Piece → Type 0) (first old new : Side E) (f : ℕ) (w : World) →
-    owed_at old.memory.now.pager f ≡ None → Sees gave first old w → Sees gave first new (settled f w) →
-    Sees gave first new w
-sees_unowed gave first old new f (Flat ram) none sees stands = absurd sees
-sees_unowed gave first old new f (Alone handed) none sees stands = absurd sees
-sees_unowed gave first old new f (Cloaked c) none sees stands =
-    let unowed : owed_in c.memory f ≡ None = owed_by_world gave first old f (Cloaked c) sees ∙ none in
-    let same = subst (λ (s : AfterSettling). Sees gave first new
-    (Cloaked (record c { memory = s.memory; items = c.items ++ cipher_items s.ciphers })))
-    (settle_none f c.memory unowed) stands in
+-- A frame was settled that was owed nothing: all but what the fold has of it is as it was.
+
+pub shows_of : {E : Type 0} (gave : E → E → List Piece → Type 0) (first now : Side E) (w : World) → Sees gave first now w → Shows gave first now w
+shows_of gave first now (Flat ram) sees = sees
+shows_of gave first now (Alone handed) sees = sees
+shows_of gave first now (Cloaked c) sees = record { holds = sees.holds; emits = sees.emits; violation = sees.violation; view = sees.view }
+
+pub shows_settled : {E : Type 0} (gave : E → E → List Piece → Type 0) (first old new : Side E) (f : ℕ) (w : World) →
+    ((m : CloakedMemory) → Holds old.memory.now m →
+    Settles gave old.emitter.now new.emitter.now new.memory.now (settle f m)) →
+    new.violation ≡ old.violation → new.view ≡ old.view →
+    owed_at old.memory.now.pager f ≡ None → Shows gave first old w → Shows gave first new w
+shows_settled gave first old new f (Flat ram) settles violation view none shows = shows
+shows_settled gave first old new f (Alone handed) settles violation view none shows = shows
+shows_settled gave first old new f (Cloaked c) settles violation view none shows =
+    let h = shows.holds in
+    let unowed : owed_in c.memory f ≡ None = owed_by_right old.memory.now.pager h.wiped c.memory h.pager f ∙ none in
+    let s = subst (λ (x : AfterSettling). Settles gave old.emitter.now new.emitter.now new.memory.now x) (settle_none f c.memory unowed) (settles c.memory h) in
     record {
-      holds = same.holds;
+      holds = s.holds;
       emits = subst (λ (is : List Item). Emits gave first.emitter.now new.emitter.now (item_pieces is))
-          (append-nil c.items) same.emits;
-      violation = same.violation;
-      view = same.view;
+          (append-nil c.items) (emits_items c.items [] shows.emits s.emits);
+      violation = violation ∙ shows.violation;
+      view = view ∙ shows.view;
     }
 
 none_copied : (b c d : Bool) → b ≡ false → d ≡ false → (b || (c && d)) ≡ false
@@ -210,11 +232,12 @@ pub sees_copied : {E : Type 0} (gave : E → E → List Piece → Type 0) (first
     (w : World) → Repaged old new →
     AgreesAlways old.memory.now new.memory.now →
     MeetsStill old.memory.now.pager new.memory.now.pager (tt {0}) (after_copy_pages domain from to) →
+    ((s : Fold) → Tracks old.memory.now s → Tracks new.memory.now s) →
     Sees gave first old w → FollowsFrom (λ side v. Sees gave first side v) new (tt {0}) (ask_copy domain from to w)
 unfolding ask_copy copy_pages
-sees_copied gave first old new domain from to (Flat ram) same still meets sees = absurd sees
-sees_copied gave first old new domain from to (Alone handed) same still meets sees = absurd sees
-sees_copied gave first old new domain from to (Cloaked c) same still meets sees =
+sees_copied gave first old new domain from to (Flat ram) same still meets tracks sees = absurd sees
+sees_copied gave first old new domain from to (Alone handed) same still meets tracks sees = absurd sees
+sees_copied gave first old new domain from to (Cloaked c) same still meets tracks sees =
     let h = sees.holds in
     let agreed = still c.memory (copy_pages domain from to c.memory) (λ held. refl) in
     record {
@@ -234,24 +257,48 @@ sees_copied gave first old new domain from to (Cloaked c) same still meets sees 
         emits = subst (λ e. Emits gave first.emitter.now e (item_pieces c.items)) (sym same.emitter) sees.emits;
         violation = same.violation ∙ sees.violation;
         view = same.view ∙ sees.view;
+        tracks = tracks_same first.memory.now old.memory.now new.memory.now new.space c.events
+            (respaced first.memory.now old.memory.now old.space new.space c.events same.space sees.tracks) tracks;
       };
     }
 
--- The pages of a resource were dropped.
-pub sees_dropped : {E : Type 0} (gave : E → E → List Piece → Type 0) (first old new : Side E) (domain r : ℕ)
+-- The pages of a resource were dropped, once its frames were emptied.
+pub sees_dropped : {E : Type 0} (gave : E → E → List Piece → Type 0) (first begun old new : Side E) (domain r : ℕ)
     (w : World) → Repaged old new →
     AgreesAlways old.memory.now new.memory.now →
     MeetsStill old.memory.now.pager new.memory.now.pager (tt {0}) (after_drop_pages domain r) →
-    Sees gave first old w → FollowsFrom (λ side v. Sees gave first side v) new (tt {0}) (ask_forget domain r w)
+    new.space ≡ begun.space →
+    TracksBy begun.memory.now new.memory.now (touched_where (is_of domain r)) →
+    Sees gave first begun w → Shows gave first old w →
+    FollowsFrom (λ side v. Sees gave first side v) new (tt {0}) (ask_forget domain r w)
 unfolding ask_forget drop_pages
-sees_dropped gave first old new domain r (Flat ram) same still meets sees = absurd sees
-sees_dropped gave first old new domain r (Alone handed) same still meets sees = absurd sees
-sees_dropped gave first old new domain r (Cloaked c) same still meets sees = record {
-  answer = refl;
-  stands = sees_moved gave first old new c (drop_pages domain r c.memory) same
-      (record { stream = refl; draws = refl; missed = refl }) (still c.memory (drop_pages domain r c.memory) (λ held. refl))
-      (λ wiped s. (meets wiped c.memory s).stands) sees;
-}
+sees_dropped gave first begun old new domain r (Flat ram) same still meets space tracks sees shows = absurd sees
+sees_dropped gave first begun old new domain r (Alone handed) same still meets space tracks sees shows = absurd sees
+sees_dropped gave first begun old new domain r (Cloaked c) same still meets space tracks sees shows =
+    let h = shows.holds in
+    let m' = drop_pages domain r c.memory in
+    let agreed = still c.memory m' (λ held. refl) in
+    record {
+      answer = refl;
+      stands = record {
+        holds = record {
+          wiped = h.wiped;
+          pager = (meets h.wiped c.memory h.pager).stands;
+          whole = λ none. h.whole (sym same.missed ∙ none);
+          stream = h.stream ∙ sym same.stream;
+          draws = same.draws ∙ h.draws;
+          missed = same.missed ∙ h.missed;
+          agrees = agreed.agrees h.agrees;
+          room = agreed.room ∙ h.room ∙ sym agreed.count;
+        };
+        emits = subst (λ e. Emits gave first.emitter.now e (item_pieces c.items)) (sym same.emitter) shows.emits;
+        violation = same.violation ∙ shows.violation;
+        view = same.view ∙ shows.view;
+        tracks = tracks_on first.memory.now begun.memory.now new.memory.now new.space c.events (Drop domain r ∷ [])
+            (respaced first.memory.now begun.memory.now begun.space new.space c.events space sees.tracks)
+            (tracks_drop begun.memory.now new.memory.now new.space domain r tracks);
+      };
+    }
 
 -- one frame more was cleared
 pub cleared_next : (domain : ℕ) (marked : List Bool) (i : ℕ) (p p' : PagerState) → HoldsNoMore p p' →

@@ -1,13 +1,15 @@
 -- Where an access leads by a known translation, and how translations become known.
-use Rattle.std.proofs.Common.{◌≡◌, ◌∙◌, ◌+◌, ◌/◌, ◌%◌, ◌<◌, ℕ, Bool, true, false, cond, List, [], length, Option, Some, None, Result, Ok, Err, refl, sym, ap, subst, arith, nat_le, inl, inr, find}
-use Rattle.std.proofs.lemmas.Bool.{ltb-true}
-use Rattle.std.specs.Prelude.{◌++◌, IfSome}
+use Rattle.std.proofs.Common.{◌≡◌, ◌∙◌, ◌+◌, ◌/◌, ◌%◌, ◌<◌, ℕ, Bool, true, false, cond, List, [], ◌∷◌, length, ◌||◌, ◌&&◌, ◌≢◌, Option, Some, None, is_some, Result, Ok, Err, refl, sym, ap, subst, arith, nat_le, inl, inr, find}
+use Rattle.std.specs.List.{list_any}
+use Rattle.std.proofs.lemmas.Bool.{false≢true, ltb-true}
+use Rattle.std.specs.Prelude.{◌++◌, IfOk, IfSome}
 use Rattle.std.proofs.lemmas.Option.{none-some}
 use Rattle.cloak_base.proofs.Pages.{same_page_tells}
 use Rattle.cloak_base.specs.declared.names.Kind.TheVariants.{Store}
-use Rattle.cloak_model.specs.AskPages.{is_store, replies, offered_by, ask_offer, reached, ask_inside_address}
+use Rattle.cloak_model.specs.AskPages.{is_store, offer_events, replies, offered_by, ask_offer, ask_inside_address}
+use Rattle.cloak_model.specs.Events.{Event, Look, Born, births_by}
 use Rattle.cloak_model.specs.Cloaking.{CloakedMemory, Offer, Ready, Mismatch, Missed, owed_in, settle, offer}
-use Rattle.cloak_model.specs.World.{is_clashed, settled, cipher_items}
+use Rattle.cloak_model.specs.World.{is_clashed, noted, settled, cipher_items}
 use Rattle.cloak_model.proofs.Later.{later_inside, later_loaded_at, later_stored_to}
 use Rattle.cloak_base.specs.declared.names.Frame.{Frame}
 use Rattle.cloak_pager.specs.State.{PagerState, IsWholePager, owed_at}
@@ -16,21 +18,34 @@ use Rattle.shadow_fold.specs.Entries.{IsWithin, is_table}
 use Rattle.shadow_fold.specs.Following.{AreBirthCalls}
 use Rattle.shadow_fold.specs.Keeping.{Agrees}
 use Rattle.shadow_fold.specs.Table.{is_known, one_more, with_room, emptied}
-use Rattle.shadow_law.specs.Agreeing.{present, AreOutside}
+use Rattle.shadow_law.specs.Agreeing.{present, touches, AreOutside}
+use Rattle.shadow_law.specs.Walks.{listed}
 use Rattle.shadow_law.specs.Misses.{StayOutsideBut}
-use Rattle.shadow_law.proofs.Changes.{settle_count}
+use Rattle.shadow_law.proofs.Changes.{settle_count, offer_count}
 use Rattle.shadow_law.proofs.Misses.{asked_walk, open_entry_agrees, page_entry_agrees, entry_within, keeps_birth}
 use Rattle.cloaked_side.specs.Holding.{HoldsNoMore, HoldsNoOther}
-use Rattle.cloaked_side.specs.Leading.{IsWalkOf, IsLedBy, AreLedOutside, IsEntryOf, IsReachedBy, entry_at, inside_view}
+use Rattle.cloaked_side.specs.Leading.{IsWalkOf, IsLedBy, IsLedSo, IsLive, IsReachedSo, IsViewIn, AreLedOutside, IsEntryOf, asked_led, entry_at, inside_view}
+use Rattle.cloaked_side.specs.Tracking.{Tracks, TracksBy}
+use Rattle.cloaked_side.specs.declared.memory.Memory.{Memory}
+use Rattle.cloaked_side.proofs.Tracking.{birth_made, birth_never, birth_still, born_tracks, events_then, look_tracks, no_events, touches_still, tracks_on}
+use Rattle.cloaked_side.proofs.Tabled.{tables_none, walked_touches}
+use Rattle.cloaked_side.proofs.Offered.{offered_walk_still}
+use Rattle.cloak_base.specs.declared.names.SpaceId.{SpaceId}
+use Rattle.cloak_model.specs.AskPages.{inside_access}
+use Rattle.cloak_model.specs.World.{view_of}
+use Rattle.cloak_model.specs.Ask.{known}
+use Rattle.shadow_fold.specs.Agreement.{TargetAgrees}
+use Rattle.shadow_fold.specs.Fold.{Fold, after_events, entry_in, frame, is_own_table}
+use Rattle.shadow_fold.specs.Following.{AreBirthCallsUnless, killed_if}
+use Rattle.shadow_law.proofs.Misses.{settled_walk}
 use Rattle.cloaked_side.specs.Seeing.{SeesCloak}
 use Rattle.cloak_base.specs.declared.names.Kind.{Kind}
 use Rattle.cloak_base.specs.declared.names.PageId.{PageId}
 use Rattle.cloak_model.specs.declared.access.Walked.{Walked}
 use Rattle.cloak_model.specs.declared.access.Access.{Access}
 use Rattle.cloak_model.specs.declared.view.View.{View}
-use Rattle.cloak_model.specs.declared.answer.Answer.{Answer}
 use Rattle.cloak_base.specs.declared.names.Mode.TheVariants.{U}
-use Rattle.cloak_model.specs.Ask.{ask_walk, ask_inside, ask_translate, ask_value, ask_store, shown_value, stored_value, loaded_at, ask_load, stored_to, ask_store_at, ask_first}
+use Rattle.cloak_model.specs.Ask.{ask_walk, ask_inside, ask_translate, ask_led, opened, ask_value, ask_store, shown_value, stored_value, loaded_at, ask_load, stored_to, ask_store_at, ask_first}
 use Rattle.cloak_model.specs.Asking.{Told, FollowsFrom}
 use Rattle.cloak_model.specs.Exchange.{Piece}
 use Rattle.cloak_model.specs.Memory.{is_in_ram, frame_of, is_in_frames}
@@ -43,7 +58,7 @@ use Rattle.shadow_fold.specs.declared.entry.Entry.{Entry}
 use Rattle.shadow_fold.specs.declared.entry.ShadowView.{ShadowView}
 use Rattle.shadow_fold.specs.declared.entry.ShadowView.TheVariants.{Outside, Inside}
 use Rattle.cloak_model.specs.World.{ram_of}
-use Rattle.cloaked_side.proofs.Sided.{count_of}
+use Rattle.cloaked_side.proofs.Sided.{count_of, sees_noted}
 use Rattle.shadow_fold.proofs.Keys.{and_true, is_for-key}
 use Rattle.shadow_fold.proofs.Agreeing.{found}
 use Rattle.shadow_law.proofs.Hits.{hit_is_walk}
@@ -69,7 +84,8 @@ led_there c view va kind e same b is =
 pub known_leads : {E : Type 0} (gave : E → E → List Piece → Type 0) (first now : Side E) (w : World) (view : ShadowView) (va : ℕ)
     (kind : Kind) (e : Entry) → Sees gave first now w → Some e ≡ find (is_for view (va / 4096) kind) now.memory.now.shadows.live
     → is_in_frames (frames_of now.memory.now) (start_of e.frame.0 + va % 4096) ≡ true
-    → ask_translate (satp_in view) (access_in view va kind) w ≡ record { answer = Ok (start_of e.frame.0 + va % 4096); world = w }
+    → ask_translate (satp_in view) (access_in view va kind) w
+    ≡ record { answer = Ok (start_of e.frame.0 + va % 4096); world = noted (touches (listed e.pt1 ++ listed e.pt0)) w }
 known_leads gave first now (Flat ram) view va kind e sees is inside = absurd sees
 known_leads gave first now (Alone handed) view va kind e sees is inside = absurd sees
 known_leads gave first now (Cloaked c) view va kind e sees is inside =
@@ -83,16 +99,61 @@ known_leads gave first now (Cloaked c) view va kind e sees is inside =
     (hit_is_walk held c e va (pager_owes now.memory.now.pager h.wiped c.memory h.pager) agrees.1 (sym key.1)
     (subst (λ (n : ℕ). e.frame.0 < n) (sym h.pager.count) low))
 
+-- the entry that was found: its tables are outside, and its target holds its page
+target_holds : (p : Present) (e : Entry) (o : Option PageId) → TargetAgrees p e o → p.held e.frame.0 ≡ o
+target_holds p e None agrees = agrees
+target_holds p e (Some q) agrees = agrees.0
+
+found_agrees : {E : Type 0} (gave : E → E → List Piece → Type 0) (first now : Side E) (w : World) (view : ShadowView) (page : ℕ)
+    (kind : Kind) (e : Entry) → Sees gave first now w → Some e ≡ find (is_for view page kind) now.memory.now.shadows.live
+    → (is_for view page kind e ≡ true) × IfSome e.pt1 (λ f. held_in now.memory.now.pager f.0 ≡ None)
+    × IfSome e.pt0 (λ f. held_in now.memory.now.pager f.0 ≡ None) × (held_in now.memory.now.pager e.frame.0 ≡ e.cloaked)
+found_agrees gave first now (Flat ram) view page kind e sees is = absurd sees
+found_agrees gave first now (Alone handed) view page kind e sees is = absurd sees
+found_agrees gave first now (Cloaked c) view page kind e sees is =
+    let p = present (held_in now.memory.now.pager) c.memory in
+    let agrees = found (EntryAgrees p) (is_for view page kind) now.memory.now.shadows.live e sees.holds.agrees (sym is) in
+    (agrees.0, agrees.1.first, agrees.1.second, target_holds p e e.cloaked agrees.1.target)
+
+any_found : (p : Entry → Bool) (xs : List Entry) (e : Entry) → Some e ≡ find p xs → list_any p xs ≡ true
+any_found p [] e is = absurd (none-some e (sym is))
+any_found p (x ∷ xs) e is = by (p x) is (any_found p xs e)
+  where
+    by : (b : Bool) → Some e ≡ (cond b (Some x) (find p xs)) → (Some e ≡ find p xs → list_any p xs ≡ true) → (b || list_any p xs) ≡ true
+    by true is rest = refl
+    by false is rest = rest is
+
+looked_known : (view v : ShadowView) (page n : ℕ) (kind k : Kind) (t : Table) → is_known v n k (looked view page kind t) ≡ is_known v n k t
+unfolding is_known looked
+looked_known view v page n kind k t = refl
+
+known_found : (view : ShadowView) (page : ℕ) (kind : Kind) (t : Table) (e : Entry) → Some e ≡ find (is_for view page kind) t.live → is_known view page kind t ≡ true
+unfolding is_known
+known_found view page kind t e is = any_found (is_for view page kind) t.live e is
+
+pub found_known : (view : ShadowView) (page : ℕ) (kind : Kind) (t u : Table) (e : Entry) → Some e ≡ find (is_for view page kind) t.live → u ≡ looked view page kind t
+    → is_known view page kind u ≡ true
+found_known view page kind t u e is same =
+    ap (λ (x : Table). is_known view page kind x) same ∙ looked_known view view page page kind kind t ∙ known_found view page kind t e is
+
+pub found_target : {E : Type 0} (gave : E → E → List Piece → Type 0) (first now : Side E) (w : World) (view : ShadowView) (page : ℕ)
+    (kind : Kind) (e : Entry) (pa k : ℕ) (cloaked : Option PageId) → Sees gave first now w → Some e ≡ find (is_for view page kind) now.memory.now.shadows.live
+    → pa ≡ start_of e.frame.0 + k → k < 4096 → e.cloaked ≡ cloaked → held_in now.memory.now.pager (frame_of pa) ≡ cloaked
+found_target gave first now w view page kind e pa k cloaked sees is at small same =
+    let there : frame_of pa ≡ e.frame.0 = omega (arith, at, small) in
+    ap (λ (f : ℕ). held_in now.memory.now.pager f) there ∙ (found_agrees gave first now w view page kind e sees is).3 ∙ same
+
 -- A translation becomes known.
 
 -- a side with this table in the place of its own
 abbrev pub with_table : {E : Type 0} → Side E → Table → Side E
 with_table old t = record old { memory = record old.memory { now = record old.memory.now { shadows = t } } }
 
-sees_with : {E : Type 0} (gave : E → E → List Piece → Type 0) (first old : Side E) (t : Table) (c : Cloak) → SeesCloak gave first old c
+sees_with : {E : Type 0} (gave : E → E → List Piece → Type 0) (first old : Side E) (t : Table) (c : Cloak) (events : List Event) → SeesCloak gave first old c
     → Agrees (present (held_in old.memory.now.pager) c.memory) t → t.frames ≡ old.memory.now.shadows.frames
-    → SeesCloak gave first (with_table old t) c
-sees_with gave first old t c sees agrees room = record {
+    → TracksBy old.memory.now (record old.memory.now { shadows = t }) (after_events old.space events)
+    → SeesCloak gave first (with_table old t) (record c { events = c.events ++ events })
+sees_with gave first old t c events sees agrees room tracks = record {
   holds = record {
     wiped = sees.holds.wiped;
     pager = sees.holds.pager;
@@ -106,6 +167,7 @@ sees_with gave first old t c sees agrees room = record {
   emits = sees.emits;
   violation = sees.violation;
   view = sees.view;
+  tracks = tracks_on first.memory.now old.memory.now (record old.memory.now { shadows = t }) old.space c.events events sees.tracks tracks;
 }
 
 agrees_looked : (p : Present) (view : ShadowView) (page : ℕ) (kind : Kind) (t : Table) → Agrees p t → Agrees p (looked view page kind t)
@@ -117,16 +179,51 @@ unfolding looked
 looked_frames view page kind t = refl
 
 -- a look counts, and changes nothing else
-pub looks : {E : Type 0} (gave : E → E → List Piece → Type 0) (first old : Side E) (t : Table) (view : ShadowView) (page : ℕ)
-    (kind : Kind) (w : World) → Sees gave first old w → t ≡ looked view page kind old.memory.now.shadows
-    → Sees gave first (with_table old t) w
-looks gave first old t view page kind (Flat ram) sees is = absurd sees
-looks gave first old t view page kind (Alone handed) sees is = absurd sees
-looks gave first old t view page kind (Cloaked c) sees is =
-    sees_with gave first old t c sees
+pub looks : {E : Type 0} (gave : E → E → List Piece → Type 0) (first old : Side E) (t : Table) (view : ShadowView) (va : ℕ)
+    (kind : Kind) (w : World) → Sees gave first old w → IsViewIn old.space view → t ≡ looked view (va / 4096) kind old.memory.now.shadows
+    → Sees gave first (with_table old t) (noted (Look (satp_in view) (access_in view va kind) ∷ []) w)
+looks gave first old t view va kind (Flat ram) sees viewed is = absurd sees
+looks gave first old t view va kind (Alone handed) sees viewed is = absurd sees
+looks gave first old t view va kind (Cloaked c) sees viewed is =
+    sees_with gave first old t c (Look (satp_in view) (access_in view va kind) ∷ []) sees
     (subst (Agrees (present (held_in old.memory.now.pager) c.memory)) (sym is)
-    (agrees_looked _ view page kind old.memory.now.shadows sees.holds.agrees))
-    (ap (λ (u : Table). u.frames) is ∙ looked_frames view page kind old.memory.now.shadows)
+    (agrees_looked _ view (va / 4096) kind old.memory.now.shadows sees.holds.agrees))
+    (ap (λ (u : Table). u.frames) is ∙ looked_frames view (va / 4096) kind old.memory.now.shadows)
+    (look_tracks old.space view va kind viewed old.memory.now.counting old.memory.now.shadows t (held_in old.memory.now.pager) (λ counts. is))
+
+-- where accesses are not counted, a look is nothing
+pub looks_uncounted : {E : Type 0} (gave : E → E → List Piece → Type 0) (first now : Side E) (view : ShadowView) (va : ℕ)
+    (kind : Kind) (w : World) → Sees gave first now w → IsViewIn now.space view → now.memory.now.counting ≡ false
+    → Sees gave first now (noted (Look (satp_in view) (access_in view va kind) ∷ []) w)
+looks_uncounted gave first now view va kind w sees viewed uncounted =
+    sees_noted gave first now _ w
+    (look_tracks now.space view va kind viewed now.memory.now.counting now.memory.now.shadows now.memory.now.shadows (held_in now.memory.now.pager)
+    (λ counts. absurd (false≢true (sym uncounted ∙ counts)))) sees
+
+live_looked : (view : ShadowView) (page : ℕ) (kind : Kind) (t : Table) → (looked view page kind t).live ≡ t.live
+unfolding looked
+live_looked view page kind t = refl
+
+-- a hit: the access is looked up, and its tables, which are outside, are touched
+pub known_follows : {E : Type 0} (gave : E → E → List Piece → Type 0) (first old : Side E) (t : Table) (w : World) (view : ShadowView) (va : ℕ)
+    (kind : Kind) (e : Entry) (pa : ℕ) → Sees gave first old w → IsViewIn old.space view → t ≡ looked view (va / 4096) kind old.memory.now.shadows
+    → Some e ≡ find (is_for view (va / 4096) kind) old.memory.now.shadows.live → pa ≡ start_of e.frame.0 + va % 4096
+    → is_in_frames (frames_of old.memory.now) (start_of e.frame.0 + va % 4096) ≡ true
+    → FollowsFrom (Sees gave first) (with_table old t) (Ok pa) (asked_led view va kind w)
+unfolding ask_led
+known_follows gave first old t w view va kind e pa sees viewed is there at inside =
+    let new = with_table old t in
+    let w1 = noted (Look (satp_in view) (access_in view va kind) ∷ []) w in
+    let sees1 = looks gave first old t view va kind w sees viewed is in
+    let there1 : Some e ≡ find (is_for view (va / 4096) kind) t.live = there ∙ ap (λ (x : List Entry). find (is_for view (va / 4096) kind) x) (sym (ap (λ (u : Table). u.live) is ∙ live_looked view (va / 4096) kind old.memory.now.shadows)) in
+    let led = known_leads gave first new w1 view va kind e sees1 there1 inside in
+    let agrees = found_agrees gave first new w1 view (va / 4096) kind e sees1 there1 in
+    subst (λ (x : Told (Result ℕ ℕ)). FollowsFrom (Sees gave first) new (Ok pa) x) (sym led)
+    (record {
+      answer = ap (λ (n : ℕ). Ok n) at;
+      stands = sees_noted gave first new (touches (listed e.pt1 ++ listed e.pt0)) w1
+          (touches_still old.space old.memory.now.counting t (held_in old.memory.now.pager) e.pt1 e.pt0 agrees.1 agrees.2) sees1;
+    })
 
 room_frames : (t : Table) → (with_room t).frames ≡ t.frames
 unfolding with_room emptied
@@ -140,19 +237,23 @@ birth_frames : (known : Bool) (e : Entry) (old new : Table) → AreBirthCalls kn
 birth_frames true e old new made = ap (λ (t : Table). t.frames) made
 birth_frames false e old new made = ap (λ (t : Table). t.frames) made.1 ∙ room_frames old
 
-pub learns : {E : Type 0} (gave : E → E → List Piece → Type 0) (first old : Side E) (t : Table) (e : Entry) (w : World)
-    → Sees gave first old w → IsEntryOf w (held_in old.memory.now.pager) e
+pub learns : {E : Type 0} (gave : E → E → List Piece → Type 0) (first old : Side E) (t : Table) (e : Entry) (satp : ℕ) (a : Access) (walked : Walked)
+    (cloaked : Option PageId) (w : World) → Sees gave first old w → IsEntryOf w (held_in old.memory.now.pager) e
+    → entry_in old.space satp a walked cloaked ≡ e → is_own_table e ≡ false
     → (IsWithin old.memory.now.shadows.frames e
     → AreBirthCalls (is_known e.view e.page e.kind old.memory.now.shadows) e old.memory.now.shadows t)
-    → Sees gave first (with_table old t) w
-learns gave first old t e (Flat ram) sees is born = absurd sees
-learns gave first old t e (Alone handed) sees is born = absurd sees
-learns gave first old t e (Cloaked c) sees is born =
+    → Sees gave first (with_table old t) (noted (Born satp a walked cloaked ∷ []) w)
+learns gave first old t e satp a walked cloaked (Flat ram) sees is same other born = absurd sees
+learns gave first old t e satp a walked cloaked (Alone handed) sees is same other born = absurd sees
+learns gave first old t e satp a walked cloaked (Cloaked c) sees is same other born =
     let h = sees.holds in
     let made = born (subst (λ (n : ℕ). IsWithin n e) (h.pager.count ∙ sym h.room) is.1) in
-    sees_with gave first old t c sees
+    sees_with gave first old t c (Born satp a walked cloaked ∷ []) sees
     (keeps_birth (EntryAgrees (present (held_in old.memory.now.pager) c.memory)) _ e old.memory.now.shadows t made is.0 h.agrees)
     (birth_frames _ e old.memory.now.shadows t made)
+    (born_tracks old.space satp a walked cloaked old.memory.now.counting old.memory.now.shadows t (held_in old.memory.now.pager)
+    (λ counts. subst (λ (x : Entry). AreBirthCallsUnless (is_own_table x) x old.memory.now.shadows t) (sym same)
+    (birth_made e old.memory.now.shadows t other made)))
 
 -- The walk of an access that led somewhere.
 
@@ -187,12 +288,101 @@ walked_by gave first mid satp satp' a a' r w same also told =
     subst (λ (x : ℕ × Access). is_clashed (ask_walk x.0 x.1 w).world ≡ false → FollowsFrom (Sees gave first) mid r (ask_walk x.0 x.1 w))
     (λ i. (same i, also i)) told
 
-pub led_so : (v : World) (view : ShadowView) (va : ℕ) (kind : Kind) (walked : Walked) (pa : ℕ) (o : Option Walked)
-    → IfSome o (λ x. x ≡ walked) → IsWalkOf v view va kind walked → walked.pa ≡ pa
-    → IsLedBy v view va kind (record { pa = pa; walked = o })
-led_so v view va kind walked pa None same is at = tt
-led_so v view va kind walked pa (Some x) same is at =
-    subst (λ (y : Walked). IsWalkOf v view va kind y × (y.pa ≡ pa)) (sym same) (is, at)
+pub led_so : (v : World) (view : ShadowView) (va : ℕ) (kind : Kind) (walked : Walked) (pa : ℕ) → IsWalkOf v view va kind walked → walked.pa ≡ pa
+    → IsLedBy v view va kind (record { pa = pa; walked = Some walked })
+led_so v view va kind walked pa is at = (is, at)
+
+-- the fold of a memory itself
+fold_of : Memory → Fold
+fold_of memory = record { table = memory.shadows; held = held_in memory.pager }
+
+tracks_self : (memory : Memory) → Tracks memory (fold_of memory)
+unfolding fold_of
+tracks_self memory = record { pages = λ f. refl; entries = λ counts. record { live = λ passes. refl; counts = refl } }
+
+-- the tables of a walk that led somewhere are outside behind it
+pub walk_outside : {E : Type 0} (gave : E → E → List Piece → Type 0) (first old mid : Side E) (satp : ℕ) (a : Access) (walked : Walked) (w : World)
+    → Sees gave first old w → FollowsFrom (Sees gave first) mid (Ok walked) (ask_walk satp a w) → AreOutside (held_in mid.memory.now.pager) walked
+walk_outside gave first old mid satp a walked (Flat ram) sees told = absurd sees
+walk_outside gave first old mid satp a walked (Alone handed) sees told = absurd sees
+walk_outside gave first old mid satp a walked (Cloaked c) sees told =
+    let there = walked_touches satp a c walked (sym told.answer) in
+    let c' = there.0 in
+    let stands : SeesCloak gave first mid c' = subst (λ (v : World). Sees gave first mid v) there.1 told.stands in
+    let tables = touches (listed walked.pt1 ++ listed walked.pt0) in
+    let s = fold_of first.memory.now in
+    let before = after_events mid.space c.events s in
+    let keeps : Tracks mid.memory.now (after_events mid.space tables before) =
+    subst (λ (u : Fold). Tracks mid.memory.now u) (events_then mid.space c.events tables s)
+    (subst (λ (es : List Event). Tracks mid.memory.now (after_events mid.space es s)) there.2 (stands.tracks s (tracks_self first.memory.now))) in
+    let none = tables_none mid.space walked.pt1 walked.pt0 before in
+    record { first = held_none mid.memory.now _ keeps walked.pt1 none.0; second = held_none mid.memory.now _ keeps walked.pt0 none.1 }
+  where
+    held_none : (memory : Memory) (s : Fold) → Tracks memory s → (o : Option Frame) → IfSome o (λ f. s.held f.0 ≡ None) → IfSome o (λ f. held_in memory.pager f.0 ≡ None)
+    held_none memory s keeps None none = tt
+    held_none memory s keeps (Some f) none = keeps.pages f.0 ∙ none
+
+-- A translation that is known stays, and one that never becomes live does.
+
+births_still : (now : Memory) (space : Option SpaceId) (satp : ℕ) (a : Access) (cloaked : Option PageId) (r : Walk)
+    → ((walked : Walked) → r ≡ Ok walked → now.counting ≡ true → let e = entry_in space satp a walked cloaked in AreBirthCallsUnless (is_own_table e) e now.shadows now.shadows)
+    → TracksBy now now (after_events space (births_by satp a cloaked r))
+births_still now space satp a cloaked (Err cause) calls s keeps = subst (λ (u : Fold). Tracks now u) (no_events space s) keeps
+births_still now space satp a cloaked (Ok walked) calls s keeps =
+    born_tracks space satp a walked cloaked now.counting now.shadows now.shadows (held_in now.pager) (λ counts. calls walked refl counts) s keeps
+
+pub sees_known : {E : Type 0} (gave : E → E → List Piece → Type 0) (first now : Side E) (satp : ℕ) (a : Access) (cloaked : Option PageId) (w : World)
+    → Sees gave first now w → ((walked : Walked) → walk (ram_of w) satp a ≡ Ok walked → now.memory.now.counting ≡ true
+    → let e = entry_in now.space satp a walked cloaked in AreBirthCallsUnless (is_own_table e) e now.memory.now.shadows now.memory.now.shadows)
+    → Sees gave first now (known satp a cloaked w)
+sees_known gave first now satp a cloaked w sees calls =
+    sees_noted gave first now _ w (births_still now.memory.now now.space satp a cloaked (walk (ram_of w) satp a) calls) sees
+
+-- the entry of an access of a view
+entry_key : (space : Option SpaceId) (view : ShadowView) (va : ℕ) (kind : Kind) (walked : Walked) (cloaked : Option PageId) → IsViewIn space view
+    → let e = entry_in space (satp_in view) (access_in view va kind) walked cloaked in (t : Table) → is_known e.view e.page e.kind t ≡ is_known view (va / 4096) kind t
+entry_key space (Outside satp mode sum mxr) va kind walked cloaked viewed t = ap (λ (v : ShadowView). is_known v (va / 4096) kind t) (viewed va kind)
+entry_key space (Inside satp sum mxr x) va kind walked cloaked viewed t = ap (λ (v : ShadowView). is_known v (va / 4096) kind t) (viewed va kind)
+
+pub sees_live : {E : Type 0} (gave : E → E → List Piece → Type 0) (first now : Side E) (view : ShadowView) (va : ℕ) (kind : Kind) (cloaked : Option PageId) (w : World)
+    → Sees gave first now w → IsViewIn now.space view → (now.memory.now.counting ≡ true → is_known view (va / 4096) kind now.memory.now.shadows ≡ true)
+    → Sees gave first now (known (satp_in view) (access_in view va kind) cloaked w)
+sees_live gave first now view va kind cloaked w sees viewed live =
+    sees_known gave first now (satp_in view) (access_in view va kind) cloaked w sees
+    (λ walked leads counts. birth_still (entry_in now.space (satp_in view) (access_in view va kind) walked cloaked) now.memory.now.shadows
+    (entry_key now.space view va kind walked cloaked viewed now.memory.now.shadows ∙ live counts))
+
+-- the entry of the walk is the one that is built
+pub entry_same : (space : Option SpaceId) (view : ShadowView) (va : ℕ) (kind : Kind) (walked : Walked) (cloaked : Option PageId) (f : Frame) (pa : ℕ) (e : Entry) → IsViewIn space view
+    → walked.pa ≡ pa → f.0 ≡ frame_of pa
+    → e ≡ record { view = view; page = va / 4096; kind = kind; frame = f; pt1 = walked.pt1; pt0 = walked.pt0; cloaked = cloaked }
+    → entry_in space (satp_in view) (access_in view va kind) walked cloaked ≡ e
+entry_same space (Outside satp mode sum mxr) va kind walked cloaked f pa e viewed led at is =
+    let by : ShadowView → ℕ → Entry = λ v n. record { view = v; page = va / 4096; kind = kind; frame = record { 0 = n }; pt1 = walked.pt1; pt0 = walked.pt0; cloaked = cloaked } in
+    (λ i. by (viewed va kind i) ((ap (λ (n : ℕ). frame_of n) led ∙ sym at) i)) ∙ sym is
+entry_same space (Inside satp sum mxr x) va kind walked cloaked f pa e viewed led at is =
+    let by : ShadowView → ℕ → Entry = λ v n. record { view = v; page = va / 4096; kind = kind; frame = record { 0 = n }; pt1 = walked.pt1; pt0 = walked.pt0; cloaked = cloaked } in
+    (λ i. by (viewed va kind i) ((ap (λ (n : ℕ). frame_of n) led ∙ sym at) i)) ∙ sym is
+
+-- what was born of a walk that leads there is what is known then
+pub born_known : {E : Type 0} (gave : E → E → List Piece → Type 0) (first now : Side E) (view : ShadowView) (va : ℕ) (kind : Kind) (walked : Walked) (cloaked : Option PageId) (w : World)
+    → IsWalkOf w view va kind walked → Sees gave first now (noted (Born (satp_in view) (access_in view va kind) walked cloaked ∷ []) w)
+    → Sees gave first now (known (satp_in view) (access_in view va kind) cloaked w)
+born_known gave first now view va kind walked cloaked (Flat ram) is sees = absurd is
+born_known gave first now view va kind walked cloaked (Alone handed) is sees = absurd is
+born_known gave first now view va kind walked cloaked (Cloaked c) is sees =
+    subst (λ (r : Walk). Sees gave first now (noted (births_by (satp_in view) (access_in view va kind) cloaked r) (Cloaked c))) (sym is.0) sees
+
+-- a walk leads there still behind a settling
+pub settled_is : {E : Type 0} (gave : E → E → List Piece → Type 0) (first old : Side E) (view : ShadowView) (va : ℕ) (kind : Kind) (walked : Walked) (f : ℕ) (w : World)
+    → Sees gave first old w → AreOutside (held_in old.memory.now.pager) walked → IsWalkOf w view va kind walked → IsWalkOf (settled f w) view va kind walked
+settled_is gave first old view va kind walked f (Flat ram) sees out is = absurd is
+settled_is gave first old view va kind walked f (Alone handed) sees out is = absurd is
+settled_is gave first old view va kind walked f (Cloaked c) sees out is =
+    let h = sees.holds in (
+      settled_walk (held_in old.memory.now.pager) c.memory f (satp_in view) (access_in view va kind) walked (pager_owes old.memory.now.pager h.wiped c.memory h.pager) out is.0,
+      ap (λ (n : ℕ). is_in_frames n walked.pa) (settle_count f c.memory) ∙ is.1,
+    )
 
 -- what frames held no page hold none where they hold no more
 outside_still : (old new : PagerState) (f : ℕ) → HoldsNoMore old new → StayOutsideBut f (held_in old) (held_in new)
@@ -239,19 +429,21 @@ led_entry gave first old new view va kind led walked w sees some by outside less
 -- A page was offered in the frame, which holds it now: the entry of the walk agrees, unless the frame is one of its tables.
 
 -- what an offer leaves of memory
-offer_leaves : (q : PageId) (g : ℕ) (write : Bool) (c : Cloak) (o : Offer) → (c' : Cloak) ×
-    ((offered_by q g o (Cloaked c)).world ≡ Cloaked c') × (c'.memory ≡ c.memory)
+offer_leaves : (q : PageId) (va : ℕ) (kind : Kind) (g : ℕ) (c : Cloak) (o : Offer) → (c' : Cloak) ×
+    ((offered_by q va kind g o (Cloaked c)).world ≡ Cloaked c') × (c'.memory ≡ c.memory)
 unfolding offered_by replies
-offer_leaves q g write c Ready = (_, refl, refl)
-offer_leaves q g write c Mismatch = (_, refl, refl)
-offer_leaves q g write c Missed = (_, refl, refl)
+offer_leaves q va kind g c Ready = (_, refl, refl)
+offer_leaves q va kind g c Mismatch = (_, refl, refl)
+offer_leaves q va kind g c Missed = (_, refl, refl)
 
-asked_leaves : (q : PageId) (g : ℕ) (write : Bool) (c : Cloak) → (c' : Cloak) ×
-    ((ask_offer q g write (Cloaked c)).world ≡ Cloaked c') × (c'.memory ≡ (offer q g write c.memory).memory)
+asked_leaves : (q : PageId) (va : ℕ) (kind : Kind) (g : ℕ) (c : Cloak) → (c' : Cloak) ×
+    ((ask_offer q va kind g (Cloaked c)).world ≡ Cloaked c') × (c'.memory ≡ (offer q g (is_store kind) c.memory).memory)
 unfolding ask_offer
-asked_leaves q g write c =
-    let o = offer q g write c.memory in
-    offer_leaves q g write (record c { memory = o.memory; items = c.items ++ cipher_items o.ciphers }) o.answer
+asked_leaves q va kind g c =
+    let o = offer q g (is_store kind) c.memory in
+    offer_leaves q va kind g
+    (record c { memory = o.memory; items = c.items ++ cipher_items o.ciphers; events = c.events ++ offer_events q g c.memory o.answer })
+    o.answer
 
 -- a frame that holds the page is the only one
 outside_but : (old new : PagerState) (g : ℕ) (q : PageId) → IsWholePager new → HoldsNoOther q old new → held_in new g ≡ Some q
@@ -297,104 +489,207 @@ page_entry_in gave first old new view va kind q pa walked c c' sees sees' is_mem
           (entry_within c.memory.ram view va kind walked (Some q) is.0 is.1)),
     )
 
-pub page_entry : {E : Type 0} (gave : E → E → List Piece → Type 0) (first old new : Side E) (view : ShadowView) (va : ℕ) (kind : Kind)
-    (q : PageId) (pa : ℕ) (walked : Walked) (w : World) → Sees gave first old w
-    → Sees gave first new (ask_offer q (frame_of pa) (is_store kind) w).world
-    → IsWalkOf w view va kind walked → walked.pa ≡ pa
-    → AreOutside (held_in old.memory.now.pager) walked → HoldsNoOther q old.memory.now.pager new.memory.now.pager
-    → held_in new.memory.now.pager (frame_of pa) ≡ Some q
-    → (kind ≡ Store → owed_at new.memory.now.pager (frame_of pa) ≡ Some q)
-    → frames_of new.memory.now ≡ frames_of old.memory.now
-    → is_table (record { 0 = frame_of pa }) (entry_at view va kind pa walked (Some q)) ≡ false
-    → IsEntryOf (ask_offer q (frame_of pa) (is_store kind) w).world (held_in new.memory.now.pager)
-    (entry_at view va kind pa walked (Some q))
-page_entry gave first old new view va kind q pa walked (Flat ram) sees sees' is at outside others here owed count apart = absurd sees
-page_entry gave first old new view va kind q pa walked (Alone handed) sees sees' is at outside others here owed count apart = absurd sees
-page_entry gave first old new view va kind q pa walked (Cloaked c) sees sees' is at outside others here owed count apart =
-    let left = asked_leaves q (frame_of pa) (is_store kind) c in
-    subst (λ (v : World). IsEntryOf v (held_in new.memory.now.pager) (entry_at view va kind pa walked (Some q))) (sym left.1)
-    (page_entry_in gave first old new view va kind q pa walked c left.0 sees
-    (subst (λ (v : World). Sees gave first new v) left.1 sees') left.2 is at outside others here owed count apart)
+-- Where an access was led.
+
+pub if_led : {P Q R S : Led → Type 0} (r : Result Led ℕ) → ((led : Led) → P led → Q led → R led → S led) → IfOk r P → IfOk r Q → IfOk r R → IfOk r S
+if_led (Ok led) all p q r = all led p q r
+if_led (Err cause) all p q r = tt
+
+pub led_behind_walk : {E : Type 0} (gave : E → E → List Piece → Type 0) (first mid : Side E) (memory : Memory) (view : ShadowView) (va : ℕ) (kind : Kind) (cloaked : Option PageId)
+    (led : Led) (w : World) → Sees gave first mid (noted (Look (satp_in view) (access_in view va kind) ∷ []) w) → led.walked ≢ None
+    → ((v : World) → Sees gave first mid v → let t = ask_translate (satp_in view) (access_in view va kind) v in is_clashed t.world ≡ false → IsLedBy t.world view va kind led)
+    → ((v : World) → Sees gave first mid v → let t = ask_translate (satp_in view) (access_in view va kind) v in is_clashed t.world ≡ false → AreLedOutside (held_in memory.pager) led)
+    → let t = asked_led view va kind w in is_clashed t.world ≡ false → IsLedSo memory t.world view va kind cloaked led
+unfolding ask_led
+led_behind_walk gave first mid memory view va kind cloaked led w sees walked by outside unclashed =
+    record { by = by _ sees unclashed; outside = outside _ sees unclashed; live = λ none. absurd (walked none) }
+
+-- The target of an open access was settled. Where it was led without a walk, its translation stays.
+
+quiet_known : (view : ShadowView) (page : ℕ) (kind : Kind) (t t' : Table) (o : Option PageId) (f : ℕ) → t' ≡ killed_if (is_some o) (frame f) t → o ≡ None
+    → is_known view page kind t ≡ true → is_known view page kind t' ≡ true
+quiet_known view page kind t t' o f ends none known =
+    ap (λ (u : Table). is_known view page kind u) (ends ∙ ap (λ (x : Option PageId). killed_if (is_some x) (frame f) t) none) ∙ known
+
+pub opened_live : {E : Type 0} (gave : E → E → List Piece → Type 0) (first old new : Side E) (view : ShadowView) (va : ℕ) (kind : Kind) (led : Led) (f : ℕ) (w : World)
+    → f ≡ frame_of led.pa → Sees gave first new (settled (frame_of led.pa) w) → IsViewIn new.space view → led.walked ≡ None
+    → IsLive old.memory.now view va kind None led → new.memory.now.counting ≡ old.memory.now.counting
+    → new.memory.now.shadows ≡ killed_if (is_some (held_in old.memory.now.pager f)) (frame f) old.memory.now.shadows
+    → Sees gave first new (opened (satp_in view) (access_in view va kind) led.pa w)
+opened_live gave first old new view va kind led f w at sees viewed none live counting ends =
+    sees_live gave first new view va kind None (settled (frame_of led.pa) w) sees viewed (λ counts.
+    let is = live none (sym counting ∙ counts) in
+    quiet_known view (va / 4096) kind old.memory.now.shadows new.memory.now.shadows (held_in old.memory.now.pager f) f ends
+    (ap (held_in old.memory.now.pager) at ∙ is.1) is.0)
+
+-- A page was offered where its access was led, and the frame holds it now.
+
+offered_is : {E : Type 0} (gave : E → E → List Piece → Type 0) (first old : Side E) (view : ShadowView) (va : ℕ) (kind : Kind) (q : PageId) (g : ℕ) (write : Bool) (walked : Walked)
+    (c c' : Cloak) → SeesCloak gave first old c → c'.memory ≡ (offer q g write c.memory).memory → AreOutside (held_in old.memory.now.pager) walked
+    → IsWalkOf (Cloaked c) view va kind walked → IsWalkOf (Cloaked c') view va kind walked
+offered_is gave first old view va kind q g write walked c c' sees is out by =
+    let h = sees.holds in
+    subst (λ (m : CloakedMemory). (walk m.ram (satp_in view) (access_in view va kind) ≡ Ok walked) × (is_in_ram m.ram walked.pa ≡ true)) (sym is) (
+      offered_walk_still (held_in old.memory.now.pager) c.memory q g write (satp_in view) (access_in view va kind) walked (pager_owes old.memory.now.pager h.wiped c.memory h.pager) out by.0,
+      ap (λ (n : ℕ). is_in_frames n walked.pa) (offer_count q g write c.memory) ∙ by.1,
+    )
+
+pub reached_so : {E : Type 0} (gave : E → E → List Piece → Type 0) (first old new : Side E) (view : ShadowView) (va : ℕ) (kind : Kind) (q : PageId) (led : Led) (c c' : Cloak)
+    → SeesCloak gave first old c → SeesCloak gave first new c' → c'.memory ≡ (offer q (frame_of led.pa) (is_store kind) c.memory).memory
+    → IsLedSo old.memory.now (Cloaked c) view va kind (Some q) led → HoldsNoOther q old.memory.now.pager new.memory.now.pager
+    → held_in new.memory.now.pager (frame_of led.pa) ≡ Some q → (kind ≡ Store → owed_at new.memory.now.pager (frame_of led.pa) ≡ Some q)
+    → frames_of new.memory.now ≡ frames_of old.memory.now → new.memory.now.counting ≡ old.memory.now.counting
+    → (held_in old.memory.now.pager (frame_of led.pa) ≡ Some q → new.memory.now.shadows ≡ old.memory.now.shadows)
+    → IsReachedSo new.memory.now (Cloaked c') view va kind q led
+reached_so gave first old new view va kind q led c c' sees sees' is so others here owed count counting again = record {
+  by = by_walk led.walked so.by so.outside;
+  reached = entry led.walked so.by so.outside;
+  live = λ none counts. let live = so.live none (sym counting ∙ counts) in (
+    ap (λ (t : Table). is_known view (va / 4096) kind t) (again live.1) ∙ live.0,
+    here,
+  );
+}
+  where
+    by_walk : (o : Option Walked) → IfSome o (λ x. IsWalkOf (Cloaked c) view va kind x × (x.pa ≡ led.pa)) → IfSome o (AreOutside (held_in old.memory.now.pager))
+        → IfSome o (λ x. IsWalkOf (Cloaked c') view va kind x × (x.pa ≡ led.pa))
+    by_walk None by out = tt
+    by_walk (Some walked) by out = (offered_is gave first old view va kind q (frame_of led.pa) (is_store kind) walked c c' sees is out by.0, by.1)
+
+    entry : (o : Option Walked) → IfSome o (λ x. IsWalkOf (Cloaked c) view va kind x × (x.pa ≡ led.pa)) → IfSome o (AreOutside (held_in old.memory.now.pager))
+        → IfSome o (λ walked. let e = entry_at view va kind led.pa walked (Some q) in is_table e.frame e ≡ false → IsEntryOf (Cloaked c') (held_in new.memory.now.pager) e)
+    entry None by out = tt
+    entry (Some walked) by out =
+        λ apart. page_entry_in gave first old new view va kind q led.pa walked c c' sees sees' is by.0 by.1 out others here owed count apart
+
+-- An entry through its page's own frame never becomes live.
+
+pub own_of : (f : Frame) (q : PageId) (e : Entry) {b : Bool} {view : ShadowView} {page : ℕ} {kind : Kind} {pt1 pt0 : Option Frame}
+    → e ≡ record { view = view; page = page; kind = kind; frame = f; pt1 = pt1; pt0 = pt0; cloaked = Some q } → is_table f e ≡ b → is_own_table e ≡ b
+own_of f q e {b} is table =
+    ap (λ (x : Entry). is_some x.cloaked && is_table x.frame e) is ∙ table
+
+pub own_same : (q : PageId) (e x : Entry) → e ≡ x → is_own_table x ≡ false → is_some e.cloaked ≡ true → is_table e.frame e ≡ false
+own_same q e x is other some = ap (λ (b : Bool). b && is_table e.frame e) (sym some) ∙ ap is_own_table is ∙ other
+
+pub never_known : {E : Type 0} (gave : E → E → List Piece → Type 0) (first now : Side E) (view : ShadowView) (va : ℕ) (kind : Kind) (walked : Walked) (cloaked : Option PageId) (e : Entry) (w : World)
+    → Sees gave first now w → IsWalkOf w view va kind walked → entry_in now.space (satp_in view) (access_in view va kind) walked cloaked ≡ e → is_own_table e ≡ true
+    → Sees gave first now (known (satp_in view) (access_in view va kind) cloaked w)
+never_known gave first now view va kind walked cloaked e w sees is same own =
+    born_known gave first now view va kind walked cloaked w is
+    (sees_noted gave first now _ w
+    (born_tracks now.space (satp_in view) (access_in view va kind) walked cloaked now.memory.now.counting now.memory.now.shadows now.memory.now.shadows (held_in now.memory.now.pager)
+    (λ counts. birth_never _ now.memory.now.shadows (ap is_own_table same ∙ own))) sees)
+
+-- the questions of a cloaked program are asked by the view of its hart
+pub asked_inside : {E : Type 0} (gave : E → E → List Piece → Type 0) (first now : Side E) (space : SpaceId) (va : ℕ) (kind : Kind)
+    (w : World) → Sees gave first now w → ask_inside_address va kind w ≡ asked_led (inside_view now.view space) va kind w
+unfolding ask_inside_address
+asked_inside gave first now space va kind (Flat ram) sees = absurd sees
+asked_inside gave first now space va kind (Alone handed) sees = absurd sees
+asked_inside gave first now space va kind (Cloaked c) sees =
+    let by_view : View → Told (Result ℕ ℕ) = λ v. ask_led v.satp (record { mode = U; sum = v.sum; mxr = v.mxr; va = va; kind = kind }) (Cloaked c) in
+    sym (ap by_view sees.view)
+
+-- and by its access
+pub access_inside : {E : Type 0} (gave : E → E → List Piece → Type 0) (first now : Side E) (space : SpaceId) (va : ℕ) (kind : Kind)
+    (w : World) → Sees gave first now w → (P : ℕ → Access → Type 0)
+    → P (satp_in (inside_view now.view space)) (access_in (inside_view now.view space) va kind) → P (view_of w).satp (inside_access w va kind)
+access_inside gave first now space va kind (Flat ram) sees P is = absurd sees
+access_inside gave first now space va kind (Alone handed) sees P is = absurd sees
+access_inside gave first now space va kind (Cloaked c) sees P is =
+    subst (λ (v : View). P v.satp (record { mode = U; sum = v.sum; mxr = v.mxr; va = va; kind = kind })) sees.view is
+
+-- The questions of a program, by its view.
+
+pub opened_inside : {E : Type 0} (gave : E → E → List Piece → Type 0) (first now mid : Side E) (space : SpaceId) (view : ShadowView) (va : ℕ) (kind : Kind) (pa : ℕ) (w : World)
+    → Sees gave first now w → view ≡ inside_view now.view space → Sees gave first mid (opened (satp_in view) (access_in view va kind) pa w)
+    → Sees gave first mid (opened (view_of w).satp (inside_access w va kind) pa w)
+opened_inside gave first now mid space view va kind pa w sees is stands =
+    access_inside gave first now space va kind w sees (λ (satp : ℕ) (a : Access). Sees gave first mid (opened satp a pa w))
+    (subst (λ (v : ShadowView). Sees gave first mid (opened (satp_in v) (access_in v va kind) pa w)) is stands)
+
+pub known_inside : {E : Type 0} (gave : E → E → List Piece → Type 0) (first now mid : Side E) (space : SpaceId) (view : ShadowView) (va : ℕ) (kind : Kind) (cloaked : Option PageId) (w : World)
+    → Sees gave first now w → view ≡ inside_view now.view space → Sees gave first mid (known (satp_in view) (access_in view va kind) cloaked w)
+    → Sees gave first mid (known (view_of w).satp (inside_access w va kind) cloaked w)
+known_inside gave first now mid space view va kind cloaked w sees is stands =
+    access_inside gave first now space va kind w sees (λ (satp : ℕ) (a : Access). Sees gave first mid (known satp a cloaked w))
+    (subst (λ (v : ShadowView). Sees gave first mid (known (satp_in v) (access_in v va kind) cloaked w)) is stands)
+
+-- Views.
+
+pub viewed_inside : (space : Option SpaceId) (s : SpaceId) (v : ShadowView) (view : View) → space ≡ Some s → v ≡ inside_view view s → IsViewIn space v
+viewed_inside space s v view at is =
+    subst (λ (o : Option SpaceId). IsViewIn o v) (sym at) (subst (λ (x : ShadowView). IsViewIn (Some s) x) (sym is) (λ va kind. refl))
+
+pub viewed_outside : (space : Option SpaceId) (satp : ℕ) (a : Access) → space ≡ None → IsViewIn space (Outside satp a.mode a.sum a.mxr)
+viewed_outside space satp a none = subst (λ (o : Option SpaceId). IsViewIn o (Outside satp a.mode a.sum a.mxr)) (sym none) (λ va kind. refl)
 
 -- A whole access of the kernel.
 
+-- it was looked up, and then it is led by a walk
+pub walk_follows : {E : Type 0} (gave : E → E → List Piece → Type 0) (first mid new : Side E) (view : ShadowView) (va : ℕ) (kind : Kind)
+    (to : Result ℕ ℕ) (w : World) → Sees gave first mid (noted (Look (satp_in view) (access_in view va kind) ∷ []) w)
+    → ((v : World) → Sees gave first mid v → is_clashed (ask_translate (satp_in view) (access_in view va kind) v).world ≡ false
+    → FollowsFrom (Sees gave first) new to (ask_translate (satp_in view) (access_in view va kind) v))
+    → is_clashed (asked_led view va kind w).world ≡ false → FollowsFrom (Sees gave first) new to (asked_led view va kind w)
+unfolding ask_led
+walk_follows gave first mid new view va kind to w sees told = told _ sees
+
+-- what is so of the world behind the walk is so of the one behind the access
+pub behind_walk : {E : Type 0} (gave : E → E → List Piece → Type 0) (first mid : Side E) (P : World → Type 0) (view : ShadowView) (va : ℕ) (kind : Kind)
+    (w : World) → Sees gave first mid (noted (Look (satp_in view) (access_in view va kind) ∷ []) w)
+    → ((v : World) → Sees gave first mid v → let t = ask_translate (satp_in view) (access_in view va kind) v in is_clashed t.world ≡ false → P t.world)
+    → let t = asked_led view va kind w in is_clashed t.world ≡ false → P t.world
+unfolding ask_led
+behind_walk gave first mid P view va kind w sees by = by _ sees
+
 pub loaded_told : {E : Type 0} (gave : E → E → List Piece → Type 0) (first mid new : Side E) (satp : ℕ) (a : Access) (width pa value : ℕ)
-    (w : World) → FollowsFrom (Sees gave first) mid (Ok pa) (ask_translate satp a w)
-    → FollowsFrom (λ side v. Sees gave first side v) new value (shown_value pa width (settled (frame_of pa) (ask_translate satp a w).world))
+    (w : World) → FollowsFrom (Sees gave first) mid (Ok pa) (ask_led satp a w)
+    → FollowsFrom (λ side v. Sees gave first side v) new value (shown_value pa width (opened satp a pa (ask_led satp a w).world))
     → FollowsFrom (Sees gave first) new (Ok value) (ask_load satp a width w)
 unfolding ask_load loaded_at ask_value
 loaded_told gave first mid new satp a width pa value w led told =
-    subst (λ (to : Result ℕ ℕ). FollowsFrom (Sees gave first) new (Ok value) (loaded_at width to (ask_translate satp a w).world)) led.answer
+    subst (λ (to : Result ℕ ℕ). FollowsFrom (Sees gave first) new (Ok value) (loaded_at satp a width to (ask_led satp a w).world)) led.answer
     (record { answer = ap (λ (n : ℕ). Ok n) told.answer; stands = told.stands })
 
 pub load_fault : {E : Type 0} (gave : E → E → List Piece → Type 0) (first new : Side E) (satp : ℕ) (a : Access) (width cause : ℕ)
-    (w : World) → FollowsFrom (Sees gave first) new (Err cause) (ask_translate satp a w)
+    (w : World) → FollowsFrom (Sees gave first) new (Err cause) (ask_led satp a w)
     → FollowsFrom (Sees gave first) new (Err cause) (ask_load satp a width w)
 unfolding ask_load loaded_at
 load_fault gave first new satp a width cause w led =
-    subst (λ (to : Result ℕ ℕ). FollowsFrom (Sees gave first) new (Err cause) (loaded_at width to (ask_translate satp a w).world)) led.answer
+    subst (λ (to : Result ℕ ℕ). FollowsFrom (Sees gave first) new (Err cause) (loaded_at satp a width to (ask_led satp a w).world)) led.answer
     (record { answer = refl; stands = led.stands })
 
 pub stored_told : {E : Type 0} (gave : E → E → List Piece → Type 0) (first mid new : Side E) (satp : ℕ) (a : Access) (width pa value : ℕ)
-    (w : World) → FollowsFrom (Sees gave first) mid (Ok pa) (ask_translate satp a w)
+    (w : World) → FollowsFrom (Sees gave first) mid (Ok pa) (ask_led satp a w)
     → FollowsFrom (λ side v. Sees gave first side v) new (tt {0})
-    (stored_value pa width value (settled (frame_of pa) (ask_translate satp a w).world))
+    (stored_value pa width value (opened satp a pa (ask_led satp a w).world))
     → FollowsFrom (Sees gave first) new (Ok (tt {0})) (ask_store_at satp a width value w)
 unfolding ask_store_at stored_to ask_store
 stored_told gave first mid new satp a width pa value w led told =
-    subst (λ (to : Result ℕ ℕ). FollowsFrom (Sees gave first) new (Ok (tt {0})) (stored_to width value to (ask_translate satp a w).world)) led.answer
+    subst (λ (to : Result ℕ ℕ). FollowsFrom (Sees gave first) new (Ok (tt {0})) (stored_to satp a width value to (ask_led satp a w).world)) led.answer
     (record { answer = refl; stands = told.stands })
 
 pub store_fault : {E : Type 0} (gave : E → E → List Piece → Type 0) (first new : Side E) (satp : ℕ) (a : Access) (width value cause : ℕ)
-    (w : World) → FollowsFrom (Sees gave first) new (Err cause) (ask_translate satp a w)
+    (w : World) → FollowsFrom (Sees gave first) new (Err cause) (ask_led satp a w)
     → FollowsFrom (Sees gave first) new (Err cause) (ask_store_at satp a width value w)
 unfolding ask_store_at stored_to
 store_fault gave first new satp a width value cause w led =
-    subst (λ (to : Result ℕ ℕ). FollowsFrom (Sees gave first) new (Err cause) (stored_to width value to (ask_translate satp a w).world)) led.answer
+    subst (λ (to : Result ℕ ℕ). FollowsFrom (Sees gave first) new (Err cause) (stored_to satp a width value to (ask_led satp a w).world)) led.answer
     (record { answer = refl; stands = led.stands })
-
--- the questions of a cloaked program are asked by the view of its hart
-pub asked_inside : {E : Type 0} (gave : E → E → List Piece → Type 0) (first now : Side E) (view : ShadowView) (va : ℕ) (kind : Kind)
-    (w : World) → Sees gave first now w → view ≡ inside_view now
-    → ask_inside_address va kind w ≡ ask_translate (satp_in view) (access_in view va kind) w
-unfolding ask_inside_address
-asked_inside gave first now view va kind (Flat ram) sees is = absurd sees
-asked_inside gave first now view va kind (Alone handed) sees is = absurd sees
-asked_inside gave first now view va kind (Cloaked c) sees is =
-    let by_view : View → Told (Result ℕ ℕ) = λ v. ask_translate v.satp (record { mode = U; sum = v.sum; mxr = v.mxr; va = va; kind = kind }) (Cloaked c) in
-    sym (ap by_view sees.view) ∙ ap (λ (v : ShadowView). ask_translate (satp_in v) (access_in v va kind) (Cloaked c)) (sym is)
-
--- the translation of a page that was reached is one of the world behind its offer
-pub reached_by : {E : Type 0} (gave : E → E → List Piece → Type 0) (first old new : Side E) (view : ShadowView) (va : ℕ) (kind : Kind)
-    (q : PageId) (led : Led) (w : World) → Sees gave first old w
-    → Sees gave first new (ask_offer q (frame_of led.pa) (is_store kind) w).world → IsLedBy w view va kind led
-    → AreLedOutside (held_in old.memory.now.pager) led → HoldsNoOther q old.memory.now.pager new.memory.now.pager
-    → held_in new.memory.now.pager (frame_of led.pa) ≡ Some q
-    → (kind ≡ Store → owed_at new.memory.now.pager (frame_of led.pa) ≡ Some q)
-    → frames_of new.memory.now ≡ frames_of old.memory.now
-    → IsReachedBy (ask_offer q (frame_of led.pa) (is_store kind) w).world (held_in new.memory.now.pager) view va kind q led
-reached_by gave first old new view va kind q led w sees sees' by outside others here owed count = by_walk led.walked by outside
-  where
-    by_walk : (o : Option Walked) → IsLedBy w view va kind (record { pa = led.pa; walked = o })
-        → AreLedOutside (held_in old.memory.now.pager) (record { pa = led.pa; walked = o })
-        → IsReachedBy (ask_offer q (frame_of led.pa) (is_store kind) w).world (held_in new.memory.now.pager) view va kind q
-        (record { pa = led.pa; walked = o })
-    by_walk None by outside = tt
-    by_walk (Some walked) by outside =
-        λ apart. page_entry gave first old new view va kind q led.pa walked w sees sees' by.0 by.1 outside others here owed count apart
 
 -- an access that is not clashed did not clash where it was led
 pub load_unclashed : (satp : ℕ) (a : Access) (width : ℕ) (w : World) → is_clashed (ask_load satp a width w).world ≡ false
-    → is_clashed (ask_translate satp a w).world ≡ false
+    → is_clashed (ask_led satp a w).world ≡ false
 unfolding ask_load
 load_unclashed satp a width w unclashed =
-    let told = ask_translate satp a w in (later_loaded_at width told.answer told.world).mark unclashed
+    let told = ask_led satp a w in (later_loaded_at satp a width told.answer told.world).mark unclashed
 
 pub store_unclashed : (satp : ℕ) (a : Access) (width value : ℕ) (w : World) → is_clashed (ask_store_at satp a width value w).world ≡ false
-    → is_clashed (ask_translate satp a w).world ≡ false
+    → is_clashed (ask_led satp a w).world ≡ false
 unfolding ask_store_at
 store_unclashed satp a width value w unclashed =
-    let told = ask_translate satp a w in (later_stored_to width value told.answer told.world).mark unclashed
+    let told = ask_led satp a w in (later_stored_to satp a width value told.answer told.world).mark unclashed
 
 -- the entry of a walk, built at the frame of its address
 pub entry_is : (view : ShadowView) (va : ℕ) (kind : Kind) (f : Frame) (pa : ℕ) (walked : Walked) (cloaked : Option PageId) (e : Entry)
@@ -406,36 +701,24 @@ entry_is view va kind f pa walked cloaked e at is =
     sym (is ∙ ap by at)
 
 -- where the question of a cloaked program begins with an access
-pub inside_follows : {E : Type 0} (gave : E → E → List Piece → Type 0) (first old mid : Side E) (view : ShadowView) (va : ℕ)
-    (kind : Kind) (to : Result ℕ ℕ) (w : World) → Sees gave first old w → view ≡ inside_view old
-    → (let t = ask_translate (satp_in view) (access_in view va kind) w in
-    is_clashed t.world ≡ false → FollowsFrom (Sees gave first) mid to t)
+pub inside_follows : {E : Type 0} (gave : E → E → List Piece → Type 0) (first old mid : Side E) (space : SpaceId) (view : ShadowView) (va : ℕ)
+    (kind : Kind) (to : Result ℕ ℕ) (w : World) → Sees gave first old w → view ≡ inside_view old.view space
+    → (is_clashed (asked_led view va kind w).world ≡ false → FollowsFrom (Sees gave first) mid to (asked_led view va kind w))
     → is_clashed (ask_inside_address va kind w).world ≡ false → FollowsFrom (Sees gave first) mid to (ask_inside_address va kind w)
-inside_follows gave first old mid view va kind to w sees is told =
+inside_follows gave first old mid space view va kind to w sees is told =
     subst (λ (t : Told (Result ℕ ℕ)). is_clashed t.world ≡ false → FollowsFrom (Sees gave first) mid to t)
-    (sym (asked_inside gave first old view va kind w sees is)) told
+    (sym (asked_inside gave first old space va kind w sees))
+    (subst (λ (v : ShadowView). is_clashed (asked_led v va kind w).world ≡ false → FollowsFrom (Sees gave first) mid to (asked_led v va kind w)) is told)
 
--- the world behind it is one that the walk is of
-pub led_behind : {E : Type 0} (gave : E → E → List Piece → Type 0) (first old : Side E) (view : ShadowView) (va : ℕ)
-    (kind : Kind) (led : Led) (w : World) → Sees gave first old w → view ≡ inside_view old
-    → (let t = ask_translate (satp_in view) (access_in view va kind) w in is_clashed t.world ≡ false → IsLedBy t.world view va kind led)
-    → is_clashed (ask_inside_address va kind w).world ≡ false → IsLedBy (ask_inside_address va kind w).world view va kind led
-led_behind gave first old view va kind led w sees is by =
-    subst (λ (t : Told (Result ℕ ℕ)). is_clashed t.world ≡ false → IsLedBy t.world view va kind led)
-    (sym (asked_inside gave first old view va kind w sees is)) by
-
--- a page is offered where its access was led
-pub reached_told : {E : Type 0} (gave : E → E → List Piece → Type 0) (first new : Side E) (q : PageId) (kind : Kind) (pa g : ℕ)
-    (write : Bool) (a : Answer) (w : World) → g ≡ frame_of pa → write ≡ is_store kind
-    → is_clashed (reached q kind (Ok pa) w).world ≡ false
-    → (is_clashed (ask_offer q g write w).world ≡ false → FollowsFrom (Sees gave first) new a (ask_offer q g write w))
-    → FollowsFrom (Sees gave first) new a (ask_offer q (frame_of pa) (is_store kind) w)
-unfolding reached
-reached_told gave first new q kind pa g write a w at kind_is clash told =
-    let there : ask_offer q g write w ≡ ask_offer q (frame_of pa) (is_store kind) w =
-    ap (λ n. ask_offer q n write w) at ∙ ap (λ b. ask_offer q (frame_of pa) b w) kind_is in
-    subst (λ t. FollowsFrom (Sees gave first) new a t) there
-    (told (ap (λ (t : Told Answer). is_clashed t.world) there ∙ clash))
+-- the world behind it is one that it was led in
+pub led_behind : {E : Type 0} (gave : E → E → List Piece → Type 0) (first old : Side E) (memory : Memory) (space : SpaceId) (view : ShadowView) (va : ℕ)
+    (kind : Kind) (cloaked : Option PageId) (led : Led) (w : World) → Sees gave first old w → view ≡ inside_view old.view space
+    → (is_clashed (asked_led view va kind w).world ≡ false → IsLedSo memory (asked_led view va kind w).world view va kind cloaked led)
+    → is_clashed (ask_inside_address va kind w).world ≡ false → IsLedSo memory (ask_inside_address va kind w).world view va kind cloaked led
+led_behind gave first old memory space view va kind cloaked led w sees is by =
+    subst (λ (t : Told (Result ℕ ℕ)). is_clashed t.world ≡ false → IsLedSo memory t.world view va kind cloaked led)
+    (sym (asked_inside gave first old space va kind w sees))
+    (subst (λ (v : ShadowView). is_clashed (asked_led v va kind w).world ≡ false → IsLedSo memory (asked_led v va kind w).world view va kind cloaked led) is by)
 
 -- Without paging an access leads to its own address.
 
@@ -456,11 +739,19 @@ bare_access gave first now satp a b w sees off inside =
     (sym (ap by (bare_walk satp a w off)))
     (record { answer = ap (λ (x : Bool). cond x (Ok a.va) (Err (access_fault a.kind))) there; stands = sees })
 
-pub bare_follows : {E : Type 0} (gave : E → E → List Piece → Type 0) (first now : Side E) (view : ShadowView) (va : ℕ) (kind : Kind)
+bare_translates : {E : Type 0} (gave : E → E → List Piece → Type 0) (first now : Side E) (view : ShadowView) (va : ℕ) (kind : Kind)
     (b : Bool) (w : World) → Sees gave first now w → has_paging (satp_in view) ≡ false
     → b ≡ is_in_frames (frames_of now.memory.now) va
     → FollowsFrom (Sees gave first) now (cond b (Ok va) (Err (access_fault kind))) (ask_translate (satp_in view) (access_in view va kind) w)
-bare_follows gave first now (Outside satp mode sum mxr) va kind b w sees off inside =
+bare_translates gave first now (Outside satp mode sum mxr) va kind b w sees off inside =
     bare_access gave first now satp (access_in (Outside satp mode sum mxr) va kind) b w sees off inside
-bare_follows gave first now (Inside satp sum mxr space) va kind b w sees off inside =
+bare_translates gave first now (Inside satp sum mxr space) va kind b w sees off inside =
     bare_access gave first now satp (access_in (Inside satp sum mxr space) va kind) b w sees off inside
+
+pub bare_follows : {E : Type 0} (gave : E → E → List Piece → Type 0) (first now : Side E) (view : ShadowView) (va : ℕ) (kind : Kind)
+    (b : Bool) (w : World) → Sees gave first now w → IsViewIn now.space view → now.memory.now.counting ≡ false → has_paging (satp_in view) ≡ false
+    → b ≡ is_in_frames (frames_of now.memory.now) va
+    → FollowsFrom (Sees gave first) now (cond b (Ok va) (Err (access_fault kind))) (asked_led view va kind w)
+unfolding ask_led
+bare_follows gave first now view va kind b w sees viewed uncounted off inside =
+    bare_translates gave first now view va kind b _ (looks_uncounted gave first now view va kind w sees viewed uncounted) off inside

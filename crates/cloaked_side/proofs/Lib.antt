@@ -10,3 +10,6 @@ pub mod Cleared
 pub mod Serving
 pub mod Telling
 pub mod Known
+pub mod Tracking
+pub mod Tabled
+pub mod Offered

@@ -1,5 +1,5 @@
 -- What a side serves, and what is unused and cleared in it, over plain variables.
-use Rattle.std.proofs.Common.{◌≡◌, ◌≢◌, ◌<◌, ◌^◌, ℕ, Bool, true, false, cond, List, slice_index_or, nat_lt, length}
+use Rattle.std.proofs.Common.{◌≡◌, ◌≢◌, ◌<◌, ◌^◌, ℕ, Bool, true, false, cond, List, slice_index_or, nat_lt, length, Some, None}
 use Rattle.std.proofs.Common.{refl, ap, sym, ◌∙◌, subst, inl, inr, arith}
 use Rattle.std.proofs.lemmas.Bool.{false≢true, ltb-true, lt-ltb, cases_lt}
 use Rattle.std.proofs.lemmas.List.{get_or_past}
@@ -10,11 +10,12 @@ use Rattle.cloak_base.proofs.Pages.{is_of_tells}
 use Rattle.cloak_model.specs.declared.view.View.{View}
 use Rattle.cloak_model.specs.declared.answer.Answer.{Answer}
 use Rattle.cloak_model.specs.World.{World, Flat, Cloaked, Alone, is_clashed}
-use Rattle.cloak_model.specs.Asking.{FollowsFrom}
+use Rattle.cloak_model.specs.Asking.{FollowsFrom, Told}
 use Rattle.cloak_model.specs.AskPages.{ask_reach, ask_get, ask_put, reach_by_table, get_by_table, put_by_table}
 use Rattle.cloak_model.specs.Exchange.{Piece}
 use Rattle.cloaked_side.specs.Holding.{HoldsNoMore, HoldsNoOther, SameSize, domains_in}
-use Rattle.cloaked_side.specs.Seeing.{Sees, IsCleared, IsUnused, served}
+use Rattle.cloak_base.specs.declared.names.SpaceId.{SpaceId}
+use Rattle.cloaked_side.specs.Seeing.{Sees, SeesInside, SeesOutside, IsCleared, IsUnused, served}
 use Rattle.cloaked_side.specs.declared.side.Side.{Side}
 
 served_by : (v n d : ℕ) (b : Bool) → nat_lt v n ≡ b → d < 2 ^ 32 → d ≡ cond b v (2 ^ 32) → (d ≡ v) × (d < n)
@@ -101,3 +102,25 @@ pub served_here : {E : Type 0} (side : Side E) → side.view.domain < domains_in
     served side ≡ side.view.domain
 served_here side here =
     ap (λ (b : Bool). cond b side.view.domain (2 ^ 32)) (lt-ltb side.view.domain (domains_in side.memory.now) here)
+
+-- The side still serves the same context, or none.
+
+pub wrap_inside : {E A : Type 0} (gave : E → E → List Piece → Type 0) (first old new : Side E) (a : A) (told : Told A) →
+    new.space ≡ old.space → ((s : SpaceId) × (old.space ≡ Some s)) → FollowsFrom (λ side w. Sees gave first side w) new a told →
+    FollowsFrom (λ side w. SeesInside gave first side w) new a told
+wrap_inside gave first old new a told same space follows =
+    record { answer = follows.answer; stands = (follows.stands, (space.0, same ∙ space.1)) }
+
+pub wrap_outside : {E A : Type 0} (gave : E → E → List Piece → Type 0) (first old new : Side E) (a : A) (told : Told A) →
+    new.space ≡ old.space → old.space ≡ None → FollowsFrom (λ side w. Sees gave first side w) new a told →
+    FollowsFrom (λ side w. SeesOutside gave first side w) new a told
+wrap_outside gave first old new a told same none follows =
+    record { answer = follows.answer; stands = (follows.stands, same ∙ none) }
+
+pub seen_outside : {E A : Type 0} (gave : E → E → List Piece → Type 0) (first new : Side E) (a : A) (told : Told A) →
+    FollowsFrom (λ side w. SeesOutside gave first side w) new a told → FollowsFrom (λ side w. Sees gave first side w) new a told
+seen_outside gave first new a told follows = record { answer = follows.answer; stands = follows.stands.0 }
+
+pub seen_inside : {E A : Type 0} (gave : E → E → List Piece → Type 0) (first new : Side E) (a : A) (told : Told A) →
+    FollowsFrom (λ side w. SeesInside gave first side w) new a told → FollowsFrom (λ side w. Sees gave first side w) new a told
+seen_inside gave first new a told follows = record { answer = follows.answer; stands = follows.stands.0 }

@@ -1,10 +1,11 @@
 -- A side after a call on its memory.
-use Rattle.std.proofs.Common.{◌≡◌, ◌≢◌, ℕ, Bool, true, cond, Option, None, length, slice_index_or, List, [], refl, ap}
+use Rattle.std.proofs.Common.{◌≡◌, ◌≢◌, ℕ, Bool, true, cond, Option, None, length, slice_index_or, List, [], ◌∷◌, ◌++◌, append-nil, refl, ap}
 use Rattle.std.proofs.Common.{sym, ◌∙◌, subst}
 use Rattle.std.proofs.lemmas.List.{length-set}
 use Rattle.cloak_model.specs.declared.view.View.{View}
 use Rattle.cloak_model.specs.Cloaking.{CloakedMemory, settle}
-use Rattle.cloak_model.specs.World.{World, Cloak, Flat, Cloaked, Alone, cipher_items, settled, ram_of, stored_at}
+use Rattle.cloak_model.specs.Events.{Event, Touch, Write}
+use Rattle.cloak_model.specs.World.{World, Cloak, Flat, Cloaked, Alone, cipher_items, noted, settled, ram_of, stored_at}
 use Rattle.cloak_model.specs.World.{filled_frame}
 use Rattle.cloak_model.specs.Memory.{frame_of, place_of, with_value_in, is_in_ram, is_in_frames}
 use Rattle.cloak_model.specs.Asking.{FollowsFrom, Keeps, answered}
@@ -30,23 +31,50 @@ use Rattle.cloak_pager.specs.State.{PagerState, held_in}
 use Rattle.cloaked_side.proofs.Emitting.{emits_none, emits_items, some_then}
 use Rattle.cloaked_side.proofs.Holders.{no_more_self, no_more_then, no_more_rights}
 use Rattle.cloaked_side.proofs.Translating.{agrees_read, agrees_rights, ending_frames}
+use Rattle.cloaked_side.specs.Tracking.{Tracks, TracksBy}
+use Rattle.cloaked_side.proofs.Tracking.{no_events, read_held, respaced, same_tracks, tracks_on, tracks_touch}
+use Rattle.shadow_fold.specs.Fold.{Fold, after_events, frame, touched}
 use Rattle.cloaked_side.specs.declared.memory.Memory.{Memory}
 use Rattle.cloaked_side.specs.declared.side.Side.{Side}
+
+-- events that leave a memory as it is
+
+pub sees_also : {E : Type 0} (gave : E → E → List Piece → Type 0) (first now : Side E) (c : Cloak) (events : List Event) →
+    TracksBy now.memory.now now.memory.now (after_events now.space events) → SeesCloak gave first now c →
+    SeesCloak gave first now (record c { events = c.events ++ events })
+sees_also gave first now c events still sees = record {
+  holds = sees.holds;
+  emits = sees.emits;
+  violation = sees.violation;
+  view = sees.view;
+  tracks = tracks_on first.memory.now now.memory.now now.memory.now now.space c.events events sees.tracks still;
+}
+
+pub sees_noted : {E : Type 0} (gave : E → E → List Piece → Type 0) (first now : Side E) (events : List Event)
+    (w : World) → TracksBy now.memory.now now.memory.now (after_events now.space events) → Sees gave first now w →
+    Sees gave first now (noted events w)
+sees_noted gave first now events (Flat ram) still sees = sees
+sees_noted gave first now events (Alone handed) still sees = sees
+sees_noted gave first now events (Cloaked c) still sees = sees_also gave first now c events still sees
 
 pub sees_settled : {E : Type 0} (gave : E → E → List Piece → Type 0) (first old new : Side E) (f : ℕ) (w : World) →
     ((m : CloakedMemory) → Holds old.memory.now m →
     Settles gave old.emitter.now new.emitter.now new.memory.now (settle f m)) →
-    new.violation ≡ old.violation → new.view ≡ old.view →
+    TracksBy old.memory.now new.memory.now (touched (frame f)) →
+    new.violation ≡ old.violation → new.view ≡ old.view → new.space ≡ old.space →
     Sees gave first old w → Sees gave first new (settled f w)
-sees_settled gave first old new f (Flat ram) settles violation view sees = sees
-sees_settled gave first old new f (Alone handed) settles violation view sees = sees
-sees_settled gave first old new f (Cloaked c) settles violation view sees =
+sees_settled gave first old new f (Flat ram) settles tracks violation view space sees = sees
+sees_settled gave first old new f (Alone handed) settles tracks violation view space sees = sees
+sees_settled gave first old new f (Cloaked c) settles tracks violation view space sees =
     let s = settles c.memory sees.holds in
     record {
       holds = s.holds;
       emits = emits_items c.items (cipher_items (settle f c.memory).ciphers) sees.emits s.emits;
       violation = violation ∙ sees.violation;
       view = view ∙ sees.view;
+      tracks = tracks_on first.memory.now old.memory.now new.memory.now new.space c.events (Touch f ∷ [])
+          (respaced first.memory.now old.memory.now old.space new.space c.events space sees.tracks)
+          (tracks_touch old.memory.now new.memory.now new.space f tracks);
     }
 
 pub same_size : {memory : Memory} → SameSize memory memory
@@ -63,6 +91,8 @@ stays_self gave side = record {
   emits_some = ([], emits_none gave side.emitter.now);
   size = same_size;
   view = refl;
+  space = refl;
+  counting = refl;
   others = λ k q n e. e;
 }
 
@@ -77,6 +107,8 @@ stays_then gave first old new s t = record {
   emits_some = some_then gave _ _ _ s.emits_some t.emits_some;
   size = size_then first.memory.now old.memory.now new.memory.now s.size t.size;
   view = t.view ∙ s.view;
+  space = t.space ∙ s.space;
+  counting = t.counting ∙ s.counting;
   others = λ k q n e. s.others k q n (t.others k q (subst (λ (v : View). q.domain ≢ v.domain) (sym s.view) n) e);
 }
 
@@ -97,14 +129,17 @@ pub within_more : {E : Type 0} (gave : E → E → List Piece → Type 0) (first
     StaysWithin gave first old →
     new.memory.ghost_name ≡ old.memory.ghost_name → new.emitter.ghost_name ≡ old.emitter.ghost_name →
     EmitsSome gave old.emitter.now new.emitter.now → SameSize old.memory.now new.memory.now → new.view ≡ old.view →
+    new.space ≡ old.space → new.memory.now.counting ≡ old.memory.now.counting →
     HoldsNoMore old.memory.now.pager new.memory.now.pager → StaysWithin gave first new
-within_more gave first old new s memory emitter some size view less = within_then gave first old new s (record {
+within_more gave first old new s memory emitter some size view space counting less = within_then gave first old new s (record {
   stays = record {
     same_memory = memory;
     same_emitter = emitter;
     emits_some = some;
     size = size;
     view = view;
+    space = space;
+    counting = counting;
     others = λ k q n e. less.held k q e;
   };
   no_more = less;
@@ -115,14 +150,17 @@ pub stays_offered : {E : Type 0} (gave : E → E → List Piece → Type 0) (fir
     Stays gave first old → q.domain ≡ old.view.domain →
     new.memory.ghost_name ≡ old.memory.ghost_name → new.emitter.ghost_name ≡ old.emitter.ghost_name →
     EmitsSome gave old.emitter.now new.emitter.now → SameSize old.memory.now new.memory.now → new.view ≡ old.view →
+    new.space ≡ old.space → new.memory.now.counting ≡ old.memory.now.counting →
     HoldsNoOther q old.memory.now.pager new.memory.now.pager → Stays gave first new
-stays_offered gave first old new q s own memory emitter some size view others =
+stays_offered gave first old new q s own memory emitter some size view space counting others =
     stays_then gave first old new s (record {
       same_memory = memory;
       same_emitter = emitter;
       emits_some = some;
       size = size;
       view = view;
+      space = space;
+      counting = counting;
       others = λ k p n e. others k p (λ same. n (ap (λ (x : PageId). x.domain) same ∙ own)) e;
     })
 
@@ -130,12 +168,13 @@ stays_offered gave first old new q s own memory emitter some size view others =
 pub within_repaged : {E : Type 0} (gave : E → E → List Piece → Type 0) (first old new : Side E) →
     StaysWithin gave first old →
     new.memory.ghost_name ≡ old.memory.ghost_name → new.emitter ≡ old.emitter →
-    SameSize old.memory.now new.memory.now → new.view ≡ old.view →
-    HoldsNoMore old.memory.now.pager new.memory.now.pager → StaysWithin gave first new
-within_repaged gave first old new s memory emitter size view less =
+    SameSize old.memory.now new.memory.now → new.view ≡ old.view → new.space ≡ old.space →
+    new.memory.now.counting ≡ old.memory.now.counting → HoldsNoMore old.memory.now.pager new.memory.now.pager →
+    StaysWithin gave first new
+within_repaged gave first old new s memory emitter size view space counting less =
     within_more gave first old new s memory (ap (λ e. e.ghost_name) emitter)
     (subst (λ e. EmitsSome gave old.emitter.now e.now) (sym emitter) ([], emits_none gave old.emitter.now)) size view
-    less
+    space counting less
 
 -- another pager, and all else of the side as it was
 pub record Repaged {E : Type 0} (old new : Side E) : Type 0 where
@@ -145,6 +184,7 @@ pub record Repaged {E : Type 0} (old new : Side E) : Type 0 where
   pub emitter : new.emitter.now ≡ old.emitter.now
   pub violation : new.violation ≡ old.violation
   pub view : new.view ≡ old.view
+  pub space : new.space ≡ old.space
 
 -- another memory with this of its ledger as it was
 pub record SameDraws (m m' : CloakedMemory) : Type 0 where
@@ -205,13 +245,15 @@ still_written old new m f n bytes shown is written same = record {
   count = written_count old.pager new.pager f.0 bytes written;
 }
 
+-- another memory, and these events more
 pub sees_moved : {E : Type 0} (gave : E → E → List Piece → Type 0) (first old new : Side E) (c : Cloak)
-    (m' : CloakedMemory) → Repaged old new → SameDraws c.memory m' →
+    (m' : CloakedMemory) (events : List Event) → Repaged old new → SameDraws c.memory m' →
     AgreesStill old.memory.now new.memory.now c.memory m' →
     ((w : PageId → Bool) → StandsForMemory old.memory.now.pager w c.memory →
     StandsForMemory new.memory.now.pager w m') →
-    SeesCloak gave first old c → SeesCloak gave first new (record c { memory = m' })
-sees_moved gave first old new c m' same kept still stands sees =
+    TracksBy old.memory.now new.memory.now (after_events new.space events) →
+    SeesCloak gave first old c → SeesCloak gave first new (record c { memory = m'; events = c.events ++ events })
+sees_moved gave first old new c m' events same kept still stands tracks sees =
     let h = sees.holds in
     record {
       holds = record {
@@ -227,21 +269,37 @@ sees_moved gave first old new c m' same kept still stands sees =
       emits = subst (λ e. Emits gave first.emitter.now e (item_pieces c.items)) (sym same.emitter) sees.emits;
       violation = same.violation ∙ sees.violation;
       view = same.view ∙ sees.view;
+      tracks = tracks_on first.memory.now old.memory.now new.memory.now new.space c.events events
+          (respaced first.memory.now old.memory.now old.space new.space c.events same.space sees.tracks) tracks;
     }
+
+-- and no events
+pub sees_still : {E : Type 0} (gave : E → E → List Piece → Type 0) (first old new : Side E) (c : Cloak)
+    (m' : CloakedMemory) → Repaged old new → SameDraws c.memory m' →
+    AgreesStill old.memory.now new.memory.now c.memory m' →
+    ((w : PageId → Bool) → StandsForMemory old.memory.now.pager w c.memory →
+    StandsForMemory new.memory.now.pager w m') →
+    ((s : Fold) → Tracks old.memory.now s → Tracks new.memory.now s) →
+    SeesCloak gave first old c → SeesCloak gave first new (record c { memory = m' })
+sees_still gave first old new c m' same kept still stands tracks sees =
+    subst (λ (es : List Event). SeesCloak gave first new (record c { memory = m'; events = es })) (append-nil c.events)
+    (sees_moved gave first old new c m' [] same kept still stands (λ s keeps. subst (λ (u : Fold). Tracks new.memory.now u) (no_events new.space s) (tracks s keeps)) sees)
 
 -- Frame f was read: what is shown of it is what the world shows.
 pub read_after : {E A : Type 0} (gave : E → E → List Piece → Type 0) (first old new : Side E) (f : ℕ) (v : World)
     (show : List ℕ → A) (bytes : List ℕ) (a : A) → Repaged old new →
-    new.memory.now.shadows ≡ old.memory.now.shadows →
+    new.memory.now.shadows ≡ old.memory.now.shadows → new.memory.now.counting ≡ old.memory.now.counting →
     SeesFrame old.memory.now.pager f bytes → IsReadOnce old.memory.now.pager new.memory.now.pager → a ≡ show bytes →
     Sees gave first old v → FollowsFrom (λ side w. Sees gave first side w) new a
     (record { answer = show (slice_index_or (ram_of v) f []); world = v })
-read_after gave first old new f (Flat ram) show bytes a same shadows sees_frame read is sees = absurd sees
-read_after gave first old new f (Alone handed) show bytes a same shadows sees_frame read is sees = absurd sees
-read_after gave first old new f (Cloaked c) show bytes a same shadows sees_frame read is sees = record {
+read_after gave first old new f (Flat ram) show bytes a same shadows counting sees_frame read is sees = absurd sees
+read_after gave first old new f (Alone handed) show bytes a same shadows counting sees_frame read is sees = absurd sees
+read_after gave first old new f (Cloaked c) show bytes a same shadows counting sees_frame read is sees = record {
   answer = is ∙ ap show (sees_frame sees.holds.wiped c.memory sees.holds.pager);
-  stands = sees_moved gave first old new c c.memory same (record { stream = refl; draws = refl; missed = refl })
-      (still_read old.memory.now new.memory.now c.memory read shadows) (λ w s. stands_read _ _ read w c.memory s) sees;
+  stands = sees_still gave first old new c c.memory same (record { stream = refl; draws = refl; missed = refl })
+      (still_read old.memory.now new.memory.now c.memory read shadows) (λ w s. stands_read _ _ read w c.memory s)
+      (same_tracks _ _ _ _ (held_in old.memory.now.pager) (held_in new.memory.now.pager) counting shadows
+      (read_held old.memory.now.pager new.memory.now.pager read)) sees;
 }
 
 -- A value was stored in a frame.
@@ -253,14 +311,15 @@ pub stored_after : {E : Type 0} (gave : E → E → List Piece → Type 0) (firs
     StandsForMemory new.memory.now.pager w
     (with_shown_frame (frame_of pa)
     (with_value_in (slice_index_or m.ram (frame_of pa) []) (place_of pa) width value) m)) →
+    TracksBy old.memory.now new.memory.now (after_events new.space (Write (frame_of pa) ∷ [])) →
     Sees gave first old v → FollowsFrom (λ side w. Sees gave first side w) new (tt {0})
     (record { answer = tt; world = stored_at pa width value v })
-stored_after gave first old new pa width value (Flat ram) same still stands sees = absurd sees
-stored_after gave first old new pa width value (Alone handed) same still stands sees = absurd sees
-stored_after gave first old new pa width value (Cloaked c) same still stands sees = record {
+stored_after gave first old new pa width value (Flat ram) same still stands tracks sees = absurd sees
+stored_after gave first old new pa width value (Alone handed) same still stands tracks sees = absurd sees
+stored_after gave first old new pa width value (Cloaked c) same still stands tracks sees = record {
   answer = refl;
-  stands = sees_moved gave first old new c _ same (record { stream = refl; draws = refl; missed = refl }) (still c.memory)
-      (λ w s. stands w c.memory s) sees;
+  stands = sees_moved gave first old new c _ (Write (frame_of pa) ∷ []) same (record { stream = refl; draws = refl; missed = refl })
+      (still c.memory) (λ w s. stands w c.memory s) tracks sees;
 }
 
 -- A frame was filled.
@@ -269,14 +328,15 @@ pub filled_after : {E : Type 0} (gave : E → E → List Piece → Type 0) (firs
     ((m : CloakedMemory) → AgreesStill old.memory.now new.memory.now m (with_shown_frame f bytes m)) →
     ((w : PageId → Bool) (m : CloakedMemory) → StandsForMemory old.memory.now.pager w m →
     StandsForMemory new.memory.now.pager w (with_shown_frame f bytes m)) →
+    TracksBy old.memory.now new.memory.now (after_events new.space (Write f ∷ [])) →
     Sees gave first old v → FollowsFrom (λ side w. Sees gave first side w) new (tt {0})
     (record { answer = tt; world = filled_frame f bytes v })
-filled_after gave first old new f bytes (Flat ram) same still stands sees = absurd sees
-filled_after gave first old new f bytes (Alone handed) same still stands sees = absurd sees
-filled_after gave first old new f bytes (Cloaked c) same still stands sees = record {
+filled_after gave first old new f bytes (Flat ram) same still stands tracks sees = absurd sees
+filled_after gave first old new f bytes (Alone handed) same still stands tracks sees = absurd sees
+filled_after gave first old new f bytes (Cloaked c) same still stands tracks sees = record {
   answer = refl;
-  stands = sees_moved gave first old new c _ same (record { stream = refl; draws = refl; missed = refl }) (still c.memory)
-      (λ w s. stands w c.memory s) sees;
+  stands = sees_moved gave first old new c _ (Write f ∷ []) same (record { stream = refl; draws = refl; missed = refl })
+      (still c.memory) (λ w s. stands w c.memory s) tracks sees;
 }
 
 -- the world has as many frames as the memory
@@ -325,11 +385,12 @@ no_other_on gave old new q keeps k p n e = (keeps old (within_self gave old)).no
 -- the same of what stays of it where pages are offered too
 pub stays_repaged : {E : Type 0} (gave : E → E → List Piece → Type 0) (first old new : Side E) → Stays gave first old →
     new.memory.ghost_name ≡ old.memory.ghost_name → new.emitter ≡ old.emitter →
-    SameSize old.memory.now new.memory.now → new.view ≡ old.view →
-    HoldsNoMore old.memory.now.pager new.memory.now.pager → Stays gave first new
-stays_repaged gave first old new s memory emitter size view less =
+    SameSize old.memory.now new.memory.now → new.view ≡ old.view → new.space ≡ old.space →
+    new.memory.now.counting ≡ old.memory.now.counting → HoldsNoMore old.memory.now.pager new.memory.now.pager →
+    Stays gave first new
+stays_repaged gave first old new s memory emitter size view space counting less =
     stays_then gave first old new s
-    (within_repaged gave old old new (within_self gave old) memory emitter size view less).stays
+    (within_repaged gave old old new (within_self gave old) memory emitter size view space counting less).stays
 
 -- metadata alone leaves as many frames and domains
 pub turned_size : (old new : Memory) (metas : PageId → Option Meta) → MetasTurn old.pager new.pager metas →

@@ -1,15 +1,20 @@
 -- What a side saw is told of its memory and its emitter.
-use Rattle.std.proofs.Common.{◌≡◌, ℕ, Bool, false, List, [], ap, sym, ◌∙◌, subst}
+use Rattle.std.proofs.Common.{◌≡◌, ℕ, Bool, false, List, [], Option, ap, sym, ◌∙◌, subst}
 use Rattle.cloak_model.specs.declared.view.View.{View}
-use Rattle.cloak_model.specs.World.{World, Cloak, Flat, Cloaked, Alone, is_clashed}
+use Rattle.cloak_model.specs.World.{World, Cloak, Flat, Cloaked, Alone, is_clashed, unnoted}
 use Rattle.cloak_model.specs.Asking.{Told, FollowsFrom}
 use Rattle.cloak_model.specs.Hart.{Hart}
 use Rattle.cloak_model.specs.HostCalls.{After}
 use Rattle.cloak_model.specs.KernelStep.{kernel_step}
-use Rattle.cloak_model.specs.Ahead.{settled_step, made_after}
-use Rattle.settling_ahead.proofs.Laws.{settles_ahead, keeps_rest}
+use Rattle.cloak_model.specs.Ahead.{settled_step}
+use Rattle.settling_ahead.proofs.Laws.{settles_ahead, unclashed_ahead}
 use Rattle.cloak_model.specs.Exchange.{Piece, Emits, EmitsSome, item_pieces}
-use Rattle.cloak_model.specs.World.{items_of}
+use Rattle.cloak_model.specs.World.{events_of, items_of}
+use Rattle.cloak_model.specs.Events.{Event}
+use Rattle.cloak_base.specs.declared.names.SpaceId.{SpaceId}
+use Rattle.shadow_fold.specs.Fold.{Fold, after_events}
+use Rattle.cloaked_side.specs.Tracking.{Tracks, TracksBy}
+use Rattle.cloaked_side.proofs.Tracking.{no_events}
 use Rattle.cloak_pager.specs.State.{PagerState}
 use Rattle.cloaked_side.specs.Holding.{Holds, SameSize, HoldsNoMore}
 use Rattle.cloaked_side.specs.Seeing.{Sees}
@@ -20,14 +25,30 @@ use Rattle.cloaked_side.proofs.Emitting.{emits_none}
 
 -- a side as a step begins
 pub sees_first : {E : Type 0} (gave : E → E → List Piece → Type 0) (s : Side E) (c : Cloak) →
-    Holds s.memory.now c.memory → c.items ≡ [] → s.violation ≡ c.violation → s.view ≡ c.view → Sees gave s s (Cloaked c)
-sees_first gave s c holds none violation view = record {
+    Holds s.memory.now c.memory → c.items ≡ [] → c.events ≡ [] → s.violation ≡ c.violation → s.view ≡ c.view →
+    Sees gave s s (Cloaked c)
+sees_first gave s c holds none quiet violation view = record {
   holds = holds;
   emits = subst (λ is. Emits gave s.emitter.now s.emitter.now (item_pieces is)) (sym none)
       (emits_none gave s.emitter.now);
   violation = violation;
   view = view;
+  tracks = subst (λ (es : List Event). TracksBy s.memory.now s.memory.now (after_events s.space es)) (sym quiet)
+      (λ f keeps. subst (λ (u : Fold). Tracks s.memory.now u) (no_events s.space f) keeps);
 }
+
+-- the memory of a side has come to what the events of its world come to
+pub tracks_world : {E : Type 0} (gave : E → E → List Piece → Type 0) (first now : Side E) (space : Option SpaceId) (w : World) →
+    now.space ≡ space → Sees gave first now w → TracksBy first.memory.now now.memory.now (after_events space (events_of w))
+tracks_world gave first now space (Flat ram) at sees = absurd sees
+tracks_world gave first now space (Alone handed) at sees = absurd sees
+tracks_world gave first now space (Cloaked c) at sees =
+    subst (λ (o : Option SpaceId). TracksBy first.memory.now now.memory.now (after_events o c.events)) at sees.tracks
+
+-- so it is of the memory that was given back, whose size is told
+pub tracks_back : (old back new : Memory) (next : Fold → Fold) → SameSize old back → back ≡ new → TracksBy old new next →
+    TracksBy old back next
+tracks_back old back new next size same tracks = subst (λ (m : Memory). TracksBy old m next) (sym same) tracks
 
 holds_world : {E : Type 0} (gave : E → E → List Piece → Type 0) (first now : Side E) (w : World) →
     Sees gave first now w → HoldsWorld now.memory.now w
@@ -56,16 +77,23 @@ pub view_is : (v : View) (satp : ℕ) (sum mxr : Bool) (domain : ℕ) → v.satp
     v.domain ≡ domain → v ≡ record { satp = satp; sum = sum; mxr = mxr; domain = domain }
 view_is v satp sum mxr domain a b c d = λ i. record { satp = a i; sum = b i; mxr = c i; domain = d i }
 
-unclashed_ahead : (h : Hart) (disk : List ℕ) (c : Cloak) → c.memory.ledger.clashed ≡ false →
-    is_clashed (settled_step h disk c).world ≡ false
-unfolding settled_step made_after
-unclashed_ahead h disk c none = (keeps_rest h disk c.memory).clashed ∙ none
+-- the events of what was told are not told
 
--- The step that settles in its middle is the one that settles ahead, and marks nothing.
-pub unclashed_step : (h : Hart) (disk : List ℕ) (c : Cloak) → c.memory.ledger.clashed ≡ false →
-    is_clashed (kernel_step h disk (Cloaked c)).world ≡ false
-unclashed_step h disk c none =
-    ap (λ (t : Told After). is_clashed t.world) (settles_ahead h disk c) ∙ unclashed_ahead h disk c none
+tells_quiet : {E A : Type 0} (gave : E → E → List Piece → Type 0) (e e' : E) (memory : Memory) (given a : A) (w : World) →
+    TellsSide gave e e' memory given (record { answer = a; world = w }) →
+    TellsSide gave e e' memory given (record { answer = a; world = unnoted w })
+tells_quiet gave e e' memory given a (Flat ram) tells = tells
+tells_quiet gave e e' memory given a (Alone handed) tells = tells
+tells_quiet gave e e' memory given a (Cloaked c) tells =
+    record { answer = tells.answer; emits = tells.emits; holds = tells.holds }
+
+tells_whole : {E A : Type 0} (gave : E → E → List Piece → Type 0) (e e' : E) (memory : Memory) (given a : A) (w : World) →
+    TellsSide gave e e' memory given (record { answer = a; world = unnoted w }) →
+    TellsSide gave e e' memory given (record { answer = a; world = w })
+tells_whole gave e e' memory given a (Flat ram) tells = tells
+tells_whole gave e e' memory given a (Alone handed) tells = tells
+tells_whole gave e e' memory given a (Cloaked c) tells =
+    record { answer = tells.answer; emits = tells.emits; holds = tells.holds }
 
 -- what followed of the plain step, told as the step that settles ahead
 pub tells_ahead : {E : Type 0} (gave : E → E → List Piece → Type 0) (first now : Side E) (after : After) (h : Hart)
@@ -75,13 +103,19 @@ pub tells_ahead : {E : Type 0} (gave : E → E → List Piece → Type 0) (first
     FollowsFrom (λ side w. Sees gave first side w) now after (kernel_step h disk (Cloaked c))) →
     TellsSide gave first.emitter.now e memory after (settled_step h disk c)
 tells_ahead gave first now after h disk c memory e same_memory same_emitter unclashed follows =
-    subst (λ (t : Told After). TellsSide gave first.emitter.now e memory after t) (settles_ahead h disk c)
-    (tells_from gave first now after (kernel_step h disk (Cloaked c)) memory e same_memory same_emitter
-    (follows (unclashed_step h disk c unclashed)))
+    let step = kernel_step h disk (Cloaked c) in
+    let ahead = settled_step h disk c in
+    let told = tells_from gave first now after step memory e same_memory same_emitter (follows (unclashed_ahead h disk c unclashed)) in
+    tells_whole gave first.emitter.now e memory after ahead.answer ahead.world
+    (subst (λ (t : Told After). TellsSide gave first.emitter.now e memory after t) (settles_ahead h disk c)
+    (tells_quiet gave first.emitter.now e memory after step.answer step.world told))
 
 -- What was so of a memory or an emitter behind a reference is so of the one that was given back.
 pub size_back : (old back new : Memory) → back ≡ new → SameSize old new → SameSize old back
 size_back old back new same size = subst (λ (m : Memory). SameSize old m) (sym same) size
+
+pub counting_back : (old back new : Memory) → SameSize old back → back ≡ new → new.counting ≡ old.counting → back.counting ≡ old.counting
+counting_back old back new size same is = ap (λ (m : Memory). m.counting) same ∙ is
 
 pub no_more_back : (old back new : PagerState) → back ≡ new → HoldsNoMore old new → HoldsNoMore old back
 no_more_back old back new same less = subst (λ (p : PagerState). HoldsNoMore old p) (sym same) less

@@ -68,7 +68,7 @@ held_all f old new stays here = λ i x. every x i
     ]
 
 -- a touch that did nothing found the frame outside
-quiet_held : (h : Held) (draw : Option (List ℕ × Random)) → Quiet ≡ touched_by h draw → (page_of h ≡ None) × (owed_under h ≡ None)
+pub quiet_held : (h : Held) (draw : Option (List ℕ × Random)) → Quiet ≡ touched_by h draw → (page_of h ≡ None) × (owed_under h ≡ None)
 quiet_held (Outside r) draw is = (refl, refl)
 quiet_held (Clean r) draw is = absurd (let no : Quiet ≡ Resealed = is in cc)
 quiet_held (Changed r) (Some d) is = absurd (let no : Quiet ≡ Sealed = is in cc)

@@ -1,7 +1,6 @@
 -- What a memory with cloaked pages stands for.
-use Rattle.std.specs.Prelude.{ℕ, ◌≡◌, ◌≢◌, Bool, false, List, Option, Some, None, length}
+use Rattle.std.specs.Prelude.{ℕ, ◌≡◌, ◌≢◌, Bool, false, List, Some, length}
 use Rattle.cloak_base.specs.declared.names.PageId.{PageId}
-use Rattle.cloak_base.specs.Pages.{is_of}
 use Rattle.protect_meta.specs.Table.{domains_of}
 use Rattle.cloak_model.specs.Cloaking.{CloakedMemory, AfterSettling}
 use Rattle.cloak_model.specs.World.{cipher_items}
@@ -44,11 +43,6 @@ pub record HoldsNoMore (old new : PagerState) : Type 0 where
 -- no frame holds a page but q that it did not hold
 abbrev pub HoldsNoOther : PageId → PagerState → PagerState → Type 0
 HoldsNoOther q old new = (k : ℕ) (p : PageId) → p ≢ q → held_in new k ≡ Some p → held_in old k ≡ Some p
-
--- this is a page of a resource of a domain
-abbrev pub is_some_of : ℕ → ℕ → Option PageId → Bool
-is_some_of domain resource None = false
-is_some_of domain resource (Some q) = is_of domain resource q
 
 -- frame was settled so, and what the kernel is shown was emitted
 pub record Settles {E : Type 0} (gave : E → E → List Piece → Type 0) (e e' : E) (new : Memory)

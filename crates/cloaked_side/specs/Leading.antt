@@ -1,9 +1,16 @@
 -- Where an access of a side leads.
-use Rattle.std.specs.Prelude.{ℕ, ◌≡◌, ◌/◌, true, false, length, Option, Some, Result, Ok, Err, IfSome}
+use Rattle.std.specs.Prelude.{ℕ, ◌≡◌, ◌/◌, true, false, length, Option, Some, None, Result, Ok, Err, IfSome}
 use Rattle.cloak_base.specs.declared.names.Kind.{Kind}
 use Rattle.cloak_base.specs.declared.names.PageId.{PageId}
 use Rattle.cloak_model.specs.declared.access.Walked.{Walked}
+use Rattle.cloak_base.specs.declared.names.SpaceId.{SpaceId}
+use Rattle.cloak_model.specs.Ask.{ask_led}
+use Rattle.cloak_model.specs.Asking.{Asking}
 use Rattle.cloak_model.specs.Memory.{frame_of, is_in_ram}
+use Rattle.cloak_pager.specs.State.{held_in}
+use Rattle.shadow_fold.specs.Fold.{view_in}
+use Rattle.shadow_fold.specs.Table.{is_known}
+use Rattle.cloaked_side.specs.declared.memory.Memory.{Memory}
 use Rattle.cloak_model.specs.Walk.{walk}
 use Rattle.cloak_model.specs.World.{World, Flat, Cloaked, Alone}
 use Rattle.shadow_fold.specs.Agreement.{EntryAgrees, satp_in, access_in}
@@ -13,7 +20,20 @@ use Rattle.shadow_fold.specs.declared.entry.ShadowView.{ShadowView}
 use Rattle.shadow_fold.specs.declared.entry.ShadowView.TheVariants.{Inside}
 use Rattle.shadow_law.specs.Agreeing.{present, AreOutside}
 use Rattle.cloaked_side.specs.declared.leading.Led.{Led}
-use Rattle.cloaked_side.specs.declared.side.Side.{Side}
+use Rattle.cloak_model.specs.declared.view.View.{View}
+
+-- the view is that of accesses of a side whose context has this space, or of one outside
+abbrev pub IsViewIn : Option SpaceId → ShadowView → Type 0
+IsViewIn space view = (va : ℕ) (kind : Kind) → view_in space (satp_in view) (access_in view va kind) ≡ view
+
+-- where an access of a view leads
+abbrev pub asked_led : ShadowView → ℕ → Kind → Asking (Result ℕ ℕ)
+asked_led view va kind = ask_led (satp_in view) (access_in view va kind)
+
+-- An access that was led without a walk has its translation known, and its target holds this, where accesses are counted.
+abbrev pub IsLive : Memory → ShadowView → ℕ → Kind → Option PageId → Led → Type 0
+IsLive memory view va kind cloaked led = led.walked ≡ None → memory.counting ≡ true →
+    (is_known view (va / 4096) kind memory.shadows ≡ true) × (held_in memory.pager (frame_of led.pa) ≡ cloaked)
 
 -- the address to which an access was led, or its fault
 abbrev pub place_in : Result Led ℕ → Result ℕ ℕ
@@ -53,13 +73,27 @@ entry_at view va kind pa walked cloaked = record {
   cloaked = cloaked;
 }
 
+-- Where an access was led, and what is so of the memory then: by the walk there was, through tables that are outside, or by
+-- a translation that is known.
+pub record IsLedSo (memory : Memory) (w : World) (view : ShadowView) (va : ℕ) (kind : Kind) (cloaked : Option PageId) (led : Led) :
+    Type 0 where
+  pub by : IsLedBy w view va kind led
+  pub outside : AreLedOutside (held_in memory.pager) led
+  pub live : IsLive memory view va kind cloaked led
+
 -- The walk that led an access to a cloaked page, where there was one, makes an entry that agrees, unless the page's frame
 -- is one of its own tables.
 abbrev pub IsReachedBy : World → (ℕ → Option PageId) → ShadowView → ℕ → Kind → PageId → Led → Type 0
 IsReachedBy w held view va kind q led = IfSome led.walked (λ walked. let e = entry_at view va kind led.pa walked (Some q) in
     is_table e.frame e ≡ false → IsEntryOf w held e)
 
+-- An access to a cloaked page was led so, and its frame holds the page now.
+pub record IsReachedSo (memory : Memory) (w : World) (view : ShadowView) (va : ℕ) (kind : Kind) (q : PageId) (led : Led) :
+    Type 0 where
+  pub by : IsLedBy w view va kind led
+  pub reached : IsReachedBy w (held_in memory.pager) view va kind q led
+  pub live : IsLive memory view va kind (Some q) led
+
 -- who translates for the questions of a cloaked program
-abbrev pub inside_view : {E : Type 0} → Side E → ShadowView
-inside_view side =
-    Inside side.view.satp side.view.sum side.view.mxr (record { domain = side.view.domain; number = side.space })
+abbrev pub inside_view : View → SpaceId → ShadowView
+inside_view view space = Inside view.satp view.sum view.mxr space

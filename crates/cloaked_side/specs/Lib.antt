@@ -1,4 +1,5 @@
 pub mod Holding
+pub mod Tracking
 pub mod Seeing
 pub mod Offering
 pub mod Telling

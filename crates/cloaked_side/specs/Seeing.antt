@@ -1,10 +1,13 @@
 -- What a side stands for.
-use Rattle.std.specs.Prelude.{ℕ, ◌≡◌, ◌≢◌, ◌<◌, ◌^◌, nat_lt, false, Some, List, if◌then◌else◌}
+use Rattle.std.specs.Prelude.{ℕ, ◌≡◌, ◌≢◌, ◌<◌, ◌^◌, nat_lt, false, Some, None, List, if◌then◌else◌}
 use Rattle.cloak_base.specs.declared.names.PageId.{PageId}
+use Rattle.cloak_base.specs.declared.names.SpaceId.{SpaceId}
 use Rattle.cloak_pager.specs.State.{held_in, owed_at, IsNoneOwed, IsNoneHeld}
-use Rattle.cloak_model.specs.World.{World, Cloak, Flat, Cloaked, Alone}
+use Rattle.cloak_model.specs.World.{World, Cloak, Flat, Cloaked, Alone, is_clashed}
 use Rattle.cloak_model.specs.Asking.{Asking, FollowsFrom}
 use Rattle.cloak_model.specs.Exchange.{Piece, Emits, EmitsSome, item_pieces}
+use Rattle.shadow_fold.specs.Fold.{after_events}
+use Rattle.cloaked_side.specs.Tracking.{TracksBy}
 use Rattle.cloaked_side.specs.Holding.{Holds, SameSize, HoldsNoMore, domains_in}
 use Rattle.cloaked_side.specs.declared.side.Side.{Side}
 
@@ -15,11 +18,29 @@ pub record SeesCloak {E : Type 0} (gave : E → E → List Piece → Type 0) (fi
   pub emits : Emits gave first.emitter.now now.emitter.now (item_pieces c.items)
   pub violation : now.violation ≡ c.violation
   pub view : now.view ≡ c.view
+  -- the memory has come to what the step's events come to
+  pub tracks : TracksBy first.memory.now now.memory.now (after_events now.space c.events)
 
 abbrev pub Sees : {E : Type 0} → (E → E → List Piece → Type 0) → Side E → Side E → World → Type 0
 Sees gave first now (Flat ram) = ⊥
 Sees gave first now (Alone handed) = ⊥
 Sees gave first now (Cloaked c) = SeesCloak gave first now c
+
+-- The same but for the fold: what memory and step have come to while the frames of a resource are emptied one by one.
+
+pub record ShowsCloak {E : Type 0} (gave : E → E → List Piece → Type 0) (first now : Side E) (c : Cloak) : Type 0 where
+  pub holds : Holds now.memory.now c.memory
+  pub emits : Emits gave first.emitter.now now.emitter.now (item_pieces c.items)
+  pub violation : now.violation ≡ c.violation
+  pub view : now.view ≡ c.view
+
+abbrev pub Shows : {E : Type 0} → (E → E → List Piece → Type 0) → Side E → Side E → World → Type 0
+Shows gave first now (Flat ram) = ⊥
+Shows gave first now (Alone handed) = ⊥
+Shows gave first now (Cloaked c) = ShowsCloak gave first now c
+
+abbrev pub ShowsOn : {E : Type 0} → (E → E → List Piece → Type 0) → Side E → Side E → Type 0
+ShowsOn gave old new = (first : _) (w : World) → Shows gave first old w → Shows gave first new w
 
 -- From each world that the side stood for, it stands for the next one.
 abbrev pub Becomes : {E : Type 0} → (E → E → List Piece → Type 0) → Side E → Side E → (World → World) → Type 0
@@ -32,6 +53,20 @@ abbrev pub FollowsAlways :
 FollowsAlways gave old new given ask =
     (first : _) (w : World) → Sees gave first old w → FollowsFrom (Sees gave first) new given (ask w)
 
+-- A side for a context, and one outside.
+
+abbrev pub SeesInside : {E : Type 0} → (E → E → List Piece → Type 0) → Side E → Side E → World → Type 0
+SeesInside gave first now w = Sees gave first now w × ((s : SpaceId) × (now.space ≡ Some s))
+
+abbrev pub SeesOutside : {E : Type 0} → (E → E → List Piece → Type 0) → Side E → Side E → World → Type 0
+SeesOutside gave first now w = Sees gave first now w × (now.space ≡ None)
+
+-- So a question of a context follows.
+abbrev pub FollowsInside : {E A : Type 0} → (E → E → List Piece → Type 0) → Side E → Side E → A → Asking A → Type 0
+FollowsInside gave old new given ask =
+    (first : _) (w : World) (s : SpaceId) → Sees gave first old w → old.space ≡ Some s →
+    is_clashed (ask w).world ≡ false → FollowsFrom (Sees gave first) new given (ask w)
+
 -- What stays of a side, whatever it stands for. No frame holds a page of another domain that it did not hold.
 pub record Stays {E : Type 0} (gave : E → E → List Piece → Type 0) (first now : Side E) : Type 0 where
   pub same_memory : now.memory.ghost_name ≡ first.memory.ghost_name
@@ -39,6 +74,8 @@ pub record Stays {E : Type 0} (gave : E → E → List Piece → Type 0) (first 
   pub emits_some : EmitsSome gave first.emitter.now now.emitter.now
   pub size : SameSize first.memory.now now.memory.now
   pub view : now.view ≡ first.view
+  pub space : now.space ≡ first.space
+  pub counting : now.memory.now.counting ≡ first.memory.now.counting
   pub others : (k : ℕ) (q : PageId) → q.domain ≢ first.view.domain →
       held_in now.memory.now.pager k ≡ Some q → held_in first.memory.now.pager k ≡ Some q
 

@@ -3,7 +3,7 @@ ghost use Rattle.std.specs.Prelude.{◌≡◌, ◌<◌, ℕ, slice_index_or, fal
 ghost use Rattle.cloak_base.specs.Pages.{is_of};
 ghost use Rattle.cloak_base.specs.declared.names.PageId.{PageId as AnyPage};
 ghost use Rattle.cloak_model.specs.AskPages as inside;
-ghost use Rattle.cloaked_side.specs.Holding.{is_some_of};
+ghost use Rattle.shadow_fold.specs.Fold.{holds};
 
 use crate::side::Side;
 use cloak_base::{Frame, PageId};
@@ -29,7 +29,7 @@ fn is_marked(domain: u32, resources: &[bool; 16], owed: Option<PageId>) -> bool
 /// Whether this is a page of a resource of a domain.
 #[tactic(auto, unfolding(cloak_base::specs::Pages::is_of))]
 fn is_page_of(domain: u32, resource: u32, held: Option<PageId>) -> bool
-    ensures { result ≡ is_some_of domain resource held }
+    ensures { result ≡ holds (is_of domain resource) held }
 {
     match held {
         None => false,
@@ -42,7 +42,9 @@ impl<'m, 'e, E: Emit> Side<'m, 'e, E> {
     ghost use Rattle.cloak_model.specs.AskPages.{settled_if_marked, ask_clear};
     ghost use Rattle.cloak_pager.specs.State.{held_in, owed_at, IsNoneOwed, IsNoneHeld};
     ghost use Rattle.cloaked_side.specs.Holding.{frames_of};
-    ghost use Rattle.cloaked_side.specs.Seeing.{Becomes, FollowsAlways, StaysWithin};
+    ghost use Rattle.cloaked_side.specs.Seeing.{Becomes, FollowsAlways, ShowsOn, StaysWithin};
+    ghost use Rattle.cloaked_side.specs.Tracking.{Tracks, TracksBy, touched_if};
+    ghost use Rattle.shadow_fold.specs.Fold.{Fold, touched_where};
 
     /// Settles a frame where it is owed a page of one of the marked resources.
     fn clear_frame(&mut self, domain: u32, resources: &[bool; 16], f: Frame)
@@ -80,7 +82,9 @@ impl<'m, 'e, E: Emit> Side<'m, 'e, E> {
     fn empty_frame(&mut self, domain: u32, resource: u32, f: Frame)
         requires inside { f.0 < frames_of self.old.memory.now }
         requires cleared { IsNoneOwed self.old.memory.now.pager domain resource }
-        ensures sees { Becomes E.gave self.old self.new (λ w. w) }
+        ensures shows { ShowsOn E.gave self.old self.new }
+        ensures tracks { (s : Fold) → Tracks self.old.memory.now s → Tracks self.new.memory.now
+            (touched_if (holds (is_of domain resource) (s.held f.0)) f.0 s) }
         ensures keeps { Keeps (StaysWithin E.gave) self.old self.new }
         ensures same_count { frames_of self.new.memory.now ≡ frames_of self.old.memory.now }
         ensures away { (q : AnyPage) → held_in self.new.memory.now.pager f.0 ≡ Some q →
@@ -94,7 +98,8 @@ impl<'m, 'e, E: Emit> Side<'m, 'e, E> {
     /// Brings outside what holds pages of a resource of which no frame is owed one.
     pub(crate) fn empty_frames(&mut self, domain: u32, resource: u32)
         requires cleared { IsNoneOwed self.old.memory.now.pager domain resource }
-        ensures sees { Becomes E.gave self.old self.new (λ w. w) }
+        ensures shows { ShowsOn E.gave self.old self.new }
+        ensures tracks { TracksBy self.old.memory.now self.new.memory.now (touched_where (is_of domain resource)) }
         ensures keeps { Keeps (StaysWithin E.gave) self.old self.new }
         ensures away { IsNoneHeld self.new.memory.now.pager domain resource }
     {

@@ -1,5 +1,5 @@
 //! The questions of a cloaked program.
-ghost use Rattle.std.specs.Prelude.{◌≡◌, ◌<◌, ◌%◌, ◌^◌, ◌*◌, ◌≤◌, false, Ok};
+ghost use Rattle.std.specs.Prelude.{◌≡◌, ◌<◌, ◌%◌, ◌^◌, ◌*◌, ◌≤◌, ℕ, false, Ok};
 ghost use Rattle.cloak_model.specs.AskPages as inside;
 ghost use Rattle.cloak_model.specs.Effect.{IsWidth};
 
@@ -33,7 +33,8 @@ fn is_store(kind: Kind) -> bool
 }
 
 impl<'m, 'e, E: Emit> Side<'m, 'e, E> {
-    ghost use Rattle.std.specs.Prelude.{IsTrue};
+    ghost use Rattle.std.specs.Prelude.{IsTrue, Some};
+    ghost use Rattle.cloak_base.specs.declared.names.SpaceId.{SpaceId as AnySpace};
     ghost use Rattle.cloak_model.specs.declared.item.Item.TheVariants as item;
     ghost use Rattle.cloak_model.specs.World.{World, is_clashed, written};
     ghost use Rattle.cloak_model.specs.Asking.{Follows, FollowsFrom, Keeps};
@@ -42,8 +43,8 @@ impl<'m, 'e, E: Emit> Side<'m, 'e, E> {
     ghost use Rattle.cloak_model.specs.AskPages.{reach_by_table, get_by_table, put_by_table};
     ghost use Rattle.cloak_pager.specs.State.{held_in, owed_at};
     ghost use Rattle.cloaked_side.specs.Holding.{HoldsNoOther, frames_of, domains_in};
-    ghost use Rattle.cloaked_side.specs.Leading.{AreLedOutside, IsLedBy, inside_view};
-    ghost use Rattle.cloaked_side.specs.Seeing.{Sees, Becomes, FollowsAlways, Stays, StaysWithin, CanRead, CanWrite};
+    ghost use Rattle.cloaked_side.specs.Leading.{IsLedSo, inside_view};
+    ghost use Rattle.cloaked_side.specs.Seeing.{Sees, Becomes, FollowsAlways, FollowsInside, Stays, StaysWithin, CanRead, CanWrite};
 
     /// Writes that a page is absent. Apart, since to build an item clears room for a page.
     #[cold]
@@ -111,18 +112,30 @@ impl<'m, 'e, E: Emit> Side<'m, 'e, E> {
         }
     }
 
+    /// The space of the context that asks.
+    #[inline(always)]
+    fn space_asking(&self) -> SpaceId
+        ensures { (s : AnySpace) → self.now.space ≡ Some s → result ≡ s }
+    {
+        match self.space {
+            Some(s) => s,
+            None => SpaceId {
+                domain: self.view.domain as u32,
+                number: 0,
+            },
+        }
+    }
+
     /// Who translates for the questions of the context that asks.
+    #[inline(always)]
     fn inside_view(&self) -> ShadowView
-        ensures { result ≡ inside_view self.now }
+        ensures { (s : AnySpace) → self.now.space ≡ Some s → result ≡ inside_view self.now.view s }
     {
         ShadowView::Inside {
             satp: self.view.satp,
             sum: self.view.sum,
             mxr: self.view.mxr,
-            space: SpaceId {
-                domain: self.view.domain as u32,
-                number: self.space,
-            },
+            space: self.space_asking(),
         }
     }
 
@@ -154,11 +167,11 @@ impl<'m, 'e, E: Emit> Side<'m, 'e, E> {
     /// The value to which an access was led that is not cloaked.
     fn got(&mut self, view: &ShadowView, va: u32, width: u32, led: &Led) -> Answer
         requires inside { IsTrue (is_in_frames (frames_of self.old.memory.now) led.now.pa) }
-        requires tables { AreLedOutside (held_in self.old.memory.now.pager) led.now }
         requires width { IsWidth width }
         requires aligned { led.now.pa % width ≡ 0 }
-        ensures told { (first : _) (w : World) → Sees E.gave first self.old w → IsLedBy w view.now va Kind.Load led.now →
-            FollowsFrom (Sees E.gave first) self.new result (got width (Ok led.now.pa) w) }
+        ensures told { (first : _) (w : World) (s : AnySpace) → Sees E.gave first self.old w → self.old.space ≡ Some s →
+            view.now ≡ inside_view self.old.view s → IsLedSo self.old.memory.now w view.now va Kind.Load None led.now →
+            FollowsFrom (Sees E.gave first) self.new result (got va width (Ok led.now.pa) w) }
         ensures keeps { Keeps (StaysWithin E.gave) self.old self.new }
     {
         self.settle_led(view, va, Kind::Load, led);
@@ -170,11 +183,11 @@ impl<'m, 'e, E: Emit> Side<'m, 'e, E> {
     pub(crate) fn get_value(&mut self, va: u32, width: u32) -> Answer
         requires width { IsWidth width }
         requires aligned { va % width ≡ 0 }
-        ensures follows { Follows (Sees E.gave) self.old self.new result (get_by_table va width) }
+        ensures follows { FollowsInside E.gave self.old self.new result (get_by_table va width) }
         ensures keeps { Keeps (StaysWithin E.gave) self.old self.new }
     {
         let view = self.inside_view();
-        let to = self.led(&view, va, Kind::Load);
+        let to = self.led(&view, va, Kind::Load, None);
         if self.memory.missed {
             return self.answer(Answer::Stopped);
         }
@@ -217,11 +230,11 @@ impl<'m, 'e, E: Emit> Side<'m, 'e, E> {
     /// Stores a value to where an access was led that is not cloaked.
     fn put_led(&mut self, view: &ShadowView, va: u32, width: u32, v: u32, led: &Led) -> Answer
         requires inside { IsTrue (is_in_frames (frames_of self.old.memory.now) led.now.pa) }
-        requires tables { AreLedOutside (held_in self.old.memory.now.pager) led.now }
         requires width { IsWidth width }
         requires aligned { led.now.pa % width ≡ 0 }
-        ensures told { (first : _) (w : World) → Sees E.gave first self.old w → IsLedBy w view.now va Kind.Store led.now →
-            FollowsFrom (Sees E.gave first) self.new result (stored_inside width v (Ok led.now.pa) w) }
+        ensures told { (first : _) (w : World) (s : AnySpace) → Sees E.gave first self.old w → self.old.space ≡ Some s →
+            view.now ≡ inside_view self.old.view s → IsLedSo self.old.memory.now w view.now va Kind.Store None led.now →
+            FollowsFrom (Sees E.gave first) self.new result (stored_inside va width v (Ok led.now.pa) w) }
         ensures keeps { Keeps (StaysWithin E.gave) self.old self.new }
     {
         self.settle_led(view, va, Kind::Store, led);
@@ -232,11 +245,11 @@ impl<'m, 'e, E: Emit> Side<'m, 'e, E> {
     pub(crate) fn put_value(&mut self, va: u32, width: u32, v: u32) -> Answer
         requires width { IsWidth width }
         requires aligned { va % width ≡ 0 }
-        ensures follows { Follows (Sees E.gave) self.old self.new result (put_by_table va width v) }
+        ensures follows { FollowsInside E.gave self.old self.new result (put_by_table va width v) }
         ensures keeps { Keeps (StaysWithin E.gave) self.old self.new }
     {
         let view = self.inside_view();
-        let to = self.led(&view, va, Kind::Store);
+        let to = self.led(&view, va, Kind::Store, None);
         if self.memory.missed {
             return self.answer(Answer::Stopped);
         }
@@ -246,57 +259,36 @@ impl<'m, 'e, E: Emit> Side<'m, 'e, E> {
         }
     }
 
-    /// Offers a page in a frame, and answers whether the frame holds it.
+    /// Brings a page to where its access was led.
     #[inline(always)]
-    fn offered(&mut self, q: PageId, g: Frame, write: bool) -> Answer
-        requires inside { g.0 < frames_of self.old.memory.now }
+    fn reached(&mut self, q: PageId, view: &ShadowView, va: u32, kind: Kind, led: &Led) -> Answer
+        requires inside { IsTrue (is_in_frames (frames_of self.old.memory.now) led.now.pa) }
         requires domain { q.domain < domains_in self.old.memory.now }
         requires own { q.domain ≡ self.old.view.domain }
         requires resource { q.resource < 16 }
         requires page { q.page < 1024 }
         requires drawn { self.old.memory.now.missed ≡ false }
-        ensures follows { Follows (Sees E.gave) self.old self.new result (ask_offer q g.0 write) }
+        ensures told { (first : _) (w : World) (s : AnySpace) → Sees E.gave first self.old w → self.old.space ≡ Some s →
+            view.now ≡ inside_view self.old.view s → IsLedSo self.old.memory.now w view.now va kind (Some q) led.now →
+            is_clashed (reached q va kind (Ok led.now.pa) w).world ≡ false →
+            FollowsFrom (Sees E.gave first) self.new result (reached q va kind (Ok led.now.pa) w) }
         ensures keeps { Keeps (Stays E.gave) self.old self.new }
         ensures others { HoldsNoOther q self.old.memory.now.pager self.new.memory.now.pager }
-        ensures held { result ≡ Answer.Ok → held_in self.new.memory.now.pager g.0 ≡ Some q }
-        ensures owed { result ≡ Answer.Ok → IsTrue write → owed_at self.new.memory.now.pager g.0 ≡ Some q }
-        ensures drawn { result ≡ Answer.Ok → self.new.memory.now.missed ≡ false }
-        ensures same_domains { domains_in self.new.memory.now ≡ domains_in self.old.memory.now }
+        ensures readable { result ≡ Answer.Ok → CanRead self.new q }
+        ensures writable { result ≡ Answer.Ok → kind ≡ Kind.Store → CanWrite self.new q }
     {
-        match self.memory.offer(q, g, write, self.emitter) {
-            Offer::Ready => self.answer(Answer::Ok),
+        let g = memory::frame_of(led.pa);
+        match self.memory.offer(q, g, is_store(kind), self.emitter) {
+            Offer::Ready => {
+                self.learn_page(q, view, va, kind, led);
+                self.answer(Answer::Ok)
+            }
             Offer::Mismatch => {
                 self.violation = Some(Violation::Page { page: q, frame: g });
                 self.answer(Answer::Stopped)
             }
             Offer::Missed => self.answer(Answer::Stopped),
         }
-    }
-
-    /// Brings a page to where its access was led.
-    #[inline(always)]
-    fn reached(&mut self, q: PageId, view: &ShadowView, va: u32, kind: Kind, led: &Led) -> Answer
-        requires inside { IsTrue (is_in_frames (frames_of self.old.memory.now) led.now.pa) }
-        requires tables { AreLedOutside (held_in self.old.memory.now.pager) led.now }
-        requires domain { q.domain < domains_in self.old.memory.now }
-        requires own { q.domain ≡ self.old.view.domain }
-        requires resource { q.resource < 16 }
-        requires page { q.page < 1024 }
-        requires drawn { self.old.memory.now.missed ≡ false }
-        ensures told { (first : _) (w : World) → Sees E.gave first self.old w → IsLedBy w view.now va kind led.now →
-            is_clashed (reached q kind (Ok led.now.pa) w).world ≡ false →
-            FollowsFrom (Sees E.gave first) self.new result (reached q kind (Ok led.now.pa) w) }
-        ensures keeps { Keeps (Stays E.gave) self.old self.new }
-        ensures others { HoldsNoOther q self.old.memory.now.pager self.new.memory.now.pager }
-        ensures readable { result ≡ Answer.Ok → CanRead self.new q }
-        ensures writable { result ≡ Answer.Ok → kind ≡ Kind.Store → CanWrite self.new q }
-    {
-        let answer = self.offered(q, memory::frame_of(led.pa), is_store(kind));
-        match answer {
-            Answer::Ok => self.learn_page(q, view, va, kind, led),
-            _ => {}
-        }
-        answer
     }
 
     /// Brings the page to where the kernel's page table leads from this address.
@@ -306,14 +298,14 @@ impl<'m, 'e, E: Emit> Side<'m, 'e, E> {
         requires own { q.domain ≡ self.old.view.domain }
         requires resource { q.resource < 16 }
         requires page { q.page < 1024 }
-        ensures follows { Follows (Sees E.gave) self.old self.new result (reach_by_table q va kind) }
+        ensures follows { FollowsInside E.gave self.old self.new result (reach_by_table q va kind) }
         ensures keeps { Keeps (Stays E.gave) self.old self.new }
         ensures others { HoldsNoOther q self.old.memory.now.pager self.new.memory.now.pager }
         ensures readable { result ≡ Answer.Ok → CanRead self.new q }
         ensures writable { result ≡ Answer.Ok → kind ≡ Kind.Store → CanWrite self.new q }
     {
         let view = self.inside_view();
-        let to = self.led(&view, va, kind);
+        let to = self.led(&view, va, kind, Some(q));
         if self.memory.missed {
             return self.answer(Answer::Stopped);
         }

@@ -1,5 +1,5 @@
 //! Where an access leads: by a translation that is known, or else by a walk, which makes one known.
-ghost use Rattle.std.specs.Prelude.{◌≡◌, ◌/◌, ◌%◌, false, IsTrue, IfOk, IfSome, None, Ok};
+ghost use Rattle.std.specs.Prelude.{◌≡◌, ◌≢◌, ◌/◌, ◌%◌, ℕ, [], ◌∷◌, true, false, IsTrue, IfOk, IfSome, Option, None, Some, Ok};
 ghost use Rattle.shadow_fold.specs.Agreement.{satp_in, access_in};
 
 use crate::memory::frame_of;
@@ -82,55 +82,52 @@ fn entry_of(
 }
 
 impl<'m, 'e, E: Emit> Side<'m, 'e, E> {
-    ghost use Rattle.cloak_model.specs.Ask.{ask_translate};
+    ghost use Rattle.cloak_model.specs.declared.access.Access.{Access as AnyAccess};
+    ghost use Rattle.cloak_model.specs.declared.access.Walked.{Walked as AnyWalk};
+    ghost use Rattle.cloak_base.specs.declared.names.PageId.{PageId as AnyPage};
+    ghost use Rattle.cloak_model.specs.Ask.{ask_translate, known, opened};
+    ghost use Rattle.cloak_model.specs.Events.{Look, Born};
     ghost use Rattle.cloak_model.specs.Walk.{has_paging};
-    ghost use Rattle.cloak_model.specs.Asking.{Follows, Keeps};
+    ghost use Rattle.cloak_model.specs.Asking.{Follows, FollowsFrom, Keeps};
     ghost use Rattle.cloak_model.specs.Memory.{is_in_frames};
     ghost use Rattle.cloak_model.specs.Memory as model;
-    ghost use Rattle.cloak_model.specs.World.{World, is_clashed, settled};
+    ghost use Rattle.cloak_model.specs.World.{World, is_clashed, noted};
     ghost use Rattle.cloak_pager.specs.State.{held_in};
     ghost use Rattle.cloaked_side.specs.Holding.{frames_of};
-    ghost use Rattle.cloaked_side.specs.Leading.{place_in, AreLedOutside, IsLedBy, IsEntryOf, IsReachedBy};
-    ghost use Rattle.cloaked_side.specs.Seeing.{Sees, Becomes, StaysWithin};
+    ghost use Rattle.cloaked_side.specs.Leading.{place_in, AreLedOutside, IsLedBy, IsLedSo, IsEntryOf, IsReachedSo, IsViewIn, asked_led};
+    ghost use Rattle.cloaked_side.specs.Seeing.{Sees, StaysWithin};
+    ghost use Rattle.shadow_fold.specs.Fold.{entry_in, is_own_table};
+    ghost use Rattle.shadow_fold.specs.Table.{is_known};
     ghost use Rattle.shadow_law.specs.Agreeing.{AreOutside};
 
-    /// The address to which a known translation leads.
+    /// The address to which a known translation leads, where it is of this page, or of none.
     #[inline(always)]
-    fn known(&mut self, view: &ShadowView, va: u32, kind: Kind) -> Option<u32>
+    fn known(
+        &mut self,
+        view: &ShadowView,
+        va: u32,
+        kind: Kind,
+        cloaked: Option<PageId>,
+    ) -> Option<u32>
         ensures leads { IfSome result (λ pa. (first : _) (w : World) → Sees E.gave first self.old w →
-            ask_translate (satp_in view.now) (access_in view.now va kind) w ≡ record { answer = Ok pa; world = w }) }
-        ensures sees { Becomes E.gave self.old self.new (λ w. w) }
+            IsViewIn self.old.space view.now → FollowsFrom (Sees E.gave first) self.new (Ok pa) (asked_led view.now va kind w)) }
+        ensures looked { (first : _) (w : World) → Sees E.gave first self.old w → IsViewIn self.old.space view.now →
+            Sees E.gave first self.new (noted (Look (satp_in view.now) (access_in view.now va kind) ∷ []) w) }
+        ensures live { IfSome result (λ pa. (first : _) (w : World) → Sees E.gave first self.old w →
+            (is_known view.now (va / 4096) kind self.new.memory.now.shadows ≡ true)
+            × (held_in self.new.memory.now.pager (model.frame_of pa) ≡ cloaked)) }
         ensures keeps { Keeps (StaysWithin E.gave) self.old self.new }
         ensures inside { IfSome result (λ pa. IsTrue (is_in_frames (frames_of self.old.memory.now) pa)) }
         ensures offset { IfSome result (λ pa. pa % 4096 ≡ va % 4096) }
         ensures same_count { frames_of self.new.memory.now ≡ frames_of self.old.memory.now }
     {
         let e = self.memory.shadows.find(view, va / 4096, kind)?;
+        if e.cloaked != cloaked {
+            return None;
+        }
         let pa = RAM_START + 4096 * e.frame.0 as u64 + (va % 4096) as u64;
         if self.memory.is_inside(pa) {
             Some(pa as u32)
-        } else {
-            None
-        }
-    }
-
-    /// Whether a frame is none, or outside.
-    fn is_outside(&self, table: Option<Frame>) -> bool
-        ensures { IsTrue result → IfSome table (λ f. held_in self.now.memory.now.pager f.0 ≡ None) }
-    {
-        match table {
-            None => true,
-            Some(f) => f.0 < self.memory.pager.count() && self.memory.pager.holds(f).is_none(),
-        }
-    }
-
-    /// The walk, where its tables are outside.
-    fn through_outside(&self, walked: Walked) -> Option<Walked>
-        ensures same { IfSome result (λ w. w ≡ walked) }
-        ensures tables { IfSome result (λ w. AreOutside (held_in self.now.memory.now.pager) w) }
-    {
-        if self.is_outside(walked.pt1) && self.is_outside(walked.pt0) {
-            Some(walked)
         } else {
             None
         }
@@ -148,7 +145,10 @@ impl<'m, 'e, E: Emit> Side<'m, 'e, E> {
         ensures led_by { IfOk result (λ led. (first : _) (w : World) → Sees E.gave first self.old w →
             let told = ask_translate (satp_in view.now) (access_in view.now va kind) w in
             is_clashed told.world ≡ false → IsLedBy told.world view.now va kind led) }
-        ensures tables { IfOk result (AreLedOutside (held_in self.new.memory.now.pager)) }
+        ensures tables { IfOk result (λ led. (first : _) (w : World) → Sees E.gave first self.old w →
+            let told = ask_translate (satp_in view.now) (access_in view.now va kind) w in
+            is_clashed told.world ≡ false → AreLedOutside (held_in self.new.memory.now.pager) led) }
+        ensures walked { IfOk result (λ led. led.walked ≢ None) }
     {
         let a = access_of(view, va, kind);
         let walked = walk(satp_of(view), a.mode, a.sum, a.mxr, a.va, a.kind, self)?;
@@ -157,16 +157,17 @@ impl<'m, 'e, E: Emit> Side<'m, 'e, E> {
         }
         Ok(Led {
             pa: walked.pa as u32,
-            walked: self.through_outside(walked),
+            walked: Some(walked),
         })
     }
 
-    /// Where an access leads without paging, or the cause of its fault.
+    /// Where an access leads without paging, or the cause of its fault, where accesses are not counted.
     #[inline]
     fn led_bare(&mut self, view: &ShadowView, va: u32, kind: Kind) -> Result<Led, u32>
-        requires { has_paging (satp_in view.now) ≡ false }
-        ensures follows { Follows (Sees E.gave) self.old self.new (place_in result)
-            (ask_translate (satp_in view.now) (access_in view.now va kind)) }
+        requires bare { has_paging (satp_in view.now) ≡ false }
+        requires uncounted { self.old.memory.now.counting ≡ false }
+        ensures follows { (first : _) (w : World) → Sees E.gave first self.old w → IsViewIn self.old.space view.now →
+            FollowsFrom (Sees E.gave first) self.new (place_in result) (asked_led view.now va kind w) }
         ensures same { self.new ≡ self.old }
         ensures inside { IfOk result (λ led. IsTrue (is_in_frames (frames_of self.old.memory.now) led.pa)) }
         ensures offset { IfOk result (λ led. led.pa % 4096 ≡ va % 4096) }
@@ -182,23 +183,30 @@ impl<'m, 'e, E: Emit> Side<'m, 'e, E> {
         }
     }
 
-    /// Where an access leads, or the cause of its fault. Without paging it leads to its own address, and nothing is kept.
-    pub(crate) fn led(&mut self, view: &ShadowView, va: u32, kind: Kind) -> Result<Led, u32>
-        ensures follows { Follows (Sees E.gave) self.old self.new (place_in result)
-            (ask_translate (satp_in view.now) (access_in view.now va kind)) }
+    /// Where an access leads that is of this page, or not cloaked, or the cause of its fault. Without paging it leads to its
+    /// own address, and nothing is kept, unless accesses are counted.
+    pub(crate) fn led(
+        &mut self,
+        view: &ShadowView,
+        va: u32,
+        kind: Kind,
+        cloaked: Option<PageId>,
+    ) -> Result<Led, u32>
+        ensures follows { (first : _) (w : World) → Sees E.gave first self.old w → IsViewIn self.old.space view.now →
+            is_clashed (asked_led view.now va kind w).world ≡ false →
+            FollowsFrom (Sees E.gave first) self.new (place_in result) (asked_led view.now va kind w) }
         ensures keeps { Keeps (StaysWithin E.gave) self.old self.new }
         ensures inside { IfOk result (λ led. IsTrue (is_in_frames (frames_of self.old.memory.now) led.pa)) }
         ensures offset { IfOk result (λ led. led.pa % 4096 ≡ va % 4096) }
         ensures same_count { frames_of self.new.memory.now ≡ frames_of self.old.memory.now }
-        ensures led_by { IfOk result (λ led. (first : _) (w : World) → Sees E.gave first self.old w →
-            let told = ask_translate (satp_in view.now) (access_in view.now va kind) w in
-            is_clashed told.world ≡ false → IsLedBy told.world view.now va kind led) }
-        ensures tables { IfOk result (AreLedOutside (held_in self.new.memory.now.pager)) }
+        ensures leads { IfOk result (λ led. (first : _) (w : World) → Sees E.gave first self.old w →
+            IsViewIn self.old.space view.now → let told = asked_led view.now va kind w in is_clashed told.world ≡ false →
+            IsLedSo self.new.memory.now told.world view.now va kind cloaked led) }
     {
-        if !has_bit(satp_of(view), 31) {
+        if !self.memory.counting && !has_bit(satp_of(view), 31) {
             return self.led_bare(view, va, kind);
         }
-        match self.known(view, va, kind) {
+        match self.known(view, va, kind, cloaked) {
             Some(pa) => Ok(Led { pa, walked: None }),
             None => self.led_by_walk(view, va, kind),
         }
@@ -206,8 +214,10 @@ impl<'m, 'e, E: Emit> Side<'m, 'e, E> {
 
     /// Makes a translation known.
     fn learn(&mut self, e: Entry)
-        ensures sees { (first : _) (w : World) → Sees E.gave first self.old w →
-            IsEntryOf w (held_in self.old.memory.now.pager) e → Sees E.gave first self.new w }
+        ensures sees { (first : _) (w : World) (satp : ℕ) (a : AnyAccess) (walked : AnyWalk) (cloaked : Option AnyPage) →
+            Sees E.gave first self.old w → IsEntryOf w (held_in self.old.memory.now.pager) e →
+            entry_in self.old.space satp a walked cloaked ≡ e → is_own_table e ≡ false →
+            Sees E.gave first self.new (noted (Born satp a walked cloaked ∷ []) w) }
         ensures keeps { Keeps (StaysWithin E.gave) self.old self.new }
         ensures same_pager { self.new.memory.now.pager ≡ self.old.memory.now.pager }
         ensures same_missed { self.new.memory.now.missed ≡ self.old.memory.now.missed }
@@ -218,9 +228,9 @@ impl<'m, 'e, E: Emit> Side<'m, 'e, E> {
     /// Settles the frame to which an access was led that is not cloaked. Its translation is known then.
     pub(crate) fn settle_led(&mut self, view: &ShadowView, va: u32, kind: Kind, led: &Led)
         requires inside { IsTrue (is_in_frames (frames_of self.old.memory.now) led.now.pa) }
-        requires tables { AreLedOutside (held_in self.old.memory.now.pager) led.now }
-        ensures sees { (first : _) (w : World) → Sees E.gave first self.old w → IsLedBy w view.now va kind led.now →
-            Sees E.gave first self.new (settled (model.frame_of led.now.pa) w) }
+        ensures sees { (first : _) (w : World) → Sees E.gave first self.old w → IsViewIn self.old.space view.now →
+            IsLedSo self.old.memory.now w view.now va kind None led.now →
+            Sees E.gave first self.new (opened (satp_in view.now) (access_in view.now va kind) led.now.pa w) }
         ensures keeps { Keeps (StaysWithin E.gave) self.old self.new }
         ensures same_count { frames_of self.new.memory.now ≡ frames_of self.old.memory.now }
         ensures outside { held_in self.new.memory.now.pager (model.frame_of led.now.pa) ≡ None }
@@ -243,8 +253,9 @@ impl<'m, 'e, E: Emit> Side<'m, 'e, E> {
         led: &Led,
     )
         requires inside { IsTrue (is_in_frames (frames_of self.old.memory.now) led.now.pa) }
-        ensures sees { (first : _) (w : World) → Sees E.gave first self.old w →
-            IsReachedBy w (held_in self.old.memory.now.pager) view.now va kind q led.now → Sees E.gave first self.new w }
+        ensures sees { (first : _) (w : World) → Sees E.gave first self.old w → IsViewIn self.old.space view.now →
+            IsReachedSo self.old.memory.now w view.now va kind q led.now →
+            Sees E.gave first self.new (known (satp_in view.now) (access_in view.now va kind) (Some q) w) }
         ensures keeps { Keeps (StaysWithin E.gave) self.old self.new }
         ensures same_pager { self.new.memory.now.pager ≡ self.old.memory.now.pager }
         ensures same_missed { self.new.memory.now.missed ≡ self.old.memory.now.missed }

@@ -1,9 +1,9 @@
-ghost use Rattle.std.specs.Prelude.{◌≡◌, ◌≢◌, ◌^◌, IsTrue, ◌⊎◌, ℕ, false, not, ◌<◌, ◌≤◌, [], ◌∷◌};
+ghost use Rattle.std.specs.Prelude.{◌≡◌, ◌≢◌, ◌^◌, IsTrue, ◌⊎◌, ℕ, true, false, not, ◌<◌, ◌≤◌, [], ◌∷◌, Option, is_some};
 ghost use Rattle.cloak_model.specs.Memory as memory;
 ghost use Rattle.cloak_model.specs.Memory.{is_in_frames};
 ghost use Rattle.cloak_model.specs.declared.item.Item.TheVariants.{Cipher};
 ghost use Rattle.shadow_fold.specs.Entries.{is_of_space};
-ghost use Rattle.shadow_fold.specs.Table.{ending, killed};
+ghost use Rattle.shadow_fold.specs.Table.{empty_table, ending, killed};
 
 use cloak_base::{Frame, PageId, SpaceId};
 use cloak_model::Emit;
@@ -55,6 +55,8 @@ pub struct Memory {
     pub missed: bool,
     /// The translations that are known.
     pub shadows: Shadows,
+    /// Accesses without paging go through them too, as is due where they are counted.
+    pub counting: bool,
 }
 
 /// Ends the translations that lead to a frame or through it.
@@ -73,6 +75,11 @@ impl Memory {
     ghost use Rattle.cloaked_side.specs.Offering.{Rooms, Offers};
     ghost use Rattle.cloaked_side.specs.Holding.{Holds, Settles, SameSize, HoldsNoMore, HoldsNoOther};
     ghost use Rattle.cloaked_side.specs.Holding.{frames_of, domains_in};
+    ghost use Rattle.cloaked_side.specs.Tracking.{Tracks, TracksBy, room_made};
+    ghost use Rattle.cloak_base.specs.declared.names.SpaceId.{SpaceId};
+    ghost use Rattle.cloak_model.specs.AskPages.{offer_events};
+    ghost use Rattle.shadow_fold.specs.Fold.{after_events, frame, fresh_fold, touched};
+    ghost use Rattle.shadow_fold.specs.Following.{killed_if};
 
     /// Settles a frame, and emits what the kernel is shown of it.
     pub fn settle<E: Emit>(&mut self, f: Frame, e: &mut E)
@@ -82,6 +89,9 @@ impl Memory {
         ensures stays { StaysBut f.0 self.old.pager self.new.pager }
         ensures emits_some { EmitsSome E.gave e.old e.new }
         ensures settles { (m : CloakedMemory) → Holds self.old m → Settles E.gave e.old e.new self.new (settle f.0 m) }
+        ensures tracks { TracksBy self.old self.new (touched (frame f.0)) }
+        ensures ends { self.new.shadows ≡ killed_if (is_some (held_in self.old.pager f.0)) (frame f.0) self.old.shadows }
+        ensures counting { self.new.counting ≡ self.old.counting }
     {
         match self.pager.touch(f, &mut self.stream) {
             Touched::Quiet => {}
@@ -137,6 +147,9 @@ impl Memory {
         ensures alone { IsTrue result → (k : ℕ) → held_in self.new.pager k ≡ Some q → k ≡ g.0 }
         ensures no_more { HoldsNoMore self.old.pager self.new.pager }
         ensures rooms { (m : CloakedMemory) → Holds self.old m → Rooms E.gave e.old e.new self.new result q g.0 m }
+        ensures tracks { (m : CloakedMemory) → Holds self.old m → TracksBy self.old self.new (room_made q g.0 m) }
+        ensures counting { self.new.counting ≡ self.old.counting }
+        ensures drawn { IsTrue result → (m : CloakedMemory) → Holds self.old m → (settle g.0 m).missed ≡ false }
     {
         self.pager.whole();
         self.settle(g, e);
@@ -164,6 +177,11 @@ impl Memory {
         ensures offers { (m : CloakedMemory) → Holds self.old m →
             (offer q g.0 write m).memory.ledger.clashed ≡ false →
             Offers E.gave e.old e.new self.new result (offer q g.0 write m) }
+        ensures tracks { (m : CloakedMemory) → Holds self.old m →
+            (offer q g.0 write m).memory.ledger.clashed ≡ false → (space : Option SpaceId) →
+            TracksBy self.old self.new (after_events space (offer_events q g.0 m (offer q g.0 write m).answer)) }
+        ensures again { held_in self.old.pager g.0 ≡ Some q → self.new.shadows ≡ self.old.shadows }
+        ensures counting { self.new.counting ≡ self.old.counting }
         ensures held { result ≡ Offer.Ready → held_in self.new.pager g.0 ≡ Some q }
         ensures others { HoldsNoOther q self.old.pager self.new.pager }
         ensures owed { result ≡ Offer.Ready → IsTrue write → owed_at self.new.pager g.0 ≡ Some q }
@@ -186,6 +204,16 @@ impl Memory {
             }
             Offered::Mismatch => Offer::Mismatch,
         }
+    }
+
+    /// Begins to count accesses: what was known ends, and from now on accesses without paging are kept too.
+    pub fn count_accesses(&mut self)
+        ensures state { self.new ≡ record self.old { shadows = empty_table self.old.shadows.frames; counting = true } }
+        ensures holds { (m : CloakedMemory) → Holds self.old m → Holds self.new m }
+        ensures tracks { ((k : ℕ) → held_in self.old.pager k ≡ None) → (frames : ℕ) → Tracks self.new (fresh_fold frames) }
+    {
+        self.shadows.restart();
+        self.counting = true;
     }
 
     /// The regions of a space changed, or it ended: what was known of its pages ends.
@@ -214,6 +242,7 @@ impl Memory {
         ensures draws { self.new.draws ≡ self.old.draws }
         ensures missed { self.new.missed ≡ self.old.missed }
         ensures shadows { self.new.shadows ≡ self.old.shadows }
+        ensures counting { self.new.counting ≡ self.old.counting }
         ensures emits { Emits E.gave e.old e.new (item_pieces (Cipher f.0 (bytes_in self.old.pager f.0) ∷ [])) }
     {
         e.cipher(f.0, self.pager.read_outside(f));

@@ -1,12 +1,16 @@
 //! The step of a hart outside.
-ghost use Rattle.std.specs.Prelude.{◌≡◌, false};
+ghost use Rattle.std.specs.Prelude.{◌≡◌, false, None};
 ghost use Rattle.cloak_model.specs.Csr as spec;
 ghost use Rattle.cloak_model.specs.Cloaking.{CloakedMemory};
 ghost use Rattle.cloak_model.specs.Ahead.{settled_step};
 ghost use Rattle.cloak_model.specs.Joint.{cloak_outside};
+ghost use Rattle.cloak_model.specs.KernelStep as plain;
+ghost use Rattle.cloak_model.specs.World.{Cloaked, events_of};
+ghost use Rattle.shadow_fold.specs.Fold.{after_events};
 ghost use Rattle.cloak_model.specs.Exchange.{EmitsSome};
 ghost use Rattle.cloaked_side.specs.Holding.{Holds, HoldsNoMore, SameSize};
 ghost use Rattle.cloaked_side.specs.Telling.{TellsSide};
+ghost use Rattle.cloaked_side.specs.Tracking.{TracksBy};
 
 use crate::kept_items::KeptItems;
 use crate::memory::Memory;
@@ -40,10 +44,13 @@ pub fn outside_step<E: Emit>(
 ) -> Kernel
     ensures size { SameSize memory.old memory.new }
     ensures no_more { HoldsNoMore memory.old.pager memory.new.pager }
+    ensures counting { memory.new.counting ≡ memory.old.counting }
     ensures emits_some { EmitsSome E.gave e.old e.new }
     ensures tells { (m : CloakedMemory) → Holds memory.old m → m.ledger.clashed ≡ false →
         TellsSide E.gave e.old e.new memory.new (record { hart = h.new; disk = d.new; ending = result })
         (settled_step h.old d.old (cloak_outside m h.old)) }
+    ensures tracks { (m : CloakedMemory) → Holds memory.old m → m.ledger.clashed ≡ false → TracksBy memory.old memory.new
+        (after_events None (events_of (plain.kernel_step h.old d.old (Cloaked (cloak_outside m h.old))).world)) }
 {
     let view = view_of(h, 0);
     let mut side = Side {
@@ -52,7 +59,7 @@ pub fn outside_step<E: Emit>(
         items,
         violation: None,
         view,
-        space: 0,
+        space: None,
     };
     let ending = kernel_step(h, d, &mut side);
     // No effect at run time. The proof reads what was lent from these uses.

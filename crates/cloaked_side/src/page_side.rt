@@ -18,9 +18,9 @@ impl<'m, 'e, E: Emit> Side<'m, 'e, E> {
 }
 
 impl<'m, 'e, E: Emit> PageSide for Side<'m, 'e, E> {
-    ghost use Rattle.cloaked_side.specs.Seeing.{Sees, Stays, CanRead, CanWrite, IsCleared, IsUnused, served};
+    ghost use Rattle.cloaked_side.specs.Seeing.{SeesInside, Stays, CanRead, CanWrite, IsCleared, IsUnused, served};
 
-    ghost stands_for = { λ first side w. Sees E.gave first side w };
+    ghost stands_for = { λ first side w. SeesInside E.gave first side w };
 
     ghost kept = { λ first side. Stays E.gave first side };
 

@@ -1,8 +1,8 @@
-ghost use Rattle.std.specs.Prelude.{◌≡◌, ◌<◌, ◌≤◌, ◌%◌, IsTrue, length};
+ghost use Rattle.std.specs.Prelude.{◌≡◌, ◌<◌, ◌≤◌, ◌%◌, IsTrue, length, is_some};
 
 use crate::kept_items::KeptItems;
 use crate::memory::{Memory, frame_of, place_of};
-use cloak_base::{Frame, Violation};
+use cloak_base::{Frame, SpaceId, Violation};
 use cloak_model::{Access, Emit, View, value_in, word_in};
 use host_calls::Ram;
 use multi_shadow::ShadowView;
@@ -19,16 +19,20 @@ pub struct Side<'m, 'e, E: Emit> {
     pub violation: Option<Violation>,
     /// For the questions of a cloaked program.
     pub view: View,
-    /// The number of the space of the context that asks; of no use outside.
-    pub space: u32,
+    /// The space of the context that asks; none outside.
+    pub space: Option<SpaceId>,
 }
 
 impl<'m, 'e, E: Emit> Side<'m, 'e, E> {
     ghost use Rattle.cloak_model.specs.World.{settled};
     ghost use Rattle.cloak_model.specs.Asking.{Keeps};
     ghost use Rattle.cloak_pager.specs.State.{held_in};
-    ghost use Rattle.cloaked_side.specs.Holding.{frames_of};
+    ghost use Rattle.cloak_model.specs.Cloaking.{CloakedMemory, settle};
+    ghost use Rattle.cloaked_side.specs.Holding.{Holds, Settles, frames_of};
     ghost use Rattle.cloaked_side.specs.Seeing.{Becomes, FollowsAlways, StaysWithin};
+    ghost use Rattle.cloaked_side.specs.Tracking.{TracksBy};
+    ghost use Rattle.shadow_fold.specs.Fold.{frame, touched};
+    ghost use Rattle.shadow_fold.specs.Following.{killed_if};
     ghost use Rattle.cloak_model.specs.Ask.{shown_value, stored_value};
     ghost use Rattle.cloak_model.specs.Effect.{IsWidth};
     ghost use Rattle.cloak_model.specs.Memory as model;
@@ -41,6 +45,14 @@ impl<'m, 'e, E: Emit> Side<'m, 'e, E> {
         ensures keeps { Keeps (StaysWithin E.gave) self.old self.new }
         ensures same_count { frames_of self.new.memory.now ≡ frames_of self.old.memory.now }
         ensures outside { held_in self.new.memory.now.pager f.0 ≡ None }
+        ensures ends { self.new.memory.now.shadows ≡ killed_if (is_some (held_in self.old.memory.now.pager f.0)) (frame f.0)
+            self.old.memory.now.shadows }
+        ensures counting { self.new.memory.now.counting ≡ self.old.memory.now.counting }
+        ensures tracks { TracksBy self.old.memory.now self.new.memory.now (touched (frame f.0)) }
+        ensures settles { (m : CloakedMemory) → Holds self.old.memory.now m →
+            Settles E.gave self.old.emitter.now self.new.emitter.now self.new.memory.now (settle f.0 m) }
+        ensures violation { self.new.violation ≡ self.old.violation }
+        ensures view { self.new.view ≡ self.old.view }
     {
         self.memory.settle(f, self.emitter);
     }
@@ -102,9 +114,9 @@ impl<'m, 'e, E: Emit> Words for Side<'m, 'e, E> {
 
 impl<'m, 'e, E: Emit> Ram for Side<'m, 'e, E> {
     ghost use Rattle.cloaked_side.specs.Holding.{frames_of};
-    ghost use Rattle.cloaked_side.specs.Seeing.{Sees, StaysWithin};
+    ghost use Rattle.cloaked_side.specs.Seeing.{SeesOutside, StaysWithin};
 
-    ghost stands_for = { λ first side w. Sees E.gave first side w };
+    ghost stands_for = { λ first side w. SeesOutside E.gave first side w };
 
     ghost kept = { λ first side. StaysWithin E.gave first side };
 
@@ -117,7 +129,7 @@ impl<'m, 'e, E: Emit> Ram for Side<'m, 'e, E> {
             sum: access.sum,
             mxr: access.mxr,
         };
-        match self.led(&view, access.va, access.kind) {
+        match self.led(&view, access.va, access.kind, None) {
             Err(cause) => Err(cause),
             Ok(led) => {
                 self.settle_led(&view, access.va, access.kind, &led);
@@ -133,7 +145,7 @@ impl<'m, 'e, E: Emit> Ram for Side<'m, 'e, E> {
             sum: access.sum,
             mxr: access.mxr,
         };
-        match self.led(&view, access.va, access.kind) {
+        match self.led(&view, access.va, access.kind, None) {
             Err(cause) => Err(cause),
             Ok(led) => {
                 self.settle_led(&view, access.va, access.kind, &led);

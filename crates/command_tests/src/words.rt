@@ -1,7 +1,9 @@
 //! Words, and what they ask for.
 
 use cloak_base::NoMemory;
-use command_words::{Randomness, Request, RunRequest, SoloRequest, UsageFault, read_words};
+use command_words::{
+    Randomness, Request, RunRequest, SoloRequest, StatsRequest, UsageFault, read_words,
+};
 use std::alloc::{AllocError, Global};
 use std::test::*;
 
@@ -36,6 +38,14 @@ fn run_text(alloc: Global, run: &RunRequest<'_>) -> Result<String, AllocError> {
     }
 }
 
+fn stats_text(alloc: Global, stats: &StatsRequest<'_>) -> Result<String, AllocError> {
+    let (bundle, steps) = (stats.bundle, stats.steps);
+    match &stats.randomness {
+        Randomness::Numbered(number) => format!(in alloc; "stats {bundle} {steps} number {number}"),
+        Randomness::FromFile(name) => format!(in alloc; "stats {bundle} {steps} stream {name}"),
+    }
+}
+
 fn solo_text(alloc: Global, solo: &SoloRequest<'_>) -> Result<String, AllocError> {
     let (domain, bundle, record_name) = (solo.domain, solo.files.bundle, solo.files.record_name);
     format!(in alloc; "solo {domain} {bundle} {record_name}")
@@ -44,13 +54,13 @@ fn solo_text(alloc: Global, solo: &SoloRequest<'_>) -> Result<String, AllocError
 /// What is asked for, as a line of text.
 fn text_of(alloc: Global, request: &Request<'_>) -> Result<String, AllocError> {
     match request {
-        Request::NotBuilt => String::from_str(alloc, "not built"),
         Request::Faulty(fault) => String::from_str(alloc, fault_text(*fault)),
         Request::Run(run) => run_text(alloc, run),
         Request::View(files) => format!(in alloc; "view {} {}", files.bundle, files.record_name),
         Request::Solo(solo) => solo_text(alloc, solo),
         Request::Gen(image) => format!(in alloc; "gen {} {}", image.number, image.bundle),
         Request::Demo(demo) => format!(in alloc; "demo {} {}", demo.number, demo.steps),
+        Request::Stats(stats) => stats_text(alloc, stats),
     }
 }
 
@@ -62,9 +72,9 @@ fn shown(alloc: Global, line: &[&str]) -> Result<String, NoMemory> {
 }
 
 /// Words, and what they ask for by the rules of the words.
-static LINES: [(&[&str], &str); 47] = [
+static LINES: [(&[&str], &str); 51] = [
     (&[], "no command"),
-    (&["stats", "a.b"], "not built"),
+    (&["stats", "a.b"], "words"),
     (&["walk"], "unknown command"),
     (&["Run", "a.b", "a.r"], "unknown command"),
     (&["--steps", "10"], "unknown command"),
@@ -238,6 +248,19 @@ static LINES: [(&[&str], &str); 47] = [
     (&["demo", "9", "--steps", "200000"], "demo 9 200000"),
     (&["demo", "--steps=1000000001", "9"], "number"),
     (&["demo", "9"], "words"),
+    (
+        &["stats", "--steps=10", "a.b", "--number=0"],
+        "stats a.b 10 number 0",
+    ),
+    (
+        &["stats", "a.b", "--steps", "10", "--stream", "s"],
+        "stats a.b 10 stream s",
+    ),
+    (
+        &["stats", "a.b", "a.r", "--steps=10", "--number=0"],
+        "words",
+    ),
+    (&["stats", "a.b", "--steps=ten"], "randomness"),
 ];
 
 #[test]

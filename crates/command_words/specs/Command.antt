@@ -30,8 +30,6 @@ longest_stream = 16777216
 
 -- what is asked for
 pub data Asked : Type 0 where
-  -- a command that is not built
-  NotBuilt : Asked
   Faulty : UsageFault → Asked
   -- the joint run of a bundle, with the name of its record, its budget of steps, and its randomness
   Run : (bundle record_name : List ℕ) → (steps : ℕ) → Randomness → Asked
@@ -43,6 +41,8 @@ pub data Asked : Type 0 where
   Gen : (number : ℕ) → (bundle_name : List ℕ) → Asked
   -- the joint run of the generated bundle of a number, without files
   Demo : (number steps : ℕ) → Asked
+  -- the counts of the joint run of a bundle, with its budget of steps and its randomness
+  Stats : (bundle : List ℕ) → (steps : ℕ) → Randomness → Asked
 
 -- the word is this text
 abbrev pub is : List ℕ → List ℕ → Bool
@@ -62,14 +62,20 @@ number_up_to limit w =
 abbrev pub last_stream : ℕ
 last_stream = 18446744073709551615
 
+-- the run of a bundle: with its record, where that has a name, and else for its counts
+abbrev pub asked_run : (bundle : List ℕ) → (record_name : Option (List ℕ)) → (steps : ℕ) → Randomness → Asked
+asked_run bundle (Some record_name) steps randomness = Run bundle record_name steps randomness
+asked_run bundle None steps randomness = Stats bundle steps randomness
+
 -- a run whose values are read
-abbrev pub run_of_values : List ℕ → List ℕ → Option ℕ → Option Randomness → Asked
-run_of_values bundle record_name (Some steps) (Some randomness) = Run bundle record_name steps randomness
+abbrev pub run_of_values : List ℕ → Option (List ℕ) → Option ℕ → Option Randomness → Asked
+run_of_values bundle record_name (Some steps) (Some randomness) = asked_run bundle record_name steps randomness
 run_of_values bundle record_name (Some steps) None = Faulty WrongNumber
 run_of_values bundle record_name None randomness = Faulty WrongNumber
 
 -- Exactly one option is to name the randomness.
-unfoldable pub run_of_texts : (bundle record_name steps : List ℕ) → (stream number : Option (List ℕ)) → Asked
+unfoldable pub run_of_texts : (bundle : List ℕ) → (record_name : Option (List ℕ)) → (steps : List ℕ) →
+    (stream number : Option (List ℕ)) → Asked
 run_of_texts bundle record_name steps None None = Faulty NoRandomness
 run_of_texts bundle record_name steps (Some name) None =
     run_of_values bundle record_name (number_up_to most_steps steps) (Some (FromFile name))
@@ -102,7 +108,7 @@ needed_text name rows = unwrap_or (first_of name rows) []
 -- What a command asks with the texts of its positions and options.
 unfoldable pub asked_with : CommandName → List Row → Asked
 asked_with name.Run rows =
-    run_of_texts (needed_text (codes "BUNDLE") rows) (needed_text (codes "RECORD") rows)
+    run_of_texts (needed_text (codes "BUNDLE") rows) (Some (needed_text (codes "RECORD") rows))
     (needed_text (codes "steps") rows) (first_of (codes "stream") rows) (first_of (codes "number") rows)
 asked_with name.View rows = View (needed_text (codes "BUNDLE") rows) (needed_text (codes "RECORD") rows)
 asked_with name.Solo rows =
@@ -113,6 +119,9 @@ asked_with name.Gen rows =
 asked_with name.Demo rows =
     demo_of_numbers (number_up_to last_stream (needed_text (codes "NUMBER") rows))
     (number_up_to most_steps (needed_text (codes "steps") rows))
+asked_with name.Stats rows =
+    run_of_texts (needed_text (codes "BUNDLE") rows) None
+    (needed_text (codes "steps") rows) (first_of (codes "stream") rows) (first_of (codes "number") rows)
 
 -- the command of this name
 abbrev pub command_named : List ℕ → Option CommandName
@@ -121,7 +130,8 @@ command_named w =
     if is (codes "view") w then Some name.View else
     if is (codes "solo") w then Some name.Solo else
     if is (codes "gen") w then Some name.Gen else
-    if is (codes "demo") w then Some name.Demo else None
+    if is (codes "demo") w then Some name.Demo else
+    if is (codes "stats") w then Some name.Stats else None
 
 -- the texts that a command finds in the words, where it refuses nothing
 abbrev pub unless_refused : Kinds → List Row → Option (List Row)
@@ -139,8 +149,7 @@ abbrev pub asked_of_command : Option CommandName → List (List ℕ) → Asked
 asked_of_command None words = Faulty UnknownCommand
 asked_of_command (Some command) words = asked_by command (found_in (form_of command) words)
 
--- What the words ask for: the test for what is not built comes before every other.
+-- What the words ask for.
 unfoldable pub words_of : List (List ℕ) → Asked
 words_of [] = Faulty NoCommand
-words_of (command ∷ words) =
-    if is (codes "stats") command then NotBuilt else asked_of_command (command_named command) (command ∷ words)
+words_of (command ∷ words) = asked_of_command (command_named command) (command ∷ words)

@@ -3,7 +3,7 @@ use Rattle.std.specs.Prelude.{ℕ, true, List, [], ◌∷◌, Some, codes, fold}
 use Rattle.clap.specs.Words.{App, Rule, new_app, new_rule, with_rule}
 use Rattle.clap.specs.Simple.{on_top}
 use Rattle.command_words.specs.declared.command_name.CommandName.{CommandName}
-use Rattle.command_words.specs.declared.command_name.CommandName.TheVariants.{Run, View, Solo, Gen, Demo}
+use Rattle.command_words.specs.declared.command_name.CommandName.TheVariants.{Run, View, Solo, Gen, Demo, Stats}
 
 -- a position, which is not to be left out
 abbrev pub position : List ℕ → Rule
@@ -33,3 +33,6 @@ form_of Solo = fold with_rule (bare_form (codes "solo"))
 form_of Gen = fold with_rule (bare_form (codes "gen")) (position (codes "NUMBER") ∷ position (codes "BUNDLE") ∷ [])
 form_of Demo = fold with_rule (bare_form (codes "demo"))
     (position (codes "NUMBER") ∷ needed_option (codes "steps") ∷ [])
+form_of Stats = fold with_rule (bare_form (codes "stats"))
+    (position (codes "BUNDLE")
+    ∷ needed_option (codes "steps") ∷ valued_option (codes "stream") ∷ valued_option (codes "number") ∷ [])

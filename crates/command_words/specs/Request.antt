@@ -1,10 +1,11 @@
 -- What a request stands for.
 use Rattle.command_words.specs.Command as spec
 use Rattle.command_words.specs.declared.request.Request.{Request}
-use Rattle.command_words.specs.declared.request.Request.TheVariants.{NotBuilt, Faulty, Run, View, Solo, Gen, Demo}
+use Rattle.command_words.specs.declared.request.Request.TheVariants.{Faulty, Run, View, Solo, Gen, Demo, Stats}
 use Rattle.command_words.specs.declared.run_request.Randomness.{Randomness}
 use Rattle.command_words.specs.declared.run_request.Randomness.TheVariants.{Numbered, FromFile}
 use Rattle.command_words.specs.declared.run_request.RunRequest.{RunRequest}
+use Rattle.command_words.specs.declared.run_request.StatsRequest.{StatsRequest}
 use Rattle.command_words.specs.declared.record_request.RecordRequest.{RecordRequest}
 use Rattle.command_words.specs.declared.record_request.SoloRequest.{SoloRequest}
 use Rattle.command_words.specs.declared.generated_request.GenRequest.{GenRequest}
@@ -29,11 +30,14 @@ asked_of_gen generated = spec.Gen generated.number generated.bundle.now
 abbrev pub asked_of_demo : DemoRequest → spec.Asked
 asked_of_demo demo = spec.Demo demo.number demo.steps
 
+abbrev pub asked_of_stats : StatsRequest → spec.Asked
+asked_of_stats stats = spec.Stats stats.bundle.now stats.steps (randomness_of stats.randomness)
+
 abbrev pub asked_of : Request → spec.Asked
-asked_of NotBuilt = spec.NotBuilt
 asked_of (Faulty fault) = spec.Faulty fault
 asked_of (Run run) = asked_of_run run
 asked_of (View files) = asked_of_view files
 asked_of (Solo solo) = asked_of_solo solo
 asked_of (Gen generated) = asked_of_gen generated
 asked_of (Demo demo) = asked_of_demo demo
+asked_of (Stats stats) = asked_of_stats stats

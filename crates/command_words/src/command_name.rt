@@ -1,5 +1,5 @@
 //! The names of the commands.
-/// The commands that are built.
+/// The commands.
 #[derive(Clone, Copy)]
 pub enum CommandName {
     Run,
@@ -7,4 +7,5 @@ pub enum CommandName {
     Solo,
     Gen,
     Demo,
+    Stats,
 }

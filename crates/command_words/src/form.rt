@@ -95,6 +95,15 @@ fn demo_form<'a>(alloc: Global) -> Result<Command<'a>, NoMemory>
     with_needed_option(alloc, number, "steps")
 }
 
+fn stats_form<'a>(alloc: Global) -> Result<Command<'a>, NoMemory>
+    ensures { IfOk result (λ command. app_of command ≡ spec.form_of CommandName.Stats) }
+{
+    let bundle = with_position(alloc, bare_form(alloc, "stats"), "BUNDLE")?;
+    let steps = with_needed_option(alloc, bundle, "steps")?;
+    let stream = with_option(alloc, steps, "stream")?;
+    with_option(alloc, stream, "number")
+}
+
 /// What the command of this name takes.
 pub fn form_of<'a>(alloc: Global, name: CommandName) -> Result<Command<'a>, NoMemory>
     ensures { IfOk result (λ command. app_of command ≡ spec.form_of name) }
@@ -105,5 +114,6 @@ pub fn form_of<'a>(alloc: Global, name: CommandName) -> Result<Command<'a>, NoMe
         CommandName::Solo => solo_form(alloc),
         CommandName::Gen => gen_form(alloc),
         CommandName::Demo => demo_form(alloc),
+        CommandName::Stats => stats_form(alloc),
     }
 }

@@ -17,5 +17,5 @@ mod usage_fault;
 pub use generated_request::{DemoRequest, GenRequest};
 pub use record_request::{RecordRequest, SoloRequest};
 pub use request::{Request, read_words};
-pub use run_request::{Randomness, RunRequest};
+pub use run_request::{Randomness, RunRequest, StatsRequest};
 pub use usage_fault::UsageFault;

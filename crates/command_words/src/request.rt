@@ -1,5 +1,5 @@
 //! What the words of a command line ask for.
-ghost use Rattle.std.specs.Prelude.{◌≡◌, IfOk, map, string_bytes, option_copied, option_map};
+ghost use Rattle.std.specs.Prelude.{◌≡◌, ◌≤◌, IfOk, map, string_bytes, option_copied, option_map};
 ghost use Rattle.cloak_model.specs.Run.{most_steps};
 ghost use Rattle.clap.specs.Words.{found_of, rows_of};
 ghost use Rattle.command_words.specs.Command as spec;
@@ -11,7 +11,7 @@ use crate::found::{found_in, given_text, needed_text};
 use crate::generated_request::{DemoRequest, GenRequest};
 use crate::number::number_up_to;
 use crate::record_request::{RecordRequest, SoloRequest};
-use crate::run_request::{Randomness, RunRequest};
+use crate::run_request::{Randomness, RunRequest, StatsRequest};
 use crate::usage_fault::UsageFault;
 use clap::ArgMatches;
 use cloak_base::NoMemory;
@@ -26,32 +26,55 @@ const LAST_DOMAIN: u64 = 3;
 /// What is asked for.
 #[derive(Drop)]
 pub enum Request<'a> {
-    NotBuilt,
     Faulty(UsageFault),
     Run(RunRequest<'a>),
     View(RecordRequest<'a>),
     Solo(SoloRequest<'a>),
     Gen(GenRequest<'a>),
     Demo(DemoRequest),
+    Stats(StatsRequest<'a>),
+}
+
+/// A run with its record, or with none.
+fn asked_run<'a>(
+    bundle: &'a str,
+    record_name: Option<&'a str>,
+    steps: u32,
+    randomness: Randomness<'a>,
+) -> Request<'a>
+    requires few_steps { steps ≤ most_steps }
+    ensures { asked_of result ≡ spec.asked_run bundle.now (option_copied record_name.entry) steps
+        (randomness_of randomness.entry) }
+{
+    match record_name {
+        Some(record_name) => Request::Run(RunRequest {
+            bundle,
+            record_name,
+            steps,
+            randomness,
+        }),
+        None => Request::Stats(StatsRequest {
+            bundle,
+            steps,
+            randomness,
+        }),
+    }
 }
 
 /// The run of these values, where they were numbers in their ranges.
 fn run_of_values<'a>(
     bundle: &'a str,
-    record_name: &'a str,
+    record_name: Option<&'a str>,
     steps: &str,
     randomness: Option<Randomness<'a>>,
 ) -> Request<'a>
-    ensures { asked_of result ≡ spec.run_of_values bundle.now record_name.now
+    ensures { asked_of result ≡ spec.run_of_values bundle.now (option_copied record_name.entry)
         (spec.number_up_to most_steps steps.now) (option_map randomness_of randomness.entry) }
 {
     match (number_up_to(steps, MOST_STEPS), randomness) {
-        (Some(steps), Some(randomness)) => Request::Run(RunRequest {
-            bundle,
-            record_name,
-            steps: steps as u32,
-            randomness,
-        }),
+        (Some(steps), Some(randomness)) => {
+            asked_run(bundle, record_name, steps as u32, randomness)
+        }
         _ => Request::Faulty(UsageFault::WrongNumber),
     }
 }
@@ -60,12 +83,12 @@ fn run_of_values<'a>(
 #[tactic(auto, unfolding(crate::specs::Command::run_of_texts))]
 fn run_of_texts<'a>(
     bundle: &'a str,
-    record_name: &'a str,
+    record_name: Option<&'a str>,
     steps: &str,
     stream: Option<&'a str>,
     number: Option<&str>,
 ) -> Request<'a>
-    ensures { asked_of result ≡ spec.run_of_texts bundle.now record_name.now steps.now
+    ensures { asked_of result ≡ spec.run_of_texts bundle.now (option_copied record_name.entry) steps.now
         (option_copied stream.entry) (option_copied number.entry) }
 {
     match (stream, number) {
@@ -132,7 +155,7 @@ fn asked_with<'a>(command: CommandName, matches: &ArgMatches<'a>) -> Request<'a>
     match command {
         CommandName::Run => run_of_texts(
             needed_text(matches, "BUNDLE"),
-            needed_text(matches, "RECORD"),
+            Some(needed_text(matches, "RECORD")),
             needed_text(matches, "steps"),
             given_text(matches, "stream"),
             given_text(matches, "number"),
@@ -156,6 +179,13 @@ fn asked_with<'a>(command: CommandName, matches: &ArgMatches<'a>) -> Request<'a>
             needed_text(matches, "NUMBER"),
             needed_text(matches, "steps"),
         ),
+        CommandName::Stats => run_of_texts(
+            needed_text(matches, "BUNDLE"),
+            None,
+            needed_text(matches, "steps"),
+            given_text(matches, "stream"),
+            given_text(matches, "number"),
+        ),
     }
 }
 
@@ -169,6 +199,7 @@ fn command_named(word: &str) -> Option<CommandName>
         "solo" => Some(CommandName::Solo),
         "gen" => Some(CommandName::Gen),
         "demo" => Some(CommandName::Demo),
+        "stats" => Some(CommandName::Stats),
         _ => None,
     }
 }
@@ -196,9 +227,6 @@ pub fn read_words<'a>(alloc: Global, words: &'a [String]) -> Result<Request<'a>,
     let [first, ..] = words else {
         return Ok(Request::Faulty(UsageFault::NoCommand));
     };
-    if first.as_str() == "stats" {
-        return Ok(Request::NotBuilt);
-    }
     match command_named(first.as_str()) {
         Some(command) => read_command(alloc, command, words),
         None => Ok(Request::Faulty(UsageFault::UnknownCommand)),

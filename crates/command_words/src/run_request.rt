@@ -11,11 +11,20 @@ pub enum Randomness<'a> {
     FromFile(&'a str),
 }
 
-/// A run that is asked for.
+/// A run that is asked for, with its record.
 #[derive(Drop)]
 pub struct RunRequest<'a> {
     pub bundle: &'a str,
     pub record_name: &'a str,
+    pub steps: u32,
+    pub randomness: Randomness<'a>,
+    ghost few_steps: { steps ≤ most_steps },
+}
+
+/// A run whose counts are asked for. It has no record.
+#[derive(Drop)]
+pub struct StatsRequest<'a> {
+    pub bundle: &'a str,
     pub steps: u32,
     pub randomness: Randomness<'a>,
     ghost few_steps: { steps ≤ most_steps },

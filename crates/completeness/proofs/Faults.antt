@@ -1,6 +1,6 @@
 -- A call that failed raised a count, and the bundle of a file is one.
 use native.Mathlib.Omega.{arith}
-use Rattle.std.proofs.Common.{◌≡◌, ◌∙◌, ◌+◌, ◌-◌, ◌^◌, ◌<◌, ◌≤◌, ℕ, List, Option, Some, None, Result, sym, subst, min}
+use Rattle.std.proofs.Common.{◌≡◌, ◌∙◌, ◌-◌, ◌^◌, ◌<◌, ℕ, List, Option, Some, None, Result, sym, subst}
 use Rattle.std.specs.Prelude.{IfSome}
 use Rattle.std.proofs.Math.Nat.{lt_irrefl}
 use Rattle.cloak_model.specs.declared.image.Bundle.{Bundle}

@@ -1,10 +1,9 @@
 -- Of the causes of what `gen` and `demo` answer, those of faults do not come where no count rose.
-use Rattle.std.proofs.Common.{◌≡◌, ◌⊎◌, ℕ, List, refl, ap, inl, inr}
+use Rattle.std.proofs.Common.{◌⊎◌, ℕ, refl, ap, inl, inr}
 use Rattle.program_parts.specs.declared.status.Status.{Status}
 use Rattle.program_parts.specs.declared.status.Status.TheVariants as status
-use Rattle.program_parts.specs.Outside.{FilesOutside, Outside, Output, NothingRose}
-use Rattle.image_commands.specs.Demonstrating.{DemoAnswers, HasDemonstrated}
-use Rattle.image_commands.specs.Generating.{GenAnswers}
+use Rattle.program_parts.specs.Outside.{FilesOutside, Output}
+use Rattle.image_commands.specs.Demonstrating.{HasDemonstrated}
 use Rattle.completeness.specs.Images.{DemosAreComplete, Demonstrated, GensAreComplete, LacksMemory}
 use Rattle.completeness.proofs.Faults.{never_rose}
 
@@ -29,7 +28,6 @@ gens_are_complete S O n name status.BadBundle before after given nothing = absur
 gens_are_complete S O n name status.ReadFault before after given nothing = absurd given
 gens_are_complete S O n name status.NoRandom before after given nothing = absurd given
 gens_are_complete S O n name status.BadRecord before after given nothing = absurd given
-gens_are_complete S O n name status.Unbuilt before after given nothing = absurd given
 
 demonstrated : {O : Type 0} (n steps : ℕ) (answer : Status) (before after : Output O) →
     HasDemonstrated n steps answer before after → LacksMemory answer before after ⊎ Demonstrated n steps answer before after
@@ -54,4 +52,3 @@ demos_are_complete O n steps status.Usage before after given same = absurd given
 demos_are_complete O n steps status.BadBundle before after given same = absurd given
 demos_are_complete O n steps status.ReadFault before after given same = absurd given
 demos_are_complete O n steps status.BadRecord before after given same = absurd given
-demos_are_complete O n steps status.Unbuilt before after given same = absurd given

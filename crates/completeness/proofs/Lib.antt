@@ -1,5 +1,7 @@
 pub mod Faults
+pub mod Openings
 pub mod Runs
 pub mod Views
 pub mod Images
+pub mod Stats
 pub mod ReadingBack

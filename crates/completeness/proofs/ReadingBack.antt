@@ -1,18 +1,16 @@
 -- The record of a run fits, and the machines that run alone end as the run did.
 use native.Mathlib.Omega.{arith}
-use Rattle.std.proofs.Common.{◌≡◌, ◌∙◌, ◌⊎◌, ◌<◌, ◌≤◌, ◌-◌, ◌^◌, ℕ, List, length, Option, Some, sym, ap, subst, take_all, inl, inr}
-use Rattle.std.specs.Prelude.{slice_get}
+use Rattle.std.proofs.Common.{◌≡◌, ◌∙◌, ◌⊎◌, ◌<◌, ◌≤◌, ◌-◌, ◌^◌, ℕ, List, length, Option, Some, sym, ap, subst, take_all}
 use Rattle.cloak_model.specs.declared.image.Bundle.{Bundle}
-use Rattle.cloak_model.specs.declared.image.Program.{Program}
-use Rattle.cloak_model.specs.Parts.{DomainPart, KernelPart, domain_part, kernel_part}
+use Rattle.cloak_model.specs.Parts.{DomainPart, KernelPart, kernel_part}
 use Rattle.cloak_model.specs.Record.{IsRecord}
 use Rattle.cloak_model.specs.Run.{Run, exchange, record_bytes}
 use Rattle.cloak_model.specs.DomainAlone.{domain_alone}
 use Rattle.program_parts.specs.declared.status.Status.{Status}
-use Rattle.program_parts.specs.Outside.{Outside, NothingRose}
+use Rattle.program_parts.specs.Outside.{Outside}
 use Rattle.read_back.specs.declared.ending.Ending.TheVariants as ending
 use Rattle.read_back.specs.Text.{solo_text, view_text}
-use Rattle.completeness.specs.Asked.{IsBundleFile, WantsMemory}
+use Rattle.completeness.specs.Asked.{WantsMemory}
 use Rattle.completeness.specs.ReadingBack.{IsRecordOfRun, RunsAreSoloed, RunsAreViewed}
 use Rattle.completeness.specs.Views.{IsRecordFile, ShowsAll}
 use Rattle.completeness.proofs.Views.{solos_are_complete, views_are_complete}

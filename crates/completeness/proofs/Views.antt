@@ -1,7 +1,7 @@
 -- Of the causes of what `view` and `solo` answer, those of faults do not come where no count rose, and those of a damaged
 -- record or of an unfit item not where the file is a record that fits.
 use native.Mathlib.Omega.{arith}
-use Rattle.std.proofs.Common.{◌≡◌, ◌∙◌, ◌⊎◌, ◌<◌, ◌≤◌, ◌-◌, ◌^◌, ℕ, Bool, true, false, List, [], ◌∷◌, ◌++◌, append_assoc, length, drop, Option, Some, None, is_some, refl, sym, ap, subst, inl, inr}
+use Rattle.std.proofs.Common.{◌≡◌, ◌∙◌, ◌<◌, ◌≤◌, ◌-◌, ◌^◌, ℕ, List, [], ◌∷◌, ◌++◌, append_assoc, length, drop, Option, Some, None, refl, sym, ap, subst, inl, inr}
 use Rattle.std.proofs.Math.Nat.{lt_irrefl}
 use Rattle.std.proofs.lemmas.List.{append-nil}
 use Rattle.std.proofs.lemmas.Option.{slice_get_within}
@@ -18,7 +18,7 @@ use Rattle.cloak_model.specs.Exchange.{item_bytes, record_magic}
 use Rattle.cloak_model.specs.Opening.{Lack, NoKey, NoPageDraw}
 use Rattle.cloak_model.specs.KernelAlone.{KernelAlone, kernel_alone, kernel_taken, opened_kernel, take_kernel_item}
 use Rattle.cloak_model.specs.Record.{IsItem, IsRecord}
-use Rattle.cloak_model.specs.RecordFault.{Begins, byte_of}
+use Rattle.cloak_model.specs.RecordFault.{byte_of}
 use Rattle.record_law.proofs.Spelling.{fields_of, item_bytes-parts, tag_at}
 use Rattle.record_law.proofs.Judged.{not_both, one_record, same_item}
 use Rattle.domain_isolation.proofs.Ignoring.{taken_append}
@@ -31,13 +31,13 @@ use Rattle.program_parts.specs.declared.refusal.Refusal.TheVariants as refusal
 use Rattle.program_parts.specs.declared.status.Status.{Status}
 use Rattle.program_parts.specs.declared.status.Status.TheVariants as status
 use Rattle.program_parts.specs.Bundles.{IsInFile}
-use Rattle.program_parts.specs.NoRun.{bundle_named, HasCause, IsLack, IsNoSuchDomain, IsRefused, LineFailed}
+use Rattle.program_parts.specs.NoRun.{bundle_named, HasCause, IsLack, IsNoSuchDomain, IsRefused}
 use Rattle.program_parts.specs.Outside.{FilesOutside, Outside, NothingRose}
 use Rattle.program_parts.specs.Refusal.{refusal_line, status_of_refusal}
 use Rattle.read_back.specs.declared.ending.Ending.{Ending}
 use Rattle.read_back.specs.declared.ending.Ending.TheVariants as ending
-use Rattle.read_back.specs.Answering.{BreaksSolo, BreaksView, HasSolo, HasView, ViewAnswers, SoloAnswers, viewed_unfit, viewed_text, program_unfit, program_text}
-use Rattle.read_back.specs.Reading.{BeginsWith, FileIs, FitsAs, IsFirstUnfit, IsReadTo, ReadsAs, ReadsBack, status_of_ending}
+use Rattle.read_back.specs.Answering.{HasSolo, HasView, viewed_unfit, viewed_text, program_unfit, program_text}
+use Rattle.read_back.specs.Reading.{BeginsWith, FileIs, FitsAs, ReadsAs, ReadsBack, status_of_ending}
 use Rattle.completeness.specs.Asked.{IsBundleFile, OnlyLine, WantsMemory}
 use Rattle.completeness.specs.Views.{IsRecordFile, ShowsAll, SolosAreComplete, ViewsAreComplete}
 use Rattle.completeness.proofs.Faults.{never_counted, never_rose, no_fault, same_bundle}
@@ -161,56 +161,58 @@ shows_all {S} {O} unfit text name items answer before after file g held r =
 -- What refuses: nothing but want of memory is left.
 
 refused : {S O : Type 0} (asked : spec.Asked) (name : List ℕ) (b : Bundle) (answer : Status) (before after : Outside S O)
-    (r : Refusal) → bundle_named asked ≡ Some name → (asked ≡ spec.NotBuilt → ⊥) →
+    (r : Refusal) → bundle_named asked ≡ Some name →
     ((fault : UsageFault) → asked ≡ spec.Faulty fault → ⊥) →
     (IsNoSuchDomain asked before.files after.files → ⊥) → ((lack : Lack) → IsLack asked lack before.files after.files → ⊥) →
     IsBundleFile before.files.held name b → NothingRose before after → HasCause asked r before.files after.files →
     answer ≡ status_of_refusal r → OnlyLine (refusal_line r) before after → WantsMemory answer before after
-refused {S} {O} asked name b answer before after refusal.NotBuilt named built right has lacks file nothing cause is line =
-    absurd (built cause.not_built)
-refused {S} {O} asked name b answer before after (refusal.Usage fault) named built right has lacks file nothing cause is line =
+refused {S} {O} asked name b answer before after (refusal.Usage fault) named right has lacks file nothing cause is line =
     absurd (right fault cause.faulty)
-refused {S} {O} asked name b answer before after (refusal.BadBundle fault) named built right has lacks file nothing cause is line =
+refused {S} {O} asked name b answer before after (refusal.BadBundle fault) named right has lacks file nothing cause is line =
     let names : Some cause.bundle_name ≡ Some name = sym cause.asks ∙ named in
     let same : cause.bundle_name ≡ name = cc in
     let here : IfSome (before.files.held name) (λ bytes. bundle_fault bytes ≡ Some fault) =
     subst (λ (n : List ℕ). IfSome (before.files.held n) (λ bytes. bundle_fault bytes ≡ Some fault)) same cause.first_fault in
     absurd (no_fault file.bytes b fault file.is
     (subst (λ (t : Option (List ℕ)). IfSome t (λ bytes. bundle_fault bytes ≡ Some fault)) file.told here))
-refused {S} {O} asked name b answer before after refusal.ReadFault named built right has lacks file nothing cause is line =
+refused {S} {O} asked name b answer before after refusal.ReadFault named right has lacks file nothing cause is line =
     absurd (never_rose _ _ nothing.reading cause.reading)
-refused {S} {O} asked name b answer before after refusal.NoMemory named built right has lacks file nothing cause is line =
+refused {S} {O} asked name b answer before after refusal.NoMemory named right has lacks file nothing cause is line =
     record { status = is; line = line }
-refused {S} {O} asked name b answer before after refusal.NoKey named built right has lacks file nothing cause is line =
+refused {S} {O} asked name b answer before after refusal.NoKey named right has lacks file nothing cause is line =
     absurd (lacks NoKey cause)
-refused {S} {O} asked name b answer before after refusal.NoPageDraw named built right has lacks file nothing cause is line =
+refused {S} {O} asked name b answer before after refusal.NoPageDraw named right has lacks file nothing cause is line =
     absurd (lacks NoPageDraw cause)
-refused {S} {O} asked name b answer before after refusal.NoSuchDomain named built right has lacks file nothing cause is line =
+refused {S} {O} asked name b answer before after refusal.NoSuchDomain named right has lacks file nothing cause is line =
     absurd (has cause)
 
 by_refusal : {S O : Type 0} (asked : spec.Asked) (name : List ℕ) (b : Bundle) (answer : Status)
-    (before after : Outside S O) → bundle_named asked ≡ Some name → (asked ≡ spec.NotBuilt → ⊥) →
+    (before after : Outside S O) → bundle_named asked ≡ Some name →
     ((fault : UsageFault) → asked ≡ spec.Faulty fault → ⊥) →
     (IsNoSuchDomain asked before.files after.files → ⊥) → ((lack : Lack) → IsLack asked lack before.files after.files → ⊥) →
     IsBundleFile before.files.held name b → NothingRose before after → IsRefused asked answer before after →
     WantsMemory answer before after
-by_refusal {S} {O} asked name b answer before after named built right has lacks file nothing given =
-    refused asked name b answer before after given.refused named built right has lacks file nothing given.no_run.cause
+by_refusal {S} {O} asked name b answer before after named right has lacks file nothing given =
+    refused asked name b answer before after given.refused named right has lacks file nothing given.no_run.cause
     given.status (record { held = given.no_run.held; shown = given.line })
 
 -- `view`
+
+views_no_run : (n r n' : List ℕ) (r' : Option (List ℕ)) (k : ℕ) (x : spec.Randomness) →
+    spec.View n r ≡ spec.asked_run n' r' k x → ⊥
+views_no_run n r n' (Some r') k x is = let clash : spec.View n r ≡ spec.Run n' r' k x = is in cc
+views_no_run n r n' None k x is = let clash : spec.View n r ≡ spec.Stats n' k x = is in cc
 
 view_refused : {S O : Type 0} (n r : List ℕ) (b : Bundle) (answer : Status) (before after : Outside S O) →
     IsBundleFile before.files.held n b → NothingRose before after → IsRefused (spec.View n r) answer before after →
     WantsMemory answer before after
 view_refused {S} {O} n r b answer before after file nothing given =
     by_refusal (spec.View n r) n b answer before after refl
-    (λ is. let clash : spec.View n r ≡ spec.NotBuilt = is in absurd cc)
     (λ fault is. let clash : spec.View n r ≡ spec.Faulty fault = is in absurd cc)
     (λ cause. let clash : spec.View n r ≡ spec.Solo cause.domain cause.bundle_name cause.record_name = cause.solo in
     absurd cc)
-    (λ lack cause. let clash : spec.View n r ≡
-    spec.Run cause.asks.bundle_name cause.record_name cause.steps cause.asks.randomness = cause.asks.run in absurd cc)
+    (λ lack cause. views_no_run n r cause.asks.bundle_name cause.record_name cause.steps cause.asks.randomness
+    cause.asks.run)
     file nothing given
 
 view_names : (n n' r r' : List ℕ) → spec.View n r ≡ spec.View n' r' → (n' ≡ n) × (r' ≡ r)
@@ -251,7 +253,6 @@ views_are_complete S O n r status.NoMemory before after low given b items file t
 views_are_complete S O n r status.NoRandom before after low given b items file there fits nothing = absurd given
 views_are_complete S O n r status.BadRecord before after low given b items file there fits nothing =
     inr (viewed n r b items status.BadRecord before after low file there fits nothing given)
-views_are_complete S O n r status.Unbuilt before after low given b items file there fits nothing = absurd given
 
 -- `solo`
 
@@ -275,16 +276,20 @@ has_program {S} d n r b p before after file there cause =
     (subst (λ (x : Bundle). length x.programs ≤ cause.domain) bundle cause.too_few) in
     none_there b.programs d p few there
 
+solos_no_run : (d : ℕ) (n r n' : List ℕ) (r' : Option (List ℕ)) (k : ℕ) (x : spec.Randomness) →
+    spec.Solo d n r ≡ spec.asked_run n' r' k x → ⊥
+solos_no_run d n r n' (Some r') k x is = let clash : spec.Solo d n r ≡ spec.Run n' r' k x = is in cc
+solos_no_run d n r n' None k x is = let clash : spec.Solo d n r ≡ spec.Stats n' k x = is in cc
+
 solo_refused : {S O : Type 0} (d : ℕ) (n r : List ℕ) (b : Bundle) (p : Program) (answer : Status)
     (before after : Outside S O) → IsBundleFile before.files.held n b → slice_get b.programs d ≡ Some p →
     NothingRose before after → IsRefused (spec.Solo d n r) answer before after → WantsMemory answer before after
 solo_refused {S} {O} d n r b p answer before after file there nothing given =
     by_refusal (spec.Solo d n r) n b answer before after refl
-    (λ is. let clash : spec.Solo d n r ≡ spec.NotBuilt = is in absurd cc)
     (λ fault is. let clash : spec.Solo d n r ≡ spec.Faulty fault = is in absurd cc)
     (has_program d n r b p before.files after.files file there)
-    (λ lack cause. let clash : spec.Solo d n r ≡
-    spec.Run cause.asks.bundle_name cause.record_name cause.steps cause.asks.randomness = cause.asks.run in absurd cc)
+    (λ lack cause. solos_no_run d n r cause.asks.bundle_name cause.record_name cause.steps cause.asks.randomness
+    cause.asks.run)
     file nothing given
 
 soloed : {S O : Type 0} (d : ℕ) (n r : List ℕ) (b : Bundle) (p : Program) (items : List Item) (answer : Status)
@@ -334,4 +339,3 @@ solos_are_complete S O d n r status.NoMemory before after low given b p items fi
 solos_are_complete S O d n r status.NoRandom before after low given b p items file has there fits nothing = absurd given
 solos_are_complete S O d n r status.BadRecord before after low given b p items file has there fits nothing =
     inr (soloed d n r b p items status.BadRecord before after low file has there fits nothing given)
-solos_are_complete S O d n r status.Unbuilt before after low given b p items file has there fits nothing = absurd given

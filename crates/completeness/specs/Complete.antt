@@ -1,16 +1,15 @@
 -- What each command comes to where no call on files or output fails.
-use Rattle.std.specs.Prelude.{◌≡◌}
 use Rattle.command_words.specs.Command as spec
 use Rattle.program_parts.specs.declared.status.Status.{Status}
 use Rattle.program_parts.specs.NoRun.{IsRefused}
 use Rattle.program_parts.specs.Outside.{Outside, NothingRose}
 use Rattle.completeness.specs.Images.{CompletesDemo, CompletesGen}
 use Rattle.completeness.specs.Runs.{CompletesRun}
+use Rattle.completeness.specs.Stats.{CompletesStats}
 use Rattle.completeness.specs.Views.{CompletesSolo, CompletesView}
 
--- By what the words ask for: faulty ones are refused with their line, and so is what is not built.
+-- By what the words ask for: faulty ones are refused with their line.
 abbrev pub IsComplete : {S O : Type 0} → spec.Asked → Status → Outside S O → Outside S O → Type 0
-IsComplete spec.NotBuilt answer before after = NothingRose before after → IsRefused spec.NotBuilt answer before after
 IsComplete (spec.Faulty fault) answer before after =
     NothingRose before after → IsRefused (spec.Faulty fault) answer before after
 IsComplete (spec.Run bundle record_name steps randomness) answer before after =
@@ -20,3 +19,5 @@ IsComplete (spec.Solo domain bundle record_name) answer before after =
     CompletesSolo domain bundle record_name answer before after
 IsComplete (spec.Gen number bundle_name) answer before after = CompletesGen number bundle_name answer before after
 IsComplete (spec.Demo number steps) answer before after = CompletesDemo number steps answer before.output after.output
+IsComplete (spec.Stats bundle steps randomness) answer before after =
+    CompletesStats bundle steps randomness answer before after

@@ -1,6 +1,6 @@
 //! Completeness: what a command comes to where no call on files or output fails. The causes that each command's table of
-//! answers gives (`run_command`, `read_back`, `image_commands`) leave one answer then, or want of memory before anything
-//! is begun: so no body can answer a fault that did not come.
+//! answers gives (`run_command`, `stats_command`, `read_back`, `image_commands`) leave one answer then, or want of memory
+//! before anything is begun: so no body can answer a fault that did not come.
 //!
 //! No body turns a law, so there is no wrong body to refuse here; `cloak_cli` has edits for its clause. These changed
 //! definitions were tried on a copy, and with none of them did the proof of its law go through. Of runs: the line for a
@@ -9,6 +9,7 @@
 #![tactic(auto)]
 
 ghost use Rattle.completeness.specs.Runs.{RunsAreComplete};
+ghost use Rattle.completeness.specs.Stats.{StatsAreComplete};
 ghost use Rattle.completeness.specs.Views.{SolosAreComplete, ViewsAreComplete};
 ghost use Rattle.completeness.specs.ReadingBack.{RunsAreSoloed, RunsAreViewed};
 ghost use Rattle.completeness.specs.Images.{DemosAreComplete, GensAreComplete};
@@ -18,6 +19,12 @@ use outside_io::{Shelf, Sink};
 /// Where no call fails, `run` comes to what the opening and the joint run say. It does nothing: its contract is the law.
 pub fn law_of_complete_runs<S: Shelf, O: Sink>()
     ensures { RunsAreComplete S O }
+{}
+
+/// Where no call fails, `stats` comes to what the opening, the joint run and its counts say. It does nothing: its
+/// contract is the law.
+pub fn law_of_complete_stats<S: Shelf, O: Sink>()
+    ensures { StatsAreComplete S O }
 {}
 
 /// Where no call fails and the record fits, `view` and `solo` read it to its end. It does nothing: its contract is the law.

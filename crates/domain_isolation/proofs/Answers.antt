@@ -5,18 +5,19 @@ use Rattle.std.specs.Prelude.{nat_eq, ◌&&◌, if◌then◌else◌}
 use Rattle.std.proofs.Math.Nat.{mod-mod}
 use Rattle.std.proofs.lemmas.Bool.{false≢true}
 use Rattle.cloak_base.specs.declared.names.Kind.{Kind}
+use Rattle.cloak_base.specs.declared.names.Kind.TheVariants.{Load, Store}
 use Rattle.cloak_base.specs.declared.names.PageId.{PageId}
 use Rattle.cloak_base.specs.Pages.{zero_page, same_page, is_of, page_in}
 use Rattle.cloak_model.specs.declared.answer.Answer.{Answer}
 use Rattle.cloak_model.specs.declared.answer.Answer.TheVariants as told
 use Rattle.cloak_model.specs.Cloaking.{Offer, Ready, Mismatch, Missed}
-use Rattle.cloak_model.specs.Memory.{frame_of, with_value_in}
+use Rattle.cloak_model.specs.Memory.{with_value_in}
 use Rattle.cloak_model.specs.PageMoves.{copy_pages, drop_pages}
 use Rattle.cloak_model.specs.Parts.{domain_pages}
-use Rattle.cloak_model.specs.World.{World, Flat, Cloaked, Alone, Handed, plain_of, view_of, items_of, is_missed, settled}
+use Rattle.cloak_model.specs.World.{World, Flat, Cloaked, Alone, Handed, plain_of, view_of, items_of, is_missed}
 use Rattle.cloak_model.specs.Asking.{Told, Asking}
-use Rattle.cloak_model.specs.AskPages.{replies, if_drawn, ask_inside_address, offered_by, ask_offer, reached, reach_by_table, got, get_by_table, put_at, stored_inside, put_by_table, clear_from, is_for_access, is_for_value, is_for_clearing, of_width, next_answer, ask_reach, ask_read, ask_write, ask_get, ask_put, ask_clear, ask_copy, ask_forget}
-use Rattle.cloak_model.specs.Ask.{ask_value}
+use Rattle.cloak_model.specs.AskPages.{inside_access, replies, if_drawn, ask_inside_address, offered_by, ask_offer, reached, reach_by_table, got, get_by_table, put_at, stored_inside, put_by_table, clear_from, is_for_access, is_for_value, is_for_clearing, of_width, next_answer, ask_reach, ask_read, ask_write, ask_get, ask_put, ask_clear, ask_copy, ask_forget}
+use Rattle.cloak_model.specs.Ask.{opened, ask_value}
 use Rattle.domain_isolation.proofs.Scripts.{Question, Reach, Get, Put, Clear, Change, Write, Copy, Forget, asked, changed}
 use Rattle.domain_isolation.proofs.Steady.{is_cloaked, Replied, replied_reach, replied_get, replied_put, replied_clear}
 
@@ -51,56 +52,61 @@ record ForValue (width : ℕ) (a : Answer) : Type 0 where
   pub kind : is_for_value a ≡ true
   pub narrow : of_width width a ≡ a
 
-offered_has : (q : PageId) (g : ℕ) (o : Offer) (w : World) → ForAccess (offered_by q g o w).answer
+offered_has : (q : PageId) (va : ℕ) (kind : Kind) (g : ℕ) (o : Offer) (w : World) →
+    ForAccess (offered_by q va kind g o w).answer
 unfolding offered_by replies
-offered_has q g Ready w = refl
-offered_has q g Missed w = refl
-offered_has q g Mismatch (Flat ram) = refl
-offered_has q g Mismatch (Cloaked c) = refl
-offered_has q g Mismatch (Alone h) = refl
+offered_has q va kind g Ready w = refl
+offered_has q va kind g Missed w = refl
+offered_has q va kind g Mismatch (Flat ram) = refl
+offered_has q va kind g Mismatch (Cloaked c) = refl
+offered_has q va kind g Mismatch (Alone h) = refl
 
-offer_has : (q : PageId) (g : ℕ) (write : Bool) (w : World) → ForAccess (ask_offer q g write w).answer
+offer_has : (q : PageId) (va : ℕ) (kind : Kind) (g : ℕ) (w : World) → ForAccess (ask_offer q va kind g w).answer
 unfolding ask_offer
-offer_has q g write (Flat ram) = refl
-offer_has q g write (Cloaked c) = offered_has q g _ _
-offer_has q g write (Alone h) = refl
+offer_has q va kind g (Flat ram) = refl
+offer_has q va kind g (Cloaked c) = offered_has q va kind g _ _
+offer_has q va kind g (Alone h) = refl
 
-reached_has : (q : PageId) (kind : Kind) (to : Result ℕ ℕ) (w : World) → ForAccess (reached q kind to w).answer
+reached_has : (q : PageId) (va : ℕ) (kind : Kind) (to : Result ℕ ℕ) (w : World) →
+    ForAccess (reached q va kind to w).answer
 unfolding reached replies
-reached_has q kind (Err cause) w = refl
-reached_has q kind (Ok pa) w = offer_has q _ _ w
+reached_has q va kind (Err cause) w = refl
+reached_has q va kind (Ok pa) w = offer_has q va kind _ w
 
 reach_has : (q : PageId) (va : ℕ) (kind : Kind) (w : World) → ForAccess (reach_by_table q va kind w).answer
 unfolding reach_by_table
 reach_has q va kind w =
     let to = ask_inside_address va kind w in
-    drawn_has ForAccess (reached q kind to.answer) to.world refl (reached_has q kind to.answer to.world)
+    drawn_has ForAccess (reached q va kind to.answer) to.world refl (reached_has q va kind to.answer to.world)
 
 put_at_has : (pa width value : ℕ) (w : World) → ForAccess (put_at pa width value w).answer
 unfolding put_at replies
 put_at_has pa width value w = refl
 
-stored_has : (width value : ℕ) (to : Result ℕ ℕ) (w : World) → ForAccess (stored_inside width value to w).answer
+stored_has : (va width value : ℕ) (to : Result ℕ ℕ) (w : World) →
+    ForAccess (stored_inside va width value to w).answer
 unfolding stored_inside replies
-stored_has width value (Err cause) w = refl
-stored_has width value (Ok pa) w =
-    drawn_has ForAccess (put_at pa width value) (settled (frame_of pa) w) refl (put_at_has pa width value _)
+stored_has va width value (Err cause) w = refl
+stored_has va width value (Ok pa) w =
+    drawn_has ForAccess (put_at pa width value) (opened (view_of w).satp (inside_access w va Store) pa w) refl
+    (put_at_has pa width value _)
 
 put_has : (va width value : ℕ) (w : World) → ForAccess (put_by_table va width value w).answer
 unfolding put_by_table
 put_has va width value w =
     let to = ask_inside_address va _ w in
-    drawn_has ForAccess (stored_inside width value to.answer) to.world refl (stored_has width value to.answer to.world)
+    drawn_has ForAccess (stored_inside va width value to.answer) to.world refl
+    (stored_has va width value to.answer to.world)
 
 word_has : (width value : ℕ) (w : World) → ForValue width (replies (told.Word (value % 2 ^ (8 * width))) w).answer
 unfolding replies
 word_has width value w = record { kind = refl; narrow = ap (λ (n : ℕ). told.Word n) (mod-mod value (2 ^ (8 * width))) }
 
-got_has : (width : ℕ) (to : Result ℕ ℕ) (w : World) → ForValue width (got width to w).answer
+got_has : (va width : ℕ) (to : Result ℕ ℕ) (w : World) → ForValue width (got va width to w).answer
 unfolding got replies
-got_has width (Err cause) w = record { kind = refl; narrow = refl }
-got_has width (Ok pa) w =
-    let v = ask_value pa width w in
+got_has va width (Err cause) w = record { kind = refl; narrow = refl }
+got_has va width (Ok pa) w =
+    let v = ask_value (view_of w).satp (inside_access w va Load) pa width w in
     drawn_has (ForValue width) (replies (told.Word (v.answer % 2 ^ (8 * width)))) v.world
     (record { kind = refl; narrow = refl }) (word_has width v.answer v.world)
 
@@ -108,8 +114,8 @@ get_has : (va width : ℕ) (w : World) → ForValue width (get_by_table va width
 unfolding get_by_table
 get_has va width w =
     let to = ask_inside_address va _ w in
-    drawn_has (ForValue width) (got width to.answer) to.world (record { kind = refl; narrow = refl })
-    (got_has width to.answer to.world)
+    drawn_has (ForValue width) (got va width to.answer) to.world (record { kind = refl; narrow = refl })
+    (got_has va width to.answer to.world)
 
 clear_has : (domain : ℕ) (marked : List Bool) (f n : ℕ) (w : World) →
     ForClearing (clear_from domain marked f n w).answer

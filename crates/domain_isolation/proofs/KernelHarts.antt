@@ -12,16 +12,16 @@ use Rattle.cloak_model.specs.declared.outcome.Kernel.{Kernel}
 use Rattle.cloak_model.specs.declared.outcome.Kernel.TheVariants.{Stay, Put, Halt, Resume}
 use Rattle.cloak_model.specs.declared.outcome.Effect.{Effect}
 use Rattle.cloak_model.specs.declared.outcome.Effect.TheVariants as does
-use Rattle.cloak_model.specs.Csr.{csr_read, interrupt_due, with_pending}
+use Rattle.cloak_model.specs.Csr.{csr_read, satp_of, interrupt_due, with_pending}
 use Rattle.cloak_model.specs.Memory.{frame_of}
 use Rattle.cloak_model.specs.Effect.{effect}
 use Rattle.cloak_model.specs.Hart.{Hart}
 use Rattle.cloak_model.specs.World.{World}
 use Rattle.cloak_model.specs.Asking.{Asking, then_ask}
-use Rattle.cloak_model.specs.Ask.{ask_value, ask_store, ask_count, ask_fill, ask_frame}
+use Rattle.cloak_model.specs.Ask.{ask_load, ask_store_at, ask_count, ask_fill, ask_frame}
 use Rattle.cloak_model.specs.HartStep.{Made, with_word, gone_on, stays, raised, csr_written, csr_found, csr_step, returned, idle, system}
 use Rattle.cloak_model.specs.HostCalls.{After, is_transfer, block_at, with_block, ends, host_answers, put_call, timer_call, halt_call, read_block, write_block, read_call, write_call, host_call, resumed, ecall_in, ecall}
-use Rattle.cloak_model.specs.KernelStep.{ask_access, extended, is_ecall, or_trap, carried_out, executed, instruction_step, ticked, kernel_step}
+use Rattle.cloak_model.specs.KernelStep.{access, extended, is_ecall, or_trap, carried_out, executed, instruction_step, ticked, kernel_step}
 
 abbrev pub inside_after : Kernel → Option ℕ → Option ℕ
 inside_after Stay was = was
@@ -49,12 +49,12 @@ raised_so : (h : Hart) (cause value : ℕ) → MadeSo h.inside (raised h cause v
 unfolding raised
 raised_so h cause value = refl
 
-or_trap_so : (was : Option ℕ) (h : Hart) (disk : List ℕ) (va : ℕ) (to : Result ℕ ℕ) (next : ℕ → Asking After) →
-    h.inside ≡ was → ((pa : ℕ) → StepsSo was (next pa)) →
+or_trap_so : {A : Type 0} (was : Option ℕ) (h : Hart) (disk : List ℕ) (va : ℕ) (to : Result A ℕ)
+    (next : A → Asking After) → h.inside ≡ was → ((found : A) → StepsSo was (next found)) →
     StepsSo was (or_trap h disk va to next)
 or_trap_so was h disk va (Err cause) next is rest w =
     subst (λ (x : Option ℕ). MadeSo x (raised h cause va)) is (raised_so h cause va)
-or_trap_so was h disk va (Ok pa) next is rest w = rest pa w
+or_trap_so was h disk va (Ok found) next is rest w = rest found w
 
 csr_written_so : (h : Hart) (rd n was : ℕ) (new : Option ℕ) → MadeSo h.inside (csr_written h rd n was new)
 unfolding csr_written
@@ -152,15 +152,14 @@ carried_out_so h disk word i (does.Write rd value) w = refl
 carried_out_so h disk word i (does.Jump rd link target) w = refl
 carried_out_so h disk word i (does.Go target) w = refl
 carried_out_so h disk word i (does.Load rd va width is_signed) w =
-    let found = ask_access h Load va w in
-    let next : ℕ → Asking After = λ pa v.
-    let value = ask_value pa width v in ends disk
-    (stays (gone_on (with_word h rd (extended is_signed width value.answer)))) value.world in
-    or_trap_so h.inside h disk va found.answer next refl (λ pa v. refl) found.world
+    let found = ask_load (satp_of h.csrs) (access h Load va) width w in
+    let next : ℕ → Asking After = λ value.
+    ends disk (stays (gone_on (with_word h rd (extended is_signed width value)))) in
+    or_trap_so h.inside h disk va found.answer next refl (λ value v. refl) found.world
 carried_out_so h disk word i (does.Store va width value) w =
-    let found = ask_access h Store va w in
-    let next : ℕ → Asking After = λ pa v. ends disk (stays (gone_on h)) (ask_store pa width value v).world in
-    or_trap_so h.inside h disk va found.answer next refl (λ pa v. refl) found.world
+    let found = ask_store_at (satp_of h.csrs) (access h Store va) width value w in
+    let next : Unit {0} → Asking After = λ done. ends disk (stays (gone_on h)) in
+    or_trap_so h.inside h disk va found.answer next refl (λ done v. refl) found.world
 carried_out_so h disk word i does.System w =
     either_so (λ (ask : Asking After). (ask w).answer.hart.inside ≡ inside_after (ask w).answer.ending h.inside)
     (is_ecall i) (ecall h disk) (ends disk (system h word i))
@@ -175,12 +174,10 @@ executed_so h disk word (Some i) w = carried_out_so h disk word i (effect i h.re
 instruction_so : (h : Hart) (disk : List ℕ) → StepsSo h.inside (instruction_step h disk)
 unfolding instruction_step
 instruction_so h disk w =
-    let found = ask_access h Fetch h.pc w in
-    let next : ℕ → Asking After = λ pa v. let word = ask_value pa 4 v in executed h disk word.answer
-    (instruction word.answer) word.world in
-    or_trap_so h.inside h disk h.pc found.answer next refl
-    (λ pa v. let word = ask_value pa 4 v in executed_so h disk word.answer
-    (instruction word.answer) word.world) found.world
+    let found = ask_load (satp_of h.csrs) (access h Fetch h.pc) 4 w in
+    let next : ℕ → Asking After = λ word. executed h disk word (instruction word) in
+    or_trap_so h.inside h disk h.pc found.answer next refl (λ word. executed_so h disk word (instruction word))
+    found.world
 
 pub ticked_inside : (h : Hart) → (ticked h).inside ≡ h.inside
 unfolding ticked

@@ -6,21 +6,23 @@ use Rattle.std.specs.Str.{bytes_eq}
 use Rattle.std.proofs.lemmas.List.Elements.{filter-append}
 use Rattle.std.proofs.lemmas.Bool.{false≢true}
 use Rattle.cloak_base.specs.declared.names.Kind.{Kind}
+use Rattle.cloak_base.specs.declared.names.Kind.TheVariants.{Load, Store}
 use Rattle.cloak_base.specs.declared.names.PageId.{PageId}
 use Rattle.cloak_base.specs.Random.{Random}
 use Rattle.cloak_model.specs.declared.access.Access.{Access}
 use Rattle.cloak_model.specs.declared.answer.Answer.{Answer}
 use Rattle.cloak_model.specs.declared.answer.Answer.TheVariants as told
 use Rattle.cloak_model.specs.declared.item.Item.{Item}
+use Rattle.cloak_model.specs.Events.{Event}
 use Rattle.cloak_model.specs.Memory.{frame_of}
 use Rattle.cloak_model.specs.Ledger.{vector_of}
 use Rattle.cloak_model.specs.Halves.{is_inward, inward_half}
 use Rattle.cloak_model.specs.Cloaking.{CloakedMemory, AfterSettling, AfterOffer, Offer, Ready, Mismatch, Missed, settle, settle_if, settle_owed, settle_frame_if, owing_frame, owes, owed_in, compared, unless_missed, offer}
-use Rattle.cloak_model.specs.World.{World, Flat, Cloaked, Alone, plain_of, view_of, items_of, violation_of, is_missed, stored_at, settled, written, cipher_items}
+use Rattle.cloak_model.specs.World.{World, Flat, Cloaked, Alone, plain_of, view_of, items_of, violation_of, is_missed, noted, stored_at, settled, written, cipher_items}
 use Rattle.cloak_model.specs.Asking.{Told, Asking}
 use Rattle.cloak_model.specs.Walk.{Walk, FirstWord, Ends, GoesOn, first_entry}
-use Rattle.cloak_model.specs.Ask.{ask_word, ask_second, ask_after, ask_first, ask_walk, ask_inside, ask_translate, ask_value}
-use Rattle.cloak_model.specs.AskPages.{answer_item, replies, if_drawn, ask_inside_address, offered_by, ask_offer, reached, reach_by_table, got, get_by_table, put_at, stored_inside, put_by_table, settled_if_marked, clear_from}
+use Rattle.cloak_model.specs.Ask.{ask_word, ask_second, ask_after, ask_first, ask_walk, ask_inside, ask_translate, ask_led, opened, ask_value}
+use Rattle.cloak_model.specs.AskPages.{answer_item, is_store, inside_access, replies, if_drawn, ask_inside_address, offered_by, ask_offer, reached, reach_by_table, got, get_by_table, put_at, stored_inside, put_by_table, settled_if_marked, clear_from}
 
 abbrev pub is_cloaked : World → Bool
 is_cloaked (Flat ram) = false
@@ -182,6 +184,14 @@ Steady-settled f (Cloaked c) =
     }
 Steady-settled f (Alone h) = Steady-refl (Alone h)
 
+Steady-noted : (events : List Event) (w : World) → Steady w (noted events w)
+Steady-noted events (Flat ram) = Steady-refl (Flat ram)
+Steady-noted events (Cloaked c) = record { plain = refl; view = refl; form = refl; items = λ d. refl }
+Steady-noted events (Alone h) = Steady-refl (Alone h)
+
+Steady-opened : (satp : ℕ) (a : Access) (pa : ℕ) (w : World) → Steady w (opened satp a pa w)
+Steady-opened satp a pa w = Steady-trans _ _ _ (Steady-settled (frame_of pa) w) (Steady-noted _ _)
+
 Steady-stored_at : (pa width value : ℕ) (w : World) → Steady w (stored_at pa width value w)
 Steady-stored_at pa width value (Flat ram) = record { plain = refl; view = refl; form = refl; items = λ d. refl }
 Steady-stored_at pa width value (Cloaked c) = record { plain = refl; view = refl; form = refl; items = λ d. refl }
@@ -230,13 +240,17 @@ steady_translate : (satp : ℕ) (a : Access) (w : World) → Steady w (ask_trans
 unfolding ask_translate
 steady_translate satp a w = Steady-trans _ _ _ (steady_walk satp a w) (steady_inside a _ _)
 
-steady_value : (pa width : ℕ) (w : World) → Steady w (ask_value pa width w).world
+steady_led : (satp : ℕ) (a : Access) (w : World) → Steady w (ask_led satp a w).world
+unfolding ask_led
+steady_led satp a w = Steady-trans _ _ _ (Steady-noted _ w) (steady_translate satp a _)
+
+steady_value : (satp : ℕ) (a : Access) (pa width : ℕ) (w : World) → Steady w (ask_value satp a pa width w).world
 unfolding ask_value
-steady_value pa width w = Steady-settled (frame_of pa) w
+steady_value satp a pa width w = Steady-opened satp a pa w
 
 steady_inside_address : (va : ℕ) (kind : Kind) (w : World) → Steady w (ask_inside_address va kind w).world
 unfolding ask_inside_address
-steady_inside_address va kind w = steady_translate _ _ w
+steady_inside_address va kind w = steady_led _ _ w
 
 -- A step that is to stop the run: a draw was missing, or the kernel presented what is not recorded.
 abbrev pub is_halted : World → Bool
@@ -288,43 +302,46 @@ replied_drawn : (ask : Asking Answer) (w : World) → is_cloaked w ≡ true → 
 unfolding if_drawn
 replied_drawn ask w cloaked next = replied_if_drawn (is_missed w) ask w refl cloaked next
 
-replied_offered : (q : PageId) (g : ℕ) (o : Offer) (w : World) → is_cloaked w ≡ true →
-    (o ≡ Missed → is_missed w ≡ true) → Replied w (offered_by q g o w)
+replied_offered : (q : PageId) (va : ℕ) (kind : Kind) (g : ℕ) (o : Offer) (w : World) → is_cloaked w ≡ true →
+    (o ≡ Missed → is_missed w ≡ true) → Replied w (offered_by q va kind g o w)
 unfolding offered_by
-replied_offered q g Ready w cloaked marked = replied told.Ok w cloaked (λ e. absurd cc)
-replied_offered q g Missed w cloaked marked = replied told.Stopped w cloaked (λ e. missed_halted w (marked refl))
-replied_offered q g Mismatch (Flat ram) cloaked marked = absurd (false≢true cloaked)
-replied_offered q g Mismatch (Cloaked c) cloaked marked =
+replied_offered q va kind g Ready w cloaked marked =
+    let steady = Steady-noted _ w in
+    replied_after w _ _ steady (replied told.Ok _ (steady.form ∙ cloaked) (λ e. absurd cc))
+replied_offered q va kind g Missed w cloaked marked =
+    replied told.Stopped w cloaked (λ e. missed_halted w (marked refl))
+replied_offered q va kind g Mismatch (Flat ram) cloaked marked = absurd (false≢true cloaked)
+replied_offered q va kind g Mismatch (Cloaked c) cloaked marked =
     replied_after (Cloaked c) (Cloaked _) _ (record { plain = refl; view = refl; form = refl; items = λ d. refl })
     (replied told.Stopped (Cloaked _) refl (λ e. violation_halted c.memory.ledger.missed))
   where
     violation_halted : (b : Bool) → (b || true) ≡ true
     violation_halted true = refl
     violation_halted false = refl
-replied_offered q g Mismatch (Alone h) cloaked marked = absurd (false≢true cloaked)
+replied_offered q va kind g Mismatch (Alone h) cloaked marked = absurd (false≢true cloaked)
 
-replied_offer : (q : PageId) (g : ℕ) (write : Bool) (w : World) → is_cloaked w ≡ true →
-    Replied w (ask_offer q g write w)
+replied_offer : (q : PageId) (va : ℕ) (kind : Kind) (g : ℕ) (w : World) → is_cloaked w ≡ true →
+    Replied w (ask_offer q va kind g w)
 unfolding ask_offer
-replied_offer q g write (Flat ram) cloaked = absurd (false≢true cloaked)
-replied_offer q g write (Cloaked c) cloaked =
-    let o = offer q g write c.memory in
+replied_offer q va kind g (Flat ram) cloaked = absurd (false≢true cloaked)
+replied_offer q va kind g (Cloaked c) cloaked =
+    let o = offer q g (is_store kind) c.memory in
     replied_after (Cloaked c) (Cloaked _) _
     (record {
-      plain = offer_plain q g write c.memory;
+      plain = offer_plain q g (is_store kind) c.memory;
       view = refl;
       form = refl;
       items = λ d.
           ciphers_told d c.items o.ciphers;
     })
-    (replied_offered q g o.answer (Cloaked _) refl (offer_marked q g write c.memory))
-replied_offer q g write (Alone h) cloaked = absurd (false≢true cloaked)
+    (replied_offered q va kind g o.answer (Cloaked _) refl (offer_marked q g (is_store kind) c.memory))
+replied_offer q va kind g (Alone h) cloaked = absurd (false≢true cloaked)
 
-replied_reached : (q : PageId) (kind : Kind) (to : Result ℕ ℕ) (w : World) → is_cloaked w ≡ true →
-    Replied w (reached q kind to w)
+replied_reached : (q : PageId) (va : ℕ) (kind : Kind) (to : Result ℕ ℕ) (w : World) → is_cloaked w ≡ true →
+    Replied w (reached q va kind to w)
 unfolding reached
-replied_reached q kind (Err cause) w cloaked = replied (told.Absent cause) w cloaked (λ e. absurd cc)
-replied_reached q kind (Ok pa) w cloaked = replied_offer q _ _ w cloaked
+replied_reached q va kind (Err cause) w cloaked = replied (told.Absent cause) w cloaked (λ e. absurd cc)
+replied_reached q va kind (Ok pa) w cloaked = replied_offer q va kind _ w cloaked
 
 pub replied_reach : (q : PageId) (va : ℕ) (kind : Kind) (w : World) → is_cloaked w ≡ true →
     Replied w (reach_by_table q va kind w)
@@ -333,15 +350,15 @@ replied_reach q va kind w cloaked =
     let to = ask_inside_address va kind w in
     let steady = steady_inside_address va kind w in
     let cloaked' : is_cloaked to.world ≡ true = steady.form ∙ cloaked in
-    replied_after w to.world _ steady (replied_drawn (reached q kind to.answer) to.world cloaked'
-    (replied_reached q kind to.answer to.world cloaked'))
+    replied_after w to.world _ steady (replied_drawn (reached q va kind to.answer) to.world cloaked'
+    (replied_reached q va kind to.answer to.world cloaked'))
 
-replied_got : (width : ℕ) (to : Result ℕ ℕ) (w : World) → is_cloaked w ≡ true → Replied w (got width to w)
+replied_got : (va width : ℕ) (to : Result ℕ ℕ) (w : World) → is_cloaked w ≡ true → Replied w (got va width to w)
 unfolding got
-replied_got width (Err cause) w cloaked = replied (told.Absent cause) w cloaked (λ e. absurd cc)
-replied_got width (Ok pa) w cloaked =
-    let v = ask_value pa width w in
-    let steady = steady_value pa width w in
+replied_got va width (Err cause) w cloaked = replied (told.Absent cause) w cloaked (λ e. absurd cc)
+replied_got va width (Ok pa) w cloaked =
+    let v = ask_value (view_of w).satp (inside_access w va Load) pa width w in
+    let steady = steady_value (view_of w).satp (inside_access w va Load) pa width w in
     let cloaked' : is_cloaked v.world ≡ true = steady.form ∙ cloaked in
     let answer = told.Word (v.answer % 2 ^ (8 * width)) in
     replied_after w v.world _ steady (replied_drawn (replies answer) v.world cloaked'
@@ -353,8 +370,8 @@ replied_get va width w cloaked =
     let to = ask_inside_address va _ w in
     let steady = steady_inside_address va _ w in
     let cloaked' : is_cloaked to.world ≡ true = steady.form ∙ cloaked in
-    replied_after w to.world _ steady (replied_drawn (got width to.answer) to.world cloaked'
-    (replied_got width to.answer to.world cloaked'))
+    replied_after w to.world _ steady (replied_drawn (got va width to.answer) to.world cloaked'
+    (replied_got va width to.answer to.world cloaked'))
 
 replied_put_at : (pa width value : ℕ) (w : World) → is_cloaked w ≡ true → Replied w (put_at pa width value w)
 unfolding put_at
@@ -362,13 +379,14 @@ replied_put_at pa width value w cloaked =
     let steady = Steady-trans _ _ _ (Steady-stored_at pa width value w) (Steady-written _ _ (λ d. refl)) in
     replied_after w _ _ steady (replied told.Ok _ (steady.form ∙ cloaked) (λ e. absurd cc))
 
-replied_stored : (width value : ℕ) (to : Result ℕ ℕ) (w : World) → is_cloaked w ≡ true →
-    Replied w (stored_inside width value to w)
+replied_stored : (va width value : ℕ) (to : Result ℕ ℕ) (w : World) → is_cloaked w ≡ true →
+    Replied w (stored_inside va width value to w)
 unfolding stored_inside
-replied_stored width value (Err cause) w cloaked = replied (told.Absent cause) w cloaked (λ e. absurd cc)
-replied_stored width value (Ok pa) w cloaked =
-    let steady = Steady-settled (frame_of pa) w in
-    let cloaked' : is_cloaked (settled (frame_of pa) w) ≡ true = steady.form ∙ cloaked in
+replied_stored va width value (Err cause) w cloaked = replied (told.Absent cause) w cloaked (λ e. absurd cc)
+replied_stored va width value (Ok pa) w cloaked =
+    let v = opened (view_of w).satp (inside_access w va Store) pa w in
+    let steady = Steady-opened _ _ pa w in
+    let cloaked' : is_cloaked v ≡ true = steady.form ∙ cloaked in
     replied_after w _ _ steady (replied_drawn (put_at pa width value) _ cloaked'
     (replied_put_at pa width value _ cloaked'))
 
@@ -378,8 +396,8 @@ replied_put va width value w cloaked =
     let to = ask_inside_address va _ w in
     let steady = steady_inside_address va _ w in
     let cloaked' : is_cloaked to.world ≡ true = steady.form ∙ cloaked in
-    replied_after w to.world _ steady (replied_drawn (stored_inside width value to.answer) to.world cloaked'
-    (replied_stored width value to.answer to.world cloaked'))
+    replied_after w to.world _ steady (replied_drawn (stored_inside va width value to.answer) to.world cloaked'
+    (replied_stored va width value to.answer to.world cloaked'))
 
 either_world : (b : Bool) (w v : World) → Steady w v → Steady w (if b then v else w)
 either_world true w v steady = steady

@@ -1,17 +1,14 @@
 -- A program's half of isolation: what a program has is a function of its image, the schedule and its own half of the
 -- exchange.
-use Rattle.std.specs.Prelude.{ℕ, ◌≡◌, ◌≤◌, List, [], ◌∷◌, ◌++◌, length, map, take, slice_get, Option, Some, None, Ok}
+use Rattle.std.specs.Prelude.{ℕ, ◌≡◌, ◌≤◌, List, length, slice_get, Option, Some, None, Ok}
 use Rattle.cloak_base.specs.Random.{Random}
 use Rattle.cloak_model.specs.declared.image.Bundle.{Bundle}
 use Rattle.cloak_model.specs.declared.image.Program.{Program}
 use Rattle.cloak_model.specs.declared.item.Item.{Item}
-use Rattle.cloak_model.specs.declared.item.Item.TheVariants as item
 use Rattle.cloak_model.specs.Bundle.{IsInGrammar}
-use Rattle.cloak_model.specs.Exchange.{steps_items}
 use Rattle.cloak_model.specs.Halves.{inward_half}
-use Rattle.cloak_model.specs.Parts.{Joint, DomainPart, domain_part}
-use Rattle.cloak_model.specs.Joint.{Turn}
-use Rattle.cloak_model.specs.Run.{Run, joint_run, joint_after, exchange, run_inward_half}
+use Rattle.cloak_model.specs.Parts.{DomainPart, domain_part}
+use Rattle.cloak_model.specs.Run.{Run, joint_run, exchange, run_inward_half}
 use Rattle.cloak_model.specs.DomainAlone.{DomainAlone, domain_alone}
 use Rattle.kernel_isolation.specs.Isolation.{items_until, joint_until}
 

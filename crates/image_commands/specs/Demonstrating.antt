@@ -3,8 +3,7 @@ use Rattle.std.specs.Prelude.{ℕ, ◌≡◌, ◌⊎◌, List, ◌++◌, length,
 use Rattle.cloak_base.specs.Random.{numbered}
 use Rattle.outside_io.specs.Told.{Grows, GrowsByFront}
 use Rattle.cloak_model.specs.Run.{Run, joint_run}
-use Rattle.cloak_machine.specs.Ending.{end_short_report, short_report}
-use Rattle.cloak_machine.specs.declared.end.End.{End}
+use Rattle.cloak_machine.specs.Ending.{short_report}
 use Rattle.guest_kernel.specs.Generated.{generated}
 use Rattle.guest_kernel.specs.Summary.{summary_line}
 use Rattle.program_parts.specs.Outside.{Output, Raised}
@@ -20,11 +19,6 @@ IsDemoRun n steps r = joint_run (generated n) (numbered n) steps ≡ Ok r
 -- what the run of an image comes to: the image's line, and the report without the kernel's lines
 abbrev pub demo_lines : ℕ → Run → List ℕ
 demo_lines n r = summary_line n ++ short_report r.stop (length r.turns) r.closed.joint
-
--- the end of a machine is that of a run
-pub record IsEndOf (end : End) (r : Run) : Type 0 where
-  pub stop : end.stop ≡ r.stop
-  pub short : end_short_report end ≡ short_report r.stop (length r.turns) r.closed.joint
 
 -- The run was made. Where no pages clashed in it, its lines were shown, and the answer is the status of its stop.
 pub record HasDemonstrated {O : Type 0} (n steps : ℕ) (answer : Status) (before after : Output O) : Type 0 where

@@ -1,4 +1,3 @@
 pub mod Showing
 pub mod Generating
 pub mod Demonstrating
-pub mod Unheard

@@ -11,16 +11,16 @@ ghost use Rattle.cloak_machine.specs.Standing.{OpensMachine, StandsForMoment, st
 ghost use Rattle.guest_kernel.specs.Generated.{generated};
 ghost use Rattle.guest_kernel.specs.Summary.{summary_line};
 ghost use Rattle.program_parts.specs.Outside.{output};
-ghost use Rattle.image_commands.specs.Demonstrating.{DemoAnswers, IsEndOf};
-ghost use Rattle.run_command.specs.Running.{MadeAll, NoClash, NoClashYet, status_of};
+ghost use Rattle.image_commands.specs.Demonstrating.{DemoAnswers};
+ghost use Rattle.run_command.specs.Running.{IsEndOf, MadeAll, NoClash, NoClashYet, status_of};
 
-use crate::unheard::Unheard;
 use cloak_base::{Failed, NoMemory, Stop};
 use cloak_machine::{End, Machine, OpenFault};
 use cloak_model::Bundle;
 use guest_kernel::{generate, put_summary};
 use outside_io::{Sink, Stream};
 use program_parts::{Refusal, Status, refuse};
+use run_command::Unheard;
 use std::alloc::Global;
 
 /// The machine of a number's image, under the random stream of the number, which has a key and each draw that is due.

@@ -7,7 +7,6 @@
 
 mod demonstrating;
 mod generating;
-mod unheard;
 
 pub use demonstrating::demo_command;
 pub use generating::gen_command;

@@ -1,6 +1,6 @@
 -- Draws are 16 bytes, and what the kernel is shown of a page is 4096 bytes.
-use Rattle.std.proofs.Common.{◌≡◌, ◌∙◌, ℕ, zero, suc, ◌+◌, ◌*◌, ◌<◌, ◌≤◌, Bool, true, false, cond, nat_lt, List, [], ◌∷◌, ◌++◌, length, take, drop, Option, Some, None, refl, sym, ap, subst, arith}
-use Rattle.std.specs.Prelude.{All, bit_xor, slice_index}
+use Rattle.std.proofs.Common.{◌≡◌, ℕ, zero, suc, ◌*◌, ◌<◌, nat_lt, List, [], ◌∷◌, length, take, drop, Option, Some, None, refl, arith}
+use Rattle.std.specs.Prelude.{bit_xor, slice_index}
 use Rattle.std.specs.Int.{w32, to_le_bytes}
 use Rattle.std.specs.List.{AllByRecursion, concat}
 use Rattle.std.proofs.lemmas.Bool.{cond_both, ltb-false}

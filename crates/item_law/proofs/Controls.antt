@@ -1,11 +1,10 @@
 -- Contexts and resources of a program over its step: contexts fit, and there are not more than there may be.
-use Rattle.std.proofs.Common.{◌≡◌, ◌∙◌, inl, inr, ℕ, zero, suc, ◌+◌, ◌-◌, ◌*◌, ◌/◌, ◌%◌, ◌^◌, ◌<◌, ◌≤◌, nat_le, nat_lt, Bool, true, false, cond, not, List, [], ◌∷◌, ◌++◌, length, map, replicate, slice_set, slice_index_or, Option, Some, None, IfSome, unwrap_or, Result, Ok, Err, refl, sym, ap, subst, arith}
-use Rattle.std.specs.Prelude.{◌==◌, ◌&&◌, ◌||◌, position, is_none, is_some}
+use Rattle.std.proofs.Common.{◌≡◌, ◌∙◌, ℕ, ◌+◌, ◌%◌, ◌<◌, ◌≤◌, nat_le, nat_lt, Bool, true, false, not, List, [], ◌∷◌, length, slice_set, Option, Some, None, IfSome, unwrap_or, Result, Ok, Err, refl, sym, subst, arith}
+use Rattle.std.specs.Prelude.{◌==◌, ◌||◌, position, is_none, is_some}
 use Rattle.std.specs.List.{AllByRecursion, position_or_len, list_any}
 use Rattle.std.proofs.lemmas.Bool.{cond_both, ltb-true}
 use Rattle.std.proofs.lemmas.List.{length-set, length-map}
 use Rattle.cloak_base.specs.Registers.{register}
-use Rattle.cloak_base.specs.declared.causes.Shown.{Shown}
 use Rattle.cloak_base.specs.declared.names.CtxId.{CtxId}
 use Rattle.cloak_model.specs.declared.answer.Answer.{Answer}
 use Rattle.cloak_model.specs.declared.answer.Answer.TheVariants as told
@@ -28,21 +27,21 @@ use Rattle.cloak_model.specs.declared.item.Item.TheVariants as item
 use Rattle.cloak_model.specs.declared.resource.MapFault.{MapFault}
 use Rattle.cloak_model.specs.declared.resource.MapFault.TheVariants as fault
 use Rattle.cloak_model.specs.declared.resource.Owner.{Owner}
-use Rattle.cloak_model.specs.declared.resource.Owner.TheVariants.{Space, File}
+use Rattle.cloak_model.specs.declared.resource.Owner.TheVariants.{File}
 use Rattle.cloak_model.specs.declared.resource.Region.{Region}
 use Rattle.cloak_model.specs.declared.resource.Resource.{Resource}
 use Rattle.cloak_model.specs.AskPages.{ask_clear, ask_copy, ask_forget}
-use Rattle.cloak_model.specs.Asking.{Told, Asking, answered, then_ask}
-use Rattle.cloak_model.specs.Calls.{begin_call, finish_call, copy_in_step, copy_out_step, Copy}
-use Rattle.cloak_model.specs.Contexts.{Context, set_word, moved_on, suspended, new_context, with_context, end_at, context_at, context_number, shown, Resumed, resume_if, resume_at}
+use Rattle.cloak_model.specs.Asking.{answered}
+use Rattle.cloak_model.specs.Calls.{copy_in_step, copy_out_step}
+use Rattle.cloak_model.specs.Contexts.{Context, moved_on, suspended, end_at, context_at, context_number, shown, Resumed, resume_if, resume_at}
 use Rattle.cloak_model.specs.DomainState.{Control, Domain}
-use Rattle.cloak_model.specs.DomainStep.{DomainStepped, within, with_load, instruction_ended, copy_ended, phase_step, step_if, domain_step, interrupt_if, interrupt, answer_in, Resumes, answer_taken, resume_told, resume_slot}
+use Rattle.cloak_model.specs.DomainStep.{DomainStepped, within, with_load, instruction_ended, copy_ended, phase_step, step_if, domain_step, interrupt_if, interrupt, answer_in, answer_taken, resume_told, resume_slot}
 use Rattle.cloak_model.specs.Files.{file_found, file_resource, holds_file}
-use Rattle.cloak_model.specs.Fork.{Spaces, marked, private_numbers, copies, with_copy, with_copies, copied_region, forked_resources, child, forked, ask_copies, Fork, fork_stopped, fork_cleared, fork_fits, fork_if, fork, End, end_stopped, ask_forgets, end_cleared, end_if, end_context, is_of_space}
-use Rattle.cloak_model.specs.Hypercalls.{Stepped, with_slot, stays_inside, shown_of, leaves, stopped, fault_word, bad_call, with_answer, answers_word, number_word, number_told, remapped, map_told, new_call, map_call, unmap_call, file_call, thread_at, thread_call, with_spaces, fork_told, fork_call, end_told, exit_call, call_begun, kernel_call, Hypercall, New, Map, Unmap, File as FileCall, Thread, ForkSpace, Exit, Call, Unknown, hypercall, hypercall_of}
-use Rattle.cloak_model.specs.InsideStep.{AfterInstruction, instruction_inside}
+use Rattle.cloak_model.specs.Fork.{Spaces, marked, private_numbers, copies, with_copy, with_copies, forked_resources, child, forked, ask_copies, Fork, fork_stopped, fork_cleared, fork_fits, fork_if, fork, End, end_stopped, ask_forgets, end_cleared, end_if, end_context, is_of_space}
+use Rattle.cloak_model.specs.Hypercalls.{Stepped, with_slot, stays_inside, leaves, stopped, fault_word, bad_call, with_answer, answers_word, number_word, number_told, remapped, map_told, new_call, map_call, unmap_call, file_call, thread_at, thread_call, with_spaces, fork_told, fork_call, end_told, exit_call, call_begun, kernel_call, Hypercall, New, Map, Unmap, File as FileCall, Thread, ForkSpace, Exit, Call, Unknown, hypercall, hypercall_of}
+use Rattle.cloak_model.specs.InsideStep.{instruction_inside}
 use Rattle.cloak_model.specs.Record.{IsItem, IsWord}
-use Rattle.cloak_model.specs.Resources.{Resources, resource_at, regions_in, pages_of, all_pages, first_free, Mapped, refused, made_at, new_resource, is_region, overlaps, with_region, with_regions, mapped, size_for, map_region, starts_at, unmap_region, without_space, drop_space}
+use Rattle.cloak_model.specs.Resources.{Resources, resource_at, regions_in, pages_of, all_pages, first_free, Mapped, refused, made_at, new_resource, is_region, overlaps, mapped, map_region, starts_at, unmap_region, without_space, drop_space}
 use Rattle.cloak_model.specs.World.{World}
 use Rattle.item_law.proofs.Bounds.{either, all_set, all_or}
 use Rattle.item_law.proofs.Programs.{ContextFits, set_word_fits, moved_on_fits, register_fits, new_context_fits, WhyFits, shown_fits, RanFits, InstructionFits, instruction_told, CopiedFits, CopyFits, copy_in_told, copy_out_told, begin_call_fits, finish_call_fits}

@@ -1,6 +1,6 @@
 -- What an instruction does: each number of it is a word.
-use Rattle.std.proofs.Common.{◌≡◌, ◌∙◌, ◌⊎◌, inl, inr, ℕ, zero, suc, ◌+◌, ◌-◌, ◌*◌, ◌/◌, ◌%◌, ◌^◌, ◌<◌, ◌≤◌, ℤ, pos, negsuc, Bool, true, false, cond, not, nat_lt, List, Option, Some, None, IfSome, refl, sym, ap, subst, arith, rules}
-use Rattle.std.specs.Prelude.{◌==◌, bit_and, bit_or, bit_xor}
+use Rattle.std.proofs.Common.{inl, inr, ℕ, ◌*◌, ◌/◌, ◌%◌, ◌^◌, ◌<◌, ◌≤◌, ℤ, pos, negsuc, Bool, true, false, List, IfSome, refl, arith, rules}
+use Rattle.std.specs.Prelude.{◌==◌}
 use Rattle.std.proofs.Math.Nat.{div-le_self, mod-le}
 use Rattle.std.proofs.lemmas.Nat.{mul-lt, or_of_32, xor_of_32, and_le_l}
 use Rattle.cloak_base.specs.Registers.{register}
@@ -10,7 +10,7 @@ use Rattle.rv_isa.specs.declared.instr.Instr.{Instr}
 use Rattle.rv_isa.specs.declared.instr.Instr.TheVariants as instr
 use Rattle.rv_isa.proofs.Spelling.{if_line}
 use Rattle.cloak_model.specs.Bits.{word_of}
-use Rattle.cloak_model.specs.Effect.{IsWidth, effect, sum, flag, offset, link, jump, go, branch, load_effect, store_effect, shifted_right, high_product_unsigned, quotient, quotient_unsigned, remainder, remainder_unsigned, even}
+use Rattle.cloak_model.specs.Effect.{IsWidth, effect, flag, offset, jump, go, branch, load_effect, store_effect, high_product_unsigned, quotient, quotient_unsigned, remainder, remainder_unsigned, even}
 use Rattle.cloak_model.specs.declared.outcome.Effect.{Effect}
 use Rattle.cloak_model.specs.declared.outcome.Effect.TheVariants as does
 use Rattle.cloak_model.specs.Record.{IsWord}

@@ -1,6 +1,6 @@
 -- The kernel's harts: registers, control and status registers and program counter are words.
-use Rattle.std.proofs.Common.{◌≡◌, ◌∙◌, ℕ, zero, suc, ◌+◌, ◌-◌, ◌*◌, ◌/◌, ◌%◌, ◌^◌, ◌<◌, ◌≤◌, Bool, true, false, cond, List, [], ◌∷◌, map, Option, Some, None, unwrap_or, refl, sym, ap, subst, arith}
-use Rattle.std.specs.Prelude.{◌==◌, bit_and, bit_or}
+use Rattle.std.proofs.Common.{ℕ, ◌+◌, ◌-◌, ◌^◌, ◌≤◌, Bool, true, false, cond, List, [], ◌∷◌, Option, Some, None, unwrap_or, arith}
+use Rattle.std.specs.Prelude.{◌==◌}
 use Rattle.std.specs.List.{AllByRecursion}
 use Rattle.std.proofs.lemmas.Nat.{or_of_32, and_le_l}
 use Rattle.cloak_base.specs.Registers.{register, with_register, zero_registers}
@@ -9,8 +9,7 @@ use Rattle.cloak_base.specs.declared.names.Mode.{Mode}
 use Rattle.cloak_base.specs.declared.names.Mode.TheVariants.{U, S}
 use Rattle.rv_isa.specs.declared.instr.Instr.{Instr}
 use Rattle.rv_isa.specs.declared.instr.Instr.TheVariants as instr
-use Rattle.cloak_model.specs.Bits.{has_bit}
-use Rattle.cloak_model.specs.Csr.{Csrs, csr_word, with_csr, bit, sstatus_of, sstatus_word, with_pending, csr_read, is_csr, aligned, kept, csr_write, trap_vector, trap_entry, trap_return, status, with_status, status_in_trap, status_after_return, is_supervisor, zero_csrs}
+use Rattle.cloak_model.specs.Csr.{Csrs, csr_word, with_csr, bit, sstatus_word, with_pending, csr_read, is_csr, aligned, kept, csr_write, trap_entry, trap_return, status, status_in_trap, status_after_return, is_supervisor}
 use Rattle.cloak_model.specs.CsrNumbers as csr
 use Rattle.cloak_model.specs.declared.status.Sstatus.{Sstatus}
 use Rattle.cloak_model.specs.declared.outcome.Kernel.{Kernel}

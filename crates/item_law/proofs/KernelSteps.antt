@@ -1,24 +1,22 @@
 -- The plain step of a hart: the hart, the disk and memory stay words and bytes.
-use Rattle.std.proofs.Common.{◌≡◌, ◌∙◌, ℕ, zero, suc, ◌+◌, ◌-◌, ◌*◌, ◌/◌, ◌%◌, ◌^◌, ◌<◌, ◌≤◌, Bool, true, false, cond, List, [], ◌∷◌, ◌++◌, length, take, drop, Option, Some, None, IfSome, Result, Ok, Err, refl, sym, ap, subst, arith}
+use Rattle.std.proofs.Common.{ℕ, ◌+◌, ◌-◌, ◌*◌, ◌^◌, ◌<◌, Bool, true, false, cond, List, Option, Some, None, IfSome, Result, Ok, Err, arith}
 use Rattle.std.specs.Prelude.{◌==◌}
-use Rattle.std.specs.List.{AllByRecursion}
-use Rattle.cloak_base.specs.Registers.{register, zero_registers}
-use Rattle.cloak_base.specs.declared.names.Kind.{Kind}
+use Rattle.cloak_base.specs.Registers.{register}
 use Rattle.cloak_base.specs.declared.names.Kind.TheVariants.{Fetch, Load, Store}
 use Rattle.cloak_base.specs.declared.names.Mode.{Mode}
 use Rattle.cloak_base.specs.declared.names.Mode.TheVariants.{U, S}
 use Rattle.rv_isa.specs.Table.{instruction}
 use Rattle.rv_isa.specs.declared.instr.Instr.{Instr}
-use Rattle.cloak_model.specs.Ask.{ask_count, ask_frame, ask_fill, ask_value, ask_store}
-use Rattle.cloak_model.specs.Asking.{Told, Asking, answered, then_ask}
+use Rattle.cloak_model.specs.Ask.{ask_count, ask_frame, ask_fill, ask_load, ask_store_at}
+use Rattle.cloak_model.specs.Asking.{Asking}
 use Rattle.cloak_model.specs.Csr.{interrupt_due, with_pending, satp_of}
 use Rattle.cloak_model.specs.Effect.{effect}
 use Rattle.cloak_model.specs.declared.outcome.Effect.{Effect}
 use Rattle.cloak_model.specs.declared.outcome.Effect.TheVariants as does
 use Rattle.cloak_model.specs.Hart.{Hart}
-use Rattle.cloak_model.specs.HartStep.{Made, with_word, gone_on, stays, raised, illegal, system}
-use Rattle.cloak_model.specs.HostCalls.{After, over, ends, block_at, with_block, is_transfer, host_answers, put_call, timer_call, halt_call, read_block, write_block, read_call, write_call, host_call, resumed, ecall_in, ecall}
-use Rattle.cloak_model.specs.KernelStep.{access, ask_access, extended, is_ecall, or_trap, carried_out, executed, instruction_step, ticked, kernel_step}
+use Rattle.cloak_model.specs.HartStep.{Made, with_word, gone_on, stays, raised, system}
+use Rattle.cloak_model.specs.HostCalls.{After, ends, block_at, with_block, is_transfer, host_answers, put_call, timer_call, halt_call, read_block, write_block, read_call, write_call, host_call, resumed, ecall_in, ecall}
+use Rattle.cloak_model.specs.KernelStep.{access, extended, is_ecall, or_trap, carried_out, executed, instruction_step, ticked, kernel_step}
 use Rattle.cloak_model.specs.Memory.{frame_of}
 use Rattle.cloak_model.specs.Record.{IsWord}
 use Rattle.cloak_model.specs.World.{World}
@@ -26,7 +24,7 @@ use Rattle.item_law.specs.Writing.{AreBytes}
 use Rattle.item_law.proofs.Bounds.{all_append, all_take, all_drop, extended_below}
 use Rattle.item_law.proofs.Effects.{FieldsFit, EffectFits, instruction_fits, effect_fits}
 use Rattle.item_law.proofs.Harts.{HartFits, EndingFits, MadeFits, zero_registers_fit, with_pending_fits, register_fits, with_word_fits, gone_on_fits, with_pc_fits, ticked_fits, stays_fits, raised_fits, illegal_fits, system_fits}
-use Rattle.item_law.proofs.Worlds.{WorldFits, ToldFits, Anything, LeadFits, then_fits, either_told, translate_told, count_told, value_told, store_told, frame_told, fill_told}
+use Rattle.item_law.proofs.Worlds.{WorldFits, ToldFits, Anything, FoundFits, then_fits, either_told, count_told, load_told, store_at_told, frame_told, fill_told}
 
 pub record AfterFits (a : After) : Type 0 where
   pub hart : HartFits a.hart
@@ -145,15 +143,12 @@ ecall_told h disk w fits bytes world =
 
 -- Instructions.
 
-or_trap_told : (h : Hart) (disk : List ℕ) (va : ℕ) (found : Result ℕ ℕ) (next : ℕ → Asking After) (w : World) →
-    LeadFits found → HartFits h → AreBytes disk → IsWord va → WorldFits w →
-    ((pa : ℕ) → ToldFits AfterFits (next pa w)) → ToldFits AfterFits (or_trap h disk va found next w)
-or_trap_told h disk va (Err cause) next w leads fits bytes at world more =
-    ends_told disk _ w bytes (raised_fits h cause va fits leads at) world
-or_trap_told h disk va (Ok pa) next w leads fits bytes at world more = more pa
-
-access_told : (h : Hart) (kind : Kind) (va : ℕ) (w : World) → WorldFits w → ToldFits LeadFits (ask_access h kind va w)
-access_told h kind va w world = translate_told (satp_of h.csrs) (access h kind va) w world
+or_trap_told : {A : Type 0} (P : A → Type 0) (h : Hart) (disk : List ℕ) (va : ℕ) (found : Result A ℕ)
+    (next : A → Asking After) (w : World) → FoundFits P found → HartFits h → AreBytes disk → IsWord va → WorldFits w →
+    ((a : A) → P a → ToldFits AfterFits (next a w)) → ToldFits AfterFits (or_trap h disk va found next w)
+or_trap_told P h disk va (Err cause) next w finds fits bytes at world more =
+    ends_told disk _ w bytes (raised_fits h cause va fits finds at) world
+or_trap_told P h disk va (Ok a) next w finds fits bytes at world more = more a finds
 
 carried_out_told : (h : Hart) (disk : List ℕ) (word : ℕ) (i : Instr) (e : Effect) (w : World) → HartFits h →
     AreBytes disk → IsWord word → FieldsFit i → EffectFits e → WorldFits w →
@@ -167,21 +162,17 @@ carried_out_told h disk word i (does.Go target) w fits bytes here f e world =
     ends_told disk _ w bytes (stays_fits _ (with_pc_fits h target fits e)) world
 carried_out_told h disk word i (does.Load rd va width is_signed) w fits bytes here f e world =
     let done : ℕ → Asking After = λ value. ends disk (stays (gone_on (with_word h rd (extended is_signed width value)))) in
-    let next : ℕ → Asking After = λ pa. then_ask (ask_value pa width) done in
-    then_fits LeadFits AfterFits (ask_access h Load va) (λ found. or_trap h disk va found next) w
-    (access_told h Load va w world)
-    (λ found v leads there. or_trap_told h disk va found next v leads fits bytes e.0 there
-    (λ pa. then_fits IsWord AfterFits (ask_value pa width) done v (value_told pa width v there)
-    (λ value u below last. ends_told disk _ u bytes
-    (stays_fits _ (gone_on_fits _ (with_word_fits h rd _ fits (extended_below is_signed width value below)))) last)))
+    then_fits (FoundFits IsWord) AfterFits (ask_load (satp_of h.csrs) (access h Load va) width)
+    (λ found. or_trap h disk va found done) w (load_told (satp_of h.csrs) (access h Load va) width w world)
+    (λ found v finds there. or_trap_told IsWord h disk va found done v finds fits bytes e.0 there
+    (λ value below. ends_told disk _ v bytes
+    (stays_fits _ (gone_on_fits _ (with_word_fits h rd _ fits (extended_below is_signed width value below)))) there))
 carried_out_told h disk word i (does.Store va width value) w fits bytes here f e world =
-    let next : ℕ → Asking After = λ pa. then_ask (ask_store pa width value) (λ done. ends disk (stays (gone_on h))) in
-    then_fits LeadFits AfterFits (ask_access h Store va) (λ found. or_trap h disk va found next) w
-    (access_told h Store va w world)
-    (λ found v leads there. or_trap_told h disk va found next v leads fits bytes e.0 there
-    (λ pa. then_fits Anything AfterFits (ask_store pa width value) (λ done. ends disk (stays (gone_on h))) v
-    (store_told pa width value v there)
-    (λ done u p last. ends_told disk _ u bytes (stays_fits _ (gone_on_fits h fits)) last)))
+    let done : Unit {0} → Asking After = λ done. ends disk (stays (gone_on h)) in
+    then_fits (FoundFits Anything) AfterFits (ask_store_at (satp_of h.csrs) (access h Store va) width value)
+    (λ found. or_trap h disk va found done) w (store_at_told (satp_of h.csrs) (access h Store va) width value w world)
+    (λ found v finds there. or_trap_told Anything h disk va found done v finds fits bytes e.0 there
+    (λ stored p. ends_told disk _ v bytes (stays_fits _ (gone_on_fits h fits)) there))
 carried_out_told h disk word i does.System w fits bytes here f e world =
     either_asking AfterFits (is_ecall i) (ecall h disk) (ends disk (system h word i)) w
     (ecall_told h disk w fits bytes world) (ends_told disk _ w bytes (system_fits h word i fits here f) world)
@@ -202,12 +193,10 @@ instruction_told : (h : Hart) (disk : List ℕ) (w : World) → HartFits h → A
 unfolding instruction_step
 instruction_told h disk w fits bytes world =
     let done : ℕ → Asking After = λ word. executed h disk word (instruction word) in
-    let next : ℕ → Asking After = λ pa. then_ask (ask_value pa 4) done in
-    then_fits LeadFits AfterFits (ask_access h Fetch h.pc) (λ found. or_trap h disk h.pc found next) w
-    (access_told h Fetch h.pc w world)
-    (λ found v leads there. or_trap_told h disk h.pc found next v leads fits bytes fits.pc there
-    (λ pa. then_fits IsWord AfterFits (ask_value pa 4) done v (value_told pa 4 v there)
-    (λ word u here last. executed_told h disk word (instruction word) u fits bytes here (instruction_fits word) last)))
+    then_fits (FoundFits IsWord) AfterFits (ask_load (satp_of h.csrs) (access h Fetch h.pc) 4)
+    (λ found. or_trap h disk h.pc found done) w (load_told (satp_of h.csrs) (access h Fetch h.pc) 4 w world)
+    (λ found v finds there. or_trap_told IsWord h disk h.pc found done v finds fits bytes fits.pc there
+    (λ word here. executed_told h disk word (instruction word) v fits bytes here (instruction_fits word) there))
 
 pub kernel_step_told : (h : Hart) (disk : List ℕ) (w : World) → HartFits h → AreBytes disk → WorldFits w →
     ToldFits AfterFits (kernel_step h disk w)

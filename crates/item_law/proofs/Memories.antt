@@ -1,5 +1,5 @@
 -- A memory with cloaked pages: frames and pages are bytes, and what the kernel is shown of it is an item of a record.
-use Rattle.std.proofs.Common.{◌≡◌, ◌∙◌, ℕ, zero, suc, ◌<◌, ◌≤◌, Bool, true, false, cond, List, [], ◌∷◌, ◌++◌, length, slice_set, slice_index_or, Option, Some, None, refl, sym, ap, subst, arith}
+use Rattle.std.proofs.Common.{◌≡◌, ◌∙◌, ℕ, zero, suc, ◌≤◌, Bool, true, false, List, [], ◌∷◌, ◌++◌, length, slice_set, slice_index_or, Option, Some, None, refl, sym, subst, arith}
 use Rattle.std.specs.List.{AllByRecursion, find}
 use Rattle.std.specs.Str.{bytes_eq}
 use Rattle.std.proofs.lemmas.List.{length-set, length-replicate}
@@ -14,7 +14,7 @@ use Rattle.cloak_model.specs.Ledger.{vector_of}
 use Rattle.cloak_model.specs.Record.{IsItem}
 use Rattle.cloak_model.specs.Touched.{touched}
 use Rattle.cloak_model.specs.World.{cipher_items}
-use Rattle.kernel_isolation.proofs.Settlings.{HasPlaces, ShownBy, length-with_shown, settle_shown}
+use Rattle.kernel_isolation.proofs.Settlings.{HasPlaces, ShownBy, settle_shown}
 use Rattle.kernel_isolation.proofs.Shown.{AreFrames}
 use Rattle.item_law.specs.Writing.{AreBytes, IsStreamOfBytes}
 use Rattle.item_law.proofs.Bounds.{either, all_set, zero_bytes}

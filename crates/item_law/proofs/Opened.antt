@@ -1,6 +1,6 @@
 -- The opening of a run: the machine fits, and what the kernel is shown then are items of a record.
-use Rattle.std.proofs.Common.{◌≡◌, ◌∙◌, ℕ, zero, suc, ◌+◌, ◌*◌, ◌<◌, ◌≤◌, Bool, true, false, cond, List, [], ◌∷◌, ◌++◌, length, map, filter, replicate, slice_set, slice_index_or, Option, Some, None, Ok, refl, sym, ap, subst, arith}
-use Rattle.std.specs.Prelude.{option_and_then, All}
+use Rattle.std.proofs.Common.{◌≡◌, ◌∙◌, ℕ, zero, suc, ◌+◌, ◌*◌, ◌<◌, ◌≤◌, Bool, List, [], ◌∷◌, length, filter, slice_set, slice_index_or, Option, Some, None, Ok, sym, subst, arith}
+use Rattle.std.specs.Prelude.{option_and_then}
 use Rattle.std.specs.List.{AllByRecursion}
 use Rattle.std.proofs.lemmas.List.{length-set, length-replicate}
 use Rattle.aes_block.specs.Bytes.{IsBytes}
@@ -11,14 +11,12 @@ use Rattle.cloak_model.specs.declared.image.Bundle.{Bundle}
 use Rattle.cloak_model.specs.declared.image.KernelImage.{KernelImage}
 use Rattle.cloak_model.specs.declared.image.Program.{Program}
 use Rattle.cloak_model.specs.declared.image.Segment.{Segment}
-use Rattle.cloak_model.specs.declared.item.Item.{Item}
 use Rattle.cloak_model.specs.declared.item.Item.TheVariants as item
 use Rattle.cloak_model.specs.declared.resource.Resource.{Resource}
 use Rattle.cloak_model.specs.Bundle.{IsKernelImage, IsProgramIn, IsInGrammar}
 use Rattle.cloak_model.specs.Cloaking.{CloakedMemory, ciphertext_of}
 use Rattle.cloak_model.specs.Contexts.{Context, started_contexts}
-use Rattle.cloak_model.specs.DomainState.{Control, Domain, started_control, started_domain}
-use Rattle.cloak_model.specs.Hart.{Hart}
+use Rattle.cloak_model.specs.DomainState.{started_control, started_domain}
 use Rattle.cloak_model.specs.Ledger.{vector_of}
 use Rattle.cloak_model.specs.Memory.{frame_of, place_of, zero_ram, with_byte, with_bytes}
 use Rattle.cloak_model.specs.Opening.{with_segments, started_harts, numbers_below, started_ledger, started_kernel, started_memory, program_page, place_pages, place_programs, started_domains, started_joint, is_placed, opening_items, Opened, opened_with, opened_by, opening}
@@ -27,10 +25,10 @@ use Rattle.cloak_model.specs.Record.{IsItem, IsWord}
 use Rattle.cloak_model.specs.Resources.{started_resources}
 use Rattle.item_law.specs.Writing.{AreBytes, IsOfBytes, IsStreamOfBytes}
 use Rattle.item_law.proofs.Bounds.{either, all_append, all_take, all_drop, all_set, all_replicate, all_map, by_recursion, by_place, zero_bytes}
-use Rattle.item_law.proofs.Ciphers.{DrawFits, MayDraw, draw_fits, block_bytes, SealedFits, sealed_fits}
-use Rattle.item_law.proofs.Controls.{SlotFits, ControlFits}
+use Rattle.item_law.proofs.Ciphers.{MayDraw, draw_fits, block_bytes, SealedFits, sealed_fits}
+use Rattle.item_law.proofs.Controls.{SlotFits}
 use Rattle.item_law.proofs.Harts.{HartFits, started_fits}
-use Rattle.item_law.proofs.Memories.{FramesFit, MemoryFits, frame_set, zero_page_fits}
+use Rattle.item_law.proofs.Memories.{MemoryFits, frame_set, zero_page_fits}
 use Rattle.item_law.proofs.Programs.{new_context_fits}
 use Rattle.item_law.proofs.Turns.{ProgramFits, JointFits}
 

@@ -1,14 +1,8 @@
 -- The step of a program: registers and program counters of its contexts stay words, and so is what a context shows as it
 -- leaves.
-use Rattle.std.proofs.Common.{◌≡◌, ◌∙◌, inl, inr, ℕ, zero, suc, ◌+◌, ◌-◌, ◌*◌, ◌/◌, ◌%◌, ◌^◌, ◌<◌, ◌≤◌, nat_le, nat_lt, Bool, true, false, cond, not, List, [], ◌∷◌, ◌++◌, length, map, replicate, slice_set, slice_index_or, Option, Some, None, IfSome, unwrap_or, Result, Ok, Err, refl, sym, ap, subst, arith}
-use Rattle.std.specs.Prelude.{◌==◌, ◌&&◌, ◌||◌, position, is_none}
-use Rattle.std.specs.List.{AllByRecursion, position_or_len, list_any}
-use Rattle.std.proofs.lemmas.Bool.{cond_both, ltb-true}
-use Rattle.std.proofs.lemmas.List.{length-set, length-map}
-use Rattle.cloak_base.specs.Registers.{register, zero_registers, with_register}
-use Rattle.cloak_base.specs.declared.causes.Shown.{Shown}
-use Rattle.cloak_base.specs.declared.names.CtxId.{CtxId}
-use Rattle.cloak_base.specs.declared.names.Kind.{Kind}
+use Rattle.std.proofs.Common.{inl, ℕ, ◌+◌, ◌*◌, ◌/◌, ◌%◌, nat_le, Bool, true, false, Option, Some, None, IfSome, refl, arith}
+use Rattle.std.specs.Prelude.{◌&&◌}
+use Rattle.cloak_base.specs.Registers.{register, zero_registers}
 use Rattle.cloak_base.specs.declared.names.Kind.TheVariants.{Fetch, Load, Store}
 use Rattle.cloak_base.specs.declared.names.PageId.{PageId}
 use Rattle.rv_isa.specs.Table.{instruction}
@@ -20,8 +14,6 @@ use Rattle.cloak_model.specs.declared.context.Phase.{Phase}
 use Rattle.cloak_model.specs.declared.context.Phase.TheVariants.{Plain, CopyIn, Waiting, CopyOut}
 use Rattle.cloak_model.specs.declared.context.Why.{Why}
 use Rattle.cloak_model.specs.declared.context.Why.TheVariants as why
-use Rattle.cloak_model.specs.declared.inside.Begun.{Begun}
-use Rattle.cloak_model.specs.declared.inside.Begun.TheVariants as begun
 use Rattle.cloak_model.specs.declared.inside.Copied.{Copied}
 use Rattle.cloak_model.specs.declared.inside.Copied.TheVariants as copied
 use Rattle.cloak_model.specs.declared.inside.Ran.{Ran}
@@ -29,21 +21,19 @@ use Rattle.cloak_model.specs.declared.inside.Ran.TheVariants as ran
 use Rattle.cloak_model.specs.declared.item.Item.TheVariants as item
 use Rattle.cloak_model.specs.declared.outcome.Effect.{Effect}
 use Rattle.cloak_model.specs.declared.outcome.Effect.TheVariants as does
-use Rattle.cloak_model.specs.declared.resource.MapFault.{MapFault}
 use Rattle.cloak_model.specs.AskPages.{ask_reach, ask_read, ask_write, ask_get, ask_put}
-use Rattle.cloak_model.specs.Asking.{Told, Asking, answered, then_ask}
-use Rattle.cloak_model.specs.Calls.{buffer, area, call_length, call_number, takes_bytes, gives_bytes, is_in_bounds, is_good, BeginsCall, waiting, copy_begin, call_begin, begin_call, Copy, copy, copy_ends, copy_refused, byte_address, in_put, in_reached, in_placed, in_step, copy_in_step, out_reached, out_got, out_placed, out_step, copy_out_step, finish_call, is_cloaked}
-use Rattle.cloak_model.specs.Contexts.{Context, set_word, moved_on, in_phase, suspended, new_context, has_buffer, call_arguments, no_arguments, is_about_address, shown_address, shown, exit_number}
+use Rattle.cloak_model.specs.Asking.{then_ask}
+use Rattle.cloak_model.specs.Calls.{buffer, area, call_length, call_number, takes_bytes, gives_bytes, is_in_bounds, is_good, BeginsCall, copy_begin, call_begin, begin_call, Copy, copy_ends, copy_refused, byte_address, in_put, in_reached, in_placed, in_step, copy_in_step, out_reached, out_got, out_placed, out_step, copy_out_step, finish_call, is_cloaked}
+use Rattle.cloak_model.specs.Contexts.{Context, set_word, moved_on, in_phase, new_context, has_buffer, call_arguments, no_arguments, is_about_address, shown_address, shown}
 use Rattle.cloak_model.specs.Effect.{IsWidth, effect}
-use Rattle.cloak_model.specs.InsideStep.{AfterInstruction, made, ends_as, goes_on, traps, stops, loaded_inside, load_reached, load_got, load_inside, store_reached, store_put, store_inside, system_inside, done_inside, decoded_inside, executed_inside, fetched_inside, fetch, instruction_inside}
-use Rattle.cloak_model.specs.KernelStep.{extended}
+use Rattle.cloak_model.specs.InsideStep.{AfterInstruction, ends_as, goes_on, traps, stops, loaded_inside, load_reached, load_got, load_inside, store_reached, store_put, store_inside, system_inside, done_inside, decoded_inside, executed_inside, fetched_inside, fetch, instruction_inside}
 use Rattle.cloak_model.specs.Record.{IsItem, IsWord}
 use Rattle.cloak_model.specs.Resources.{Resources, page_at}
 use Rattle.cloak_model.specs.World.{World}
 use Rattle.item_law.proofs.Bounds.{AreWords, either, rest_below, word_at, all_replicate, extended_below}
 use Rattle.item_law.proofs.Effects.{FieldsFit, EffectFits, instruction_fits, effect_fits}
 use Rattle.item_law.proofs.Harts.{with_register_fits, zero_registers_fit}
-use Rattle.item_law.proofs.Worlds.{WorldFits, ToldFits, Anything, AnswerFits, then_fits, either_told, reach_told, read_told, write_told, get_told, put_told}
+use Rattle.item_law.proofs.Worlds.{WorldFits, ToldFits, Anything, AnswerFits, then_fits, reach_told, read_told, write_told, get_told, put_told}
 
 pub record ContextFits (c : Context) : Type 0 where
   pub regs : AreWords c.regs

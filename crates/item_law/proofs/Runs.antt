@@ -1,5 +1,5 @@
 -- A run: each of its items is one of a record, and so what it writes is the record of its exchange.
-use Rattle.std.proofs.Common.{◌≡◌, ◌∙◌, ℕ, zero, suc, ◌+◌, ◌^◌, ◌<◌, ◌≤◌, Bool, true, false, List, [], ◌∷◌, ◌++◌, length, map, Option, Some, None, Ok, refl, sym, ap, subst, arith}
+use Rattle.std.proofs.Common.{◌≡◌, ℕ, zero, suc, ◌+◌, ◌^◌, ◌<◌, ◌≤◌, List, [], ◌∷◌, length, Option, Some, None, Ok, refl, arith}
 use Rattle.std.specs.List.{AllByRecursion}
 use Rattle.std.proofs.lemmas.List.{length-map}
 use Rattle.cloak_base.specs.declared.causes.Stop.{Stop}
@@ -13,15 +13,15 @@ use Rattle.cloak_model.specs.Joint.{Moment, Turn, joint_step, after_turn, stop_o
 use Rattle.cloak_model.specs.Opening.{Opened, opening}
 use Rattle.cloak_model.specs.Parts.{Joint}
 use Rattle.cloak_model.specs.Record.{IsItem}
-use Rattle.cloak_model.specs.Run.{Run, unless_stopped, turns_from, joint_after, settled_below, closing, first_moment, run_of, most_steps}
+use Rattle.cloak_model.specs.Run.{Run, unless_stopped, turns_from, joint_after, settled_below, closing, first_moment, run_of}
 use Rattle.cloak_model.specs.World.{Cloak}
 use Rattle.kernel_isolation.specs.Isolation.{items_by_step}
 use Rattle.kernel_isolation.proofs.Isolated.{of_opened}
 use Rattle.kernel_isolation.proofs.TwoRuns.{writes_an_exchange}
 use Rattle.item_law.specs.Writing.{IsOfBytes, IsStreamOfBytes, WritesARecord}
 use Rattle.item_law.proofs.Bounds.{all_append}
-use Rattle.item_law.proofs.Opened.{OpenedFits, opened_fits}
-use Rattle.item_law.proofs.Turns.{JointFits, TurnFits, turn_fits}
+use Rattle.item_law.proofs.Opened.{opened_fits}
+use Rattle.item_law.proofs.Turns.{JointFits, turn_fits}
 use Rattle.item_law.proofs.Worlds.{CloakFits, settled_cloak}
 
 abbrev AreItems : List Item → Type 0

@@ -1,5 +1,5 @@
 -- A step of the joint run: the machine fits as before, and what the step wrote are items of a record.
-use Rattle.std.proofs.Common.{◌≡◌, ◌∙◌, ℕ, zero, suc, ◌+◌, ◌%◌, ◌<◌, ◌≤◌, Bool, true, false, cond, List, [], ◌∷◌, ◌++◌, length, slice_get, slice_set, slice_index_or, Option, Some, None, IfSome, Result, Ok, Err, refl, sym, ap, subst, arith}
+use Rattle.std.proofs.Common.{◌≡◌, ◌∙◌, ℕ, zero, suc, ◌<◌, Bool, true, false, List, [], ◌∷◌, ◌++◌, slice_get, Option, Some, None, IfSome, Result, Ok, Err, refl, sym, arith}
 use Rattle.std.specs.List.{AllByRecursion}
 use Rattle.std.proofs.lemmas.Bool.{false≢true}
 use Rattle.cloak_base.specs.declared.causes.Shown.{Shown}
@@ -18,7 +18,7 @@ use Rattle.cloak_model.specs.Cloaking.{CloakedMemory, AfterSettling}
 use Rattle.cloak_model.specs.Contexts.{Admitted, context_at, domain_of, slot_of}
 use Rattle.cloak_model.specs.Csr.{satp_of, interrupt_due}
 use Rattle.cloak_model.specs.DomainState.{Control, Domain}
-use Rattle.cloak_model.specs.DomainStep.{DomainStepped, domain_step, interrupt}
+use Rattle.cloak_model.specs.DomainStep.{DomainStepped, domain_step}
 use Rattle.cloak_model.specs.Hart.{Hart, started}
 use Rattle.cloak_model.specs.Hypercalls.{Stepped}
 use Rattle.cloak_model.specs.Joint.{Moment, Turn, next_hart, hart_in, with_hart, cloak_of, cloak_outside, memory_of, outside_ended, after_outside, outside_step, without_root, domain_ended, with_domain, after_domain_step, pages_for, interrupt_ended, after_interrupt, by_interrupt, inside_step, turn_of, joint_step}
@@ -27,7 +27,7 @@ use Rattle.cloak_model.specs.Leaving.{leave}
 use Rattle.cloak_model.specs.Parts.{Joint}
 use Rattle.cloak_model.specs.Record.{IsItem, IsWord}
 use Rattle.cloak_model.specs.Resuming.{AfterResume, with_roots, by_root, by_context, by_domain, resume}
-use Rattle.cloak_model.specs.World.{World, Cloak, Flat, Cloaked, Alone, ram_of, items_of}
+use Rattle.cloak_model.specs.World.{World, Cloak, Flat, Cloaked, Alone, items_of}
 use Rattle.settling_ahead.proofs.Touching.{writes_touched_alone}
 use Rattle.kernel_isolation.proofs.Accounts.{is_joint}
 use Rattle.kernel_isolation.proofs.StepAccounts.{accounts_domain_step}
@@ -36,7 +36,7 @@ use Rattle.item_law.proofs.Bounds.{all_append, all_or, all_set}
 use Rattle.item_law.proofs.Harts.{HartFits, EndingFits, started_fits, ticked_fits, leave_fits}
 use Rattle.item_law.proofs.Memories.{MemoryFits, ShowsFit, touched_fits}
 use Rattle.item_law.proofs.Worlds.{CloakFits, WorldFits, ToldFits, frames_of}
-use Rattle.item_law.proofs.KernelSteps.{AfterFits, kernel_step_told}
+use Rattle.item_law.proofs.KernelSteps.{kernel_step_told}
 use Rattle.item_law.proofs.Controls.{ControlFits, WentFits, SteppedFits, DomainStepFits, domain_step_told, interrupt_fits, resume_slot_fits}
 
 abbrev pub ProgramFits : Domain → Type 0

@@ -1,5 +1,5 @@
 -- The questions of a step: the world stays such that what is written fits, and so do the answers.
-use Rattle.std.proofs.Common.{◌≡◌, ◌∙◌, inl, inr, ℕ, zero, suc, ◌+◌, ◌-◌, ◌*◌, ◌/◌, ◌%◌, ◌^◌, ◌<◌, ◌≤◌, nat_le, nat_lt, Bool, true, false, cond, not, ◌&&◌, List, [], ◌∷◌, ◌++◌, length, slice_index_or, Option, Some, None, Result, Ok, Err, refl, sym, ap, subst, arith}
+use Rattle.std.proofs.Common.{◌≡◌, ◌∙◌, inl, inr, ℕ, zero, suc, ◌+◌, ◌-◌, ◌*◌, ◌/◌, ◌%◌, ◌^◌, ◌<◌, nat_le, nat_lt, Bool, true, false, cond, not, ◌&&◌, List, [], ◌∷◌, length, slice_index_or, Option, Some, None, Result, Ok, Err, sym, subst, arith}
 use Rattle.std.specs.Prelude.{◌==◌}
 use Rattle.std.specs.List.{AllByRecursion}
 use Rattle.std.proofs.lemmas.Bool.{cond_both, ltb-true}
@@ -8,26 +8,25 @@ use Rattle.rv_isa.specs.Fields.{bits}
 use Rattle.cloak_base.specs.declared.names.Kind.{Kind}
 use Rattle.cloak_base.specs.declared.names.Kind.TheVariants.{Fetch, Load, Store}
 use Rattle.cloak_base.specs.declared.names.PageId.{PageId}
-use Rattle.cloak_base.specs.Pages.{zero_page, with_page, same_page, is_of, page_in}
+use Rattle.cloak_base.specs.Pages.{same_page, is_of, page_in}
 use Rattle.cloak_model.specs.declared.access.Access.{Access}
-use Rattle.cloak_model.specs.declared.access.Walked.{Walked}
 use Rattle.cloak_model.specs.declared.answer.Answer.{Answer}
 use Rattle.cloak_model.specs.declared.answer.Answer.TheVariants as answer
 use Rattle.cloak_model.specs.declared.item.Item.{Item}
-use Rattle.cloak_model.specs.declared.item.Item.TheVariants as item
-use Rattle.cloak_model.specs.Ask.{ask_word, ask_second, ask_after, ask_first, ask_walk, ask_inside, ask_translate, ask_count, ask_value, stored_value, ask_store, ask_frame, ask_fill}
-use Rattle.cloak_model.specs.AskPages.{answer_item, replies, if_drawn, ask_inside_address, offered_by, ask_offer, reached, reach_by_table, got, get_by_table, put_at, stored_inside, put_by_table, settled_if_marked, clear_from, ask_reach, ask_read, ask_write, ask_get, ask_put, ask_clear, ask_copy, ask_forget}
+use Rattle.cloak_model.specs.Ask.{ask_word, ask_second, ask_after, ask_first, ask_walk, ask_inside, ask_translate, ask_led, opened, ask_count, ask_value, ask_store, loaded_at, ask_load, stored_to, ask_store_at, ask_frame, ask_fill}
+use Rattle.cloak_model.specs.AskPages.{answer_item, replies, if_drawn, inside_access, ask_inside_address, is_store, offered_by, ask_offer, reached, reach_by_table, got, get_by_table, put_at, stored_inside, put_by_table, settled_if_marked, clear_from, ask_reach, ask_read, ask_write, ask_get, ask_put, ask_clear, ask_copy, ask_forget}
 use Rattle.cloak_model.specs.Asking.{Told, Asking, answered, then_ask}
-use Rattle.cloak_model.specs.Cloaking.{CloakedMemory, Offer, Ready, Mismatch, Missed, offer, settle}
+use Rattle.cloak_model.specs.Cloaking.{Offer, Ready, Mismatch, Missed}
 use Rattle.cloak_model.specs.Effect.{IsWidth}
-use Rattle.cloak_model.specs.Memory.{frame_of, place_of, is_in_ram, with_value_at, with_value_in, value_in, value_at}
+use Rattle.cloak_model.specs.Events.{Event}
+use Rattle.cloak_model.specs.Memory.{frame_of, place_of, is_in_ram, with_value_at, value_at}
 use Rattle.cloak_model.specs.PageMoves.{copy_pages, drop_pages}
 use Rattle.cloak_model.specs.Record.{IsItem, IsWord}
 use Rattle.cloak_model.specs.Walk.{Walk, FirstWord, Ends, GoesOn, access_fault, page_fault, first_entry, has_paging, is_valid, is_pointer, is_plain_pointer, allows, frame_at, first_leaf, second_leaf, first_word, second_word}
-use Rattle.cloak_model.specs.World.{World, Cloak, Flat, Cloaked, Alone, Handed, ram_of, settled, settled_in, stored_at, filled_frame, written, view_of, plain_of, is_missed, owed_of}
+use Rattle.cloak_model.specs.World.{World, Cloak, Flat, Cloaked, Alone, ram_of, settled, settled_in, stored_at, filled_frame, written, noted, view_of, plain_of, is_missed}
 use Rattle.item_law.specs.Writing.{AreBytes}
-use Rattle.item_law.proofs.Bounds.{either, all_append, all_or, all_set, both_true, zero_bytes, value_in_below, bytes_with_value}
-use Rattle.item_law.proofs.Memories.{FramesFit, MemoryFits, frame_set, ShowsFit, settle_fits, offer_fits}
+use Rattle.item_law.proofs.Bounds.{either, all_append, all_or, both_true, zero_bytes, value_in_below, bytes_with_value}
+use Rattle.item_law.proofs.Memories.{FramesFit, MemoryFits, frame_set, settle_fits, offer_fits}
 
 -- The world of a step: its bytes are bytes, and what was written fits. A program alone is none.
 
@@ -69,9 +68,9 @@ settled_fits f (Flat ram) fits = fits
 settled_fits f (Cloaked c) fits = settled_cloak f c fits
 settled_fits f (Alone h) fits = absurd fits
 
-with_ram : (c : Cloak) (ram : List (List ℕ)) → length ram ≡ length c.memory.ram → CloakFits c → FramesFit ram →
-    CloakFits (record c { memory = record c.memory { ram = ram } })
-with_ram c ram same fits here = record {
+with_ram : (c : Cloak) (ram : List (List ℕ)) (events : List Event) → length ram ≡ length c.memory.ram → CloakFits c →
+    FramesFit ram → CloakFits (record c { memory = record c.memory { ram = ram }; events = events })
+with_ram c ram events same fits here = record {
   memory = record {
     ram = here;
     plain = fits.memory.plain;
@@ -92,14 +91,19 @@ stored_frames pa width value ram fits =
 stored_fits : (pa width value : ℕ) (w : World) → WorldFits w → WorldFits (stored_at pa width value w)
 stored_fits pa width value (Flat ram) fits = stored_frames pa width value ram fits
 stored_fits pa width value (Cloaked c) fits =
-    with_ram c _ (length-set c.memory.ram _ _) fits (stored_frames pa width value c.memory.ram fits.memory.ram)
+    with_ram c _ _ (length-set c.memory.ram _ _) fits (stored_frames pa width value c.memory.ram fits.memory.ram)
 stored_fits pa width value (Alone h) fits = absurd fits
 
 filled_fits : (f : ℕ) (bytes : List ℕ) (w : World) → WorldFits w → AreBytes bytes → WorldFits (filled_frame f bytes w)
 filled_fits f bytes (Flat ram) fits here = frame_set ram f bytes fits here
 filled_fits f bytes (Cloaked c) fits here =
-    with_ram c _ (length-set c.memory.ram f bytes) fits (frame_set c.memory.ram f bytes fits.memory.ram here)
+    with_ram c _ _ (length-set c.memory.ram f bytes) fits (frame_set c.memory.ram f bytes fits.memory.ram here)
 filled_fits f bytes (Alone h) fits here = absurd fits
+
+noted_fits : (events : List Event) (w : World) → WorldFits w → WorldFits (noted events w)
+noted_fits events (Flat ram) fits = fits
+noted_fits events (Cloaked c) fits = record { memory = fits.memory; items = fits.items }
+noted_fits events (Alone h) fits = absurd fits
 
 pub written_fits : (i : Item) (w : World) → WorldFits w → IsItem i → WorldFits (written i w)
 written_fits i (Flat ram) fits here = fits
@@ -210,11 +214,18 @@ inside_told a (Ok walked) w walks fits = record {
   world = fits;
 }
 
-pub translate_told : (satp : ℕ) (a : Access) (w : World) → WorldFits w → ToldFits LeadFits (ask_translate satp a w)
+translate_told : (satp : ℕ) (a : Access) (w : World) → WorldFits w → ToldFits LeadFits (ask_translate satp a w)
 unfolding ask_translate
 translate_told satp a w fits =
     then_fits CauseFits LeadFits (ask_walk satp a) (ask_inside a) w (walk_told satp a w fits)
     (λ walk v walks there. inside_told a walk v walks there)
+
+led_told : (satp : ℕ) (a : Access) (w : World) → WorldFits w → ToldFits LeadFits (ask_led satp a w)
+unfolding ask_led
+led_told satp a w fits = translate_told satp a _ (noted_fits _ w fits)
+
+opened_fits : (satp : ℕ) (a : Access) (pa : ℕ) (w : World) → WorldFits w → WorldFits (opened satp a pa w)
+opened_fits satp a pa w fits = noted_fits _ _ (settled_fits (frame_of pa) w fits)
 
 -- Memory.
 
@@ -225,16 +236,51 @@ count_told w fits = record { answer = tt; world = fits }
 value_fits : (pa width : ℕ) (w : World) → WorldFits w → IsWord (value_at (ram_of w) pa width)
 value_fits pa width w fits = value_in_below _ (place_of pa) width (frame_bytes (ram_of w) (frame_of pa) (frames_of w fits))
 
-pub value_told : (pa width : ℕ) (w : World) → WorldFits w → ToldFits IsWord (ask_value pa width w)
+value_told : (satp : ℕ) (a : Access) (pa width : ℕ) (w : World) → WorldFits w →
+    ToldFits IsWord (ask_value satp a pa width w)
 unfolding ask_value
-value_told pa width w fits =
-    let there = settled_fits (frame_of pa) w fits in
-    record { answer = value_fits pa width (settled (frame_of pa) w) there; world = there }
+value_told satp a pa width w fits =
+    let there = opened_fits satp a pa w fits in
+    record { answer = value_fits pa width (opened satp a pa w) there; world = there }
 
-pub store_told : (pa width value : ℕ) (w : World) → WorldFits w → ToldFits Anything (ask_store pa width value w)
+store_told : (satp : ℕ) (a : Access) (pa width value : ℕ) (w : World) → WorldFits w →
+    ToldFits Anything (ask_store satp a pa width value w)
 unfolding ask_store
-store_told pa width value w fits =
-    record { answer = tt; world = stored_fits pa width value _ (settled_fits (frame_of pa) w fits) }
+store_told satp a pa width value w fits =
+    record { answer = tt; world = stored_fits pa width value _ (opened_fits satp a pa w fits) }
+
+-- what an access found
+abbrev pub FoundFits : {A : Type 0} → (A → Type 0) → Result A ℕ → Type 0
+FoundFits P (Ok found) = P found
+FoundFits P (Err cause) = IsWord cause
+
+loaded_told : (satp : ℕ) (a : Access) (width : ℕ) (to : Result ℕ ℕ) (w : World) → LeadFits to → WorldFits w →
+    ToldFits (FoundFits IsWord) (loaded_at satp a width to w)
+unfolding loaded_at
+loaded_told satp a width (Err cause) w leads fits = record { answer = leads; world = fits }
+loaded_told satp a width (Ok pa) w leads fits =
+    let told = value_told satp a pa width w fits in record { answer = told.answer; world = told.world }
+
+pub load_told : (satp : ℕ) (a : Access) (width : ℕ) (w : World) → WorldFits w →
+    ToldFits (FoundFits IsWord) (ask_load satp a width w)
+unfolding ask_load
+load_told satp a width w fits =
+    then_fits LeadFits (FoundFits IsWord) (ask_led satp a) (loaded_at satp a width) w (led_told satp a w fits)
+    (λ to v leads there. loaded_told satp a width to v leads there)
+
+stored_to_told : (satp : ℕ) (a : Access) (width value : ℕ) (to : Result ℕ ℕ) (w : World) → LeadFits to → WorldFits w →
+    ToldFits (FoundFits Anything) (stored_to satp a width value to w)
+unfolding stored_to
+stored_to_told satp a width value (Err cause) w leads fits = record { answer = leads; world = fits }
+stored_to_told satp a width value (Ok pa) w leads fits =
+    let told = store_told satp a pa width value w fits in record { answer = tt; world = told.world }
+
+pub store_at_told : (satp : ℕ) (a : Access) (width value : ℕ) (w : World) → WorldFits w →
+    ToldFits (FoundFits Anything) (ask_store_at satp a width value w)
+unfolding ask_store_at
+store_at_told satp a width value w fits =
+    then_fits LeadFits (FoundFits Anything) (ask_led satp a) (stored_to satp a width value) w (led_told satp a w fits)
+    (λ to v leads there. stored_to_told satp a width value to v leads there)
 
 pub frame_told : (f : ℕ) (w : World) → WorldFits w → ToldFits AreBytes (ask_frame f w)
 unfolding ask_frame
@@ -275,41 +321,43 @@ drawn_told ask w fits told = either_told AnswerFits (is_missed w) _ _ (replies_t
 
 address_told : (va : ℕ) (kind : Kind) (w : World) → WorldFits w → ToldFits LeadFits (ask_inside_address va kind w)
 unfolding ask_inside_address
-address_told va kind w fits = translate_told _ _ w fits
+address_told va kind w fits = led_told _ _ w fits
 
-offered_told : (q : PageId) (g : ℕ) (o : Offer) (w : World) → WorldFits w → ToldFits AnswerFits (offered_by q g o w)
+offered_told : (q : PageId) (va : ℕ) (kind : Kind) (g : ℕ) (o : Offer) (w : World) → WorldFits w →
+    ToldFits AnswerFits (offered_by q va kind g o w)
 unfolding offered_by
-offered_told q g Ready w fits = replies_told answer.Ok w tt fits
-offered_told q g Missed w fits = replies_told answer.Stopped w tt fits
-offered_told q g Mismatch (Flat ram) fits = replies_told answer.Stopped (Flat ram) tt fits
-offered_told q g Mismatch (Cloaked c) fits =
+offered_told q va kind g Ready w fits = replies_told answer.Ok _ tt (noted_fits _ w fits)
+offered_told q va kind g Missed w fits = replies_told answer.Stopped w tt fits
+offered_told q va kind g Mismatch (Flat ram) fits = replies_told answer.Stopped (Flat ram) tt fits
+offered_told q va kind g Mismatch (Cloaked c) fits =
     replies_told answer.Stopped (Cloaked _) tt (record { memory = fits.memory; items = fits.items })
-offered_told q g Mismatch (Alone h) fits = absurd fits
+offered_told q va kind g Mismatch (Alone h) fits = absurd fits
 
-offer_told : (q : PageId) (g : ℕ) (write : Bool) (w : World) → WorldFits w → ToldFits AnswerFits (ask_offer q g write w)
+offer_told : (q : PageId) (va : ℕ) (kind : Kind) (g : ℕ) (w : World) → WorldFits w →
+    ToldFits AnswerFits (ask_offer q va kind g w)
 unfolding ask_offer
-offer_told q g write (Flat ram) fits = record { answer = tt; world = fits }
-offer_told q g write (Cloaked c) fits =
-    let o = offer_fits q g write c.memory fits.memory in
-    offered_told q g _ (Cloaked _) (record {
+offer_told q va kind g (Flat ram) fits = record { answer = tt; world = fits }
+offer_told q va kind g (Cloaked c) fits =
+    let o = offer_fits q g (is_store kind) c.memory fits.memory in
+    offered_told q va kind g _ (Cloaked _) (record {
       memory = o.memory;
       items = all_append IsItem c.items _ fits.items o.items;
     })
-offer_told q g write (Alone h) fits = absurd fits
+offer_told q va kind g (Alone h) fits = absurd fits
 
-reached_told : (q : PageId) (kind : Kind) (to : Result ℕ ℕ) (w : World) → LeadFits to → WorldFits w →
-    ToldFits AnswerFits (reached q kind to w)
+reached_told : (q : PageId) (va : ℕ) (kind : Kind) (to : Result ℕ ℕ) (w : World) → LeadFits to → WorldFits w →
+    ToldFits AnswerFits (reached q va kind to w)
 unfolding reached
-reached_told q kind (Err cause) w leads fits = replies_told (answer.Absent cause) w leads fits
-reached_told q kind (Ok pa) w leads fits = offer_told q (frame_of pa) _ w fits
+reached_told q va kind (Err cause) w leads fits = replies_told (answer.Absent cause) w leads fits
+reached_told q va kind (Ok pa) w leads fits = offer_told q va kind (frame_of pa) w fits
 
 reach_by_table_told : (q : PageId) (va : ℕ) (kind : Kind) (w : World) → WorldFits w →
     ToldFits AnswerFits (reach_by_table q va kind w)
 unfolding reach_by_table
 reach_by_table_told q va kind w fits =
-    then_fits LeadFits AnswerFits (ask_inside_address va kind) (λ to. if_drawn (reached q kind to)) w
+    then_fits LeadFits AnswerFits (ask_inside_address va kind) (λ to. if_drawn (reached q va kind to)) w
     (address_told va kind w fits)
-    (λ to v leads there. drawn_told (reached q kind to) v there (reached_told q kind to v leads there))
+    (λ to v leads there. drawn_told (reached q va kind to) v there (reached_told q va kind to v leads there))
 
 pub low_fits : (width n : ℕ) → IsWidth width → IsWord (n % 2 ^ (8 * width))
 low_fits width n (inl is) = subst (λ (k : ℕ). IsWord (n % 2 ^ (8 * k))) (sym is) (one n)
@@ -325,13 +373,15 @@ low_fits width n (inr (inr is)) = subst (λ (k : ℕ). IsWord (n % 2 ^ (8 * k)))
     four : (n : ℕ) → IsWord (n % 2 ^ (8 * 4))
     four n = omega arith
 
-got_told : (width : ℕ) (to : Result ℕ ℕ) (w : World) → IsWidth width → LeadFits to → WorldFits w →
-    ToldFits AnswerFits (got width to w)
+got_told : (va width : ℕ) (to : Result ℕ ℕ) (w : World) → IsWidth width → LeadFits to → WorldFits w →
+    ToldFits AnswerFits (got va width to w)
 unfolding got
-got_told width (Err cause) w is leads fits = replies_told (answer.Absent cause) w leads fits
-got_told width (Ok pa) w is leads fits =
-    then_fits IsWord AnswerFits (ask_value pa width)
-    (λ value. if_drawn (replies (answer.Word (value % 2 ^ (8 * width))))) w (value_told pa width w fits)
+got_told va width (Err cause) w is leads fits = replies_told (answer.Absent cause) w leads fits
+got_told va width (Ok pa) w is leads fits =
+    let satp : ℕ = (view_of w).satp in
+    let a : Access = inside_access w va Load in
+    then_fits IsWord AnswerFits (ask_value satp a pa width)
+    (λ value. if_drawn (replies (answer.Word (value % 2 ^ (8 * width))))) w (value_told satp a pa width w fits)
     (λ value v here there. drawn_told (replies (answer.Word (value % 2 ^ (8 * width)))) v there
     (replies_told (answer.Word (value % 2 ^ (8 * width))) v (low_fits width value is) there))
 
@@ -339,9 +389,9 @@ get_by_table_told : (va width : ℕ) (w : World) → IsWidth width → WorldFits
     ToldFits AnswerFits (get_by_table va width w)
 unfolding get_by_table
 get_by_table_told va width w is fits =
-    then_fits LeadFits AnswerFits (ask_inside_address va Load) (λ to. if_drawn (got width to)) w
+    then_fits LeadFits AnswerFits (ask_inside_address va Load) (λ to. if_drawn (got va width to)) w
     (address_told va Load w fits)
-    (λ to v leads there. drawn_told (got width to) v there (got_told width to v is leads there))
+    (λ to v leads there. drawn_told (got va width to) v there (got_told va width to v is leads there))
 
 put_at_told : (pa width value : ℕ) (w : World) → IsWidth width → IsWord pa → WorldFits w →
     ToldFits AnswerFits (put_at pa width value w)
@@ -351,23 +401,22 @@ put_at_told pa width value w is here fits =
     (written_fits _ (stored_at pa width value w) (stored_fits pa width value w fits)
     (here, is, low_fits width value is))
 
-stored_inside_told : (width value : ℕ) (to : Result ℕ ℕ) (w : World) → IsWidth width → LeadFits to → WorldFits w →
-    ToldFits AnswerFits (stored_inside width value to w)
+stored_inside_told : (va width value : ℕ) (to : Result ℕ ℕ) (w : World) → IsWidth width → LeadFits to → WorldFits w →
+    ToldFits AnswerFits (stored_inside va width value to w)
 unfolding stored_inside
-stored_inside_told width value (Err cause) w is leads fits = replies_told (answer.Absent cause) w leads fits
-stored_inside_told width value (Ok pa) w is leads fits =
-    let there = settled_fits (frame_of pa) w fits in
-    drawn_told (put_at pa width value) (settled (frame_of pa) w) there
-    (put_at_told pa width value (settled (frame_of pa) w) is leads there)
+stored_inside_told va width value (Err cause) w is leads fits = replies_told (answer.Absent cause) w leads fits
+stored_inside_told va width value (Ok pa) w is leads fits =
+    let there = opened_fits (view_of w).satp (inside_access w va Store) pa w fits in
+    drawn_told (put_at pa width value) _ there (put_at_told pa width value _ is leads there)
 
 put_by_table_told : (va width value : ℕ) (w : World) → IsWidth width → WorldFits w →
     ToldFits AnswerFits (put_by_table va width value w)
 unfolding put_by_table
 put_by_table_told va width value w is fits =
-    then_fits LeadFits AnswerFits (ask_inside_address va Store) (λ to. if_drawn (stored_inside width value to)) w
+    then_fits LeadFits AnswerFits (ask_inside_address va Store) (λ to. if_drawn (stored_inside va width value to)) w
     (address_told va Store w fits)
-    (λ to v leads there. drawn_told (stored_inside width value to) v there
-    (stored_inside_told width value to v is leads there))
+    (λ to v leads there. drawn_told (stored_inside va width value to) v there
+    (stored_inside_told va width value to v is leads there))
 
 -- Resources as wholes.
 

@@ -93,6 +93,7 @@ pub begun_is : (m : CloakedMemory) (view : View) (slot : ℕ) (was : program.Dom
 begun_is m view slot was h d satp sum mxr domain = λ i. record {
   memory = m;
   items = [];
+  events = [];
   violation = None;
   view = record { satp = satp i; sum = sum i; mxr = mxr i; domain = domain i };
   pages = pages_for was (context_at was.control.contexts slot);

@@ -14,3 +14,4 @@ pub mod Turns
 pub mod Resumed
 pub mod Clashed
 pub mod Lent
+pub mod Tracked

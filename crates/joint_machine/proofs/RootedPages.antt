@@ -3,14 +3,15 @@ use Rattle.std.proofs.Common.{◌≡◌, ◌∙◌, true, false, cond, ℕ, Bool
 use Rattle.cloak_base.specs.declared.names.PageId.{PageId}
 use Rattle.cloak_model.specs.declared.access.Access.{Access}
 use Rattle.cloak_model.specs.Memory.{frame_of}
-use Rattle.cloak_model.specs.World.{World, Flat, Cloaked, Alone, stored_at, settled, Handed, written, with_plain}
+use Rattle.cloak_model.specs.Events.{Event}
+use Rattle.cloak_model.specs.World.{World, Flat, Cloaked, Alone, noted, stored_at, settled, Handed, written, with_plain}
 use Rattle.cloak_model.specs.Asking.{Told, Asking}
 use Rattle.cloak_model.specs.Walk.{Walk, FirstWord, Ends, GoesOn, first_entry}
-use Rattle.cloak_model.specs.Ask.{ask_word, ask_second, ask_after, ask_first, ask_walk, ask_inside, ask_translate, ask_value}
+use Rattle.cloak_model.specs.Ask.{ask_word, ask_second, ask_after, ask_first, ask_walk, ask_inside, ask_translate, ask_led, opened, ask_value}
 use Rattle.cloak_base.specs.declared.names.Kind.{Kind}
 use Rattle.cloak_model.specs.declared.answer.Answer.{Answer}
 use Rattle.cloak_model.specs.declared.item.Item.{Item}
-use Rattle.cloak_model.specs.AskPages.{replies, if_drawn, ask_inside_address, offered_by, ask_offer, reached, reach_by_table, got, get_by_table, put_at, stored_inside, put_by_table, settled_if_marked, clear_from, next_answer, ask_reach, ask_read, ask_write, ask_get, ask_put, ask_clear, ask_copy, ask_forget}
+use Rattle.cloak_model.specs.AskPages.{is_store, replies, if_drawn, ask_inside_address, offered_by, ask_offer, reached, reach_by_table, got, get_by_table, put_at, stored_inside, put_by_table, settled_if_marked, clear_from, next_answer, ask_reach, ask_read, ask_write, ask_get, ask_put, ask_clear, ask_copy, ask_forget}
 use Rattle.std.specs.Str.{bytes_eq}
 use Rattle.cloak_base.specs.Random.{Random}
 use Rattle.cloak_base.specs.declared.names.SpaceId.{SpaceId}
@@ -94,6 +95,14 @@ same_stored_at pa width value (Flat ram) = record { root = refl }
 same_stored_at pa width value (Cloaked c) = record { root = refl }
 same_stored_at pa width value (Alone h) = same_refl (Alone h)
 
+pub same_noted : (events : List Event) (w : World) → SameRoot w (noted events w)
+same_noted events (Flat ram) = same_refl (Flat ram)
+same_noted events (Cloaked c) = record { root = refl }
+same_noted events (Alone h) = same_refl (Alone h)
+
+pub same_opened : (satp : ℕ) (a : Access) (pa : ℕ) (w : World) → SameRoot w (opened satp a pa w)
+same_opened satp a pa w = same_trans _ _ _ (same_settled (frame_of pa) w) (same_noted _ _)
+
 pub rooted_word : (pa : ℕ) (w : World) → SameRoot w (ask_word pa w).world
 unfolding ask_word
 rooted_word pa w = same_either _ _ _ w (same_settled (frame_of pa) w) (same_refl w)
@@ -124,9 +133,13 @@ pub rooted_translate : (satp : ℕ) (a : Access) (w : World) → SameRoot w (ask
 unfolding ask_translate
 rooted_translate satp a w = same_trans _ _ _ (rooted_walk satp a w) (rooted_inside a _ _)
 
-pub rooted_value : (pa width : ℕ) (w : World) → SameRoot w (ask_value pa width w).world
+pub rooted_led : (satp : ℕ) (a : Access) (w : World) → SameRoot w (ask_led satp a w).world
+unfolding ask_led
+rooted_led satp a w = same_trans _ _ _ (same_noted _ w) (rooted_translate satp a _)
+
+pub rooted_value : (satp : ℕ) (a : Access) (pa width : ℕ) (w : World) → SameRoot w (ask_value satp a pa width w).world
 unfolding ask_value
-rooted_value pa width w = same_settled (frame_of pa) w
+rooted_value satp a pa width w = same_opened satp a pa w
 
 pub same_written : (i : Item) (w : World) → SameRoot w (written i w)
 same_written i (Flat ram) = same_refl (Flat ram)
@@ -143,52 +156,52 @@ rooted_drawn ask w next = same_either _ _ _ w (rooted_answers _ w) (next w)
 
 pub rooted_inside_address : (va : ℕ) (kind : Kind) (w : World) → SameRoot w (ask_inside_address va kind w).world
 unfolding ask_inside_address
-rooted_inside_address va kind w = rooted_translate _ _ w
+rooted_inside_address va kind w = rooted_led _ _ w
 
-pub rooted_offered : (q : PageId) (g : ℕ) (o : Offer) (w : World) → SameRoot w (offered_by q g o w).world
+pub rooted_offered : (q : PageId) (va : ℕ) (kind : Kind) (g : ℕ) (o : Offer) (w : World) → SameRoot w (offered_by q va kind g o w).world
 unfolding offered_by
-rooted_offered q g Ready w = rooted_answers _ w
-rooted_offered q g Missed w = rooted_answers _ w
-rooted_offered q g Mismatch (Flat ram) = rooted_answers _ (Flat ram)
-rooted_offered q g Mismatch (Cloaked c) = same_trans _ (Cloaked _) _ (record { root = refl }) (rooted_answers _ _)
-rooted_offered q g Mismatch (Alone h) = rooted_answers _ (Alone h)
+rooted_offered q va kind g Ready w = same_trans _ _ _ (same_noted _ w) (rooted_answers _ _)
+rooted_offered q va kind g Missed w = rooted_answers _ w
+rooted_offered q va kind g Mismatch (Flat ram) = rooted_answers _ (Flat ram)
+rooted_offered q va kind g Mismatch (Cloaked c) = same_trans _ (Cloaked _) _ (record { root = refl }) (rooted_answers _ _)
+rooted_offered q va kind g Mismatch (Alone h) = rooted_answers _ (Alone h)
 
-pub rooted_offer : (q : PageId) (g : ℕ) (write : Bool) (w : World) → SameRoot w (ask_offer q g write w).world
+pub rooted_offer : (q : PageId) (va : ℕ) (kind : Kind) (g : ℕ) (w : World) → SameRoot w (ask_offer q va kind g w).world
 unfolding ask_offer
-rooted_offer q g write (Flat ram) = same_refl (Flat ram)
-rooted_offer q g write (Cloaked c) = same_trans _ (Cloaked _) _ (record { root = offer_root q g write c.memory }) (rooted_offered q g _ _)
-rooted_offer q g write (Alone h) = same_refl (Alone h)
+rooted_offer q va kind g (Flat ram) = same_refl (Flat ram)
+rooted_offer q va kind g (Cloaked c) = same_trans _ (Cloaked _) _ (record { root = offer_root q g (is_store kind) c.memory }) (rooted_offered q va kind g _ _)
+rooted_offer q va kind g (Alone h) = same_refl (Alone h)
 
-pub rooted_reached : (q : PageId) (kind : Kind) (to : Result ℕ ℕ) (w : World) → SameRoot w (reached q kind to w).world
+pub rooted_reached : (q : PageId) (va : ℕ) (kind : Kind) (to : Result ℕ ℕ) (w : World) → SameRoot w (reached q va kind to w).world
 unfolding reached
-rooted_reached q kind (Err cause) w = rooted_answers _ w
-rooted_reached q kind (Ok pa) w = rooted_offer q _ _ w
+rooted_reached q va kind (Err cause) w = rooted_answers _ w
+rooted_reached q va kind (Ok pa) w = rooted_offer q va kind _ w
 
 pub rooted_reach_by_table : (q : PageId) (va : ℕ) (kind : Kind) (w : World) → SameRoot w (reach_by_table q va kind w).world
 unfolding reach_by_table
-rooted_reach_by_table q va kind w = same_trans _ _ _ (rooted_inside_address va kind w) (rooted_drawn _ _ (rooted_reached q kind _))
+rooted_reach_by_table q va kind w = same_trans _ _ _ (rooted_inside_address va kind w) (rooted_drawn _ _ (rooted_reached q va kind _))
 
-pub rooted_got : (width : ℕ) (to : Result ℕ ℕ) (w : World) → SameRoot w (got width to w).world
+pub rooted_got : (va width : ℕ) (to : Result ℕ ℕ) (w : World) → SameRoot w (got va width to w).world
 unfolding got
-rooted_got width (Err cause) w = rooted_answers _ w
-rooted_got width (Ok pa) w = same_trans _ _ _ (rooted_value pa width w) (rooted_drawn _ _ (rooted_answers _))
+rooted_got va width (Err cause) w = rooted_answers _ w
+rooted_got va width (Ok pa) w = same_trans _ _ _ (rooted_value _ _ pa width w) (rooted_drawn _ _ (rooted_answers _))
 
 pub rooted_get_by_table : (va width : ℕ) (w : World) → SameRoot w (get_by_table va width w).world
 unfolding get_by_table
-rooted_get_by_table va width w = same_trans _ _ _ (rooted_inside_address va _ w) (rooted_drawn _ _ (rooted_got width _))
+rooted_get_by_table va width w = same_trans _ _ _ (rooted_inside_address va _ w) (rooted_drawn _ _ (rooted_got va width _))
 
 pub rooted_put_at : (pa width value : ℕ) (w : World) → SameRoot w (put_at pa width value w).world
 unfolding put_at
 rooted_put_at pa width value w = same_trans _ _ _ (same_stored_at _ _ _ w) (same_trans _ _ _ (same_written _ _) (rooted_answers _ _))
 
-pub rooted_stored_inside : (width value : ℕ) (to : Result ℕ ℕ) (w : World) → SameRoot w (stored_inside width value to w).world
+pub rooted_stored_inside : (va width value : ℕ) (to : Result ℕ ℕ) (w : World) → SameRoot w (stored_inside va width value to w).world
 unfolding stored_inside
-rooted_stored_inside width value (Err cause) w = rooted_answers _ w
-rooted_stored_inside width value (Ok pa) w = same_trans _ _ _ (same_settled (frame_of pa) w) (rooted_drawn _ _ (rooted_put_at pa width value))
+rooted_stored_inside va width value (Err cause) w = rooted_answers _ w
+rooted_stored_inside va width value (Ok pa) w = same_trans _ _ _ (same_opened _ _ pa w) (rooted_drawn _ _ (rooted_put_at pa width value))
 
 pub rooted_put_by_table : (va width value : ℕ) (w : World) → SameRoot w (put_by_table va width value w).world
 unfolding put_by_table
-rooted_put_by_table va width value w = same_trans _ _ _ (rooted_inside_address va _ w) (rooted_drawn _ _ (rooted_stored_inside width value _))
+rooted_put_by_table va width value w = same_trans _ _ _ (rooted_inside_address va _ w) (rooted_drawn _ _ (rooted_stored_inside va width value _))
 
 either_world : (b : Bool) (w v : World) → SameRoot w v → SameRoot w (if b then v else w)
 either_world true w v later = later

@@ -16,7 +16,7 @@ use Rattle.cloak_model.specs.Joint.{pages_for}
 use Rattle.cloak_pager.specs.State.{PagerState, IsNoneHeld, held_in}
 use Rattle.cloaked_fork.specs.Marks.{AreUnused}
 use Rattle.cloaked_side.specs.Holding.{domains_in}
-use Rattle.cloaked_side.specs.Seeing.{Sees, IsUnused, served}
+use Rattle.cloaked_side.specs.Seeing.{Sees, SeesInside, IsUnused, served}
 use Rattle.cloaked_side.specs.Telling.{HoldsWorld}
 use Rattle.cloaked_side.specs.declared.memory.Memory.{Memory}
 use Rattle.cloaked_side.specs.declared.side.Side.{Side}
@@ -57,12 +57,12 @@ violation_world gave first now (Cloaked c) sees = sees.violation
 -- the step over a side, of the memory and the emitter that it gave back
 pub steps_told : {E : Type 0} (gave : E → E → List Piece → Type 0) (first now : Side E) (domain : Domain) (given : Stepped) (told : Told DomainStepped) (memory : Memory) (e : E) →
     memory ≡ now.memory.now → e ≡ now.emitter.now → given.violation ≡ now.violation →
-    StepsTo (λ side w. Sees gave first side w) now domain given.went told → StepsDomain gave first.emitter.now e memory domain given told
+    StepsTo (λ side w. SeesInside gave first side w) now domain given.went told → StepsDomain gave first.emitter.now e memory domain given told
 steps_told gave first now domain given told memory e same_memory same_emitter same_violation steps = record {
   went = steps.went;
-  violation = same_violation ∙ violation_world gave first now told.world steps.world_stands;
-  emits = subst (λ x. Emits gave first.emitter.now x (item_pieces (items_of told.world))) (sym same_emitter) (emits_world gave first now told.world steps.world_stands);
-  holds = subst (λ x. HoldsWorld x told.world) (sym same_memory) (holds_world gave first now told.world steps.world_stands);
+  violation = same_violation ∙ violation_world gave first now told.world steps.world_stands.0;
+  emits = subst (λ x. Emits gave first.emitter.now x (item_pieces (items_of told.world))) (sym same_emitter) (emits_world gave first now told.world steps.world_stands.0);
+  holds = subst (λ x. HoldsWorld x told.world) (sym same_memory) (holds_world gave first now told.world steps.world_stands.0);
   stands = steps.domain_stands;
 }
 

@@ -305,7 +305,7 @@ loaded_stands old p k domains key stream is =
 
 pub loaded_holds : (old p : PagerState) (k : KernelImage) (domains : ℕ) (key : List ℕ) (stream : Random) (t : Table) →
     IsLoaded old p k domains key → t ≡ empty_table k.frames →
-    Holds (record { pager = p; stream = stream; draws = 0; missed = false; shadows = t }) (started_memory k key stream)
+    Holds (record { pager = p; stream = stream; draws = 0; missed = false; shadows = t; counting = false }) (started_memory k key stream)
 unfolding started_memory started_ledger
 loaded_holds old p k domains key stream t is empty = record {
   wiped = none_wiped;

@@ -92,6 +92,7 @@ abbrev pub begun : CloakedMemory → View → ℕ → program.Domain → Cloak
 begun m view slot d = record {
   memory = m;
   items = [];
+  events = [];
   violation = None;
   view = view;
   pages = pages_for d (context_at d.control.contexts slot);

@@ -9,6 +9,11 @@ ghost use Rattle.cloak_model.specs.Joint.{after_interrupt, by_interrupt};
 ghost use Rattle.cloak_model.specs.DomainStep as spec;
 ghost use Rattle.cloak_model.specs.Parts as parts;
 ghost use Rattle.cloaked_side.specs.Holding.{Holds, SameSize, domains_in};
+ghost use Rattle.cloaked_side.specs.Tracking.{TracksBy};
+ghost use Rattle.shadow_fold.specs.Events as events;
+ghost use Rattle.shadow_fold.specs.Fold.{after_events};
+ghost use Rattle.std.specs.Prelude.{Option};
+ghost use Rattle.cloak_base.specs.declared.names.SpaceId.{SpaceId as AnySpace};
 ghost use Rattle.hypercalls.specs.Standing.{StandsFor, control_of, number_of};
 ghost use Rattle.joint_machine.specs.Turning.{AreRoots, HoldsNoFree, HoldsNoOthers, InterruptsIn, TurnsIn};
 
@@ -43,14 +48,23 @@ fn take_interrupt<E: Emit>(h: &mut Hart, d: u8, slot: u32, domain: &mut Domain, 
 fn end_space(memory: &mut Memory, domain: u32, went: &Went)
     ensures size { SameSize memory.old memory.new }
     ensures same_pager { memory.new.pager ≡ memory.old.pager }
+    ensures counting { memory.new.counting ≡ memory.old.counting }
     ensures holds { (m : CloakedMemory) → Holds memory.old m → Holds memory.new m }
+    ensures tracks { (space : Option AnySpace) →
+        TracksBy memory.old memory.new (after_events space (events.space_events domain went.now)) }
 {
     match went {
-        Went::Remapped(number) | Went::SpaceGone(number, _) => memory.end_space(SpaceId {
+        Went::Remapped(number) => memory.end_space(SpaceId {
             domain,
             number: *number,
         }),
-        _ => {}
+        Went::SpaceGone(number, _) => memory.end_space(SpaceId {
+            domain,
+            number: *number,
+        }),
+        Went::Stay => {}
+        Went::Stopped => {}
+        Went::Leave(_) => {}
     }
 }
 
@@ -72,6 +86,7 @@ fn step_context<E: Emit>(
     requires unused { HoldsNoFree d (control_of domain.old).resources memory.old.pager }
     ensures number { number_of domain.new ≡ d }
     ensures size { SameSize memory.old memory.new }
+    ensures counting { memory.new.counting ≡ memory.old.counting }
     ensures emits_some { EmitsSome E.gave e.old e.new }
     ensures others { HoldsNoOthers d memory.old.pager memory.new.pager }
     ensures unused { HoldsNoFree d (control_of domain.new).resources memory.new.pager }
@@ -80,6 +95,12 @@ fn step_context<E: Emit>(
         StandsFor domain.old was → Holds memory.old j.memory → AreRoots roots.old j.memory.ledger.root →
         t.joint.memory.ledger.clashed ≡ false →
         TurnsIn E.gave e.old e.new h.new domain.new roots.new memory.new result j number d t }
+    ensures tracks { (j : parts.Joint) (number : ℕ) (was : model.Domain) →
+        let due = interrupt_due h.old.mode h.old.csrs in
+        StandsFor domain.old was → Holds memory.old j.memory →
+        (by_interrupt due j number h.old d slot was).joint.memory.ledger.clashed ≡ false →
+        TracksBy memory.old memory.new
+        (events.by_interrupt due j h.old d slot was (context_at was.control.contexts slot)) }
 {
     if h.csrs.due(h.mode) {
         take_interrupt(h, d, slot, domain, e);
@@ -89,6 +110,10 @@ fn step_context<E: Emit>(
         return None;
     };
     let view = view_of(h, d);
+    let space = SpaceId {
+        domain: d as u32,
+        number: space,
+    };
     let stepped = step_domain(domain, slot, view, space, memory, items, e);
     end_space(memory, d as u32, &stepped.went);
     go_on(h, d as u32, roots, &stepped, e)
@@ -113,6 +138,13 @@ impl Joint {
             let t = inside_step j number (ticked (hart_in j number)) d (slot_of ctx) (slice_get j.domains d) in
             StandsForJoint self.old j → t.joint.memory.ledger.clashed ≡ false →
             EndsTurn E.gave e.old e.new self.new result t }
+        ensures counting { self.new.memory.counting ≡ self.old.memory.counting }
+        ensures tracks { (j : parts.Joint) →
+            let d = domain_of ctx in
+            let h = ticked (hart_in j number) in
+            StandsForJoint self.old j →
+            (inside_step j number h d (slot_of ctx) (slice_get j.domains d)).joint.memory.ledger.clashed ≡ false →
+            TracksBy self.old.memory self.new.memory (events.after_inside j h d (slot_of ctx) (slice_get j.domains d)) }
     {
         let h = &mut self.harts[number];
         tick(h);

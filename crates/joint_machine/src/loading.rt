@@ -61,5 +61,6 @@ pub(crate) fn load(
         draws: 0,
         missed: false,
         shadows,
+        counting: false,
     })
 }

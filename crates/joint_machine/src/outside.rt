@@ -5,6 +5,8 @@ ghost use Rattle.cloak_model.specs.Exchange.{EmitsSome};
 ghost use Rattle.cloak_model.specs.Joint as spec;
 ghost use Rattle.cloak_model.specs.Joint.{hart_in, cloak_outside};
 ghost use Rattle.cloak_model.specs.Parts as parts;
+ghost use Rattle.cloaked_side.specs.Tracking.{TracksBy};
+ghost use Rattle.shadow_fold.specs.Events as events;
 
 use crate::ended::Ended;
 use crate::joint::Joint;
@@ -24,6 +26,9 @@ impl Joint {
         ensures steps { (j : parts.Joint) → StandsForJoint self.old j → j.memory.ledger.clashed ≡ false →
             StepsPlainly E.gave e.old e.new self.new result j number
             (settled_step (hart_in j number) j.disk (cloak_outside j.memory (hart_in j number))) }
+        ensures counting { self.new.memory.counting ≡ self.old.memory.counting }
+        ensures tracks { (j : parts.Joint) → StandsForJoint self.old j → j.memory.ledger.clashed ≡ false →
+            TracksBy self.old.memory self.new.memory (events.after_outside j (hart_in j number)) }
     {
         outside_step(
             &mut self.harts[number],
@@ -41,6 +46,9 @@ impl Joint {
         ensures emits_some { EmitsSome E.gave e.old e.new }
         ensures turns { (j : parts.Joint) → StandsForJoint self.old j → j.memory.ledger.clashed ≡ false →
             EndsTurn E.gave e.old e.new self.new result (spec.outside_step j number (hart_in j number)) }
+        ensures counting { self.new.memory.counting ≡ self.old.memory.counting }
+        ensures tracks { (j : parts.Joint) → StandsForJoint self.old j → j.memory.ledger.clashed ≡ false →
+            TracksBy self.old.memory self.new.memory (events.after_outside j (hart_in j number)) }
     {
         match self.step_plainly(number, e) {
             Kernel::Stay => Ended::met(None),

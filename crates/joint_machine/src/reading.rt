@@ -3,6 +3,7 @@ use cloak_pager::Pager;
 use cloaked_side::Memory;
 use host_calls::{Disk, Hart};
 use hypercalls::Domain;
+use multi_shadow::ShadowCounts;
 
 /// What a joint machine has, part by part.
 #[derive(Drop)]
@@ -15,9 +16,11 @@ pub struct JointParts {
 }
 
 impl Joint {
-    ghost use Rattle.std.specs.Prelude.{◌≡◌, ◌≤◌, length};
+    ghost use Rattle.std.specs.Prelude.{◌≡◌, ◌≤◌, ℕ, length, true};
     ghost use Rattle.cloak_model.specs.Parts as model;
-    ghost use Rattle.joint_machine.specs.Standing.{LendsPager, StandsForJoint};
+    ghost use Rattle.cloaked_side.specs.Tracking.{Tracks};
+    ghost use Rattle.joint_machine.specs.Standing.{AllOutside, LendsPager, StandsForJoint, harts_of};
+    ghost use Rattle.shadow_fold.specs.Fold.{fresh_fold};
 
     /// The pager with the frames of the machine and the pages of its programs.
     #[tactic(auto, using(crate::proofs::Lent::lends_pager))]
@@ -25,6 +28,24 @@ impl Joint {
         ensures { (j : model.Joint) → StandsForJoint self.now j → LendsPager result.now j.memory }
     {
         &self.memory.pager
+    }
+
+    /// Begins to count accesses: translations that are known end, and from now on accesses without paging are kept too.
+    pub fn count_accesses(&mut self)
+        ensures stands { (j : model.Joint) → StandsForJoint self.old j → StandsForJoint self.new j }
+        ensures harts { harts_of self.new ≡ harts_of self.old }
+        ensures outside { AllOutside self.old → AllOutside self.new }
+        ensures counting { self.new.memory.counting ≡ true }
+        ensures tracks { AllOutside self.old → (frames : ℕ) → Tracks self.new.memory (fresh_fold frames) }
+    {
+        self.memory.count_accesses();
+    }
+
+    /// How often a translation was asked for, was not known, and all that were known ended for want of room.
+    pub fn counts(&self) -> ShadowCounts
+        ensures { result ≡ self.now.memory.shadows.counts }
+    {
+        self.memory.shadows.counts()
     }
 
     /// Ends the machine, and gives its parts.

@@ -89,6 +89,7 @@ impl Joint {
         ensures resumes { (j : parts.Joint) → StandsForJoint self.old j →
             ResumesJoint E.gave e.old e.new self.new result
             (spec.resume j number (satp_of (hart_in j number).csrs) ctx answer) }
+        ensures memory { self.new.memory ≡ self.old.memory }
     {
         let d = (ctx / 8) as usize;
         if d >= self.domains.len() {

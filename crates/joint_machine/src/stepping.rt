@@ -5,12 +5,14 @@ ghost use Rattle.cloak_model.specs.Contexts.{context_at};
 ghost use Rattle.cloak_model.specs.DomainState as model;
 ghost use Rattle.cloak_model.specs.DomainStep.{domain_step};
 ghost use Rattle.cloak_model.specs.Exchange.{EmitsSome};
-ghost use Rattle.cloak_model.specs.World.{Cloaked, is_clashed};
+ghost use Rattle.cloak_model.specs.World.{Cloaked, events_of, is_clashed};
+ghost use Rattle.shadow_fold.specs.Fold.{after_events};
 ghost use Rattle.cloaked_side.specs.Holding.{Holds, SameSize, domains_in};
+ghost use Rattle.cloaked_side.specs.Tracking.{TracksBy};
 ghost use Rattle.hypercalls.specs.Standing.{StandsFor, control_of, number_of};
 ghost use Rattle.joint_machine.specs.Turning.{HoldsNoFree, HoldsNoOthers, StepsDomain, begun};
 
-use cloak_base::Violation;
+use cloak_base::{SpaceId, Violation};
 use cloak_model::{Emit, View, Went};
 use cloaked_side::{KeptItems, Memory, Side};
 use hypercalls::Domain;
@@ -28,7 +30,7 @@ pub fn step_domain<E: Emit>(
     domain: &mut Domain,
     slot: u32,
     view: View,
-    space: u32,
+    space: SpaceId,
     memory: &mut Memory,
     items: &mut KeptItems,
     e: &mut E,
@@ -39,12 +41,16 @@ pub fn step_domain<E: Emit>(
     requires unused { HoldsNoFree view.domain (control_of domain.old).resources memory.old.pager }
     ensures number { number_of domain.new ≡ number_of domain.old }
     ensures size { SameSize memory.old memory.new }
+    ensures counting { memory.new.counting ≡ memory.old.counting }
     ensures emits_some { EmitsSome E.gave e.old e.new }
     ensures others { HoldsNoOthers view.domain memory.old.pager memory.new.pager }
     ensures unused { HoldsNoFree view.domain (control_of domain.new).resources memory.new.pager }
     ensures steps { (m : CloakedMemory) (d : model.Domain) → Holds memory.old m → StandsFor domain.old d →
         is_clashed (domain_step slot d (Cloaked (begun m view slot d))).world ≡ false →
         StepsDomain E.gave e.old e.new memory.new domain.new result (domain_step slot d (Cloaked (begun m view slot d))) }
+    ensures tracks { (m : CloakedMemory) (d : model.Domain) → Holds memory.old m → StandsFor domain.old d →
+        let told = domain_step slot d (Cloaked (begun m view slot d)) in is_clashed told.world ≡ false →
+        TracksBy memory.old memory.new (after_events (Some space) (events_of told.world)) }
 {
     let mut side = Side {
         memory,
@@ -52,7 +58,7 @@ pub fn step_domain<E: Emit>(
         items,
         violation: None,
         view,
-        space,
+        space: Some(space),
     };
     let went = domain.step(slot, &mut side);
     // No effect at run time. The proof reads what was lent from these uses.

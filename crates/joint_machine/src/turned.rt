@@ -1,6 +1,9 @@
 ghost use Rattle.std.specs.Prelude.{◌≡◌, ◌<◌, false};
 ghost use Rattle.cloak_model.specs.Exchange.{EmitsSome};
+ghost use Rattle.cloak_model.specs.Joint.{hart_in};
 ghost use Rattle.cloak_model.specs.Parts as model;
+ghost use Rattle.cloaked_side.specs.Tracking.{TracksBy};
+ghost use Rattle.shadow_fold.specs.Events.{after_step_of};
 
 use crate::ended::Ended;
 use crate::joint::Joint;
@@ -28,6 +31,11 @@ impl Joint {
         ensures turns { (j : model.Joint) → StandsForJoint self.old j →
             (turn_in j number).joint.memory.ledger.clashed ≡ false →
             EndsTurn E.gave e.old e.new self.new result (turn_in j number) }
+        ensures counting { self.new.memory.counting ≡ self.old.memory.counting }
+        ensures tracks { (j : model.Joint) → StandsForJoint self.old j →
+            (turn_in j number).joint.memory.ledger.clashed ≡ false →
+            TracksBy self.old.memory self.new.memory
+            (after_step_of j (hart_in j number) (hart_in j number).inside) }
     {
         match self.harts[number].inside {
             None => self.outside(number, e),
@@ -45,6 +53,11 @@ impl Joint {
         ensures turns { (j : model.Joint) → StandsForJoint self.old j →
             (turn_in j number).joint.memory.ledger.clashed ≡ false →
             TakesTurn E.gave e.old e.new self.new result (turn_in j number) }
+        ensures counting { self.new.memory.counting ≡ self.old.memory.counting }
+        ensures tracks { (j : model.Joint) → StandsForJoint self.old j →
+            (turn_in j number).joint.memory.ledger.clashed ≡ false →
+            TracksBy self.old.memory self.new.memory
+            (after_step_of j (hart_in j number) (hart_in j number).inside) }
     {
         let ended = self.step(number, e);
         Turned {

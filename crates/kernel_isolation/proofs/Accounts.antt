@@ -11,15 +11,16 @@ use Rattle.cloak_model.specs.declared.answer.Answer.{Answer}
 use Rattle.cloak_model.specs.declared.answer.Answer.TheVariants as answer
 use Rattle.cloak_model.specs.declared.item.Item.{Item}
 use Rattle.cloak_model.specs.declared.item.Item.TheVariants as item
-use Rattle.cloak_model.specs.Ask.{ask_word, ask_second, ask_after, ask_first, ask_walk, ask_inside, ask_translate, ask_value}
-use Rattle.cloak_model.specs.AskPages.{answer_item, replies, if_drawn, ask_inside_address, offered_by, ask_offer, reached, reach_by_table, got, get_by_table, put_at, stored_inside, put_by_table, settled_if_marked, clear_from, ask_reach, ask_read, ask_write, ask_get, ask_put, ask_clear, ask_copy, ask_forget}
+use Rattle.cloak_model.specs.Ask.{ask_word, ask_second, ask_after, ask_first, ask_walk, ask_inside, ask_translate, ask_led, opened, ask_value}
+use Rattle.cloak_model.specs.AskPages.{answer_item, is_store, replies, if_drawn, ask_inside_address, offered_by, ask_offer, reached, reach_by_table, got, get_by_table, put_at, stored_inside, put_by_table, settled_if_marked, clear_from, ask_reach, ask_read, ask_write, ask_get, ask_put, ask_clear, ask_copy, ask_forget}
 use Rattle.cloak_model.specs.Asking.{Told, Asking}
 use Rattle.cloak_model.specs.Cloaking.{Offer, Ready, Mismatch, Missed, offer, settle}
 use Rattle.cloak_model.specs.Effect.{IsWidth}
+use Rattle.cloak_model.specs.Events.{Event}
 use Rattle.cloak_model.specs.Memory.{frame_of, is_in_ram}
 use Rattle.cloak_model.specs.PageMoves.{copy_pages, drop_pages}
 use Rattle.cloak_model.specs.Walk.{Walk, FirstWord, Ends, GoesOn, first_entry}
-use Rattle.cloak_model.specs.World.{World, Cloak, Flat, Cloaked, Alone, Handed, ram_of, owed_of, items_of, settled, cipher_items}
+use Rattle.cloak_model.specs.World.{World, Cloak, Flat, Cloaked, Alone, Handed, ram_of, owed_of, items_of, noted, settled, cipher_items}
 use Rattle.kernel_isolation.proofs.Items.{AreWithin, with_items, with_items-append, length-with_items, within_stays, within-append, ciphers_within, with_ciphers}
 use Rattle.kernel_isolation.proofs.Settlings.{ShownBy, settle_shown, offer_shown}
 use Rattle.kernel_isolation.proofs.Leading.{LeadsInside, leads_inside, low_bytes_stored, is_aligned}
@@ -111,6 +112,15 @@ Accounts-settled f (Cloaked c) = record {
 }
 Accounts-settled f (Alone h) = no_alone h _
 
+-- events are no part of what is accounted for
+pub Accounts-noted : (events : List Event) (w : World) → Accounts w (noted events w)
+Accounts-noted events (Flat ram) = no_flat ram _
+Accounts-noted events (Cloaked c) = same_account c _ refl refl refl
+Accounts-noted events (Alone h) = no_alone h _
+
+Accounts-opened : (satp : ℕ) (a : Access) (pa : ℕ) (w : World) → Accounts w (opened satp a pa w)
+Accounts-opened satp a pa w = Accounts-trans _ _ _ (Accounts-settled (frame_of pa) w) (Accounts-noted _ _)
+
 -- settling leaves which addresses are in RAM
 length-account : (w v : World) → Account w v → length (ram_of v) ≡ length (ram_of w)
 length-account w v a = ap length a.ram ∙ length-with_items a.items (ram_of w)
@@ -145,9 +155,13 @@ accounts_translate : (satp : ℕ) (a : Access) (w : World) → Accounts w (ask_t
 unfolding ask_translate
 accounts_translate satp a w = Accounts-trans _ _ _ (accounts_walk satp a w) (accounts_inside a _ _)
 
-accounts_value : (pa width : ℕ) (w : World) → Accounts w (ask_value pa width w).world
+accounts_led : (satp : ℕ) (a : Access) (w : World) → Accounts w (ask_led satp a w).world
+unfolding ask_led
+accounts_led satp a w = Accounts-trans _ _ _ (Accounts-noted _ w) (accounts_translate satp a _)
+
+accounts_value : (satp : ℕ) (a : Access) (pa width : ℕ) (w : World) → Accounts w (ask_value satp a pa width w).world
 unfolding ask_value
-accounts_value pa width w = Accounts-settled (frame_of pa) w
+accounts_value satp a pa width w = Accounts-opened satp a pa w
 
 -- Answers.
 
@@ -202,51 +216,56 @@ accounts_drawn ask w next = Accounts-either _ _ _ w (accounts_replies _ w) next
 
 accounts_inside_address : (va : ℕ) (kind : Kind) (w : World) → Accounts w (ask_inside_address va kind w).world
 unfolding ask_inside_address
-accounts_inside_address va kind w = accounts_translate _ _ w
+accounts_inside_address va kind w = accounts_led _ _ w
 
-accounts_offered : (q : PageId) (g : ℕ) (o : Offer) (w : World) → Accounts w (offered_by q g o w).world
+accounts_offered : (q : PageId) (va : ℕ) (kind : Kind) (g : ℕ) (o : Offer) (w : World) →
+    Accounts w (offered_by q va kind g o w).world
 unfolding offered_by
-accounts_offered q g Ready w = accounts_replies _ w
-accounts_offered q g Missed w = accounts_replies _ w
-accounts_offered q g Mismatch (Flat ram) = no_flat ram _
-accounts_offered q g Mismatch (Cloaked c) =
+accounts_offered q va kind g Ready w = Accounts-trans _ _ _ (Accounts-noted _ w) (accounts_replies _ _)
+accounts_offered q va kind g Missed w = accounts_replies _ w
+accounts_offered q va kind g Mismatch (Flat ram) = no_flat ram _
+accounts_offered q va kind g Mismatch (Cloaked c) =
     Accounts-trans _ (Cloaked _) _ (same_account c _ refl refl refl) (accounts_replies _ _)
-accounts_offered q g Mismatch (Alone h) = no_alone h _
+accounts_offered q va kind g Mismatch (Alone h) = no_alone h _
 
-offer_account : (q : PageId) (g : ℕ) (write : Bool) (c : Cloak) → let o = offer q g write c.memory in
-    Accounts (Cloaked c) (Cloaked (record c { memory = o.memory; items = c.items ++ cipher_items o.ciphers }))
-offer_account q g write c = record {
+offer_account : (q : PageId) (g : ℕ) (write : Bool) (events : List Event) (c : Cloak) →
+    let o = offer q g write c.memory in
+    Accounts (Cloaked c)
+    (Cloaked (record c { memory = o.memory; items = c.items ++ cipher_items o.ciphers; events = events }))
+offer_account q g write events c = record {
   by = λ joint. shown_account c _ (offer q g write c.memory).ciphers refl (offer_shown q g write c.memory joint.places);
 }
 
-accounts_offer : (q : PageId) (g : ℕ) (write : Bool) (w : World) → Accounts w (ask_offer q g write w).world
+accounts_offer : (q : PageId) (va : ℕ) (kind : Kind) (g : ℕ) (w : World) →
+    Accounts w (ask_offer q va kind g w).world
 unfolding ask_offer
-accounts_offer q g write (Flat ram) = no_flat ram _
-accounts_offer q g write (Cloaked c) =
-    Accounts-trans _ (Cloaked _) _ (offer_account q g write c) (accounts_offered q g _ _)
-accounts_offer q g write (Alone h) = no_alone h _
+accounts_offer q va kind g (Flat ram) = no_flat ram _
+accounts_offer q va kind g (Cloaked c) =
+    Accounts-trans _ (Cloaked _) _ (offer_account q g (is_store kind) _ c) (accounts_offered q va kind g _ _)
+accounts_offer q va kind g (Alone h) = no_alone h _
 
-accounts_reached : (q : PageId) (kind : Kind) (to : Result ℕ ℕ) (w : World) → Accounts w (reached q kind to w).world
+accounts_reached : (q : PageId) (va : ℕ) (kind : Kind) (to : Result ℕ ℕ) (w : World) →
+    Accounts w (reached q va kind to w).world
 unfolding reached
-accounts_reached q kind (Err cause) w = accounts_replies _ w
-accounts_reached q kind (Ok pa) w = accounts_offer q _ _ w
+accounts_reached q va kind (Err cause) w = accounts_replies _ w
+accounts_reached q va kind (Ok pa) w = accounts_offer q va kind _ w
 
 accounts_reach_by_table : (q : PageId) (va : ℕ) (kind : Kind) (w : World) →
     Accounts w (reach_by_table q va kind w).world
 unfolding reach_by_table
 accounts_reach_by_table q va kind w =
-    Accounts-trans _ _ _ (accounts_inside_address va kind w) (accounts_drawn _ _ (accounts_reached q kind _ _))
+    Accounts-trans _ _ _ (accounts_inside_address va kind w) (accounts_drawn _ _ (accounts_reached q va kind _ _))
 
-accounts_got : (width : ℕ) (to : Result ℕ ℕ) (w : World) → Accounts w (got width to w).world
+accounts_got : (va width : ℕ) (to : Result ℕ ℕ) (w : World) → Accounts w (got va width to w).world
 unfolding got
-accounts_got width (Err cause) w = accounts_replies _ w
-accounts_got width (Ok pa) w =
-    Accounts-trans _ _ _ (accounts_value pa width w) (accounts_drawn _ _ (accounts_replies _ _))
+accounts_got va width (Err cause) w = accounts_replies _ w
+accounts_got va width (Ok pa) w =
+    Accounts-trans _ _ _ (accounts_value _ _ pa width w) (accounts_drawn _ _ (accounts_replies _ _))
 
 accounts_get_by_table : (va width : ℕ) (w : World) → Accounts w (get_by_table va width w).world
 unfolding get_by_table
 accounts_get_by_table va width w =
-    Accounts-trans _ _ _ (accounts_inside_address va Load w) (accounts_drawn _ _ (accounts_got width _ _))
+    Accounts-trans _ _ _ (accounts_inside_address va Load w) (accounts_drawn _ _ (accounts_got va width _ _))
 
 -- Stores.
 
@@ -272,13 +291,13 @@ accounts_put_at pa width value (Cloaked c) inside aligned is = put_account pa wi
 accounts_put_at pa width value (Alone h) inside aligned is = no_alone h _
 
 -- a store at a settled address
-settled_put : (pa width value : ℕ) (w : World) → is_in_ram (ram_of w) pa ≡ true → (pa % width == 0) ≡ true →
-    IsWidth width →
-    Accounts w (if_drawn (put_at pa width value) (settled (frame_of pa) w)).world
-settled_put pa width value w inside aligned is = record {
+opened_put : (satp : ℕ) (a : Access) (pa width value : ℕ) (w : World) → is_in_ram (ram_of w) pa ≡ true →
+    (pa % width == 0) ≡ true → IsWidth width →
+    Accounts w (if_drawn (put_at pa width value) (opened satp a pa w)).world
+opened_put satp a pa width value w inside aligned is = record {
   by = λ joint.
-      let v : World = settled (frame_of pa) w in
-      let first = Accounts-settled (frame_of pa) w in
+      let v : World = opened satp a pa w in
+      let first = Accounts-opened satp a pa w in
       let count = length-account w v (first.by joint) in
       let inside' : is_in_ram (ram_of v) pa ≡ true = rw count inside in
       (Accounts-trans w v _ first (accounts_drawn _ v (accounts_put_at pa width value v inside' aligned is))).by joint;
@@ -286,15 +305,15 @@ settled_put pa width value w inside aligned is = record {
 
 accounts_stored : (va width value : ℕ) (told : Told (Result ℕ ℕ)) → LeadsInside va told → va % width ≡ 0 →
     IsWidth width →
-    Accounts told.world (stored_inside width value told.answer told.world).world
+    Accounts told.world (stored_inside va width value told.answer told.world).world
 unfolding stored_inside
 accounts_stored va width value told leads at is = by told.answer refl
   where
-    by : (to : Result ℕ ℕ) → told.answer ≡ to → Accounts told.world (stored_inside width value to told.world).world
+    by : (to : Result ℕ ℕ) → told.answer ≡ to → Accounts told.world (stored_inside va width value to told.world).world
     by (Err cause) found = accounts_replies _ told.world
     by (Ok pa) found =
         let there = leads.inside pa found in
-        settled_put pa width value told.world there.0 (is_aligned va pa width there.1 at is) is
+        opened_put _ _ pa width value told.world there.0 (is_aligned va pa width there.1 at is) is
 
 accounts_put_by_table : (va width value : ℕ) (w : World) → va % width ≡ 0 → IsWidth width →
     Accounts w (put_by_table va width value w).world

@@ -9,7 +9,7 @@ use Rattle.rv_isa.specs.Fields.{bits}
 use Rattle.cloak_base.specs.declared.names.Kind.{Kind}
 use Rattle.cloak_model.specs.declared.access.Access.{Access}
 use Rattle.cloak_model.specs.declared.access.Walked.{Walked}
-use Rattle.cloak_model.specs.Ask.{ask_word, ask_second, ask_after, ask_first, ask_walk, ask_inside, ask_translate}
+use Rattle.cloak_model.specs.Ask.{ask_word, ask_second, ask_after, ask_first, ask_walk, ask_inside, ask_translate, ask_led}
 use Rattle.cloak_model.specs.AskPages.{ask_inside_address}
 use Rattle.cloak_model.specs.Asking.{Told}
 use Rattle.cloak_model.specs.Effect.{IsWidth}
@@ -110,9 +110,13 @@ leads_translate : (satp : ℕ) (a : Access) (w : World) → LeadsInside a.va (as
 unfolding ask_translate
 leads_translate satp a w = leads_by a (ask_walk satp a w).answer (ask_walk satp a w).world (keeps_walk satp a w)
 
+leads_led : (satp : ℕ) (a : Access) (w : World) → LeadsInside a.va (ask_led satp a w)
+unfolding ask_led
+leads_led satp a w = leads_translate satp a _
+
 pub leads_inside : (va : ℕ) (kind : Kind) (w : World) → LeadsInside va (ask_inside_address va kind w)
 unfolding ask_inside_address
-leads_inside va kind w = leads_translate _ _ w
+leads_inside va kind w = leads_led _ _ w
 
 -- an address that keeps its place is as aligned
 pub is_aligned : (va pa width : ℕ) → pa % 4 ≡ va % 4 → va % width ≡ 0 → IsWidth width → (pa % width == 0) ≡ true

@@ -1,5 +1,5 @@
 -- A table whose entries lie in an arena, as entries end, and as one is put in.
-use Rattle.std.proofs.Common.{◌≡◌, ◌≤◌, ◌<◌, ℕ, zero, suc, Bool, true, false, not, ◌||◌, List, [], ◌∷◌, length, slice_get, slice_set, replicate, get_or, filter, Option, Some, None, refl, sym, ap, subst, arith, ◌∙◌, inl, inr}
+use Rattle.std.proofs.Common.{◌≡◌, ◌≤◌, ◌<◌, ℕ, zero, suc, Bool, true, false, List, [], ◌∷◌, length, slice_get, replicate, get_or, filter, Option, Some, None, refl, sym, ap, subst, arith, ◌∙◌}
 use Rattle.std.specs.List.{list_any}
 use Rattle.std.specs.Prelude.{IfSome}
 use Rattle.std.proofs.lemmas.List.{length-set, length-replicate}
@@ -7,7 +7,7 @@ use Rattle.std.proofs.lemmas.Option.{none-some, same_Some}
 use Rattle.chain_arena.specs.declared.chain.Chain.{Chain}
 use Rattle.chain_arena.specs.declared.chain.Chain.TheVariants as chain
 use Rattle.chain_arena.specs.Chains.{IsMemberOf}
-use Rattle.chain_arena.specs.Arena.{Arena, IsFree, IsTidyArena, chain_at, empty_arena}
+use Rattle.chain_arena.specs.Arena.{Arena, IsTidyArena, chain_at, empty_arena}
 use Rattle.cloak_base.specs.declared.names.Frame.{Frame}
 use Rattle.shadow_fold.specs.declared.entry.Entry.{Entry}
 use Rattle.shadow_fold.specs.declared.entry.ShadowCounts.{ShadowCounts}

@@ -1,5 +1,5 @@
 -- An arena after the slot of an entry was put into all its chains.
-use Rattle.std.proofs.Common.{◌≡◌, ℕ, zero, suc, ◌<◌, ◌==◌, ◌⊎◌, inl, inr, Bool, true, false, ◌&&◌, ◌||◌, List, [], ◌∷◌, length, get_or, slice_get, slice_set, Option, Some, None, IfSome, refl, sym, ap, ◌∙◌, subst, arith}
+use Rattle.std.proofs.Common.{◌≡◌, ℕ, zero, suc, ◌<◌, ◌⊎◌, inl, inr, Bool, true, false, ◌&&◌, ◌||◌, List, [], ◌∷◌, length, get_or, slice_get, slice_set, Option, Some, None, IfSome, refl, sym, ap, ◌∙◌, subst, arith}
 use Rattle.std.specs.List.{list_any}
 use Rattle.std.proofs.lemmas.Bool.{cases_eq, false≢true, eq-eqb, ne_eqb}
 use Rattle.std.proofs.lemmas.List.{get_or-set_same, get_or-set_other}
@@ -7,12 +7,10 @@ use Rattle.std.proofs.lemmas.Option.{none-some, same_Some, slice_get_within}
 use Rattle.chain_arena.specs.declared.chain.Chain.{Chain}
 use Rattle.chain_arena.specs.declared.chain.Chain.TheVariants as chain
 use Rattle.chain_arena.specs.Chains.{IsMemberOf}
-use Rattle.chain_arena.specs.Arena.{Arena, IsFree, IsInUse, Stands, chains, chain_at, hooked, with_payload, IsTidyArena}
-use Rattle.chain_arena.proofs.Callers.{cases_chain, chains_here, chains_there, chains_paid, heads_kept, payloads_kept, long_hooked, not_both}
+use Rattle.chain_arena.specs.Arena.{Arena, IsFree, Stands, chains, chain_at, with_payload, IsTidyArena}
+use Rattle.chain_arena.proofs.Callers.{chains_here, chains_there, chains_paid, heads_kept, payloads_kept, long_hooked, not_both}
 use Rattle.cloak_base.specs.declared.names.Frame.{Frame}
-use Rattle.cloak_base.specs.declared.names.Kind.{Kind}
 use Rattle.shadow_fold.specs.declared.entry.Entry.{Entry}
-use Rattle.shadow_fold.specs.declared.entry.ShadowView.{ShadowView}
 use Rattle.shadow_fold.specs.Entries.{is_for, IsWithin}
 use Rattle.shadow_fold.proofs.Keys.{eqb_equal, is_for-key}
 use Rattle.multi_shadow.specs.Placed.{ArePlaced, AreApart, LiesAt, live_in, bucket_of, number_of, head_of, is_head, entered, all_entered}

@@ -1,10 +1,10 @@
 -- One step of a walk over a chain that ends entries.
-use Rattle.std.proofs.Common.{◌≡◌, ℕ, ◌+◌, ◌<◌, ◌≤◌, inl, inr, Bool, true, false, ◌&&◌, List, [], ◌∷◌, length, slice_get, Option, Some, None, refl, sym, ap, ◌∙◌, subst, arith}
+use Rattle.std.proofs.Common.{◌≡◌, ℕ, ◌+◌, ◌<◌, ◌≤◌, inl, inr, Bool, true, false, ◌&&◌, ◌∷◌, length, slice_get, Option, Some, None, refl, sym, ap, ◌∙◌, subst, arith}
 use Rattle.std.proofs.lemmas.Bool.{false≢true, cases_eq, eq-eqb}
-use Rattle.std.proofs.lemmas.Option.{none-some, same_Some}
+use Rattle.std.proofs.lemmas.Option.{same_Some}
 use Rattle.chain_arena.specs.declared.chain.Chain.{Chain}
 use Rattle.chain_arena.specs.declared.chain.Chain.TheVariants as chain
-use Rattle.chain_arena.specs.Arena.{Arena, chains, chain_at, chain_rest, from_slot, next_behind, IsTidyArena}
+use Rattle.chain_arena.specs.Arena.{Arena, chain_at, chain_rest, next_behind, IsTidyArena}
 use Rattle.chain_arena.specs.Chains.{IsMemberOf, IsOnce}
 use Rattle.chain_arena.proofs.Callers.{behind_in_list, rest_more}
 use Rattle.cloak_base.specs.declared.names.SpaceId.{SpaceId}

@@ -1,10 +1,10 @@
 -- What a walk over a chain has left, as slots are taken out behind it.
-use Rattle.std.proofs.Common.{◌≡◌, ℕ, ◌+◌, ◌<◌, inl, inr, Bool, true, false, cond, List, [], ◌∷◌, length, slice_get, Option, Some, None, refl, sym, ap, ◌∙◌, subst, arith}
+use Rattle.std.proofs.Common.{◌≡◌, ℕ, inl, inr, Bool, true, false, cond, List, [], ◌∷◌, length, slice_get, Option, Some, None, refl, sym, ap, ◌∙◌, subst, arith}
 use Rattle.std.proofs.lemmas.Bool.{cases_eq, eq-eqb, ne_eqb}
 use Rattle.chain_arena.specs.Chains.{IsMemberOf, IsOnce, without}
 use Rattle.chain_arena.specs.Arena.{from_slot, chain_rest, next_behind}
-use Rattle.chain_arena.proofs.Callers.{first_in_list, behind_in_list, rest_first, rest_more}
-use Rattle.chain_arena.proofs.Chains.{in_without, without_first, without_other, without_none}
+use Rattle.chain_arena.proofs.Callers.{first_in_list, behind_in_list, rest_more}
+use Rattle.chain_arena.proofs.Chains.{without_first, without_other, without_none}
 use Rattle.multi_shadow.specs.Placed.{without_if}
 
 abbrev Not : Type 0 → Type 0

@@ -157,6 +157,18 @@ impl Shadows {
         self.counts.flushes = self.counts.flushes.saturating_add(1);
     }
 
+    /// Ends all entries, and begins to count anew.
+    pub fn restart(&mut self)
+        ensures { self.new ≡ empty_table self.old.frames }
+    {
+        prune_all(&mut self.arena, self.heads, None);
+        self.counts = ShadowCounts {
+            accesses: 0,
+            misses: 0,
+            flushes: 0,
+        };
+    }
+
     pub fn counts(&self) -> ShadowCounts
         ensures { result ≡ self.now.counts }
     {

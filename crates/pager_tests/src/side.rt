@@ -3,7 +3,7 @@ ghost use Rattle.std.specs.Prelude.{◌≡◌, ◌%◌, ℕ, IfOk};
 ghost use Rattle.cloak_pager.specs.State.{held_in};
 ghost use Rattle.cloaked_side.specs.Holding.{domains_in};
 
-use cloak_base::{Frame, Kind, Mode, NoMemory, PageId};
+use cloak_base::{Frame, Kind, Mode, NoMemory, PageId, SpaceId};
 use cloak_model::{Access, Answer, Emit, Item, PageSide, View};
 use cloak_pager::Pager;
 use cloaked_side::{KeptItems, Memory, Side};
@@ -66,6 +66,7 @@ fn fresh(alloc: Global) -> Result<Memory, NoMemory>
         draws: 0,
         missed: false,
         shadows: Shadows::open(alloc, 64)?,
+        counting: false,
     })
 }
 
@@ -137,7 +138,10 @@ fn answers_each_question(rt: HostRuntime) -> Result<(), Fail> {
             mxr: false,
             domain: 0,
         },
-        space: 0,
+        space: Some(SpaceId {
+            domain: 0,
+            number: 0,
+        }),
     };
     assert_eq!(rt; ask_each(&mut side), Some((Answer::Word(0x3344), 77)));
     assert!(rt; load(&mut side, CLOAKED) != Some(77));

@@ -49,7 +49,6 @@ no_bundle {S} {asked} {name} refusal.NoMemory before after asks reads low held w
   held = held;
   writing = writing;
 }
-no_bundle {S} {asked} {name} refusal.NotBuilt before after asks reads low held writing = absurd reads
 no_bundle {S} {asked} {name} (refusal.Usage fault) before after asks reads low held writing = absurd reads
 no_bundle {S} {asked} {name} refusal.NoKey before after asks reads low held writing = absurd reads
 no_bundle {S} {asked} {name} refusal.NoPageDraw before after asks reads low held writing = absurd reads
@@ -68,7 +67,6 @@ no_file {S} A {asked} {name} refusal.ReadFault before after reading asks same re
 no_file {S} A {asked} {name} refusal.NoMemory before after reading asks same reads low held writing =
     record { cause = record { reading = reads ∙ same }; held = held; writing = writing }
 no_file {S} A {asked} {name} (refusal.BadBundle fault) before after reading asks same reads low held writing = absurd reads
-no_file {S} A {asked} {name} refusal.NotBuilt before after reading asks same reads low held writing = absurd reads
 no_file {S} A {asked} {name} (refusal.Usage fault) before after reading asks same reads low held writing = absurd reads
 no_file {S} A {asked} {name} refusal.NoKey before after reading asks same reads low held writing = absurd reads
 no_file {S} A {asked} {name} refusal.NoPageDraw before after reading asks same reads low held writing = absurd reads

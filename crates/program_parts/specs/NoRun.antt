@@ -20,13 +20,13 @@ use Rattle.program_parts.specs.Refusal.{status_of_refusal, refusal_line}
 
 -- the file that the words name of a bundle that is read
 abbrev pub bundle_named : spec.Asked → Option (List ℕ)
-bundle_named spec.NotBuilt = None
 bundle_named (spec.Faulty fault) = None
 bundle_named (spec.Run bundle record_name steps randomness) = Some bundle
 bundle_named (spec.View bundle record_name) = Some bundle
 bundle_named (spec.Solo domain bundle record_name) = Some bundle
 bundle_named (spec.Gen number bundle_name) = None
 bundle_named (spec.Demo number steps) = None
+bundle_named (spec.Stats bundle steps randomness) = Some bundle
 
 abbrev pub AsksFile : spec.Asked → List ℕ → Type 0
 AsksFile asked bundle_name = bundle_named asked ≡ Some bundle_name
@@ -42,12 +42,13 @@ abbrev pub IsStream : (List ℕ → Option (List ℕ)) → spec.Randomness → R
 IsStream held (spec.Numbered number) stream = stream ≡ numbered number
 IsStream held (spec.FromFile name) stream = IsOfFile (held name) stream
 
--- The words ask for the run of this bundle under this random stream.
-pub record AsksBundle (asked : spec.Asked) (held : List ℕ → Option (List ℕ)) (record_name : List ℕ) (steps : ℕ)
-    (bundle : Bundle) (stream : Random) : Type 0 where
+-- The words ask for the run of this bundle under this random stream, with its record, where that has a name, and else
+-- for its counts.
+pub record AsksBundle (asked : spec.Asked) (held : List ℕ → Option (List ℕ)) (record_name : Option (List ℕ))
+    (steps : ℕ) (bundle : Bundle) (stream : Random) : Type 0 where
   pub bundle_name : List ℕ
   pub randomness : spec.Randomness
-  pub run : asked ≡ spec.Run bundle_name record_name steps randomness
+  pub run : asked ≡ spec.asked_run bundle_name record_name steps randomness
   pub file : IsInFile (held bundle_name) bundle
   pub source : IsStream held randomness stream
 
@@ -56,11 +57,6 @@ pub record AsksBundle (asked : spec.Asked) (held : List ℕ → Option (List ℕ
 -- The words are faulty; no file is asked for anything.
 pub record IsUsage {S : Type 0} (asked : spec.Asked) (fault : UsageFault) (before after : FilesOutside S) : Type 0 where
   pub faulty : asked ≡ spec.Faulty fault
-  pub untouched : after ≡ before
-
--- The words ask for what is not built; no file is asked for anything.
-pub record IsNotBuilt {S : Type 0} (asked : spec.Asked) (before after : FilesOutside S) : Type 0 where
-  pub not_built : asked ≡ spec.NotBuilt
   pub untouched : after ≡ before
 
 -- The file of the bundle is none: where its bytes are told, this is their first fault.
@@ -82,7 +78,7 @@ pub record IsNoMemory {S : Type 0} (before after : FilesOutside S) : Type 0 wher
 
 -- The opening of a run finds too few random bytes.
 pub record IsLack {S : Type 0} (asked : spec.Asked) (lack : Lack) (before after : FilesOutside S) : Type 0 where
-  pub record_name : List ℕ
+  pub record_name : Option (List ℕ)
   pub steps : ℕ
   pub bundle : Bundle
   pub stream : Random
@@ -102,7 +98,6 @@ pub record IsNoSuchDomain {S : Type 0} (asked : spec.Asked) (before after : File
   pub reading : after.reading ≡ before.reading
 
 abbrev pub HasCause : {S : Type 0} → spec.Asked → Refusal → FilesOutside S → FilesOutside S → Type 0
-HasCause asked refusal.NotBuilt before after = IsNotBuilt asked before after
 HasCause asked (refusal.Usage fault) before after = IsUsage asked fault before after
 HasCause asked (refusal.BadBundle fault) before after = IsBadBundle asked fault before after
 HasCause asked refusal.ReadFault before after = IsReadFault asked before after

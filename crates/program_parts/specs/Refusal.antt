@@ -9,7 +9,6 @@ use Rattle.program_parts.specs.declared.status.Status.{Status}
 use Rattle.program_parts.specs.declared.status.Status.TheVariants as status
 
 abbrev pub status_of_refusal : Refusal → Status
-status_of_refusal refusal.NotBuilt = status.Unbuilt
 status_of_refusal (refusal.Usage fault) = status.Usage
 status_of_refusal (refusal.BadBundle fault) = status.BadBundle
 status_of_refusal refusal.ReadFault = status.ReadFault
@@ -34,7 +33,6 @@ bundle_line (fault.Extra at) = numbered_line (codes "bundle: extra at ") at
 bundle_line fault.NoMemory = codes "no memory\n"
 
 unfoldable pub refusal_line : Refusal → List ℕ
-refusal_line refusal.NotBuilt = codes "unbuilt 0\n"
 refusal_line (refusal.Usage fault) = usage_line fault
 refusal_line (refusal.BadBundle fault) = bundle_line fault
 refusal_line refusal.ReadFault = codes "read fault\n"

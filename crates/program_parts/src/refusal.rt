@@ -15,8 +15,6 @@ use outside_io::{Sink, put_all};
 /// Why there is no run.
 #[derive(Clone, Copy, Debug, PartialEq, Eq)]
 pub enum Refusal {
-    /// What is asked for is not built.
-    NotBuilt,
     Usage(UsageFault),
     BadBundle(BundleFault),
     /// A file could not be read.
@@ -35,7 +33,6 @@ fn status(refusal: &Refusal) -> Status
     ensures { result ≡ status_of_refusal refusal.now }
 {
     match *refusal {
-        Refusal::NotBuilt => Status::Unbuilt,
         Refusal::Usage(_) | Refusal::NoSuchDomain => Status::Usage,
         Refusal::BadBundle(_) => Status::BadBundle,
         Refusal::ReadFault => Status::ReadFault,
@@ -107,7 +104,6 @@ fn show_line<O: Sink>(out: &mut O, refusal: &Refusal) -> Result<(), Failed>
         (refusal_line refusal.now) result }
 {
     match *refusal {
-        Refusal::NotBuilt => show(out, b"unbuilt 0\n"),
         Refusal::Usage(fault) => show_usage(out, fault),
         Refusal::BadBundle(fault) => show_bundle_fault(out, fault),
         Refusal::ReadFault => show(out, b"read fault\n"),

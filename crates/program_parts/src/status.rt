@@ -13,7 +13,6 @@ pub enum Status {
     NoMemory,
     NoRandom,
     BadRecord,
-    Unbuilt,
 }
 
 impl Status {
@@ -31,7 +30,6 @@ impl Status {
             Status::NoMemory => 6,
             Status::NoRandom => 7,
             Status::BadRecord => 8,
-            Status::Unbuilt => 9,
         }
     }
 }

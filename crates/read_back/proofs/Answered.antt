@@ -32,7 +32,6 @@ pub unread : (r : Refusal) (told : Option (List ℕ)) (m n : ℕ) → ReadsBundl
 unread (refusal.BadBundle fault) told m n reads = tt
 unread refusal.ReadFault told m n reads = tt
 unread refusal.NoMemory told m n reads = tt
-unread refusal.NotBuilt told m n reads = absurd reads
 unread (refusal.Usage fault) told m n reads = absurd reads
 unread refusal.NoKey told m n reads = absurd reads
 unread refusal.NoPageDraw told m n reads = absurd reads
@@ -43,7 +42,6 @@ view_refused : {S O : Type 0} (asked : spec.Asked) (r : Refusal) (before after :
 view_refused asked (refusal.BadBundle fault) before after is refused = refused
 view_refused asked refusal.ReadFault before after is refused = inl refused
 view_refused asked refusal.NoMemory before after is refused = refused
-view_refused asked refusal.NotBuilt before after is refused = absurd is
 view_refused asked (refusal.Usage fault) before after is refused = absurd is
 view_refused asked refusal.NoKey before after is refused = absurd is
 view_refused asked refusal.NoPageDraw before after is refused = absurd is
@@ -72,7 +70,6 @@ pub unread_or_none : (r : Refusal) → IsUnread r → IsUnreadOrNone r
 unread_or_none (refusal.BadBundle fault) is = tt
 unread_or_none refusal.ReadFault is = tt
 unread_or_none refusal.NoMemory is = tt
-unread_or_none refusal.NotBuilt is = absurd is
 unread_or_none (refusal.Usage fault) is = absurd is
 unread_or_none refusal.NoKey is = absurd is
 unread_or_none refusal.NoPageDraw is = absurd is
@@ -84,7 +81,6 @@ solo_refused asked (refusal.BadBundle fault) before after is refused = refused
 solo_refused asked refusal.ReadFault before after is refused = inl refused
 solo_refused asked refusal.NoMemory before after is refused = refused
 solo_refused asked refusal.NoSuchDomain before after is refused = refused
-solo_refused asked refusal.NotBuilt before after is refused = absurd is
 solo_refused asked (refusal.Usage fault) before after is refused = absurd is
 solo_refused asked refusal.NoKey before after is refused = absurd is
 solo_refused asked refusal.NoPageDraw before after is refused = absurd is

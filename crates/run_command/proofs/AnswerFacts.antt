@@ -1,11 +1,10 @@
 -- What the commands answer.
 use Rattle.std.proofs.Common.{◌≡◌, ◌<◌, ◌≤◌, ◌-◌, ◌^◌, ℕ, Bool, true, false, List, [], ◌++◌, refl, sym, ◌∙◌, ap, subst, inl}
-use Rattle.std.proofs.Common.{inr, Option, Result, Ok, Err, OnOk, OnErr, is_err}
-use Rattle.cloak_base.specs.declared.causes.Failed.{Failed}
+use Rattle.std.proofs.Common.{inr, Option, Some, Result, Ok}
 use Rattle.cloak_base.specs.declared.causes.Stop.{Stop}
 use Rattle.cloak_base.specs.declared.causes.Stop.TheVariants as stop
-use Rattle.outside_io.specs.Told.{Tells, Grows, Rose, Counts, SameFiles, OtherFiles}
-use Rattle.outside_io.proofs.ToldFacts.{Tells_after, Rose-below, Rose-after}
+use Rattle.outside_io.specs.Told.{Tells, Grows, Rose, SameFiles, OtherFiles}
+use Rattle.outside_io.proofs.ToldFacts.{Tells_after, Rose-after}
 use Rattle.command_words.specs.Command as spec
 use Rattle.cloak_model.specs.Exchange.{Piece, recorded, shown, recorded_bytes, shown_bytes}
 use Rattle.std.specs.Result.{result_map_both}
@@ -50,7 +49,6 @@ use Rattle.run_command.specs.Answering.{AsksRun, IsLawful, HasRun, RunAnswers, K
 
 answers_refused : {S O : Type 0} (asked : spec.Asked) (r : Refusal) (before after : Outside S O) →
     IsRefused asked (status_of_refusal r) before after → RunAnswers asked before after (status_of_refusal r)
-answers_refused asked refusal.NotBuilt before after refused = refused
 answers_refused asked (refusal.Usage fault) before after refused = refused
 answers_refused asked (refusal.BadBundle fault) before after refused = refused
 answers_refused asked refusal.ReadFault before after refused = refused
@@ -219,7 +217,7 @@ failed_above (shown bytes) before after low_writing low_faults fault = (fault.0,
 
 -- what the words ask for where a machine was prepared
 pub asks_run : {asked : spec.Asked} {held : List ℕ → Option (List ℕ)} {record_name : List ℕ} {steps : ℕ}
-    {ready : Prepared} (prepared : IsPrepared asked held record_name steps ready) →
+    {ready : Prepared} (prepared : IsPrepared asked held (Some record_name) steps ready) →
     AsksRun asked held record_name (run_of prepared.bundle steps prepared.opened)
 asks_run {asked} {held} {record_name} {steps} {ready} prepared = record {
   steps = steps;
@@ -267,7 +265,7 @@ reads_back b stream budget r grammar bytes all few runs =
     }
 
 pub lawful_run : {asked : spec.Asked} {held : List ℕ → Option (List ℕ)} {record_name : List ℕ} {steps : ℕ}
-    {ready : Prepared} (prepared : IsPrepared asked held record_name steps ready) →
+    {ready : Prepared} (prepared : IsPrepared asked held (Some record_name) steps ready) →
     IsLawful (asks_run prepared).bundle (asks_run prepared).stream (run_of prepared.bundle steps prepared.opened)
 unfolding asks_run
 lawful_run {asked} {held} {record_name} {steps} {ready} prepared =
@@ -368,12 +366,12 @@ keeps_run asked answer held held' record_name bundle_name steps from is keeps =
 
 pub same_files : (asked : spec.Asked) (answer : Status) (held held' : List ℕ → Option (List ℕ)) → SameFiles held held' →
     KeepsFiles asked answer held held'
-same_files spec.NotBuilt answer held held' same = same
 same_files (spec.Faulty fault) answer held held' same = same
 same_files (spec.View bundle_name record_name) answer held held' same = same
 same_files (spec.Solo domain bundle_name record_name) answer held held' same = same
 same_files (spec.Gen number bundle_name) answer held held' same = same
 same_files (spec.Demo number steps) answer held held' same = same
+same_files (spec.Stats bundle_name steps from) answer held held' same = same
 same_files (spec.Run bundle_name record_name steps from) status.Done held held' same = λ other apart. same other
 same_files (spec.Run bundle_name record_name steps from) status.Violation held held' same = λ other apart. same other
 same_files (spec.Run bundle_name record_name steps from) status.Usage held held' same = same
@@ -383,7 +381,6 @@ same_files (spec.Run bundle_name record_name steps from) status.WriteFault held 
 same_files (spec.Run bundle_name record_name steps from) status.NoMemory held held' same = same
 same_files (spec.Run bundle_name record_name steps from) status.NoRandom held held' same = λ other apart. same other
 same_files (spec.Run bundle_name record_name steps from) status.BadRecord held held' same = same
-same_files (spec.Run bundle_name record_name steps from) status.Unbuilt held held' same = same
 
 -- a run that was made changed its record at most
 keeps_record : {S O : Type 0} (asked : spec.Asked) (before after : Outside S O) (answer given : Status) →
@@ -417,4 +414,3 @@ keeps_files asked before after status.NoRandom (inl refused) =
 keeps_files asked before after status.NoRandom (inr run) =
     keeps_record asked before after status.NoRandom status.NoRandom run (λ b r n f others. others)
 keeps_files asked before after status.BadRecord never = absurd never
-keeps_files asked before after status.Unbuilt refused = same_files asked status.Unbuilt _ _ refused.no_run.held

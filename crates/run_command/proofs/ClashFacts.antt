@@ -1,10 +1,10 @@
 -- That no two pages clashed: what clashed once stays so, so none did before.
-use Rattle.std.proofs.Common.{◌≡◌, ℕ, zero, suc, List, Option, Some, None}
+use Rattle.std.proofs.Common.{ℕ, zero, suc, List, Option, Some, None}
 use Rattle.cloak_base.specs.declared.causes.Stop.{Stop}
 use Rattle.cloak_model.specs.declared.image.Bundle.{Bundle}
 use Rattle.cloak_model.specs.Joint.{Moment, Turn, joint_step, next_hart, after_turn, stop_of}
 use Rattle.cloak_model.specs.Opening.{Opened}
-use Rattle.cloak_model.specs.Run.{closing, first_moment, joint_after, run_of, turns_from, unless_stopped}
+use Rattle.cloak_model.specs.Run.{first_moment, joint_after, run_of, turns_from, unless_stopped}
 use Rattle.joint_machine.proofs.Clashed.{closing_unclashed, turn_unclashed}
 use Rattle.run_command.specs.Running.{NoClash, NoClashYet}
 

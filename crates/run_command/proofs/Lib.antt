@@ -4,3 +4,5 @@ pub mod FrontFacts
 pub mod OutletFacts
 pub mod PrepareFacts
 pub mod RunFacts
+pub mod StepFacts
+pub mod EndFacts

@@ -1,11 +1,11 @@
 -- What an outlet wrote, piece by piece.
-use Rattle.std.proofs.Common.{◌≡◌, ◌≤◌, ◌<◌, ℕ, Bool, true, false, List, [], ◌∷◌, ◌++◌, length, take, refl, sym, ◌∙◌}
-use Rattle.std.proofs.Common.{ap, subst, append_assoc, arith, length-append, Option, Some, None, Result, Ok, Err, IfOk}
+use Rattle.std.proofs.Common.{◌≡◌, ℕ, Bool, true, false, List, [], ◌∷◌, ◌++◌, length, take, refl, sym, ◌∙◌}
+use Rattle.std.proofs.Common.{ap, subst, append_assoc, arith, length-append, Option, Some, None, Result, Ok, Err}
 use Rattle.std.proofs.Common.{OnOk, OnErr, is_err}
 use Rattle.std.proofs.lemmas.List.{append-nil}
 use Rattle.cloak_base.specs.declared.causes.Failed.{Failed}
 use Rattle.outside_io.specs.Told.{Tells, Puts, Grows, GrowsByFront, Counts, OtherFiles}
-use Rattle.outside_io.proofs.ToldFacts.{Grows-none, Grows-append, GrowsByFront-none, GrowsByFront-whole, Rose-after}
+use Rattle.outside_io.proofs.ToldFacts.{Grows-none, Grows-append, GrowsByFront-whole, Rose-after}
 use Rattle.cloak_model.specs.Exchange.{Piece, recorded, shown, recorded_bytes, shown_bytes, Emits}
 use Rattle.run_command.specs.declared.outlet.Outlet.{Outlet}
 use Rattle.program_parts.specs.Outside.{FilesOutside, Output, Outside, files, output, outside}

@@ -1,10 +1,11 @@
 -- Bytes, and the stream of a file.
-use Rattle.std.proofs.Common.{◌≡◌, ◌<◌, ◌≤◌, ◌+◌, ℕ, zero, suc, List, [], ◌∷◌, length, take, get_or, subst, arith, Option, take_all}
+use Rattle.std.proofs.Common.{◌≡◌, ◌<◌, ◌≤◌, ◌+◌, ℕ, zero, suc, List, [], ◌∷◌, length, take, take_all, get_or}
+use Rattle.std.proofs.Common.{Option, Some, None, subst, refl, arith}
 use Rattle.std.specs.List.{AllByRecursion}
 use Rattle.cloak_base.specs.Random.{Random, numbered}
 use Rattle.command_words.specs.Command as spec
 use Rattle.outside_io.specs.Told.{SameFiles}
-use Rattle.program_parts.specs.NoRun.{IsOfFile, IsStream}
+use Rattle.program_parts.specs.NoRun.{AsksFile, IsOfFile, IsStream}
 use Rattle.item_law.specs.Writing.{AreBytes, IsStreamOfBytes}
 
 -- What a loop over a slice found of each element so far.
@@ -35,6 +36,12 @@ all_at_end P xs n past all = subst (AllByRecursion P) (take_all n xs past) all
 pub each_below : (bytes : List ℕ) → ((i : ℕ) → get_or bytes i 0 < 256) → AreBytes bytes
 each_below [] all = tt
 each_below (b ∷ bytes) all = (all 0, each_below bytes (λ i. all (suc i)))
+
+-- the words name the bundle of a run, also where it has no record
+pub run_named : (bundle_name : List ℕ) (record_name : Option (List ℕ)) (steps : ℕ) (from : spec.Randomness) →
+    AsksFile (spec.asked_run bundle_name record_name steps from) bundle_name
+run_named bundle_name (Some record_name) steps from = refl
+run_named bundle_name None steps from = refl
 
 -- a stream of a file that stayed as it was
 pub stream_before : (held now : List ℕ → Option (List ℕ)) (randomness : spec.Randomness) (stream : Random) →

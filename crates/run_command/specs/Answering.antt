@@ -1,5 +1,5 @@
 -- What a run answers, each status with its cause.
-use Rattle.std.specs.Prelude.{ℕ, ◌≡◌, ◌⊎◌, List, [], Option, None, Ok}
+use Rattle.std.specs.Prelude.{ℕ, ◌≡◌, ◌⊎◌, List, [], Option, Some, None, Ok}
 use Rattle.cloak_base.specs.Random.{Random}
 use Rattle.outside_io.specs.Told.{Tells, SameFiles, OtherFiles}
 use Rattle.cloak_model.specs.declared.image.Bundle.{Bundle}
@@ -26,7 +26,7 @@ pub record AsksRun (asked : spec.Asked) (held : List ℕ → Option (List ℕ)) 
     pub steps : ℕ
     pub bundle : Bundle
     pub stream : Random
-    pub asks : AsksBundle asked held record_name steps bundle stream
+    pub asks : AsksBundle asked held (Some record_name) steps bundle stream
     pub joint : joint_run bundle stream steps ≡ Ok r
 
 -- The run.
@@ -96,7 +96,6 @@ RunAnswers asked before after status.NoMemory = IsRefused asked status.NoMemory 
 RunAnswers asked before after status.NoRandom =
     IsRefused asked status.NoRandom before after ⊎ HasRun asked status.NoRandom before after
 RunAnswers asked before after status.BadRecord = ⊥
-RunAnswers asked before after status.Unbuilt = IsRefused asked status.Unbuilt before after
 
 -- Every file keeps its bytes, save the record's of a run that was begun, or might have been. (A write fault and want
 -- of randomness say by their causes which.)

@@ -4,3 +4,4 @@ pub mod Recording
 pub mod Preparing
 pub mod ReadingBack
 pub mod Answering
+pub mod Unheard

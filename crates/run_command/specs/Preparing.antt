@@ -1,8 +1,7 @@
 -- What opening the machine of a run answers.
-use Rattle.std.specs.Prelude.{ℕ, ◌≡◌, ◌≤◌, List, Option, Some, IfSome, Result, Ok, Err}
+use Rattle.std.specs.Prelude.{ℕ, ◌≡◌, ◌≤◌, List, Option, Result, Ok, Err}
 use Rattle.cloak_base.specs.Random.{Random}
 use Rattle.cloak_model.specs.declared.image.Bundle.{Bundle}
-use Rattle.cloak_model.specs.BundleFault.{bundle_fault}
 use Rattle.command_words.specs.Command as spec
 use Rattle.cloak_model.specs.Opening.{Opened, opening}
 use Rattle.cloak_model.specs.Run.{first_moment, most_steps}
@@ -10,9 +9,7 @@ use Rattle.cloak_machine.specs.Standing.{StandsForMoment}
 use Rattle.item_law.specs.Writing.{IsOfBytes, IsStreamOfBytes}
 use Rattle.run_command.specs.declared.prepare.Prepared.{Prepared}
 use Rattle.program_parts.specs.declared.refusal.Refusal.{Refusal}
-use Rattle.program_parts.specs.declared.refusal.Refusal.TheVariants as refusal
 use Rattle.program_parts.specs.NoRun.{AsksBundle, IsStream, NoRun}
-use Rattle.program_parts.specs.Bundles.{IsInFile}
 use Rattle.program_parts.specs.Files.{ReadsFile}
 use Rattle.program_parts.specs.Outside.{FilesOutside, OnlyRead}
 
@@ -24,8 +21,8 @@ ReadsStream held randomness before now (Err other) = ReadsFile {A = Random} befo
 
 -- The run that is asked for opens so, and the machine is that of its first moment; the programs are the image's. Image and
 -- stream are of bytes, and the steps are not more than a run may have.
-pub record IsPrepared (asked : spec.Asked) (held : List ℕ → Option (List ℕ)) (record_name : List ℕ) (steps : ℕ)
-    (prepared : Prepared) : Type 0 where
+pub record IsPrepared (asked : spec.Asked) (held : List ℕ → Option (List ℕ)) (record_name : Option (List ℕ))
+    (steps : ℕ) (prepared : Prepared) : Type 0 where
   pub bundle : Bundle
   pub stream : Random
   pub asks : AsksBundle asked held record_name steps bundle stream
@@ -38,7 +35,8 @@ pub record IsPrepared (asked : spec.Asked) (held : List ℕ → Option (List ℕ
   pub stream_bytes : IsStreamOfBytes stream
 
 -- a run that can begin, or why there is none; the files were at most read
-abbrev pub Prepares : {S : Type 0} → spec.Asked → FilesOutside S → FilesOutside S → List ℕ → ℕ → Result Prepared Refusal → Type 0
+abbrev pub Prepares : {S : Type 0} → spec.Asked → FilesOutside S → FilesOutside S → Option (List ℕ) → ℕ →
+    Result Prepared Refusal → Type 0
 Prepares asked before after record_name steps (Ok prepared) =
     OnlyRead before after × IsPrepared asked before.held record_name steps prepared
 Prepares asked before after record_name steps (Err refused) = NoRun asked refused before after

@@ -10,7 +10,9 @@ use Rattle.cloak_model.specs.Report.{report}
 use Rattle.cloak_model.specs.Parts.{Joint}
 use Rattle.cloak_model.specs.Joint.{Moment, Turn}
 use Rattle.cloak_model.specs.Run.{Run, joint_after, last_stop, turns_pieces, cause_of, due}
+use Rattle.cloak_machine.specs.declared.end.End.{End}
 use Rattle.cloak_machine.specs.declared.machine.Machine.{Machine}
+use Rattle.cloak_machine.specs.Ending.{end_short_report, short_report}
 use Rattle.cloak_machine.specs.Standing.{StandsForMoment}
 use Rattle.program_parts.specs.declared.status.Status.{Status}
 use Rattle.program_parts.specs.declared.status.Status.TheVariants as status
@@ -39,6 +41,11 @@ abbrev pub last_pieces : Stop → ℕ → Opened → List Piece
 last_pieces cause steps closed =
     item_pieces (item.Close steps ∷ (closed.items ++ item.End ∷ []))
     ++ (shown (codes "\n") ∷ shown (report cause steps closed.joint) ∷ [])
+
+-- the end of a machine is that of a run
+pub record IsEndOf (end : End) (r : Run) : Type 0 where
+  pub stop : end.stop ≡ r.stop
+  pub short : end_short_report end ≡ short_report r.stop (length r.turns) r.closed.joint
 
 -- Up to now no two different pages that were compared had one digest.
 abbrev pub NoClashYet : Joint → Type 0

@@ -11,7 +11,7 @@ ghost use Rattle.run_command.specs.Answering.{KeepsFiles, RunAnswers};
 ghost use Rattle.run_command.specs.Recording.{Records};
 
 use crate::outlet::Outlet;
-use crate::prepare::{Prepared, prepare};
+use crate::prepare::{Prepared, prepare_run};
 use crate::run::write_run;
 use command_words::RunRequest;
 use exchange_log::LONGEST;
@@ -68,7 +68,7 @@ pub fn run_command<S: Shelf, O: Sink>(
         (outside S.held S.reading_faults S.writing_faults O.taken O.faults shelf.new out.new) result }
     ensures kept { KeepsFiles (asked_of_run run.now) result (S.held shelf.old) (S.held shelf.new) }
 {
-    match prepare(alloc, run, shelf) {
+    match prepare_run(alloc, run.bundle, &run.randomness, shelf) {
         Ok(prepared) => record_run(prepared, run, shelf, out),
         Err(refusal) => refuse(out, &refusal),
     }

@@ -1,12 +1,18 @@
 //! The command `run`: the joint run of a bundle, its record, its console and its report.
 //!
 //! The layer above may rely on this: `run_command` answers each status by its cause, and writes what is due of the run
-//! (`cloak_model`, `specs/Run`) to record and output, or a front of it where writing fails.
+//! (`cloak_model`, `specs/Run`) to record and output, or a front of it where writing fails. Other commands that make a
+//! run take `prepare_run`, which opens its machine from the files that the words name, or says why there is none;
+//! `Unheard`, which writes nothing; and `stop_status`.
 #![tactic(auto)]
 
 mod command;
 mod outlet;
 mod prepare;
 mod run;
+mod unheard;
 
 pub use command::run_command;
+pub use prepare::{Prepared, prepare_run};
+pub use run::stop_status;
+pub use unheard::Unheard;

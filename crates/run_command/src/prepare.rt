@@ -1,18 +1,20 @@
 //! A run that can begin, from the files that the words name.
-ghost use Rattle.std.specs.Prelude.{◌≡◌, ◌<◌, ◌-◌, ◌^◌, true, IfOk, length};
+ghost use Rattle.std.specs.Prelude.{◌≡◌, ◌<◌, ◌≤◌, ◌-◌, ◌^◌, ℕ, List, Option, true, IfOk, length};
 ghost use Rattle.cloak_machine.specs.Standing.{steps_made};
 ghost use Rattle.outside_io.specs.Told.{SameFiles};
 ghost use Rattle.program_parts.specs.Outside.{files};
 ghost use Rattle.run_command.specs.Preparing.{Prepares, ReadsStream};
-ghost use Rattle.command_words.specs.Request.{asked_of_run, randomness_of};
+ghost use Rattle.command_words.specs.Command.{asked_run};
+ghost use Rattle.command_words.specs.Request.{randomness_of};
 ghost use Rattle.std.specs.List.{AllByRecursion};
 ghost use Rattle.cloak_model.specs.declared.image.Program.{Program as ImageProgram};
 ghost use Rattle.cloak_model.specs.declared.image.Segment.{Segment as ImageSegment};
+ghost use Rattle.cloak_model.specs.Run.{most_steps};
 ghost use Rattle.item_law.specs.Writing.{AreBytes};
 
 use cloak_machine::{Machine, OpenFault};
 use cloak_model::{Bundle, Program, Segment, Sequence};
-use command_words::{Randomness, RunRequest};
+use command_words::Randomness;
 use outside_io::{Shelf, Stream};
 use program_parts::{Refusal, read_bundle, read_front};
 use std::alloc::Global;
@@ -73,24 +75,26 @@ fn open_stream<S: Shelf>(
     }
 }
 
-/// Prepares the run that is asked for.
-pub fn prepare<S: Shelf>(
+/// Prepares the run of the bundle of this name, whatever its steps are and whether it has a record.
+pub fn prepare_run<S: Shelf>(
     alloc: Global,
-    run: &RunRequest<'_>,
+    bundle_name: &str,
+    randomness: &Randomness<'_>,
     shelf: &mut S,
 ) -> Result<Prepared, Refusal>
     requires settled { S.is_settled shelf.old }
     requires reading { S.reading_faults shelf.old < 2 ^ 64 - 1 }
-    ensures prepares { Prepares (asked_of_run run.now)
+    ensures prepares { (record_name : Option (List ℕ)) (steps : ℕ) → steps ≤ most_steps →
+        Prepares (asked_run bundle_name.now record_name steps (randomness_of randomness.now))
         (files S.held S.reading_faults S.writing_faults shelf.old)
-        (files S.held S.reading_faults S.writing_faults shelf.new) run.now.record_name.now run.now.steps result }
+        (files S.held S.reading_faults S.writing_faults shelf.new) record_name steps result }
     ensures fresh { IfOk result (λ prepared. steps_made prepared.machine ≡ 0) }
 {
-    let bundle = match read_bundle(alloc, shelf, run.bundle) {
+    let bundle = match read_bundle(alloc, shelf, bundle_name) {
         Ok(bundle) => bundle,
         Err(refusal) => return Err(refusal),
     };
-    let stream = match open_stream(alloc, shelf, &run.randomness) {
+    let stream = match open_stream(alloc, shelf, randomness) {
         Ok(stream) => stream,
         Err(refusal) => return Err(refusal),
     };

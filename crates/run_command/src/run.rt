@@ -50,7 +50,7 @@ fn run_steps<S: Shelf, O: Sink>(
 }
 
 /// The status of a run that this stopped.
-fn status(stop: &Stop) -> Status
+pub fn stop_status(stop: &Stop) -> Status
     ensures { result ≡ status_of stop.now }
 {
     match *stop {
@@ -79,7 +79,7 @@ fn write_end<S: Shelf, O: Sink>(
     let end = machine.finish(stop, outlet);
     outlet.show(b"\n");
     outlet.report(&end);
-    status(&end.stop)
+    stop_status(&end.stop)
 }
 
 /// Makes a run of an image with these programs, whose record is begun, and writes it.

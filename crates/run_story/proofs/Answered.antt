@@ -33,7 +33,6 @@ by_line : {S O : Type 0} (bundle_name record_name : List ℕ) (before after : Ou
     ReadsJudging {A = Bundle} (before.files.held bundle_name) before.files.reading after.files.reading (Err r) →
     after.output.faults ≡ before.output.faults →
     ExplainAnswers bundle_name record_name before after (status_of_refusal r)
-by_line {S} {O} bundle_name record_name before after refusal.NotBuilt reads faults = absurd reads
 by_line {S} {O} bundle_name record_name before after (refusal.Usage fault) reads faults = absurd reads
 by_line {S} {O} bundle_name record_name before after (refusal.BadBundle fault) reads faults =
     (has_fault (before.files.held bundle_name) fault reads.1, faults)
@@ -67,7 +66,6 @@ shows_story {S} {O} bundle_name record_name before after status.WriteFault whole
 shows_story {S} {O} bundle_name record_name before after status.NoMemory whole shows = tt
 shows_story {S} {O} bundle_name record_name before after status.NoRandom whole shows = absurd shows
 shows_story {S} {O} bundle_name record_name before after status.BadRecord whole shows = absurd shows
-shows_story {S} {O} bundle_name record_name before after status.Unbuilt whole shows = absurd shows
 
 -- the line of an ending was shown
 shows_ending : {S O : Type 0} (bundle_name record_name : List ℕ) (before after : Outside S O) (ended : Ending)

@@ -1,20 +1,21 @@
 -- The table of shadow entries follows the fold over the events.
-use Rattle.std.proofs.Common.{◌≡◌, ◌==◌, ◌⊎◌, ℕ, nat_le, Bool, true, false, not, ◌&&◌, ◌||◌, List, [], ◌∷◌, length, filter, if◌then◌else◌, Option, Some, None, is_some, inl, inr, refl, sym, ap, subst, ◌∙◌}
+use Rattle.std.proofs.Common.{◌≡◌, ◌/◌, ◌==◌, ◌⊎◌, ℕ, nat_le, Bool, true, false, not, ◌&&◌, ◌||◌, List, [], ◌∷◌, length, filter, if◌then◌else◌, Option, Some, None, is_some, inl, inr, refl, sym, ap, subst, ◌∙◌}
 use Rattle.std.specs.List.{list_any}
-use Rattle.std.specs.List.Sorted.{IsPermutation}
 use Rattle.std.proofs.lemmas.Bool.{true≢false, false≢true}
 use Rattle.std.proofs.lemmas.Bool.Decides.{eqb_tells}
 use Rattle.cloak_base.specs.Pages.{same_page, is_of}
 use Rattle.cloak_base.specs.declared.names.Frame.{Frame}
 use Rattle.cloak_base.specs.declared.names.Kind.{Kind}
 use Rattle.cloak_base.specs.declared.names.PageId.{PageId}
+use Rattle.cloak_base.specs.declared.names.SpaceId.{SpaceId}
 use Rattle.shadow_fold.specs.declared.entry.Entry.{Entry}
 use Rattle.shadow_fold.specs.declared.entry.ShadowView.{ShadowView}
 use Rattle.shadow_fold.specs.Entries.{is_for, is_target, is_table, is_frame, is_of_space}
 use Rattle.shadow_fold.specs.Table.{Table, one_more, is_known, looked, ending, killed, emptied, with_room, with_live, born}
-use Rattle.shadow_fold.specs.Fold.{Event, Look, Touch, Offer, Born, Write, Drop, Space, Fold, holds, table_holds, part_holds, touched, touched_where, with_held, with_table, granted, offered, after_event, after_events}
-use Rattle.shadow_fold.specs.Following.{Follows, killed_if, killed_each, HasAll, AreOfferCalls, AreBirthCalls, AreCallsFor, AreCallsForAll}
-use Rattle.shadow_fold.proofs.Counting.{SameTests, same_from_permutation, same_cons, passing, same_filter, same_any, same_length}
+use Rattle.cloak_model.specs.Events.{Event, Look, Touch, Offer, Born, Write, Drop, Space}
+use Rattle.shadow_fold.specs.Fold.{Fold, frame, view_in, entry_in, is_own_table, born_unless, holds, table_holds, part_holds, touched, touched_where, with_held, with_table, granted, offered, after_event, after_events}
+use Rattle.shadow_fold.specs.Following.{Follows, killed_if, killed_each, HasAll, AreOfferCalls, AreBirthCalls, AreBirthCallsUnless, AreCallsFor, AreCallsForAll, CallsFollow}
+use Rattle.shadow_fold.proofs.Counting.{same_from_permutation, same_cons, passing, same_filter, same_any, same_length}
 
 follows_look : (v : ShadowView) (page : ℕ) (kind : Kind) (t u : Table) → Follows t u → Follows (looked v page kind t) (looked v page kind u)
 unfolding looked is_known
@@ -33,7 +34,7 @@ follows_end : (ends : Entry → Bool) (t u : Table) → Follows t u → Follows 
 unfolding ending
 follows_end ends t u f = record { live = same_filter _ _ _ f.live; counts = f.counts }
 
-follows_kill : (f : Frame) (t u : Table) → Follows t u → Follows (killed f t) (killed f u)
+pub follows_kill : (f : Frame) (t u : Table) → Follows t u → Follows (killed f t) (killed f u)
 follows_kill f t u g = follows_end (is_table f) _ _ (follows_end (is_target f) t u g)
 
 follows_kill_if : (b : Bool) (f : Frame) (t u : Table) → Follows t u → Follows (killed_if b f t) (killed_if b f u)
@@ -240,17 +241,28 @@ follows_offer q g grant s t t' f calls = by_test (holds (same_page q) (s.held g.
         subst (λ u. Follows u (granted q g grant s').table) (sym calls.2)
         (subst (Follows (killed_if grant g t2)) (sym (with_table_if grant g (Some q) s')) (follows_kill_if grant g t2 s'.table h))
 
-follows_event : (e : Event) (s : Fold) (t t' : Table) → Follows t s.table → AreCallsFor e s t t' → Follows t' (after_event e s).table
-unfolding after_event
-follows_event (Look view page kind) s t t' f calls = subst (λ u. Follows u (looked view page kind s.table)) (sym calls) (follows_look view page kind t s.table f)
-follows_event (Touch g) s t t' f calls = subst (λ u. Follows u (touched g s).table) (sym calls) (follows_touch g s t f)
-follows_event (Offer q g grant) s t t' f calls = follows_offer q g grant s t t' f calls
-follows_event (Born e) s t t' f calls = follows_birth e t s.table t' f calls
-follows_event (Write g) s t t' f calls = subst (λ u. Follows u (ending (is_table g) s.table)) (sym calls) (follows_end _ t s.table f)
-follows_event (Drop d resource) s t t' f calls = subst (λ u. Follows u (touched_where (is_of d resource) s).table) (sym calls.2) (follows_all (is_of d resource) calls.0 s t calls.1 f)
-follows_event (Space space) s t t' f calls = subst (λ u. Follows u (ending (is_of_space space) s.table)) (sym calls) (follows_end (is_of_space space) t s.table f)
+follows_birth_unless : (b : Bool) (e : Entry) (t u t' : Table) → Follows t u → AreBirthCallsUnless b e t t' → Follows t' (born_unless b e u)
+follows_birth_unless true e t u t' f calls = subst (λ x. Follows x u) (sym calls) f
+follows_birth_unless false e t u t' f calls = follows_birth e t u t' f calls
 
-pub follows_events : (events : List Event) (s : Fold) (t t' : Table) → Follows t s.table → AreCallsForAll events s t t' → Follows t' (after_events events s).table
-unfolding after_events
-follows_events [] s t t' f calls = subst (λ u. Follows u s.table) (sym calls) f
-follows_events (e ∷ events) s t t' f calls = follows_events events (after_event e s) calls.0 t' (follows_event e s t calls.0 f calls.1) calls.2
+module _ (space : Option SpaceId) where
+  pub follows_event : (e : Event) (s : Fold) (t t' : Table) → Follows t s.table → AreCallsFor space e s t t' → Follows t' (after_event space e s).table
+  unfolding after_event
+  follows_event (Look satp a) s t t' f calls =
+      let view = view_in space satp a in
+      subst (λ u. Follows u (looked view (a.va / 4096) a.kind s.table)) (sym calls) (follows_look view (a.va / 4096) a.kind t s.table f)
+  follows_event (Touch g) s t t' f calls = subst (λ u. Follows u (touched (frame g) s).table) (sym calls) (follows_touch (frame g) s t f)
+  follows_event (Offer q g grant) s t t' f calls = follows_offer q (frame g) grant s t t' f calls
+  follows_event (Born satp a walked cloaked) s t t' f calls =
+      let e = entry_in space satp a walked cloaked in follows_birth_unless (is_own_table e) e t s.table t' f calls
+  follows_event (Write g) s t t' f calls = subst (λ u. Follows u (ending (is_table (frame g)) s.table)) (sym calls) (follows_end _ t s.table f)
+  follows_event (Drop d resource) s t t' f calls = subst (λ u. Follows u (touched_where (is_of d resource) s).table) (sym calls.2) (follows_all (is_of d resource) calls.0 s t calls.1 f)
+  follows_event (Space changed) s t t' f calls = subst (λ u. Follows u (ending (is_of_space changed) s.table)) (sym calls) (follows_end (is_of_space changed) t s.table f)
+
+  follows_all_events : (events : List Event) (s : Fold) (t t' : Table) → Follows t s.table → AreCallsForAll space events s t t' → Follows t' (after_events space events s).table
+  unfolding after_events
+  follows_all_events [] s t t' f calls = subst (λ u. Follows u s.table) (sym calls) f
+  follows_all_events (e ∷ events) s t t' f calls = follows_all_events events (after_event space e s) calls.0 t' (follows_event e s t calls.0 f calls.1) calls.2
+
+pub follows_events : CallsFollow
+follows_events space events s t t' f calls = follows_all_events space events s t t' f calls

@@ -3,6 +3,8 @@ use Rattle.std.proofs.Common.{refl}
 use Rattle.rv_isa.specs.Table as table
 use Rattle.cloak_base.specs.Pages as pages
 use Rattle.cloak_base.specs.Registers as registers
+use Rattle.cloak_model.specs.Ahead as ahead
+use Rattle.cloak_model.specs.Cloaking as cloaking
 use Rattle.cloak_model.specs.Effect as effect
 use Rattle.cloak_model.specs.Csr as csr
 use Rattle.cloak_model.specs.Hart as hart
@@ -10,11 +12,14 @@ use Rattle.cloak_model.specs.Walk as walk
 use Rattle.cloak_model.specs.Ask as ask
 use Rattle.cloak_model.specs.HartStep as hart_step
 use Rattle.cloak_model.specs.HostCalls as host_calls
+use Rattle.cloak_model.specs.Joint as joint
 use Rattle.cloak_model.specs.KernelStep as kernel_step
+use Rattle.cloak_model.specs.Opening as opening
+use Rattle.cloak_model.specs.Run as run
+use Rattle.cloak_model.specs.Touched as touched
 use Rattle.shadow_fold.specs.Entries as entries
 use Rattle.shadow_fold.specs.Events as events
 use Rattle.shadow_fold.specs.Fold as fold
-use Rattle.shadow_fold.specs.Rows as rows
 use Rattle.shadow_fold.specs.Rows.{SmallestRun, ThreeKinds}
 use Rattle.shadow_fold.specs.Table as shadows
 
@@ -25,19 +30,23 @@ unfolding
     registers.zero_registers
     effect.effect csr.with_pending csr.csr_read csr.csr_write csr.trap_entry csr.trap_return csr.interrupt_due
     hart.started walk.first_leaf walk.second_leaf walk.first_word walk.second_word walk.walk walk.walk_tables
-    ask.ask_word ask.ask_second ask.ask_after ask.ask_first ask.ask_walk ask.ask_inside ask.ask_translate
-    ask.ask_count ask.ask_value ask.ask_store ask.ask_frame ask.ask_fill hart_step.raised
+    ask.ask_word ask.ask_second ask.ask_after ask.ask_first ask.ask_walk ask.ask_inside ask.ask_translate ask.ask_led
+    ask.ask_count ask.ask_value ask.ask_store ask.loaded_at ask.ask_load ask.stored_to ask.ask_store_at
+    ask.ask_frame ask.ask_fill hart_step.raised
     hart_step.csr_written hart_step.csr_found hart_step.csr_step hart_step.returned hart_step.idle hart_step.system
     host_calls.put_call host_calls.timer_call host_calls.halt_call host_calls.read_block host_calls.write_block
     host_calls.read_call host_calls.write_call host_calls.host_call host_calls.resumed host_calls.ecall_in
     host_calls.ecall kernel_step.carried_out kernel_step.instruction_step kernel_step.ticked kernel_step.kernel_step
+    cloaking.settle_owed cloaking.settle_if cloaking.settle
+    touched.access_frames touched.transfer_frames touched.effect_frames touched.touched_after touched.touched
+    ahead.settle_while ahead.settle_touched ahead.made_after ahead.settled_step
+    opening.started_ledger
+    joint.outside_ended joint.after_outside joint.outside_step joint.turn_of joint.joint_step run.turns_from
     pages.same_page pages.is_of
     entries.is_for entries.is_target entries.is_table entries.is_of_space
-    events.open_events events.page_events events.transfer_events events.effect_events events.events_after
-    events.outside_events
+    events.after_step events.after_turns
     shadows.is_known shadows.looked shadows.ending shadows.emptied shadows.with_room shadows.born
     fold.part_holds fold.touched_where fold.touched fold.offered fold.after_event fold.after_events
-    rows.stepped rows.steps
 counted_steps = tt
 
 pub smallest_run : SmallestRun

@@ -1,32 +1,21 @@
 -- Shadow entries and their counts as a fold over the shadow events of a run.
 --
 -- A frame that holds a page is plain, every other is outside. Events end the entries that they may change.
-use Rattle.std.specs.Prelude.{ℕ, ◌==◌, Bool, false, ◌||◌, List, [], ◌∷◌, Option, Some, None, is_some, if◌then◌else◌}
+use Rattle.std.specs.Prelude.{ℕ, ◌/◌, ◌==◌, Bool, true, false, ◌&&◌, ◌||◌, List, [], ◌∷◌, Option, Some, None, is_some, if◌then◌else◌}
 use Rattle.cloak_base.specs.Pages.{same_page, is_of}
 use Rattle.cloak_base.specs.declared.names.Frame.{Frame}
 use Rattle.cloak_base.specs.declared.names.Kind.{Kind}
 use Rattle.cloak_base.specs.declared.names.PageId.{PageId}
 use Rattle.cloak_base.specs.declared.names.SpaceId.{SpaceId}
+use Rattle.cloak_model.specs.declared.access.Access.{Access}
+use Rattle.cloak_model.specs.declared.access.Walked.{Walked}
+use Rattle.cloak_model.specs.Events.{Event, Look, Touch, Offer, Born, Write, Drop, Space}
+use Rattle.cloak_model.specs.Walk.{frame_at}
 use Rattle.shadow_fold.specs.declared.entry.Entry.{Entry}
 use Rattle.shadow_fold.specs.declared.entry.ShadowView.{ShadowView}
+use Rattle.shadow_fold.specs.declared.entry.ShadowView.TheVariants.{Outside, Inside}
 use Rattle.shadow_fold.specs.Entries.{is_table, is_of_space}
 use Rattle.shadow_fold.specs.Table.{Table, empty_table, looked, ending, killed, born}
-
-pub data Event : Type 0 where
-  -- a translation is asked for
-  Look : ShadowView → ℕ → Kind → Event
-  -- a frame is made outside
-  Touch : Frame → Event
-  -- a page is offered in a frame, and that is granted or not
-  Offer : PageId → Frame → Bool → Event
-  -- an entry becomes live
-  Born : Entry → Event
-  -- a byte of a frame is written
-  Write : Frame → Event
-  -- a resource of a domain is dropped
-  Drop : ℕ → ℕ → Event
-  -- the regions of a space changed, or it ended
-  Space : SpaceId → Event
 
 pub record Fold : Type 0 where
   -- the live entries, the newest first, and the counts
@@ -79,16 +68,50 @@ offered q g grant s =
     if holds (same_page q) (s.held g.0) then s
     else granted q g grant (touched_where (same_page q) (touched g s))
 
-unfoldable pub after_event : Event → Fold → Fold
-after_event (Look view page kind) s = with_table (looked view page kind s.table) s
-after_event (Touch f) s = touched f s
-after_event (Offer q g grant) s = offered q g grant s
-after_event (Born e) s = with_table (born e s.table) s
-after_event (Write f) s = with_table (ending (is_table f) s.table) s
-after_event (Drop d resource) s = touched_where (is_of d resource) s
-after_event (Space space) s = with_table (ending (is_of_space space) s.table) s
+-- who translates: a hart outside, or one inside, whose context has this space
+abbrev pub view_in : Option SpaceId → ℕ → Access → ShadowView
+view_in None satp a = Outside satp a.mode a.sum a.mxr
+view_in (Some space) satp a = Inside satp a.sum a.mxr space
 
--- what is live and counted behind these events
-unfoldable pub after_events : List Event → Fold → Fold
-after_events [] s = s
-after_events (e ∷ events) s = after_events events (after_event e s)
+-- the entry of a walk
+abbrev pub entry_of : ShadowView → ℕ → Kind → Walked → Option PageId → Entry
+entry_of view page kind walked cloaked = record {
+  view = view;
+  page = page;
+  kind = kind;
+  frame = frame_at walked.pa;
+  pt1 = walked.pt1;
+  pt0 = walked.pt0;
+  cloaked = cloaked;
+}
+
+-- the entry of the walk of an access
+abbrev pub entry_in : Option SpaceId → ℕ → Access → Walked → Option PageId → Entry
+entry_in space satp a walked cloaked = entry_of (view_in space satp a) (a.va / 4096) a.kind walked cloaked
+
+-- an entry whose page lies in one of its own table frames never becomes live
+abbrev pub is_own_table : Entry → Bool
+is_own_table e = is_some e.cloaked && is_table e.frame e
+
+abbrev pub born_unless : Bool → Entry → Table → Table
+born_unless true e t = t
+born_unless false e t = born e t
+
+abbrev pub frame : ℕ → Frame
+frame f = record { 0 = f }
+
+-- an event of a step of a hart outside, or of a context that has a space
+unfoldable pub after_event : Option SpaceId → Event → Fold → Fold
+after_event space (Look satp a) s = with_table (looked (view_in space satp a) (a.va / 4096) a.kind s.table) s
+after_event space (Touch f) s = touched (frame f) s
+after_event space (Offer q g grant) s = offered q (frame g) grant s
+after_event space (Born satp a walked cloaked) s =
+    let e = entry_in space satp a walked cloaked in with_table (born_unless (is_own_table e) e s.table) s
+after_event space (Write f) s = with_table (ending (is_table (frame f)) s.table) s
+after_event space (Drop d resource) s = touched_where (is_of d resource) s
+after_event space (Space changed) s = with_table (ending (is_of_space changed) s.table) s
+
+-- what is live and counted behind the events of a step
+unfoldable pub after_events : Option SpaceId → List Event → Fold → Fold
+after_events space [] s = s
+after_events space (e ∷ events) s = after_events space events (after_event space e s)

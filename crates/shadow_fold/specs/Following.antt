@@ -1,14 +1,16 @@
 -- A table follows the fold where it is told of each event by these calls.
-use Rattle.std.specs.Prelude.{ℕ, ◌≡◌, ◌==◌, Bool, true, false, List, [], ◌∷◌, length, filter, is_some, Option, if◌then◌else◌}
+use Rattle.std.specs.Prelude.{ℕ, ◌/◌, ◌≡◌, ◌==◌, Bool, true, false, List, [], ◌∷◌, length, filter, is_some, Option, if◌then◌else◌}
 use Rattle.std.specs.List.{list_any}
 use Rattle.std.specs.List.Sorted.{IsPermutation}
 use Rattle.cloak_base.specs.Pages.{same_page, is_of}
 use Rattle.cloak_base.specs.declared.names.Frame.{Frame}
 use Rattle.cloak_base.specs.declared.names.PageId.{PageId}
+use Rattle.cloak_base.specs.declared.names.SpaceId.{SpaceId}
 use Rattle.shadow_fold.specs.declared.entry.Entry.{Entry}
 use Rattle.shadow_fold.specs.Entries.{is_table, is_of_space}
 use Rattle.shadow_fold.specs.Table.{Table, is_known, looked, ending, killed, with_room, with_live}
-use Rattle.shadow_fold.specs.Fold.{Event, Look, Touch, Offer, Born, Write, Drop, Space, Fold, holds, touched, after_event, after_events}
+use Rattle.cloak_model.specs.Events.{Event, Look, Touch, Offer, Born, Write, Drop, Space}
+use Rattle.shadow_fold.specs.Fold.{Fold, frame, view_in, entry_in, is_own_table, holds, touched, after_event, after_events}
 
 -- the same entries are live, in any order, as no test can tell them apart, and the counts are the same
 pub record Follows (t u : Table) : Type 0 where
@@ -41,24 +43,31 @@ abbrev pub AreBirthCalls : Bool → Entry → Table → Table → Type 0
 AreBirthCalls true e t t' = t' ≡ t
 AreBirthCalls false e t t' = IsPermutation (e ∷ (with_room t).live) t'.live × (t' ≡ with_live t'.live (with_room t))
 
--- the calls for an event, behind the events that led to s, make t' of a table t
-abbrev pub AreCallsFor : Event → Fold → Table → Table → Type 0
-AreCallsFor (Look view page kind) s t t' = t' ≡ looked view page kind t
-AreCallsFor (Touch f) s t t' = t' ≡ killed_if (is_some (s.held f.0)) f t
-AreCallsFor (Offer q g grant) s t t' = AreOfferCalls (holds (same_page q) (s.held g.0)) q g grant s t t'
-AreCallsFor (Born e) s t t' = AreBirthCalls (is_known e.view e.page e.kind t) e t t'
-AreCallsFor (Write f) s t t' = t' ≡ ending (is_table f) t
-AreCallsFor (Drop d resource) s t t' =
-    (fs : List Frame) × HasAll s.held (is_of d resource) fs × (t' ≡ killed_each s.held (is_of d resource) fs t)
-AreCallsFor (Space space) s t t' = t' ≡ ending (is_of_space space) t
+-- the same, unless the entry is one that never becomes live
+abbrev pub AreBirthCallsUnless : Bool → Entry → Table → Table → Type 0
+AreBirthCallsUnless true e t t' = t' ≡ t
+AreBirthCallsUnless false e t t' = AreBirthCalls (is_known e.view e.page e.kind t) e t t'
 
--- the same for events one after another
-abbrev pub AreCallsForAll : List Event → Fold → Table → Table → Type 0
-AreCallsForAll [] s t t' = t' ≡ t
-AreCallsForAll (e ∷ events) s t t' =
-    (u : Table) × AreCallsFor e s t u × AreCallsForAll events (after_event e s) u t'
+module _ (space : Option SpaceId) where
+  -- the calls for an event of a step of a hart outside, or of a context that has a space, behind the events that led to s, make t' of a table t
+  abbrev pub AreCallsFor : Event → Fold → Table → Table → Type 0
+  AreCallsFor (Look satp a) s t t' = t' ≡ looked (view_in space satp a) (a.va / 4096) a.kind t
+  AreCallsFor (Touch f) s t t' = t' ≡ killed_if (is_some (s.held f)) (frame f) t
+  AreCallsFor (Offer q g grant) s t t' = AreOfferCalls (holds (same_page q) (s.held g)) q (frame g) grant s t t'
+  AreCallsFor (Born satp a walked cloaked) s t t' =
+      let e = entry_in space satp a walked cloaked in AreBirthCallsUnless (is_own_table e) e t t'
+  AreCallsFor (Write f) s t t' = t' ≡ ending (is_table (frame f)) t
+  AreCallsFor (Drop d resource) s t t' =
+      (fs : List Frame) × HasAll s.held (is_of d resource) fs × (t' ≡ killed_each s.held (is_of d resource) fs t)
+  AreCallsFor (Space changed) s t t' = t' ≡ ending (is_of_space changed) t
 
--- The law: a table that followed the fold follows it behind the events.
+  -- the same for events one after another
+  abbrev pub AreCallsForAll : List Event → Fold → Table → Table → Type 0
+  AreCallsForAll [] s t t' = t' ≡ t
+  AreCallsForAll (e ∷ events) s t t' =
+      (u : Table) × AreCallsFor e s t u × AreCallsForAll events (after_event space e s) u t'
+
+-- The law: a table that followed the fold follows it behind the events of a step.
 abbrev pub CallsFollow : Type 0
-CallsFollow = (events : List Event) (s : Fold) (t t' : Table) → Follows t s.table → AreCallsForAll events s t t'
-    → Follows t' (after_events events s).table
+CallsFollow = (space : Option SpaceId) (events : List Event) (s : Fold) (t t' : Table) → Follows t s.table
+    → AreCallsForAll space events s t t' → Follows t' (after_events space events s).table

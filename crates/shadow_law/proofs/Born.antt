@@ -1,19 +1,17 @@
 -- The entry of a miss agrees: it is of the page's start.
-use Rattle.std.proofs.Common.{◌≡◌, ◌∙◌, ℕ, ◌+◌, ◌-◌, ◌*◌, ◌/◌, ◌%◌, ◌<◌, ◌≤◌, inl, inr, Bool, true, false, not, ◌&&◌, cond, List, length, Option, Some, None, Ok, Err, refl, sym, ap, subst, arith, nat_le, nat_lt}
-use Rattle.std.specs.Prelude.{◌==◌, IfSome}
-use Rattle.std.proofs.lemmas.Bool.{false≢true, leb-true, ltb-true}
+use Rattle.std.proofs.Common.{◌≡◌, ◌∙◌, ℕ, ◌+◌, ◌*◌, ◌/◌, ◌%◌, ◌≤◌, Bool, true, false, not, cond, List, Option, Some, None, Ok, Err, refl, sym, ap, subst, arith, nat_le}
+use Rattle.std.proofs.lemmas.Bool.{leb-true}
 use Rattle.rv_isa.specs.Fields.{bits}
 use Rattle.cloak_base.specs.declared.names.Kind.{Kind}
 use Rattle.cloak_base.specs.declared.names.PageId.{PageId}
 use Rattle.cloak_model.specs.declared.access.Access.{Access}
 use Rattle.cloak_model.specs.declared.access.Walked.{Walked}
 use Rattle.cloak_model.specs.Memory.{frame_of, is_in_ram}
-use Rattle.cloak_model.specs.Walk.{Walk, FirstWord, Ends, GoesOn, has_paging, without_paging, frame_at, first_entry, second_entry, is_valid, is_pointer, is_plain_pointer, allows, page_fault, first_leaf, second_leaf, first_word, second_word, word_in_ram, walk_after, walk}
-use Rattle.shadow_fold.specs.declared.entry.Entry.{Entry}
+use Rattle.cloak_model.specs.Walk.{Walk, FirstWord, Ends, GoesOn, has_paging, first_entry, is_valid, is_pointer, is_plain_pointer, first_leaf, second_leaf, first_word, second_word, word_in_ram, walk_after, walk}
 use Rattle.shadow_fold.specs.declared.entry.ShadowView.{ShadowView}
 use Rattle.shadow_fold.specs.declared.entry.ShadowView.TheVariants.{Outside, Inside}
 use Rattle.shadow_fold.specs.Agreement.{Present, EntryAgrees, TargetAgrees, satp_in, access_in, start_of}
-use Rattle.shadow_fold.specs.Events.{entry_of}
+use Rattle.shadow_fold.specs.Fold.{entry_of}
 use Rattle.shadow_fold.proofs.Keys.{and_true}
 use Rattle.shadow_law.specs.Walks.{moved, page_access}
 use Rattle.shadow_law.specs.Agreeing.{AreOutside}
@@ -109,7 +107,7 @@ start_place from pa va further even low = omega (arith, further, even, low)
 
 pub born_agrees : (p : Present) (view : ShadowView) (va : ℕ) (kind : Kind) (w : Walked) (cloaked : Option PageId)
     → walk p.ram (satp_in view) (access_in view va kind) ≡ Ok w → is_in_ram p.ram w.pa ≡ true → AreOutside p.held w
-    → TargetAgrees p (entry_of p.ram view va kind w cloaked) cloaked → EntryAgrees p (entry_of p.ram view va kind w cloaked)
+    → TargetAgrees p (entry_of view (va / 4096) kind w cloaked) cloaked → EntryAgrees p (entry_of view (va / 4096) kind w cloaked)
 born_agrees p view va kind w cloaked leads inside out target =
     let a = access_in view va kind in
     let to_page : walk p.ram (satp_in view) a ≡ moved (va % 4096) (walk p.ram (satp_in view) (access_in view (4096 * (va / 4096)) kind)) =

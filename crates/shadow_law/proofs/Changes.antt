@@ -1,5 +1,5 @@
 -- What an entry depends on, and what each change of memory leaves of it.
-use Rattle.std.proofs.Common.{◌≡◌, ◌≢◌, ◌∙◌, ℕ, ◌*◌, ◌<◌, inl, inr, ◌⊎◌, Bool, true, false, ◌&&◌, ◌||◌, cond, List, [], ◌∷◌, ◌++◌, length, Option, Some, None, refl, sym, ap, subst, nat_lt}
+use Rattle.std.proofs.Common.{◌≡◌, ◌≢◌, ◌∙◌, ℕ, ◌*◌, ◌<◌, inl, inr, Bool, true, false, ◌||◌, cond, List, [], ◌++◌, length, Option, Some, None, refl, sym, ap, subst, nat_lt}
 use Rattle.std.specs.Prelude.{◌==◌, slice_index_or, slice_set, IfSome}
 use Rattle.std.specs.List.{position_or_len}
 use Rattle.std.specs.Str.{bytes_eq}
@@ -12,7 +12,6 @@ use Rattle.cloak_base.specs.Random.{Random}
 use Rattle.cloak_base.specs.Pages.{same_page}
 use Rattle.cloak_base.proofs.Pages.{same_page_tells, same_page-self}
 use Rattle.cloak_base.specs.declared.names.Frame.{Frame}
-use Rattle.cloak_base.specs.declared.names.Kind.TheVariants.{Store}
 use Rattle.cloak_base.specs.declared.names.PageId.{PageId}
 use Rattle.cloak_base.specs.declared.names.SpaceId.{SpaceId}
 use Rattle.cloak_model.specs.Contexts.{same_space}
@@ -21,10 +20,10 @@ use Rattle.cloak_model.specs.Cloaking.{CloakedMemory, AfterSettling, AfterOffer,
 use Rattle.shadow_fold.specs.declared.entry.Entry.{Entry}
 use Rattle.shadow_fold.specs.declared.entry.ShadowView.{ShadowView}
 use Rattle.shadow_fold.specs.declared.entry.ShadowView.TheVariants.{Outside, Inside}
-use Rattle.shadow_fold.specs.Agreement.{Present, EntryAgrees, TargetAgrees, HasInSpace, IsMapped}
+use Rattle.shadow_fold.specs.Agreement.{EntryAgrees, TargetAgrees, HasInSpace, IsMapped}
 use Rattle.shadow_fold.specs.Entries.{is_target, is_frame, is_table, sees_space, is_of_space}
 use Rattle.shadow_fold.specs.Fold.{holds, table_holds, part_holds}
-use Rattle.shadow_law.specs.Walks.{IsSame, HaveSameTables}
+use Rattle.shadow_law.specs.Walks.{IsSame}
 use Rattle.shadow_law.specs.Agreeing.{Held, present, frame, OwedIsHeld}
 use Rattle.shadow_law.proofs.Walks.{walk_kept}
 

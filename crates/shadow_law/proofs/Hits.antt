@@ -1,9 +1,8 @@
 -- At a hit the walk gives what the entry says, and settles nothing.
-use Rattle.std.proofs.Common.{◌≡◌, ◌≢◌, ◌∙◌, ℕ, ◌+◌, ◌-◌, ◌*◌, ◌/◌, ◌%◌, ◌<◌, ◌≤◌, Bool, true, false, not, ◌&&◌, ◌||◌, cond, List, [], ◌∷◌, ◌++◌, length, Option, Some, None, Result, Ok, Err, refl, sym, ap, subst, arith, nat_le, nat_lt, append-nil}
+use Rattle.std.proofs.Common.{◌≡◌, ◌≢◌, ◌∙◌, ℕ, ◌+◌, ◌*◌, ◌/◌, ◌%◌, ◌<◌, ◌≤◌, Bool, true, false, not, ◌&&◌, ◌||◌, cond, List, [], ◌∷◌, ◌++◌, length, Option, Some, None, Result, Ok, Err, refl, sym, ap, subst, arith, nat_le, nat_lt, append_assoc, append-nil}
 use Rattle.std.specs.Prelude.{IfSome, slice_index_or}
-use Rattle.std.specs.List.{position_or_len}
 use Rattle.std.specs.Str.{bytes_eq}
-use Rattle.std.proofs.lemmas.Bool.{false≢true, le-leb, lt-ltb, ltb-true}
+use Rattle.std.proofs.lemmas.Bool.{le-leb, lt-ltb}
 use Rattle.std.proofs.lemmas.Option.{none-some}
 use Rattle.std.proofs.lemmas.Slice.Eq.{bytes_eq-Decides}
 use Rattle.cloak_base.proofs.Pages.{same_page-self}
@@ -19,14 +18,14 @@ use Rattle.cloak_model.specs.AskPages.{is_store}
 use Rattle.cloak_model.specs.Asking.{Told}
 use Rattle.cloak_model.specs.Cloaking.{CloakedMemory, AfterSettling, AfterOffer, Ready, Mismatch, owed_in, owes, owing_frame, settle, settle_if, settle_frame_if, with_comparison, is_clash, taken, compared, unless_missed, offer}
 use Rattle.cloak_model.specs.Memory.{frame_of, is_in_ram, value_at}
-use Rattle.cloak_model.specs.Walk.{Walk, FirstWord, Ends, GoesOn, has_paging, without_paging, frame_at, first_entry, first_word, second_word, word_in_ram, walk_after, walk, access_fault}
-use Rattle.cloak_model.specs.World.{World, Cloak, Cloaked, settled, cipher_items}
+use Rattle.cloak_model.specs.Walk.{Walk, FirstWord, Ends, GoesOn, has_paging, without_paging, frame_at, first_entry, first_word, second_word, word_in_ram, walk, access_fault}
+use Rattle.cloak_model.specs.World.{World, Cloak, Cloaked, noted, settled, cipher_items}
+use Rattle.cloak_model.specs.Events.{Event, Touch}
 use Rattle.shadow_fold.specs.declared.entry.Entry.{Entry}
-use Rattle.shadow_fold.specs.declared.entry.ShadowView.{ShadowView}
-use Rattle.shadow_fold.specs.Agreement.{Present, EntryAgrees, TargetAgrees, satp_in, access_in, start_of}
-use Rattle.shadow_law.specs.Walks.{moved, page_access}
-use Rattle.shadow_law.specs.Agreeing.{Held, present, OwedIsHeld, CleanIsShown}
-use Rattle.shadow_law.proofs.Walks.{Leads, Bare, One, Two, walk_leads, walk_of_page}
+use Rattle.shadow_fold.specs.Agreement.{EntryAgrees, TargetAgrees, satp_in, access_in, start_of}
+use Rattle.shadow_law.specs.Walks.{listed, tables_of, moved}
+use Rattle.shadow_law.specs.Agreeing.{Held, present, OwedIsHeld, CleanIsShown, touches}
+use Rattle.shadow_law.proofs.Walks.{Leads, Bare, One, Two, listed_one, listed_two, walk_leads, walk_of_page}
 use Rattle.shadow_law.proofs.Born.{page_of_access, va_of_access}
 use Rattle.shadow_law.proofs.Changes.{owing_at}
 
@@ -36,18 +35,23 @@ pub untouched : (f : ℕ) (m : CloakedMemory) → owed_in m f ≡ None → settl
 unfolding settle settle_if
 untouched f m clean = ap (λ (o : Option PageId). settle_if f o m) clean
 
-still : (f : ℕ) (c : Cloak) → owed_in c.memory f ≡ None → settled f (Cloaked c) ≡ Cloaked c
+-- the memory with these events more
+abbrev after : List Event → Cloak → Cloak
+after events c = record c { events = c.events ++ events }
+
+still : (f : ℕ) (c : Cloak) → owed_in c.memory f ≡ None → settled f (Cloaked c) ≡ Cloaked (after (Touch f ∷ []) c)
 still f c clean =
-    ap (λ (s : AfterSettling). Cloaked (record c { memory = s.memory; items = c.items ++ cipher_items s.ciphers })) (untouched f c.memory clean)
-    ∙ ap (λ (items : List Item). Cloaked (record c { items = items })) (append-nil c.items)
+    ap (λ (s : AfterSettling). Cloaked (record (after (Touch f ∷ []) c) { memory = s.memory; items = c.items ++ cipher_items s.ciphers })) (untouched f c.memory clean)
+    ∙ ap (λ (items : List Item). Cloaked (record (after (Touch f ∷ []) c) { items = items })) (append-nil c.items)
 
 word_still : (at : ℕ) (c : Cloak) → is_in_ram c.memory.ram at ≡ true → owed_in c.memory (frame_of at) ≡ None
-    → ask_word at (Cloaked c) ≡ record { answer = word_in_ram c.memory.ram at; world = Cloaked c }
+    → ask_word at (Cloaked c) ≡ record { answer = word_in_ram c.memory.ram at; world = Cloaked (after (Touch (frame_of at) ∷ []) c) }
 unfolding ask_word
 word_still at c inside clean =
+    let then = after (Touch (frame_of at) ∷ []) c in
     ap (λ (b : Bool). cond b (shown_word at (settled (frame_of at) (Cloaked c))) (let t : Told (Option ℕ) = record { answer = None; world = Cloaked c } in t)) inside
     ∙ ap (λ (w : World). shown_word at w) (still (frame_of at) c clean)
-    ∙ ap (λ (b : Bool). let t : Told (Option ℕ) = record { answer = cond b (Some (value_at c.memory.ram at 4)) None; world = Cloaked c } in t) (sym inside)
+    ∙ ap (λ (b : Bool). let t : Told (Option ℕ) = record { answer = cond b (Some (value_at c.memory.ram at 4)) None; world = Cloaked then } in t) (sym inside)
 
 -- the table frames of a walk are owed nothing
 record AreClean (m : CloakedMemory) (w : Walked) : Type 0 where
@@ -65,28 +69,33 @@ paged_if satp a c paging =
 first_still : (satp : ℕ) (a : Access) (c : Cloak) (first : FirstWord) → has_paging satp ≡ true
     → is_in_ram c.memory.ram (first_entry satp a.va) ≡ true → owed_in c.memory (frame_of (first_entry satp a.va)) ≡ None
     → first_word a (first_entry satp a.va) (word_in_ram c.memory.ram (first_entry satp a.va)) ≡ first
-    → ask_walk satp a (Cloaked c) ≡ ask_after a (first_entry satp a.va) first (Cloaked c)
+    → ask_walk satp a (Cloaked c) ≡ ask_after a (first_entry satp a.va) first (Cloaked (after (Touch (frame_of (first_entry satp a.va)) ∷ []) c))
 unfolding ask_first
 first_still satp a c first paging inside clean word =
     let at1 = first_entry satp a.va in
     paged_if satp a c paging
     ∙ ap (λ (t : Told (Option ℕ)). ask_after a at1 (first_word a at1 t.answer) t.world) (word_still at1 c inside clean)
-    ∙ ap (λ f. ask_after a at1 f (Cloaked c)) word
+    ∙ ap (λ f. ask_after a at1 f (Cloaked (after (Touch (frame_of at1) ∷ []) c))) word
 
 leads_still : (satp : ℕ) (a : Access) (c : Cloak) (w : Walked) → AreClean c.memory w → Leads c.memory.ram satp a w
-    → ask_walk satp a (Cloaked c) ≡ record { answer = Ok w; world = Cloaked c }
+    → ask_walk satp a (Cloaked c) ≡ record { answer = Ok w; world = Cloaked (after (touches (tables_of w)) c) }
 unfolding ask_walk ask_after ask_second
 leads_still satp a c w clean (Bare paging is) =
     ap (λ (b : Bool). cond b (ask_first a (first_entry satp a.va) (Cloaked c)) (let t : Told Walk = record { answer = without_paging a; world = Cloaked c } in t)) paging
-    ∙ ap (λ (v : Walked). let t : Told Walk = record { answer = Ok v; world = Cloaked c } in t) (sym is)
+    ∙ ap (λ (events : List Event). let t : Told Walk = record { answer = without_paging a; world = Cloaked (record c { events = events }) } in t) (sym (append-nil c.events))
+    ∙ ap (λ (v : Walked). let t : Told Walk = record { answer = Ok v; world = Cloaked (after (touches (tables_of v)) c) } in t) (sym is)
 leads_still satp a c w clean (One paging h) =
     first_still satp a c (Ends (Ok w)) paging h.inside (clean_at c.memory w.pt1 (frame_at (first_entry satp a.va)) clean.first h.pt1) h.word
+    ∙ ap (λ (fs : List ℕ). let t : Told Walk = record { answer = Ok w; world = Cloaked (after (touches fs) c) } in t) (sym (listed_one w.pt1 w.pt0 _ h.pt1 h.pt0))
 leads_still satp a c w clean (Two paging h) =
     let at1 = first_entry satp a.va in
+    let c' = after (Touch (frame_of at1) ∷ []) c in
     first_still satp a c (GoesOn h.at0) paging h.inside (clean_at c.memory w.pt1 (frame_at at1) clean.first h.pt1) h.word
     ∙ ap (λ (t : Told (Option ℕ)). let u : Told Walk = record { answer = second_word a at1 h.at0 t.answer; world = t.world } in u)
-    (word_still h.at0 c h.inside0 (clean_at c.memory w.pt0 (frame_at h.at0) clean.second h.pt0))
-    ∙ ap (λ (v : Walk). let u : Told Walk = record { answer = v; world = Cloaked c } in u) h.word0
+    (word_still h.at0 c' h.inside0 (clean_at c.memory w.pt0 (frame_at h.at0) clean.second h.pt0))
+    ∙ ap (λ (v : Walk). let u : Told Walk = record { answer = v; world = Cloaked (after (Touch (frame_of h.at0) ∷ []) c') } in u) h.word0
+    ∙ ap (λ (events : List Event). let u : Told Walk = record { answer = Ok w; world = Cloaked (record c { events = events }) } in u) (append_assoc c.events (Touch (frame_of at1) ∷ []) (Touch (frame_of h.at0) ∷ []))
+    ∙ ap (λ (fs : List ℕ). let u : Told Walk = record { answer = Ok w; world = Cloaked (after (touches fs) c) } in u) (sym (listed_two w.pt1 w.pt0 _ _ h.pt1 h.pt0))
 
 -- what is not held is owed nothing
 not_owed : (held : Held) (m : CloakedMemory) (f : ℕ) → OwedIsHeld held m → held f ≡ None → owed_in m f ≡ None
@@ -108,7 +117,7 @@ below_frames n f k low small =
 
 pub hit_is_walk : (held : Held) (c : Cloak) (e : Entry) (va : ℕ) → OwedIsHeld held c.memory
     → EntryAgrees (present held c.memory) e → va / 4096 ≡ e.page → e.frame.0 < length c.memory.ram
-    → ask_translate (satp_in e.view) (access_in e.view va e.kind) (Cloaked c) ≡ record { answer = Ok (start_of e.frame.0 + va % 4096); world = Cloaked c }
+    → ask_translate (satp_in e.view) (access_in e.view va e.kind) (Cloaked c) ≡ record { answer = Ok (start_of e.frame.0 + va % 4096); world = noted (touches (listed e.pt1 ++ listed e.pt0)) (Cloaked c) }
 unfolding ask_translate ask_inside
 hit_is_walk held c e va owed agrees page low =
     let a = access_in e.view va e.kind in
@@ -124,7 +133,7 @@ hit_is_walk held c e va owed agrees page low =
     let clean : AreClean m w = record { first = clean_tables held m e.pt1 owed agrees.first; second = clean_tables held m e.pt0 owed agrees.second } in
     let small : k < 4096 = omega arith in
     ap (λ (t : Told Walk). ask_inside a t.answer t.world) (leads_still satp a c w clean (walk_leads m.ram satp a w leads))
-    ∙ ap (λ (b : Bool). let t : Told (Result ℕ ℕ) = record { answer = cond b (Ok w.pa) (Err (access_fault a.kind)); world = Cloaked c } in t)
+    ∙ ap (λ (b : Bool). let t : Told (Result ℕ ℕ) = record { answer = cond b (Ok w.pa) (Err (access_fault a.kind)); world = Cloaked (after (touches (tables_of w)) c) } in t)
     (below_frames (length m.ram) e.frame.0 k low small)
 
 -- The offer of the page that a frame holds.

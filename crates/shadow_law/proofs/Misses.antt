@@ -1,5 +1,5 @@
 -- What a miss makes live agrees: its walk stays as it was, behind what the access does then.
-use Rattle.std.proofs.Common.{◌≡◌, ◌∙◌, ℕ, inl, inr, Bool, true, false, List, length, Option, Some, None, Ok, refl, sym, ap, subst}
+use Rattle.std.proofs.Common.{◌≡◌, ◌∙◌, ℕ, ◌/◌, inl, inr, Bool, true, false, List, length, Option, Some, None, Ok, refl, sym, ap, subst}
 use Rattle.std.specs.Prelude.{IfSome}
 use Rattle.std.specs.List.{All}
 use Rattle.std.proofs.lemmas.Bool.{cases_eq}
@@ -17,7 +17,7 @@ use Rattle.cloak_model.specs.Asking.{Told}
 use Rattle.cloak_model.specs.Cloaking.{CloakedMemory, AfterSettling, owed_in, settle, offer}
 use Rattle.cloak_model.specs.Memory.{frame_of, is_in_frames, is_in_ram}
 use Rattle.cloak_model.specs.Walk.{Walk, walk}
-use Rattle.cloak_model.specs.World.{Cloak, Flat, Cloaked}
+use Rattle.cloak_model.specs.World.{World, Cloak, Flat, Cloaked, Alone, unnoted}
 use Rattle.cloak_model.proofs.FlatWalk.{ask_walk-flat}
 use Rattle.settling_ahead.proofs.Plans.{answer_in, along, paid, follow-flat, follow-cloaked, count_along}
 use Rattle.settling_ahead.proofs.Planning.{plan_walk, walk_planned}
@@ -25,8 +25,7 @@ use Rattle.shadow_fold.specs.declared.entry.Entry.{Entry}
 use Rattle.shadow_fold.specs.declared.entry.ShadowView.{ShadowView}
 use Rattle.shadow_fold.specs.Agreement.{EntryAgrees, satp_in, access_in}
 use Rattle.shadow_fold.specs.Entries.{IsWithin, is_frame, is_table}
-use Rattle.shadow_fold.specs.Events.{entry_of}
-use Rattle.shadow_fold.specs.Fold.{holds}
+use Rattle.shadow_fold.specs.Fold.{holds, entry_of}
 use Rattle.shadow_fold.specs.Following.{AreBirthCalls}
 use Rattle.shadow_fold.specs.Table.{Table}
 use Rattle.shadow_fold.proofs.Agreeing.{keeps_insert}
@@ -44,8 +43,20 @@ use Rattle.shadow_law.proofs.Born.{born_agrees}
 walk_answer : (ram : List (List ℕ)) (satp : ℕ) (a : Access) → answer_in (plan_walk (length ram) satp a) ram ≡ walk ram satp a
 walk_answer ram satp a =
     let p = plan_walk (length ram) satp a in
-    ap (λ (told : Told Walk). told.answer)
-    (sym (follow-flat p ram) ∙ sym (walk_planned (length ram) satp a (Flat ram) refl) ∙ ask_walk-flat satp a ram)
+    ap (λ (told : Told Walk). told.answer) (sym (follow-flat p ram))
+    ∙ ap (λ (told : Told Walk). told.answer) (sym (walk_planned (length ram) satp a (Flat ram) refl))
+    ∙ ap (λ (told : Told Walk). told.answer) (ask_walk-flat satp a ram)
+
+-- a world that is this memory but for its events
+quiet_memory : (w : World) (d : Cloak) → unnoted w ≡ unnoted (Cloaked d) → (c' : Cloak) × (w ≡ Cloaked c') × (c'.memory ≡ d.memory)
+quiet_memory (Flat ram) d is = absurd cc
+quiet_memory (Alone handed) d is = absurd cc
+quiet_memory (Cloaked c') d is = (c', refl, ap (λ (w : World). memory_in w d.memory) is)
+  where
+    memory_in : World → CloakedMemory → CloakedMemory
+    memory_in (Flat ram) m = m
+    memory_in (Cloaked c) m = c.memory
+    memory_in (Alone handed) m = m
 
 pub asked_walk : (satp : ℕ) (a : Access) (c : Cloak) → let told = ask_walk satp a (Cloaked c) in
     (c' : Cloak) × (told.world ≡ Cloaked c') × (walk c'.memory.ram satp a ≡ told.answer)
@@ -53,11 +64,12 @@ asked_walk satp a c =
     let p = plan_walk (length c.memory.ram) satp a in
     let end = along p c.memory in
     let told = walk_planned (length c.memory.ram) satp a (Cloaked c) refl ∙ follow-cloaked p c in
+    let left = quiet_memory (ask_walk satp a (Cloaked c)).world (paid c end) (ap (λ (t : Told Walk). t.world) told) in
     let answers : answer_in p end.memory.ram ≡ walk end.memory.ram satp a =
     ap (λ n. answer_in (plan_walk n satp a) end.memory.ram) (sym (count_along p c.memory)) ∙ walk_answer end.memory.ram satp a in (
-      paid c end,
-      ap (λ (t : Told Walk). t.world) told,
-      sym answers ∙ sym (ap (λ (t : Told Walk). t.answer) told),
+      left.0,
+      left.1,
+      ap (λ (m : CloakedMemory). walk m.ram satp a) left.2 ∙ sym answers ∙ sym (ap (λ (t : Told Walk). t.answer) told),
     )
 
 -- A walk whose table frames are spared.
@@ -106,7 +118,7 @@ offered_walk held m q g write satp a w owed out other1 other0 =
 pub open_entry_agrees : (held held' : Held) (m : CloakedMemory) (view : ShadowView) (va : ℕ) (kind : Kind) (w : Walked)
     → walk m.ram (satp_in view) (access_in view va kind) ≡ Ok w → is_in_ram m.ram w.pa ≡ true → OwedIsHeld held m
     → AreOutside held w → StayOutsideBut (frame_of w.pa) held held' → held' (frame_of w.pa) ≡ None
-    → let m' = (settle (frame_of w.pa) m).memory in EntryAgrees (present held' m') (entry_of m'.ram view va kind w None)
+    → let m' = (settle (frame_of w.pa) m).memory in EntryAgrees (present held' m') (entry_of view (va / 4096) kind w None)
 open_entry_agrees held held' m view va kind w leads inside owed out stay target =
     born_agrees (present held' m') view va kind w None
     (settled_walk held m (frame_of w.pa) (satp_in view) (access_in view va kind) w owed out leads)
@@ -125,7 +137,7 @@ open_entry_agrees held held' m view va kind w leads inside owed out stay target 
 pub page_entry_agrees : (held held' : Held) (m : CloakedMemory) (view : ShadowView) (va : ℕ) (kind : Kind) (w : Walked)
     (q : PageId) → walk m.ram (satp_in view) (access_in view va kind) ≡ Ok w → is_in_ram m.ram w.pa ≡ true
     → OwedIsHeld held m → AreOutside held w → let g = frame_of w.pa in
-    let m' = (offer q g (is_store kind) m).memory in let e = entry_of m'.ram view va kind w (Some q) in
+    let m' = (offer q g (is_store kind) m).memory in let e = entry_of view (va / 4096) kind w (Some q) in
     is_table e.frame e ≡ false → StayOutsideBut g held held'
     → held' g ≡ Some q → (kind ≡ Store → owed_in m' g ≡ Some q) → EntryAgrees (present held' m') e
 unfolding is_table
@@ -149,7 +161,7 @@ page_entry_agrees held held' m view va kind w q leads inside owed out apart stay
 
 pub entry_within : (ram : List (List ℕ)) (view : ShadowView) (va : ℕ) (kind : Kind) (w : Walked) (cloaked : Option PageId)
     → walk ram (satp_in view) (access_in view va kind) ≡ Ok w → is_in_ram ram w.pa ≡ true
-    → IsWithin (length ram) (entry_of ram view va kind w cloaked)
+    → IsWithin (length ram) (entry_of view (va / 4096) kind w cloaked)
 entry_within ram view va kind w cloaked leads inside =
     let tables = walk_within ram (satp_in view) (access_in view va kind) w leads in
     record { target = low_frame ram w.pa inside; first = tables.0; second = tables.1 }

@@ -1,5 +1,5 @@
 -- Agreement of whole tables, from that of single entries.
-use Rattle.std.proofs.Common.{◌≡◌, ◌≢◌, ◌∙◌, ℕ, inl, inr, Bool, true, false, ◌||◌, cond, List, [], ◌++◌, Option, Some, None, refl, sym, ap, subst}
+use Rattle.std.proofs.Common.{◌≡◌, ◌≢◌, ◌∙◌, ℕ, inl, inr, Bool, true, false, ◌||◌, cond, List, [], Option, Some, None, refl, sym, ap, subst}
 use Rattle.std.specs.Prelude.{slice_index_or}
 use Rattle.std.specs.List.{All}
 use Rattle.std.specs.Str.{bytes_eq}
@@ -10,7 +10,7 @@ use Rattle.cloak_base.proofs.Pages.{same_page_tells}
 use Rattle.cloak_base.specs.declared.names.PageId.{PageId}
 use Rattle.cloak_base.specs.declared.names.SpaceId.{SpaceId}
 use Rattle.cloak_model.specs.Contexts.{same_space}
-use Rattle.cloak_model.specs.Cloaking.{CloakedMemory, AfterSettling, AfterOffer, Offer, Ready, Mismatch, Missed, owed_in, with_shown_frame, with_owed, owes, owing_frame, settle, settle_frame_if, with_comparison, taken, compared, unless_missed, offer}
+use Rattle.cloak_model.specs.Cloaking.{CloakedMemory, AfterSettling, AfterOffer, Ready, Mismatch, owed_in, with_shown_frame, with_owed, owes, owing_frame, settle, settle_frame_if, with_comparison, taken, compared, unless_missed, offer}
 use Rattle.shadow_fold.specs.declared.entry.Entry.{Entry}
 use Rattle.shadow_fold.specs.Agreement.{EntryAgrees, IsMapped}
 use Rattle.shadow_fold.specs.Entries.{is_target, is_table, is_of_space}

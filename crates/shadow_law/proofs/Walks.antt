@@ -1,7 +1,7 @@
 -- A walk by its words.
-use Rattle.std.proofs.Common.{◌≡◌, ◌∙◌, ℕ, ◌+◌, ◌*◌, ◌/◌, ◌%◌, ◌^◌, ◌<◌, inl, inr, ◌⊎◌, Bool, true, false, not, ◌&&◌, cond, List, [], ◌∷◌, ◌++◌, length, Option, Some, None, Ok, Err, refl, sym, ap, subst, arith}
+use Rattle.std.proofs.Common.{◌≡◌, ◌∙◌, ℕ, ◌+◌, ◌*◌, ◌/◌, ◌%◌, ◌<◌, inl, inr, ◌⊎◌, Bool, true, false, not, ◌&&◌, cond, List, [], ◌∷◌, ◌++◌, length, Option, Some, None, Ok, Err, refl, sym, ap, subst, arith}
 use Rattle.std.specs.Prelude.{◌==◌, slice_index_or, IfSome}
-use Rattle.std.proofs.lemmas.Bool.{false≢true, ltb-true}
+use Rattle.std.proofs.lemmas.Bool.{ltb-true}
 use Rattle.cloak_base.specs.declared.names.Frame.{Frame}
 use Rattle.cloak_model.specs.declared.access.Access.{Access}
 use Rattle.cloak_model.specs.declared.access.Walked.{Walked}
@@ -39,7 +39,7 @@ second_named a at1 at0 e w is = by_test (is_valid e && (not (is_pointer e) && al
     by_test false is = absurd cc
 
 -- where the first word ends a walk that leads somewhere, it is a leaf
-FirstNames : Access → ℕ → FirstWord → Walked → Type 0
+unfoldable pub FirstNames : Access → ℕ → FirstWord → Walked → Type 0
 FirstNames a at1 first w = first ≡ Ends (Ok w) → (w.pt1 ≡ Some (frame_at at1)) × (w.pt0 ≡ None)
 
 ends_same : (v w : Walk) → Ends v ≡ Ends w → v ≡ w
@@ -53,7 +53,7 @@ no_fault : (a : Access) (at1 cause : ℕ) (w : Walked) → FirstNames a at1 (End
 unfolding FirstNames
 no_fault a at1 cause w is = absurd cc
 
-word_names : (a : Access) (at1 : ℕ) (word : Option ℕ) (w : Walked) → FirstNames a at1 (first_word a at1 word) w
+pub word_names : (a : Access) (at1 : ℕ) (word : Option ℕ) (w : Walked) → FirstNames a at1 (first_word a at1 word) w
 unfolding first_word FirstNames
 word_names a at1 None w = no_fault a at1 _ w
 word_names a at1 (Some e) w =
@@ -106,7 +106,7 @@ second_inside ram a at1 at true is w word = refl
 second_inside ram a at1 at false is w word =
     absurd (let out = ap (λ (b : Bool). second_word a at1 at (cond b (Some (value_at ram at 4)) None)) (sym is) ∙ word in cc)
 
-second_names : (a : Access) (at1 at0 : ℕ) (o : Option ℕ) (w : Walked) → second_word a at1 at0 o ≡ Ok w
+pub second_names : (a : Access) (at1 at0 : ℕ) (o : Option ℕ) (w : Walked) → second_word a at1 at0 o ≡ Ok w
     → (w.pt1 ≡ Some (frame_at at1)) × (w.pt0 ≡ Some (frame_at at0))
 unfolding second_word
 second_names a at1 at0 None w is = absurd cc
@@ -180,10 +180,10 @@ tables_paged ram satp a first paging inside word =
     ap (λ (b : Bool). cond b (table_at ram at1 ++ tables_after ram (first_word a at1 (word_in_ram ram at1))) []) paging
     ∙ (λ i. cond (inside i) (frame_of at1 ∷ []) [] ++ tables_after ram (word i))
 
-listed_two : (o p : Option Frame) (f g : Frame) → o ≡ Some f → p ≡ Some g → listed o ++ listed p ≡ f.0 ∷ g.0 ∷ []
+pub listed_two : (o p : Option Frame) (f g : Frame) → o ≡ Some f → p ≡ Some g → listed o ++ listed p ≡ f.0 ∷ g.0 ∷ []
 listed_two o p f g e d = λ i. listed (e i) ++ listed (d i)
 
-listed_one : (o p : Option Frame) (f : Frame) → o ≡ Some f → p ≡ None → listed o ++ listed p ≡ f.0 ∷ []
+pub listed_one : (o p : Option Frame) (f : Frame) → o ≡ Some f → p ≡ None → listed o ++ listed p ≡ f.0 ∷ []
 listed_one o p f e d = λ i. listed (e i) ++ listed (d i)
 
 by_leads : (ram : List (List ℕ)) (satp : ℕ) (a : Access) (w : Walked) → Leads ram satp a w → walk_tables ram satp a ≡ tables_of w

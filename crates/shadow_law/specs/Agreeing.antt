@@ -1,26 +1,26 @@
 -- Live entries go on agreeing with the joint machine's memory through each change of it, and a hit gives what a walk
 -- would.
-use Rattle.std.specs.Prelude.{ℕ, ◌≡◌, ◌≢◌, ◌+◌, ◌/◌, ◌%◌, ◌<◌, Bool, true, false, List, [], length, slice_index_or, Option, Some, None, Ok, IfSome}
+use Rattle.std.specs.Prelude.{ℕ, ◌≡◌, ◌≢◌, ◌+◌, ◌/◌, ◌%◌, ◌<◌, Bool, true, false, List, [], ◌++◌, map, length, slice_index_or, Option, Some, None, Ok, IfSome}
 use Rattle.cloak_base.specs.Pages.{same_page}
 use Rattle.cloak_base.specs.declared.names.Frame.{Frame}
 use Rattle.cloak_base.specs.declared.names.Kind.{Kind}
 use Rattle.cloak_base.specs.declared.names.PageId.{PageId}
 use Rattle.cloak_base.specs.declared.names.SpaceId.{SpaceId}
 use Rattle.cloak_model.specs.declared.access.Walked.{Walked}
-use Rattle.cloak_model.specs.Ask.{ask_walk, ask_translate}
+use Rattle.cloak_model.specs.Ask.{ask_translate}
 use Rattle.cloak_model.specs.AskPages.{is_store}
-use Rattle.cloak_model.specs.Asking.{Told}
-use Rattle.cloak_model.specs.Cloaking.{CloakedMemory, AfterOffer, Ready, owed_in, with_shown_frame, with_owed, settle, offer}
+use Rattle.cloak_model.specs.Cloaking.{CloakedMemory, Ready, owed_in, with_shown_frame, with_owed, settle, offer}
 use Rattle.cloak_model.specs.Contexts.{same_space}
 use Rattle.cloak_model.specs.Memory.{is_in_ram}
-use Rattle.cloak_model.specs.Walk.{Walk, walk}
-use Rattle.cloak_model.specs.World.{Cloak, Cloaked}
+use Rattle.cloak_model.specs.Walk.{walk}
+use Rattle.cloak_model.specs.Events.{Event, Touch}
+use Rattle.cloak_model.specs.World.{Cloak, Cloaked, noted}
 use Rattle.shadow_fold.specs.declared.entry.Entry.{Entry}
 use Rattle.shadow_fold.specs.declared.entry.ShadowView.{ShadowView}
 use Rattle.shadow_fold.specs.Agreement.{Present, EntryAgrees, TargetAgrees, IsMapped, satp_in, access_in, start_of}
 use Rattle.shadow_fold.specs.Entries.{is_target, is_table, is_of_space}
-use Rattle.shadow_fold.specs.Events.{entry_of}
-use Rattle.shadow_fold.specs.Fold.{part_holds}
+use Rattle.shadow_fold.specs.Fold.{part_holds, entry_of}
+use Rattle.shadow_law.specs.Walks.{listed}
 
 -- what each frame holds
 abbrev pub Held : Type 0
@@ -78,15 +78,22 @@ pub record AreOutside (held : Held) (w : Walked) : Type 0 where
 abbrev pub BornAgrees : Type 0
 BornAgrees = (p : Present) (view : ShadowView) (va : ℕ) (kind : Kind) (w : Walked) (cloaked : Option PageId)
     → walk p.ram (satp_in view) (access_in view va kind) ≡ Ok w → is_in_ram p.ram w.pa ≡ true → AreOutside p.held w
-    → let e = entry_of p.ram view va kind w cloaked in
+    → let e = entry_of view (va / 4096) kind w cloaked in
     TargetAgrees p e cloaked → EntryAgrees p e
 
--- At a hit the address is that of the entry, with nothing settled and nothing shown.
+-- these frames are touched
+abbrev pub touches : List ℕ → List Event
+touches frames = map Touch frames
+
+-- At a hit the address is that of the entry, with nothing settled and nothing shown. Its table frames are touched.
 abbrev pub HitIsWalk : Type 0
 HitIsWalk = (held : Held) (c : Cloak) (e : Entry) (va : ℕ) → OwedIsHeld held c.memory
     → EntryAgrees (present held c.memory) e → va / 4096 ≡ e.page → e.frame.0 < length c.memory.ram
     → ask_translate (satp_in e.view) (access_in e.view va e.kind) (Cloaked c)
-    ≡ record { answer = Ok (start_of e.frame.0 + va % 4096); world = Cloaked c }
+    ≡ record {
+      answer = Ok (start_of e.frame.0 + va % 4096);
+      world = noted (touches (listed e.pt1 ++ listed e.pt0)) (Cloaked c);
+    }
 
 -- A frame that holds a page and is owed nothing has the bytes that were last shown of the page, and no frame hides
 -- newer ones.

@@ -1,6 +1,6 @@
 -- What a miss makes live: the walk that a machine made by its words leads there still behind what the access does then,
 -- and the entry of it agrees.
-use Rattle.std.specs.Prelude.{ℕ, ◌≡◌, ◌≢◌, Bool, true, false, List, length, Option, Some, None, Ok}
+use Rattle.std.specs.Prelude.{ℕ, ◌/◌, ◌≡◌, ◌≢◌, Bool, true, false, List, length, Option, Some, None, Ok}
 use Rattle.std.specs.List.{All}
 use Rattle.cloak_base.specs.declared.names.Kind.{Kind}
 use Rattle.cloak_base.specs.declared.names.Kind.TheVariants.{Store}
@@ -17,8 +17,8 @@ use Rattle.cloak_model.specs.World.{Cloak, Cloaked}
 use Rattle.shadow_fold.specs.declared.entry.Entry.{Entry}
 use Rattle.shadow_fold.specs.declared.entry.ShadowView.{ShadowView}
 use Rattle.shadow_fold.specs.Agreement.{Present, EntryAgrees, IsMapped, satp_in, access_in}
+use Rattle.shadow_fold.specs.Fold.{entry_of}
 use Rattle.shadow_fold.specs.Entries.{IsWithin, is_frame, is_table}
-use Rattle.shadow_fold.specs.Events.{entry_of}
 use Rattle.shadow_fold.specs.Following.{AreBirthCalls}
 use Rattle.shadow_fold.specs.Keeping.{Agrees}
 use Rattle.shadow_fold.specs.Table.{Table, is_known}
@@ -50,7 +50,7 @@ OpenEntryAgrees = (held held' : Held) (m : CloakedMemory) (view : ShadowView) (v
     → walk m.ram (satp_in view) (access_in view va kind) ≡ Ok w → is_in_ram m.ram w.pa ≡ true → OwedIsHeld held m
     → AreOutside held w → StayOutsideBut (frame_of w.pa) held held' → held' (frame_of w.pa) ≡ None
     → let m' = (settle (frame_of w.pa) m).memory in
-    EntryAgrees (present held' m') (entry_of m'.ram view va kind w None)
+    EntryAgrees (present held' m') (entry_of view (va / 4096) kind w None)
 
 -- An access to a cloaked page, which is offered in the target, and which that holds then: its entry agrees, unless the
 -- target is one of its own table frames.
@@ -58,7 +58,7 @@ abbrev pub PageEntryAgrees : Type 0
 PageEntryAgrees = (held held' : Held) (m : CloakedMemory) (view : ShadowView) (va : ℕ) (kind : Kind) (w : Walked)
     (q : PageId) → walk m.ram (satp_in view) (access_in view va kind) ≡ Ok w → is_in_ram m.ram w.pa ≡ true
     → OwedIsHeld held m → AreOutside held w → let g = frame_of w.pa in
-    let m' = (offer q g (is_store kind) m).memory in let e = entry_of m'.ram view va kind w (Some q) in
+    let m' = (offer q g (is_store kind) m).memory in let e = entry_of view (va / 4096) kind w (Some q) in
     is_table e.frame e ≡ false → StayOutsideBut g held held'
     → held' g ≡ Some q → (kind ≡ Store → owed_in m' g ≡ Some q) → EntryAgrees (present held' m') e
 
@@ -66,7 +66,7 @@ PageEntryAgrees = (held held' : Held) (m : CloakedMemory) (view : ShadowView) (v
 abbrev pub EntryWithin : Type 0
 EntryWithin = (ram : List (List ℕ)) (view : ShadowView) (va : ℕ) (kind : Kind) (w : Walked) (cloaked : Option PageId)
     → walk ram (satp_in view) (access_in view va kind) ≡ Ok w → is_in_ram ram w.pa ≡ true
-    → IsWithin (length ram) (entry_of ram view va kind w cloaked)
+    → IsWithin (length ram) (entry_of view (va / 4096) kind w cloaked)
 
 -- An entry that agrees becomes live, unless it is known: all live entries agree.
 abbrev pub BirthKeeps : Type 0

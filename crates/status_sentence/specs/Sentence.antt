@@ -22,6 +22,7 @@ abbrev pub bundle_of : Option spec.Asked → List ℕ
 bundle_of (Some (spec.Run bundle record_name steps randomness)) = bundle_named bundle
 bundle_of (Some (spec.View bundle record_name)) = bundle_named bundle
 bundle_of (Some (spec.Solo domain bundle record_name)) = bundle_named bundle
+bundle_of (Some (spec.Stats bundle steps randomness)) = bundle_named bundle
 bundle_of _ = codes "the bundle"
 
 -- the record that is read
@@ -31,15 +32,25 @@ record_of (Some (spec.Solo domain bundle record_name)) = record_named record_nam
 record_of _ = codes "the record"
 
 -- the random bytes of a run
+abbrev pub randomness_named : spec.Randomness → List ℕ
+randomness_named (spec.FromFile name) = codes "the stream `" ++ name ++ codes "`"
+randomness_named (spec.Numbered number) = codes "the random stream"
+
 abbrev pub stream_of : Option spec.Asked → List ℕ
-stream_of (Some (spec.Run bundle record_name steps (spec.FromFile name))) = codes "the stream `" ++ name ++ codes "`"
+stream_of (Some (spec.Run bundle record_name steps randomness)) = randomness_named randomness
+stream_of (Some (spec.Stats bundle steps randomness)) = randomness_named randomness
 stream_of _ = codes "the random stream"
+
+-- the files that a run reads
+abbrev pub sources_named : (bundle : List ℕ) → spec.Randomness → List ℕ
+sources_named bundle (spec.Numbered number) = bundle_named bundle
+sources_named bundle (spec.FromFile name) =
+    codes "the bundle `" ++ bundle ++ codes "` or the stream `" ++ name ++ codes "`"
 
 -- the files that are read
 abbrev pub read_of : Option spec.Asked → List ℕ
-read_of (Some (spec.Run bundle record_name steps (spec.Numbered number))) = bundle_named bundle
-read_of (Some (spec.Run bundle record_name steps (spec.FromFile name))) =
-    codes "the bundle `" ++ bundle ++ codes "` or the stream `" ++ name ++ codes "`"
+read_of (Some (spec.Run bundle record_name steps randomness)) = sources_named bundle randomness
+read_of (Some (spec.Stats bundle steps randomness)) = sources_named bundle randomness
 read_of (Some (spec.View bundle record_name)) = files_named bundle record_name
 read_of (Some (spec.Solo domain bundle record_name)) = files_named bundle record_name
 read_of _ = codes "a file"
@@ -54,8 +65,8 @@ written_of None = codes "a file or the output"
 
 -- what is wrong with the words
 abbrev pub usage_of : UsageFault → List ℕ
-usage_of usage.NoCommand = codes "there is no command: it is one of run, view, solo, gen and demo"
-usage_of usage.UnknownCommand = codes "the first word is no command: it is one of run, view, solo, gen and demo"
+usage_of usage.NoCommand = codes "there is no command: it is one of run, view, solo, gen, demo and stats"
+usage_of usage.UnknownCommand = codes "the first word is no command: it is one of run, view, solo, gen, demo and stats"
 usage_of usage.WrongWords = codes "these are not the words that the command takes"
 usage_of usage.NoRandomness = codes "a run takes its random bytes from exactly one of --number and --stream"
 usage_of usage.WrongNumber = codes "a number is not written in decimal digits, or is out of its range"
@@ -80,7 +91,6 @@ cause_of asked status.NoMemory = codes "there is not enough memory"
 cause_of asked status.NoRandom = stream_of asked ++ codes " has too few bytes for this run"
 cause_of asked status.BadRecord = record_of asked ++ codes " is damaged, or is none of "
     ++ bundle_of asked ++ codes ", and the line `record` says where"
-cause_of asked status.Unbuilt = codes "this command is not built"
 
 -- The sentence. The status 0 has none.
 abbrev pub sentence : Option spec.Asked → Status → List ℕ

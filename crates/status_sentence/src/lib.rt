@@ -6,7 +6,7 @@
 
 ghost use Rattle.std.specs.Prelude.{Some, option_map};
 ghost use Rattle.std.specs.Fmt.{DisplaysOnOk};
-ghost use Rattle.command_words.specs.Request.{asked_of};
+ghost use Rattle.command_words.specs.Request.{asked_of, randomness_of};
 ghost use Rattle.status_sentence.specs.Sentence as spec;
 ghost use Rattle.status_sentence.specs.Showing.{sentence_text};
 
@@ -75,7 +75,6 @@ fn write_cause<W: fmt::Write>(
             write_bundle(request, f)?;
             f.write_str(", and the line `record` says where")
         }
-        Status::Unbuilt => f.write_str("this command is not built"),
     }
 }
 
@@ -91,6 +90,7 @@ fn write_bundle<W: fmt::Write>(
         Some(Request::Run(run)) => write!(f, "the bundle `{}`", run.bundle),
         Some(Request::View(files)) => write!(f, "the bundle `{}`", files.bundle),
         Some(Request::Solo(solo)) => write!(f, "the bundle `{}`", solo.files.bundle),
+        Some(Request::Stats(stats)) => write!(f, "the bundle `{}`", stats.bundle),
         _ => f.write_str("the bundle"),
     }
 }
@@ -119,11 +119,23 @@ fn write_stream<W: fmt::Write>(
         (Some (spec.stream_of (option_map asked_of request.now))) f.new }
 {
     match request {
-        Some(Request::Run(run)) => match run.randomness {
-            Randomness::FromFile(name) => write!(f, "the stream `{name}`"),
-            Randomness::Numbered(_) => f.write_str("the random stream"),
-        },
+        Some(Request::Run(run)) => write_randomness(&run.randomness, f),
+        Some(Request::Stats(stats)) => write_randomness(&stats.randomness, f),
         _ => f.write_str("the random stream"),
+    }
+}
+
+/// Writes what a run's random bytes are.
+fn write_randomness<W: fmt::Write>(
+    randomness: &Randomness<'_>,
+    f: &mut fmt::Formatter<W>,
+) -> fmt::Result
+    ensures { DisplaysOnOk W.write_str_gives f.old result
+        (Some (spec.randomness_named (randomness_of randomness.now))) f.new }
+{
+    match *randomness {
+        Randomness::FromFile(name) => write!(f, "the stream `{name}`"),
+        Randomness::Numbered(_) => f.write_str("the random stream"),
     }
 }
 
@@ -136,15 +148,26 @@ fn write_read<W: fmt::Write>(
         (Some (spec.read_of (option_map asked_of request.now))) f.new }
 {
     match request {
-        Some(Request::Run(run)) => match run.randomness {
-            Randomness::FromFile(name) => {
-                write!(f, "the bundle `{}` or the stream `{name}`", run.bundle)
-            }
-            Randomness::Numbered(_) => write!(f, "the bundle `{}`", run.bundle),
-        },
+        Some(Request::Run(run)) => write_sources(run.bundle, &run.randomness, f),
         Some(Request::View(files)) => write_files(files.bundle, files.record_name, f),
         Some(Request::Solo(solo)) => write_files(solo.files.bundle, solo.files.record_name, f),
+        Some(Request::Stats(stats)) => write_sources(stats.bundle, &stats.randomness, f),
         _ => f.write_str("a file"),
+    }
+}
+
+/// Writes the names of the files that a run reads.
+fn write_sources<W: fmt::Write>(
+    bundle: &str,
+    randomness: &Randomness<'_>,
+    f: &mut fmt::Formatter<W>,
+) -> fmt::Result
+    ensures { DisplaysOnOk W.write_str_gives f.old result
+        (Some (spec.sources_named bundle.now (randomness_of randomness.now))) f.new }
+{
+    match *randomness {
+        Randomness::FromFile(name) => write!(f, "the bundle `{bundle}` or the stream `{name}`"),
+        Randomness::Numbered(_) => write!(f, "the bundle `{bundle}`"),
     }
 }
 
@@ -198,9 +221,10 @@ fn write_usage<W: fmt::Write>(fault: UsageFault, f: &mut fmt::Formatter<W>) -> f
     ensures { DisplaysOnOk W.write_str_gives f.old result (Some (spec.usage_of fault)) f.new }
 {
     f.write_str(match fault {
-        UsageFault::NoCommand => "there is no command: it is one of run, view, solo, gen and demo",
+        UsageFault::NoCommand =>
+            "there is no command: it is one of run, view, solo, gen, demo and stats",
         UsageFault::UnknownCommand => {
-            "the first word is no command: it is one of run, view, solo, gen and demo"
+            "the first word is no command: it is one of run, view, solo, gen, demo and stats"
         }
         UsageFault::WrongWords => "these are not the words that the command takes",
         UsageFault::NoRandomness => {

@@ -2,33 +2,29 @@
 use Rattle.std.proofs.Common.{◌≡◌, ℕ, Bool, true, false, List, Option, Some, None, Result, Ok, Err, refl, cond}
 use Rattle.rv_isa.specs.Table.{instruction}
 use Rattle.rv_isa.specs.declared.instr.Instr.{Instr}
-use Rattle.cloak_base.specs.declared.names.Kind.TheVariants.{Fetch, Load, Store}
 use Rattle.cloak_model.specs.Effect.{effect}
 use Rattle.cloak_model.specs.declared.outcome.Effect.{Effect}
 use Rattle.cloak_model.specs.declared.outcome.Effect.TheVariants as does
 use Rattle.cloak_model.specs.Hart.{Hart}
 use Rattle.cloak_model.specs.Csr.{interrupt_due}
 use Rattle.cloak_model.specs.World.{World}
-use Rattle.cloak_model.specs.Asking.{Asking, Told}
-use Rattle.cloak_model.specs.Ask.{ask_value, ask_store}
+use Rattle.cloak_model.specs.Asking.{Asking, answered}
 use Rattle.cloak_model.specs.HartStep.{with_word, gone_on, stays, raised, system}
 use Rattle.cloak_model.specs.HostCalls.{After, ends, ecall}
-use Rattle.cloak_model.specs.Asking.{◌>>=◌}
 use Rattle.cloak_model.specs.KernelStep as whole
-use Rattle.cloak_model.specs.KernelStep.{ask_access, extended, ticked, is_ecall, or_trap}
-use Rattle.step_parts.specs.Parts.{loaded_part, load_part, took, stored, store_part, off_disk, done_part, decoded_part, executed_part, fetched_part, instruction_part, interrupted, step_in_parts}
+use Rattle.cloak_model.specs.KernelStep.{extended, ticked, is_ecall, or_trap}
+use Rattle.step_parts.specs.Parts.{after_load, load_part, took, after_store, store_part, off_disk, done_part, decoded_part, executed_part, fetched_part, instruction_part, interrupted, step_in_parts}
 
 same_loaded : (h : Hart) (disk : List ℕ) (rd va width : ℕ) (s : Bool) (r : Result ℕ ℕ) (w : World) →
-    or_trap h disk va r (λ pa. ask_value pa width >>= (λ value. ends disk (stays (gone_on (with_word h rd (extended s width value)))))) w ≡ off_disk disk (loaded_part h rd va width s r) w
-unfolding loaded_part took
+    or_trap h disk va r (λ value. ends disk (stays (gone_on (with_word h rd (extended s width value))))) w ≡ off_disk disk (answered (after_load h rd va width s r)) w
+unfolding took
 same_loaded h disk rd va width s (Err cause) w = refl
-same_loaded h disk rd va width s (Ok pa) w = refl
+same_loaded h disk rd va width s (Ok value) w = refl
 
-same_stored : (h : Hart) (disk : List ℕ) (va width value : ℕ) (r : Result ℕ ℕ) (w : World) →
-    or_trap h disk va r (λ pa. ask_store pa width value >>= (λ done. ends disk (stays (gone_on h)))) w ≡ off_disk disk (stored h va width value r) w
-unfolding stored
-same_stored h disk va width value (Err cause) w = refl
-same_stored h disk va width value (Ok pa) w = refl
+same_stored : (h : Hart) (disk : List ℕ) (va : ℕ) (r : Result (Unit {0}) ℕ) (w : World) →
+    or_trap h disk va r (λ done. ends disk (stays (gone_on h))) w ≡ off_disk disk (answered (after_store h va r)) w
+same_stored h disk va (Err cause) w = refl
+same_stored h disk va (Ok done) w = refl
 
 either : (b : Bool) (f g : Asking After) (w : World) → (cond b f g) w ≡ cond b (f w) (g w)
 either true f g w = refl
@@ -40,7 +36,7 @@ same_made h disk word i (does.Write rd value) w = refl
 same_made h disk word i (does.Jump rd link target) w = refl
 same_made h disk word i (does.Go target) w = refl
 same_made h disk word i (does.Load rd va width s) w = same_loaded h disk rd va width s _ _
-same_made h disk word i (does.Store va width value) w = same_stored h disk va width value _ _
+same_made h disk word i (does.Store va width value) w = same_stored h disk va _ _
 same_made h disk word i does.System w = either (is_ecall i) (ecall h disk) (ends disk (system h word i)) w
 same_made h disk word i does.Nothing w = refl
 same_made h disk word i (does.Raise cause value) w = refl
@@ -51,10 +47,10 @@ same_execute h disk word None w = refl
 same_execute h disk word (Some i) w = same_made h disk word i (effect i h.regs h.pc) w
 
 same_fetched : (h : Hart) (disk : List ℕ) (r : Result ℕ ℕ) (w : World) →
-    or_trap h disk h.pc r (λ pa. ask_value pa 4 >>= (λ word. whole.executed h disk word (instruction word))) w ≡ fetched_part h disk r w
+    or_trap h disk h.pc r (λ word. whole.executed h disk word (instruction word)) w ≡ fetched_part h disk r w
 unfolding fetched_part executed_part
 same_fetched h disk (Err cause) w = refl
-same_fetched h disk (Ok pa) w = same_execute h disk _ _ _
+same_fetched h disk (Ok word) w = same_execute h disk word _ w
 
 same_instruction : (h : Hart) (disk : List ℕ) (w : World) → whole.instruction_step h disk w ≡ instruction_part h disk w
 unfolding whole.instruction_step instruction_part

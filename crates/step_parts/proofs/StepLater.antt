@@ -9,26 +9,16 @@ use Rattle.cloak_model.specs.declared.outcome.Effect.TheVariants as does
 use Rattle.cloak_model.specs.Hart.{Hart}
 use Rattle.cloak_model.specs.World.{World}
 use Rattle.cloak_model.specs.HostCalls.{read_block, write_block, read_call, write_call, host_call, ecall_in, ecall}
-use Rattle.step_parts.specs.Parts.{loaded_part, load_part, stored, store_part, done_part, decoded_part, executed_part, fetched_part, instruction_part, interrupted, step_in_parts}
-use Rattle.cloak_model.proofs.Later.{IsLater, IsLater-refl, IsLater-trans, IsLater-either, later_translate, later_count, later_value, later_store, later_frame, later_fill}
-
-pub later_loaded : (h : Hart) (rd va width : ℕ) (signed : Bool) (to : Result ℕ ℕ) (w : World) → IsLater w (loaded_part h rd va width signed to w).world
-unfolding loaded_part
-later_loaded h rd va width signed (Err cause) w = IsLater-refl w
-later_loaded h rd va width signed (Ok pa) w = later_value pa width w
+use Rattle.step_parts.specs.Parts.{load_part, store_part, done_part, decoded_part, executed_part, fetched_part, instruction_part, interrupted, step_in_parts}
+use Rattle.cloak_model.proofs.Later.{IsLater, IsLater-refl, IsLater-trans, IsLater-either, later_ask_load, later_ask_store_at, later_count, later_frame, later_fill}
 
 pub later_load : (h : Hart) (rd va width : ℕ) (signed : Bool) (w : World) → IsLater w (load_part h rd va width signed w).world
 unfolding load_part
-later_load h rd va width signed w = IsLater-trans _ _ _ (later_translate _ _ w) (later_loaded h rd va width signed _ _)
-
-pub later_stored : (h : Hart) (va width value : ℕ) (to : Result ℕ ℕ) (w : World) → IsLater w (stored h va width value to w).world
-unfolding stored
-later_stored h va width value (Err cause) w = IsLater-refl w
-later_stored h va width value (Ok pa) w = later_store pa width value w
+later_load h rd va width signed w = later_ask_load _ _ width w
 
 pub later_made_store : (h : Hart) (va width value : ℕ) (w : World) → IsLater w (store_part h va width value w).world
 unfolding store_part
-later_made_store h va width value w = IsLater-trans _ _ _ (later_translate _ _ w) (later_stored h va width value _ _)
+later_made_store h va width value w = later_ask_store_at _ _ width value w
 
 pub later_read_block : (h : Hart) (disk : List ℕ) (frames : ℕ) (w : World) → IsLater w (read_block h disk frames w).world
 unfolding read_block
@@ -83,11 +73,11 @@ pub later_fetched : (h : Hart) (disk : List ℕ) (to : Result ℕ ℕ) (w : Worl
     IsLater w (fetched_part h disk to w).world
 unfolding fetched_part
 later_fetched h disk (Err cause) w = IsLater-refl w
-later_fetched h disk (Ok pa) w = IsLater-trans _ _ _ (later_value pa 4 w) (later_executed h disk _ _)
+later_fetched h disk (Ok word) w = later_executed h disk word w
 
 pub later_instruction_step : (h : Hart) (disk : List ℕ) (w : World) → IsLater w (instruction_part h disk w).world
 unfolding instruction_part
-later_instruction_step h disk w = IsLater-trans _ _ _ (later_translate _ _ w) (later_fetched h disk _ _)
+later_instruction_step h disk w = IsLater-trans _ _ _ (later_ask_load _ _ 4 w) (later_fetched h disk _ _)
 
 pub later_interrupted : (due : Bool) (h : Hart) (disk : List ℕ) (w : World) → IsLater w (interrupted due h disk w).world
 unfolding interrupted
@@ -98,4 +88,4 @@ pub later_step_in_parts : (h : Hart) (disk : List ℕ) (w : World) → IsLater w
 unfolding step_in_parts
 later_step_in_parts h disk w = later_interrupted _ _ disk w
 
-pub ruleset laters = (later_translate, later_count, later_value, later_store, later_frame, later_fill, later_loaded, later_load, later_stored, later_made_store, later_read_block, later_write_block, later_read_call, later_write_call, later_host_call, later_ecall_in, later_ecall, later_done, later_decoded, later_executed, later_fetched, later_instruction_step, later_interrupted, later_step_in_parts)
+pub ruleset laters = (later_ask_load, later_ask_store_at, later_count, later_frame, later_fill, later_load, later_made_store, later_read_block, later_write_block, later_read_call, later_write_call, later_host_call, later_ecall_in, later_ecall, later_done, later_decoded, later_executed, later_fetched, later_instruction_step, later_interrupted, later_step_in_parts)

@@ -1,42 +1,45 @@
 -- The plain step taken apart, one definition for each function that makes it, with the world as an argument: for the
 -- code and for laws that go from question to question. `law_of_parts` says that it is the step.
-use Rattle.std.specs.Prelude.{ℕ, ◌==◌, Bool, true, false, List, Option, Some, None, Result, Ok, Err, if◌then◌else◌}
+use Rattle.std.specs.Prelude.{ℕ, Bool, true, false, List, Option, Some, None, Result, Ok, Err, if◌then◌else◌}
 use Rattle.cloak_base.specs.declared.names.Kind.TheVariants.{Fetch, Load, Store}
 use Rattle.rv_isa.specs.Table.{instruction}
 use Rattle.rv_isa.specs.declared.instr.Instr.{Instr}
-use Rattle.cloak_model.specs.Csr.{interrupt_due}
+use Rattle.cloak_model.specs.Csr.{satp_of, interrupt_due}
 use Rattle.cloak_model.specs.Effect.{effect}
 use Rattle.cloak_model.specs.declared.outcome.Effect.{Effect}
 use Rattle.cloak_model.specs.declared.outcome.Effect.TheVariants as does
 use Rattle.cloak_model.specs.Hart.{Hart}
 use Rattle.cloak_model.specs.Asking.{Asking, answered, then_ask}
-use Rattle.cloak_model.specs.Ask.{ask_value, ask_store}
+use Rattle.cloak_model.specs.Ask.{ask_load, ask_store_at}
 use Rattle.cloak_model.specs.HartStep.{Made, with_word, gone_on, stays, raised, illegal, system}
 use Rattle.cloak_model.specs.HostCalls.{After, over, ends, ecall}
-use Rattle.cloak_model.specs.KernelStep.{ask_access, extended, is_ecall, ticked}
+use Rattle.cloak_model.specs.KernelStep.{access, extended, is_ecall, ticked}
 
 -- the value of a load
 unfoldable pub took : Hart → ℕ → ℕ → Bool → ℕ → Made
 took h rd width is_signed value = stays (gone_on (with_word h rd (extended is_signed width value)))
 
--- where a load leads
-unfoldable pub loaded_part : Hart → ℕ → ℕ → ℕ → Bool → Result ℕ ℕ → Asking Made
-loaded_part h rd va width is_signed (Err cause) world = answered (raised h cause va) world
-loaded_part h rd va width is_signed (Ok pa) world =
-    then_ask (ask_value pa width) (λ value. answered (took h rd width is_signed value)) world
+-- what a load found
+abbrev pub after_load : Hart → ℕ → ℕ → ℕ → Bool → Result ℕ ℕ → Made
+after_load h rd va width is_signed (Err cause) = raised h cause va
+after_load h rd va width is_signed (Ok value) = took h rd width is_signed value
 
 -- a load
 unfoldable pub load_part : Hart → ℕ → ℕ → ℕ → Bool → Asking Made
-load_part h rd va width is_signed world = then_ask (ask_access h Load va) (loaded_part h rd va width is_signed) world
+load_part h rd va width is_signed world =
+    then_ask (ask_load (satp_of h.csrs) (access h Load va) width)
+    (λ found. answered (after_load h rd va width is_signed found)) world
 
--- where a store leads
-unfoldable pub stored : Hart → ℕ → ℕ → ℕ → Result ℕ ℕ → Asking Made
-stored h va width value (Err cause) world = answered (raised h cause va) world
-stored h va width value (Ok pa) world = then_ask (ask_store pa width value) (λ done. answered (stays (gone_on h))) world
+-- what a store found
+abbrev pub after_store : Hart → ℕ → Result (Unit {0}) ℕ → Made
+after_store h va (Err cause) = raised h cause va
+after_store h va (Ok done) = stays (gone_on h)
 
 -- a store
 unfoldable pub store_part : Hart → ℕ → ℕ → ℕ → Asking Made
-store_part h va width value world = then_ask (ask_access h Store va) (stored h va width value) world
+store_part h va width value world =
+    then_ask (ask_store_at (satp_of h.csrs) (access h Store va) width value)
+    (λ found. answered (after_store h va found)) world
 
 -- a step that leaves the disk
 abbrev pub off_disk : List ℕ → Asking Made → Asking After
@@ -63,14 +66,15 @@ decoded_part h disk w (Some i) world = done_part h disk w i (effect i h.regs h.p
 unfoldable pub executed_part : Hart → List ℕ → ℕ → Asking After
 executed_part h disk w world = decoded_part h disk w (instruction w) world
 
--- where the program counter leads
+-- what a fetch found
 unfoldable pub fetched_part : Hart → List ℕ → Result ℕ ℕ → Asking After
 fetched_part h disk (Err cause) world = ends disk (raised h cause h.pc) world
-fetched_part h disk (Ok pa) world = then_ask (ask_value pa 4) (executed_part h disk) world
+fetched_part h disk (Ok word) world = executed_part h disk word world
 
 -- one instruction
 unfoldable pub instruction_part : Hart → List ℕ → Asking After
-instruction_part h disk world = then_ask (ask_access h Fetch h.pc) (fetched_part h disk) world
+instruction_part h disk world =
+    then_ask (ask_load (satp_of h.csrs) (access h Fetch h.pc) 4) (fetched_part h disk) world
 
 -- the interrupt, where it is due, and otherwise the instruction
 unfoldable pub interrupted : Bool → Hart → List ℕ → Asking After

@@ -8,14 +8,15 @@ use Rattle.cloak_model.specs.declared.access.Access.{Access}
 use Rattle.cloak_model.specs.declared.answer.Answer.{Answer}
 use Rattle.cloak_model.specs.declared.answer.Answer.TheVariants as answer
 use Rattle.cloak_model.specs.declared.item.Item.TheVariants as item
-use Rattle.cloak_model.specs.Ask.{ask_word, ask_second, ask_after, ask_first, ask_walk, ask_inside, ask_translate, ask_value}
-use Rattle.cloak_model.specs.AskPages.{answer_item, replies, if_drawn, ask_inside_address, offered_by, ask_offer, reached, reach_by_table, got, get_by_table, put_at, stored_inside, put_by_table, settled_if_marked, clear_from, ask_reach, ask_read, ask_write, ask_get, ask_put, ask_clear, ask_copy, ask_forget}
+use Rattle.cloak_model.specs.Ask.{ask_word, ask_second, ask_after, ask_first, ask_walk, ask_inside, ask_translate, ask_led, opened, ask_value}
+use Rattle.cloak_model.specs.AskPages.{is_store, offer_events, answer_item, replies, if_drawn, ask_inside_address, offered_by, ask_offer, reached, reach_by_table, got, get_by_table, put_at, stored_inside, put_by_table, settled_if_marked, clear_from, ask_reach, ask_read, ask_write, ask_get, ask_put, ask_clear, ask_copy, ask_forget}
 use Rattle.cloak_model.specs.Asking.{Asking}
 use Rattle.cloak_model.specs.Cloaking.{Offer, Ready, Mismatch, Missed, offer, settle}
+use Rattle.cloak_model.specs.Events.{Event}
 use Rattle.cloak_model.specs.Memory.{frame_of}
 use Rattle.cloak_model.specs.PageMoves.{copy_pages, drop_pages}
 use Rattle.cloak_model.specs.Walk.{Walk, FirstWord, Ends, GoesOn, first_entry}
-use Rattle.cloak_model.specs.World.{World, Cloak, Flat, Cloaked, Alone, settled, cipher_items, written, stored_at}
+use Rattle.cloak_model.specs.World.{World, Cloak, Flat, Cloaked, Alone, settled, cipher_items, noted, written, stored_at}
 use Rattle.store_law.proofs.Draws.{draws_none}
 use Rattle.store_law.proofs.Settlings.{settle_draws, offer_draws}
 use Rattle.store_law.proofs.Worlds.{OnlyShows, OnlyChanges, no_flat, no_alone, unchanged_flat, unchanged_alone, changes_from, OnlyShows-trans, OnlyShows-refl, OnlyShows-either, shows_by, shows_item}
@@ -26,6 +27,13 @@ pub shows_settled : (f : ℕ) (w : World) → OnlyShows w (settled f w)
 shows_settled f (Flat ram) = no_flat ram _
 shows_settled f (Cloaked c) = shows_by c _ (cipher_items (settle f c.memory).ciphers) refl (settle_draws f c.memory)
 shows_settled f (Alone h) = no_alone h _
+
+-- events show nothing
+shows_noted : (events : List Event) (w : World) → OnlyShows w (noted events w)
+shows_noted events (Flat ram) = no_flat ram _
+shows_noted events (Cloaked c) =
+    shows_by c _ [] (sym (append-nil c.items)) (draws_none c.memory _ refl refl refl)
+shows_noted events (Alone h) = no_alone h _
 
 shows_word : (pa : ℕ) (w : World) → OnlyShows w (ask_word pa w).world
 unfolding ask_word
@@ -57,9 +65,16 @@ shows_translate : (satp : ℕ) (a : Access) (w : World) → OnlyShows w (ask_tra
 unfolding ask_translate
 shows_translate satp a w = OnlyShows-trans _ _ _ (shows_walk satp a w) (shows_inside a _ _)
 
-shows_value : (pa width : ℕ) (w : World) → OnlyShows w (ask_value pa width w).world
+shows_led : (satp : ℕ) (a : Access) (w : World) → OnlyShows w (ask_led satp a w).world
+unfolding ask_led
+shows_led satp a w = OnlyShows-trans _ _ _ (shows_noted _ w) (shows_translate satp a _)
+
+shows_opened : (satp : ℕ) (a : Access) (pa : ℕ) (w : World) → OnlyShows w (opened satp a pa w)
+shows_opened satp a pa w = OnlyShows-trans _ _ _ (shows_settled (frame_of pa) w) (shows_noted _ _)
+
+shows_value : (satp : ℕ) (a : Access) (pa width : ℕ) (w : World) → OnlyShows w (ask_value satp a pa width w).world
 unfolding ask_value
-shows_value pa width w = shows_settled (frame_of pa) w
+shows_value satp a pa width w = shows_opened satp a pa w
 
 -- Answers.
 
@@ -82,51 +97,59 @@ shows_drawn ask w next = OnlyShows-either _ _ _ w (shows_replies _ w) next
 
 shows_inside_address : (va : ℕ) (kind : Kind) (w : World) → OnlyShows w (ask_inside_address va kind w).world
 unfolding ask_inside_address
-shows_inside_address va kind w = shows_translate _ _ w
+shows_inside_address va kind w = shows_led _ _ w
 
-shows_offered : (q : PageId) (g : ℕ) (o : Offer) (w : World) → OnlyShows w (offered_by q g o w).world
+shows_offered : (q : PageId) (va : ℕ) (kind : Kind) (g : ℕ) (o : Offer) (w : World) →
+    OnlyShows w (offered_by q va kind g o w).world
 unfolding offered_by
-shows_offered q g Ready w = shows_replies _ w
-shows_offered q g Missed w = shows_replies _ w
-shows_offered q g Mismatch (Flat ram) = no_flat ram _
-shows_offered q g Mismatch (Cloaked c) =
+shows_offered q va kind g Ready w = OnlyShows-trans _ _ _ (shows_noted _ w) (shows_replies _ _)
+shows_offered q va kind g Missed w = shows_replies _ w
+shows_offered q va kind g Mismatch (Flat ram) = no_flat ram _
+shows_offered q va kind g Mismatch (Cloaked c) =
     OnlyShows-trans _ (Cloaked _) _ (shows_by c _ [] (sym (append-nil c.items)) (draws_none c.memory _ refl refl refl))
     (shows_replies _ _)
-shows_offered q g Mismatch (Alone h) = no_alone h _
+shows_offered q va kind g Mismatch (Alone h) = no_alone h _
 
 offer_shows : (q : PageId) (g : ℕ) (write : Bool) (c : Cloak) → let o = offer q g write c.memory in
-    OnlyShows (Cloaked c) (Cloaked (record c { memory = o.memory; items = c.items ++ cipher_items o.ciphers }))
+    OnlyShows (Cloaked c)
+    (Cloaked
+    (record c {
+      memory = o.memory;
+      items = c.items ++ cipher_items o.ciphers;
+      events = c.events ++ offer_events q g c.memory o.answer;
+    }))
 offer_shows q g write c =
     shows_by c _ (cipher_items (offer q g write c.memory).ciphers) refl (offer_draws q g write c.memory)
 
-shows_offer : (q : PageId) (g : ℕ) (write : Bool) (w : World) → OnlyShows w (ask_offer q g write w).world
+shows_offer : (q : PageId) (va : ℕ) (kind : Kind) (g : ℕ) (w : World) → OnlyShows w (ask_offer q va kind g w).world
 unfolding ask_offer
-shows_offer q g write (Flat ram) = no_flat ram _
-shows_offer q g write (Cloaked c) =
-    OnlyShows-trans _ (Cloaked _) _ (offer_shows q g write c) (shows_offered q g _ _)
-shows_offer q g write (Alone h) = no_alone h _
+shows_offer q va kind g (Flat ram) = no_flat ram _
+shows_offer q va kind g (Cloaked c) =
+    OnlyShows-trans _ (Cloaked _) _ (offer_shows q g (is_store kind) c) (shows_offered q va kind g _ _)
+shows_offer q va kind g (Alone h) = no_alone h _
 
-shows_reached : (q : PageId) (kind : Kind) (to : Result ℕ ℕ) (w : World) → OnlyShows w (reached q kind to w).world
+shows_reached : (q : PageId) (va : ℕ) (kind : Kind) (to : Result ℕ ℕ) (w : World) →
+    OnlyShows w (reached q va kind to w).world
 unfolding reached
-shows_reached q kind (Err cause) w = shows_replies _ w
-shows_reached q kind (Ok pa) w = shows_offer q _ _ w
+shows_reached q va kind (Err cause) w = shows_replies _ w
+shows_reached q va kind (Ok pa) w = shows_offer q va kind _ w
 
 shows_reach_by_table : (q : PageId) (va : ℕ) (kind : Kind) (w : World) →
     OnlyShows w (reach_by_table q va kind w).world
 unfolding reach_by_table
 shows_reach_by_table q va kind w =
-    OnlyShows-trans _ _ _ (shows_inside_address va kind w) (shows_drawn _ _ (shows_reached q kind _ _))
+    OnlyShows-trans _ _ _ (shows_inside_address va kind w) (shows_drawn _ _ (shows_reached q va kind _ _))
 
-shows_got : (width : ℕ) (to : Result ℕ ℕ) (w : World) → OnlyShows w (got width to w).world
+shows_got : (va width : ℕ) (to : Result ℕ ℕ) (w : World) → OnlyShows w (got va width to w).world
 unfolding got
-shows_got width (Err cause) w = shows_replies _ w
-shows_got width (Ok pa) w =
-    OnlyShows-trans _ _ _ (shows_value pa width w) (shows_drawn _ _ (shows_replies _ _))
+shows_got va width (Err cause) w = shows_replies _ w
+shows_got va width (Ok pa) w =
+    OnlyShows-trans _ _ _ (shows_value _ _ pa width w) (shows_drawn _ _ (shows_replies _ _))
 
 shows_get_by_table : (va width : ℕ) (w : World) → OnlyShows w (get_by_table va width w).world
 unfolding get_by_table
 shows_get_by_table va width w =
-    OnlyShows-trans _ _ _ (shows_inside_address va Load w) (shows_drawn _ _ (shows_got width _ _))
+    OnlyShows-trans _ _ _ (shows_inside_address va Load w) (shows_drawn _ _ (shows_got va width _ _))
 
 -- Stores.
 
@@ -148,17 +171,17 @@ shows_put_at pa width value w =
     OnlyShows-trans _ _ _ (shows_stored pa width value w)
     (OnlyShows-trans _ _ _ (shows_put_item pa width (value % 2 ^ (8 * width)) _) (shows_replies answer.Ok _))
 
-shows_stored_inside : (width value : ℕ) (to : Result ℕ ℕ) (w : World) →
-    OnlyShows w (stored_inside width value to w).world
+shows_stored_inside : (va width value : ℕ) (to : Result ℕ ℕ) (w : World) →
+    OnlyShows w (stored_inside va width value to w).world
 unfolding stored_inside
-shows_stored_inside width value (Err cause) w = shows_replies _ w
-shows_stored_inside width value (Ok pa) w =
-    OnlyShows-trans _ _ _ (shows_settled (frame_of pa) w) (shows_drawn _ _ (shows_put_at pa width value _))
+shows_stored_inside va width value (Err cause) w = shows_replies _ w
+shows_stored_inside va width value (Ok pa) w =
+    OnlyShows-trans _ _ _ (shows_opened _ _ pa w) (shows_drawn _ _ (shows_put_at pa width value _))
 
 shows_put_by_table : (va width value : ℕ) (w : World) → OnlyShows w (put_by_table va width value w).world
 unfolding put_by_table
 shows_put_by_table va width value w =
-    OnlyShows-trans _ _ _ (shows_inside_address va Store w) (shows_drawn _ _ (shows_stored_inside width value _ _))
+    OnlyShows-trans _ _ _ (shows_inside_address va Store w) (shows_drawn _ _ (shows_stored_inside va width value _ _))
 
 -- Resources as wholes.
 

@@ -11,8 +11,7 @@ use Rattle.cloak_model.specs.declared.item.Item.TheVariants.{Cipher}
 use Rattle.cloak_model.specs.Chain.{cbc}
 use Rattle.cloak_model.specs.Joint.{Turn}
 use Rattle.cloak_model.specs.Opening.{is_placed}
-use Rattle.cloak_model.specs.Parts.{Joint}
-use Rattle.cloak_model.specs.Run.{Run, joint_run, joint_after}
+use Rattle.cloak_model.specs.Run.{Run, joint_run}
 use Rattle.kernel_isolation.specs.Isolation.{joint_until}
 
 -- The draws of a stream are numbered from 0.

@@ -52,8 +52,8 @@ unfolding
     effect.effect csr.with_pending csr.csr_read csr.csr_write csr.trap_entry csr.trap_return csr.interrupt_due
     hart.started walk.first_leaf walk.second_leaf walk.first_word walk.second_word walk.walk walk.walk_tables
     ask.ask_word ask.ask_second ask.ask_after ask.ask_first ask.ask_walk ask.ask_inside ask.ask_translate
-    ask.ask_count ask.ask_value ask.ask_store ask.ask_frame ask.ask_fill ask.ask_settled hart_step.raised
-    hart_step.csr_written hart_step.csr_found hart_step.csr_step hart_step.returned hart_step.idle hart_step.system
+    ask.ask_led ask.ask_count ask.ask_value ask.ask_store ask.loaded_at ask.ask_load ask.stored_to
+    ask.ask_store_at ask.ask_frame ask.ask_fill ask.ask_settled hart_step.raised hart_step.csr_written hart_step.csr_found hart_step.csr_step hart_step.returned hart_step.idle hart_step.system
     host_calls.put_call host_calls.timer_call host_calls.halt_call host_calls.read_block host_calls.write_block
     host_calls.read_call host_calls.write_call host_calls.host_call host_calls.resumed host_calls.ecall_in
     host_calls.ecall kernel_step.carried_out kernel_step.instruction_step kernel_step.ticked kernel_step.kernel_step

@@ -34,7 +34,7 @@ use Rattle.worked_rows.specs.JointRuns.{seen, seen_of, read_off, counted, key, d
 use Rattle.worked_rows.specs.JointRows.{opening_cipher, closing_cipher, program_with, started_context, not_started, answered_context, gone_program, shown_exit, whole, WholeRun, ThreeDraws, TwoDraws, OtherRoot, AfterExit, FlippedBit, NothingFlipped}
 use Rattle.worked_rows.proofs.Ciphers.{length-cbc, length-record_of, IsBytes-cbc, IsBytes-computed, flipped_word, flipped-differs}
 use Rattle.worked_rows.proofs.Computing.{joint_steps, joint_runs}
-use Rattle.worked_rows.proofs.Offers.{reach-shown, reach-changed}
+use Rattle.worked_rows.proofs.Offers.{refused_events, reach-shown, reach-changed}
 use Rattle.worked_rows.proofs.Turns.{first_turns, moment_after, goes_on, plus, turns_from-step, turns_from-last, turns_from-plus}
 use Rattle.worked_rows.proofs.Whole.{page, ram_of, plain_of, bare_root, opened_memory, resumed_memory, stored_page, stored_plain, first_hart, program_hart, machine, at_step, opened_moment, left_moment, fetched_step, cloak_for, fetch_granted, joint_step-of, turns_from-boot, turns_to_call, turns_from-call}
 
@@ -234,16 +234,18 @@ flip_turn = record
 
 flip_told : Told Answer
 unfolding cloak_for
-flip_told = record {
-  answer = told.Stopped;
-  world = Cloaked
-      (record (cloak_for second_hart (program_with answered_context loads) answered_context
-      (looked_memory (behind_boot flip_and_resume) flipped)) {
+flip_told =
+    let before = cloak_for second_hart (program_with answered_context loads) answered_context
+    (looked_memory (behind_boot flip_and_resume) flipped) in
+    record {
+      answer = told.Stopped;
+      world = Cloaked (record before {
         memory = with_comparison flipped closing_cipher (looked_memory (behind_boot flip_and_resume) flipped);
         items = item.Stopped 0 ∷ [];
+        events = refused_events page 0x8000801C Fetch before;
         violation = Some (violation.Page page (record { 0 = 8 }));
       });
-}
+    }
 
 flip_step : joint_step (looked_moment (behind_boot flip_and_resume) flipped) ≡ flip_turn
 unfolding joint_steps fetched_step flip_told flip_turn

@@ -11,6 +11,8 @@ use Rattle.cloak_base.specs.declared.names.PageId.{PageId}
 use Rattle.cloak_model.specs.declared.answer.Answer.{Answer}
 use Rattle.cloak_model.specs.declared.answer.Answer.TheVariants as told
 use Rattle.cloak_model.specs.declared.item.Item.TheVariants as item
+use Rattle.cloak_model.specs.Events.{Event, Look, births}
+use Rattle.cloak_model.specs.Events as events
 use Rattle.cloak_model.specs.Memory.{frame_of, is_in_ram}
 use Rattle.cloak_model.specs.Walk.{has_paging}
 use Rattle.cloak_model.specs.Cloaking as cloaking
@@ -19,7 +21,7 @@ use Rattle.cloak_model.specs.World.{World, Cloak, Cloaked, is_missed, cipher_ite
 use Rattle.cloak_model.specs.Asking.{Told, Asking}
 use Rattle.cloak_model.specs.Ask as ask
 use Rattle.cloak_model.specs.AskPages as ask_pages
-use Rattle.cloak_model.specs.AskPages.{ask_reach, ask_inside_address, if_drawn, is_store}
+use Rattle.cloak_model.specs.AskPages.{ask_reach, ask_inside_address, inside_access, if_drawn, is_store, offer_events}
 
 same_bytes : (xs : List ℕ) → bytes_eq xs xs ≡ true
 same_bytes xs = (bytes_eq-Decides xs xs).1 refl
@@ -68,10 +70,14 @@ pub record IsPlainAccess (va : ℕ) (c : Cloak) : Type 0 where
   pub inside : is_in_ram c.memory.ram va ≡ true
   pub drawn : c.memory.ledger.missed ≡ false
 
+-- an access that was asked for
+abbrev pub looked : ℕ → Kind → Cloak → Cloak
+looked va kind c = record c { events = c.events ++ Look c.view.satp (inside_access (Cloaked c) va kind) ∷ [] }
+
 -- an address leads to itself
 leads-to_itself : (va : ℕ) (kind : Kind) (c : Cloak) → IsPlainAccess va c → ask_inside_address va kind (Cloaked c) ≡
-    record { answer = Ok va; world = Cloaked c }
-unfolding ask.ask_translate ask.ask_walk ask.ask_inside ask_inside_address
+    record { answer = Ok va; world = Cloaked (looked va kind c) }
+unfolding ask.ask_led ask.ask_translate ask.ask_walk ask.ask_inside ask_inside_address
 leads-to_itself va kind c p = rw (p.bare, p.inside) refl
 
 if_drawn-drawn : (next : Asking Answer) (w : World) → is_missed w ≡ false → if_drawn next w ≡ next w
@@ -79,17 +85,33 @@ unfolding if_drawn
 if_drawn-drawn next w e = rw e refl
 
 -- what the offer of a page comes to
-offer_asked : PageId → ℕ → Cloak → AfterOffer → Told Answer
+offer_asked : PageId → ℕ → Kind → Cloak → AfterOffer → Told Answer
 unfolding ask_pages.offered_by ask_pages.replies
-offer_asked q g c o =
-    ask_pages.offered_by q g o.answer
-    (Cloaked (record c { memory = o.memory; items = c.items ++ cipher_items o.ciphers }))
+offer_asked q va kind c o =
+    ask_pages.offered_by q va kind (frame_of va) o.answer
+    (Cloaked
+    (record c {
+      memory = o.memory;
+      items = c.items ++ cipher_items o.ciphers;
+      events = (looked va kind c).events ++ offer_events q (frame_of va) c.memory o.answer;
+    }))
 
 reach-offer : (q : PageId) (va : ℕ) (kind : Kind) (c : Cloak) → IsPlainAccess va c
-    → ask_reach q va kind (Cloaked c) ≡ offer_asked q (frame_of va) c (offer q (frame_of va) (is_store kind) c.memory)
+    → ask_reach q va kind (Cloaked c) ≡ offer_asked q va kind c (offer q (frame_of va) (is_store kind) c.memory)
 unfolding ask_pages.ask_reach ask_pages.reach_by_table ask_pages.reached ask_pages.ask_offer offer_asked
 reach-offer q va kind c p =
-    rw (leads-to_itself va kind c p) (if_drawn-drawn (ask_pages.reached q kind (Ok va)) (Cloaked c) p.drawn)
+    rw (leads-to_itself va kind c p)
+    (if_drawn-drawn (ask_pages.reached q va kind (Ok va)) (Cloaked (looked va kind c)) p.drawn)
+
+-- what an offer that is granted does to translations that are known
+abbrev pub granted_events : PageId → ℕ → Kind → Cloak → List Event
+granted_events q va kind c = ((looked va kind c).events ++ events.Offer q (frame_of va) true ∷ [])
+    ++ births (taken q (frame_of va) (is_store kind) c.memory).ram c.view.satp (inside_access (Cloaked c) va kind)
+    (Some q)
+
+-- and one that is not
+abbrev pub refused_events : PageId → ℕ → Kind → Cloak → List Event
+refused_events q va kind c = (looked va kind c).events ++ events.Offer q (frame_of va) false ∷ []
 
 -- a page is reached in a frame that has the bytes that were last shown of it
 pub reach-shown : (q : PageId) (va : ℕ) (kind : Kind) (c : Cloak) → IsPlainAccess va c →
@@ -101,11 +123,12 @@ pub reach-shown : (q : PageId) (va : ℕ) (kind : Kind) (c : Cloak) → IsPlainA
             memory = taken q (frame_of va) (is_store kind) c.memory;
             items = c.items
                 ++ item.Ok c.view.domain ∷ [];
+            events = granted_events q va kind c;
           });
     }
 unfolding offer_asked
 reach-shown q va kind c p h = reach-offer q va kind c p
-    ∙ ap (offer_asked q (frame_of va) c) (offer-shown q (frame_of va) (is_store kind) c.memory h)
+    ∙ ap (offer_asked q va kind c) (offer-shown q (frame_of va) (is_store kind) c.memory h)
     ∙ rw (append-nil c.items) refl
 
 -- a page is not reached in a frame that has other bytes: the step meets the violation
@@ -116,10 +139,11 @@ pub reach-changed : (q : PageId) (va : ℕ) (kind : Kind) (c : Cloak) → IsPlai
       world = Cloaked (record c {
         memory = with_comparison (slice_index_or c.memory.ram (frame_of va) []) h.last c.memory;
         items = c.items ++ item.Stopped c.view.domain ∷ [];
+        events = refused_events q va kind c;
         violation = Some (violation.Page q (record { 0 = frame_of va }));
       });
     }
 unfolding offer_asked
 reach-changed q va kind c p h = reach-offer q va kind c p
-    ∙ ap (offer_asked q (frame_of va) c) (offer-changed q (frame_of va) (is_store kind) c.memory h)
+    ∙ ap (offer_asked q va kind c) (offer-changed q (frame_of va) (is_store kind) c.memory h)
     ∙ rw (append-nil c.items) refl

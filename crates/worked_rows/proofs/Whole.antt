@@ -32,7 +32,7 @@ use Rattle.worked_rows.specs.Runs.{running, registers_from}
 use Rattle.worked_rows.specs.JointRuns.{key, draw_1, csrs_of, outside_hart, inside_hart}
 use Rattle.worked_rows.specs.JointRows.{program_resources, program_with, program_at_call, called_hart, started_context, not_started}
 use Rattle.worked_rows.proofs.Computing.{joint_steps, told_steps, joint_runs}
-use Rattle.worked_rows.proofs.Offers.{reach-shown}
+use Rattle.worked_rows.proofs.Offers.{granted_events, reach-shown}
 use Rattle.worked_rows.proofs.Turns.{first_turns, moment_after, goes_on, plus, turns_from-plus, turns_from-step}
 
 -- The machine.
@@ -151,7 +151,14 @@ cloak_for h d c m = cloak_of m h 0 (pages_for d (Some c))
 unfoldable pub fetch_granted : Hart → Domain → Context → CloakedMemory → Told Answer
 unfolding cloak_for
 fetch_granted h d c m =
-    record { answer = told.Ok; world = Cloaked (record (cloak_for h d c m) { items = item.Ok 0 ∷ [] }) }
+    record {
+      answer = told.Ok;
+      world = Cloaked
+          (record (cloak_for h d c m) {
+            items = item.Ok 0 ∷ [];
+            events = granted_events page c.pc Fetch (cloak_for h d c m);
+          });
+    }
 
 -- the step as it asks, what it is told, and what it then comes to
 pub record IsStep (n : ℕ) (h : Hart) (d : Domain) (c : Context) (m : CloakedMemory) (t : Turn) : Type 0 where
@@ -212,8 +219,9 @@ store_step rest stream told =
 storing : List ℕ → Random → Cloak
 unfolding cloak_for
 storing rest stream =
-    record (cloak_for program_hart (program_with (with_seven 0x80008004) []) (with_seven 0x80008004)
-    (resumed_memory words_page rest stream)) { items = item.Ok 0 ∷ [] }
+    let before = cloak_for program_hart (program_with (with_seven 0x80008004) []) (with_seven 0x80008004)
+    (resumed_memory words_page rest stream) in
+    record before { items = item.Ok 0 ∷ []; events = granted_events page 0x80008004 Fetch before }
 
 store_granted : List ℕ → Random → Told Answer
 unfolding storing
@@ -222,6 +230,7 @@ store_granted rest stream = record {
   world = Cloaked (record (storing rest stream) {
     memory = memory_of words_page rest stream bare_root (plain_of words_page) owed_page;
     items = item.Ok 0 ∷ item.Ok 0 ∷ [];
+    events = granted_events page 0x80008100 Store (storing rest stream);
   });
 }
 

@@ -14,7 +14,8 @@ use Rattle.cloak_model.specs.declared.item.Item.TheVariants as item
 use Rattle.cloak_model.specs.Chain.{cbc}
 use Rattle.cloak_model.specs.Memory.{value_in}
 use Rattle.cloak_model.specs.Cloaking.{CloakedMemory, Ready, offer, with_shown_frame}
-use Rattle.cloak_model.specs.World.{World, Cloaked, items_of}
+use Rattle.cloak_model.specs.Events.{Touch}
+use Rattle.cloak_model.specs.World.{World, Cloaked, items_of, noted}
 use Rattle.cloak_model.specs.Asking.{Told}
 use Rattle.cloak_model.specs.Ask.{ask_word, ask_walk}
 use Rattle.cloak_model.specs.AskPages.{ask_reach, ask_read}
@@ -53,6 +54,7 @@ abbrev pub world_of : ℕ → CloakedMemory → World
 world_of satp m = Cloaked (record {
   memory = m;
   items = [];
+  events = [];
   violation = None;
   view = record { satp = satp; sum = false; mxr = false; domain = 0 };
   pages = λ va. None;
@@ -102,7 +104,10 @@ pub record OwnTable : Type 0 where
       item.Cipher 2 table_cipher ∷ []
   pub draws : (memory_in (ask_walk 0x80080001 table_access reached_fresh.world).world).ledger.draws ≡ 1
   pub settled : (memory_in (ask_walk 0x80080001 table_access reached_fresh.world).world).ledger.owed ≡ replicate 64 None
-  pub unchanged : ask_word 0x80002004 held ≡ record { answer = Some (value_in table_cipher 4 4); world = held }
+  pub unchanged : ask_word 0x80002004 held ≡ record {
+    answer = Some (value_in table_cipher 4 4);
+    world = noted (Touch 2 ∷ []) held;
+  }
 
 -- A fork.
 

@@ -12,15 +12,6 @@ returns-in-Err-clause-answers g c = wants_memory _ _ _ _ refl c.requires.output 
 pub returns-in-Err-clause-kept : goal.returns-in-Err-clause-kept
 returns-in-Err-clause-kept g c = keeps_same _ _ _
 
-pub returns-in-NotBuilt-clause-answers : goal.returns-in-NotBuilt-clause-answers
-returns-in-NotBuilt-clause-answers g c =
-    let is : spec.NotBuilt ≡ spec.words_of (map string_bytes c.args.words.now.items) =
-    ap (λ r. asked_of r) (sym c.in-NotBuilt.is) ∙ (c.in-Ok.ensures
-    ∙ ap (λ (ws : List _). spec.words_of (map string_bytes ws)) c.as_slice.ensures.value) in
-    answers_asked spec.NotBuilt _ _ _ _ is (only_refuses {asked = spec.NotBuilt} {r = refusal.NotBuilt}
-    (record { cause = record { not_built = refl; untouched = refl }; held = λ name. refl; writing = refl })
-    c.requires.output c.refuse-in-NotBuilt.ensures)
-
 pub returns-in-Faulty-clause-answers : goal.returns-in-Faulty-clause-answers
 returns-in-Faulty-clause-answers g c =
     let is : spec.Faulty c.in-Faulty.fault ≡ spec.words_of (map string_bytes c.args.words.now.items) =

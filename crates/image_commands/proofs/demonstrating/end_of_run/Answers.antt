@@ -1,6 +1,6 @@
 use Rattle.cloak_model.specs.Run.{first_moment}
 use Rattle.run_command.proofs.ClashFacts.{run_unclashed}
-use Rattle.image_commands.proofs.Runs.{end_of}
+use Rattle.run_command.proofs.EndFacts.{end_of}
 use Rattle.image_commands.proofs.demonstrating.end_of_run.Goals as goal
 
 pub returns : goal.returns

@@ -1,5 +1,5 @@
 use Rattle.std.proofs.Common.{◌∙◌, ap, ◌+◌, ℕ, arith}
-use Rattle.image_commands.proofs.StepFacts.{unclashed-next, goes_on-start, goes_on-more, stops-more, runs-all}
+use Rattle.run_command.proofs.StepFacts.{unclashed-next, goes_on-start, goes_on-more, stops-more, runs-all}
 use Rattle.image_commands.proofs.demonstrating.run_unheard.Goals as goal
 
 pub loop-made-init : goal.loop-made-init

@@ -1,11 +1,5 @@
-use Rattle.std.proofs.Common.{◌<◌, Some, sym, ap, subst, ◌∙◌}
-use Rattle.std.specs.Prelude.{length}
-use Rattle.chain_arena.specs.declared.chain.Chain.{Chain}
-use Rattle.chain_arena.specs.Arena.{Arena, chains, with_payload}
-use Rattle.chain_arena.proofs.Callers.{chains_paid}
-use Rattle.shadow_fold.specs.declared.entry.Entry.{Entry}
+use Rattle.std.proofs.Common.{◌<◌, subst}
 use Rattle.shadow_fold.specs.Entries.{IsWithin}
-use Rattle.multi_shadow.specs.Placed.{ArePlaced}
 use Rattle.multi_shadow.proofs.Placing.{put_placed}
 use Rattle.multi_shadow.proofs.places.place.Goals as goal
 

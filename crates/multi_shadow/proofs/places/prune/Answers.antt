@@ -1,8 +1,8 @@
-use Rattle.std.proofs.Common.{◌≡◌, ◌<◌, length, Some, sym, ap, refl, subst, ◌∙◌}
-use Rattle.chain_arena.specs.Arena.{chain_at, chain_rest, next_behind}
+use Rattle.std.proofs.Common.{◌<◌, length, sym, ap, refl, subst, ◌∙◌}
+use Rattle.chain_arena.specs.Arena.{chain_at, chain_rest}
 use Rattle.chain_arena.specs.Chains.{IsMemberOf}
 use Rattle.chain_arena.proofs.Callers.{first_in_list, rest_first}
-use Rattle.multi_shadow.specs.Placed.{ArePlaced, LiesAt, is_hit, emptied_if, without_if}
+use Rattle.multi_shadow.specs.Placed.{emptied_if, without_if}
 use Rattle.multi_shadow.proofs.Pruning.{smaller, inside_now, fewer_now, left_now, kept_now, hit_stands, not_true}
 use Rattle.multi_shadow.proofs.Removing.{emptied_long}
 use Rattle.multi_shadow.proofs.places.prune.Goals as goal

@@ -1,4 +1,4 @@
-use Rattle.std.proofs.Common.{◌≡◌, ℕ, ◌<◌, true, false, length, Some}
+use Rattle.std.proofs.Common.{◌≡◌, ℕ, true, false, length, Some}
 use Rattle.chain_arena.specs.Arena.{chain_at, chain_rest}
 use Rattle.chain_arena.specs.Chains.{IsMemberOf}
 use Rattle.shadow_fold.specs.declared.entry.Entry.{Entry}

@@ -1,9 +1,7 @@
-use Rattle.std.proofs.Common.{◌≡◌, ◌≤◌, ◌<◌, ◌==◌, ◌+◌, ℕ, true, false, sym, ap, subst, refl, arith, ◌∙◌, inl, inr, Some}
-use Rattle.std.proofs.lemmas.Bool.{false≢true, cases_eq, eq-eqb}
+use Rattle.std.proofs.Common.{◌<◌, sym, ap, subst, refl, arith, ◌∙◌}
+use Rattle.std.proofs.lemmas.Bool.{false≢true}
 use Rattle.chain_arena.specs.declared.chain.Chain.TheVariants as chain
-use Rattle.shadow_fold.specs.declared.entry.Entry.{Entry}
-use Rattle.shadow_fold.proofs.Keys.{and_true, eqb_equal}
-use Rattle.multi_shadow.specs.Placed.{LiesAt, is_wanted, is_hit, bucket_of}
+use Rattle.multi_shadow.specs.Placed.{is_hit, bucket_of}
 use Rattle.multi_shadow.proofs.Pruning.{not_true, past_head, not_yet}
 use Rattle.multi_shadow.proofs.places.prune_all.Goals as goal
 

@@ -1,4 +1,4 @@
-use Rattle.std.proofs.Common.{◌≡◌, ℕ, ◌<◌, true, false, inl, inr, ◌∷◌, length, slice_get, Some, None, sym, ap, subst, arith, ◌∙◌}
+use Rattle.std.proofs.Common.{◌≡◌, ℕ, ◌<◌, true, inl, inr, ◌∷◌, length, slice_get, Some, sym, ap, subst, arith, ◌∙◌}
 use Rattle.std.proofs.lemmas.Bool.{false≢true}
 use Rattle.chain_arena.specs.declared.chain.Chain.TheVariants as chain
 use Rattle.chain_arena.specs.Arena.{Arena, chain_at, chain_rest}

@@ -1,21 +1,24 @@
 use Rattle.std.proofs.Common.{refl, ap, Ok, Err}
-use Rattle.cloak_model.specs.Ask.{ask_store_at, stored_to, ask_translate}
+use Rattle.cloak_model.specs.Ask.{ask_store_at, stored_to, ask_led}
 use Rattle.cloak_model.proofs.Following.{then_follows}
 use Rattle.cloak_model.proofs.Later.{later_stored_to}
 use Rattle.alone_views.specs.KernelWorld.{IsWorld}
+use Rattle.alone_views.proofs.KernelRam.{follows_led}
 use Rattle.alone_views.proofs.kernel_ram.FlatRamRam.store.Goals as goal
 
 pub returns-in-Err-clause-follows : goal.returns-in-Err-clause-follows
 unfolding ask_store_at stored_to
 returns-in-Err-clause-follows c =
-    then_follows IsWorld c.args.self.now c.led.new.self _ (Err c.in-Err.cause) _ (ask_translate c.args.satp c.args.access)
-    (stored_to c.args.width c.args.v) (later_stored_to c.args.width c.args.v) c.in-Err.ensures.follows
+    then_follows IsWorld c.args.self.now c.led.new.self _ (Err c.in-Err.cause) _ (ask_led c.args.satp c.args.access)
+    (stored_to c.args.satp c.args.access c.args.width c.args.v) (later_stored_to c.args.satp c.args.access c.args.width c.args.v)
+    (follows_led c.args.self.now c.led.new.self _ _ _ c.in-Err.ensures.follows)
     (λ first w stands unclashed. record { answer = refl; stands = stands })
 
 pub returns-in-Ok-clause-follows : goal.returns-in-Ok-clause-follows
 unfolding ask_store_at stored_to
 returns-in-Ok-clause-follows c =
-    then_follows IsWorld c.args.self.now c.led.new.self _ (Ok c.in-Ok.pa) _ (ask_translate c.args.satp c.args.access)
-    (stored_to c.args.width c.args.v) (later_stored_to c.args.width c.args.v) c.in-Ok.ensures.follows
-    (λ first w stands unclashed. let f = c.write_at.ensures.follows first w stands unclashed in
+    then_follows IsWorld c.args.self.now c.led.new.self _ (Ok c.in-Ok.pa) _ (ask_led c.args.satp c.args.access)
+    (stored_to c.args.satp c.args.access c.args.width c.args.v) (later_stored_to c.args.satp c.args.access c.args.width c.args.v)
+    (follows_led c.args.self.now c.led.new.self _ _ _ c.in-Ok.ensures.follows)
+    (λ first w stands unclashed. let f = c.write_at.ensures.follows c.args.satp c.args.access first w stands unclashed in
     record { answer = ap Ok f.answer; stands = f.stands })

@@ -1,10 +1,12 @@
-use Rattle.std.proofs.Common.{rules, ◌≡◌, ◌≢◌, ◌∙◌, ◌++◌, sym, not, Some}
+use Rattle.std.proofs.Common.{rules, ℕ, ◌≡◌, ◌≢◌, ◌∙◌, ◌++◌, sym, not, Some}
 use Rattle.cloak_model.specs.Cloaking.{settle}
 use Rattle.cloak_pager.specs.State.{held_in}
 use Rattle.cloaked_side.proofs.Settling.{settle_missed}
 use Rattle.cloaked_side.proofs.Emitting.{emits_then, emits_ciphers}
 use Rattle.cloaked_side.proofs.Rooming.{rooms_missed, rooms_alone, rooms_home, rest_by, home_gone, outside_still}
 use Rattle.cloaked_side.proofs.Holders.{no_more_then, no_more_emptied}
+use Rattle.shadow_fold.specs.Fold.{frame, touched}
+use Rattle.cloaked_side.proofs.Tracking.{room_missed, room_drawn, goes_on_none, goes_on_home}
 use Rattle.cloaked_side.proofs.memory.Memory.make_room.Goals as goal
 
 pub returns-then-self-clause-rooms : goal.returns-then-self-clause-rooms
@@ -86,3 +88,40 @@ returns-clause-no_more g c =
     no_more_then _ c.settle.new.self.pager _
     (no_more_emptied c.args.g.0 _ _ c.settle.ensures.stays c.settle.ensures.outside)
     (no_more_emptied c.in-Some.home.0 _ _ c.settle-2.ensures.stays c.settle-2.ensures.outside)
+
+pub returns-then-self-clause-tracks : goal.returns-then-self-clause-tracks
+returns-then-self-clause-tracks g c m h =
+    let f = c.args.g.0 in
+    let st = c.settle.ensures.settles m h in
+    let missed = settle_missed f m (sym h.missed ∙ c.requires.drawn) ∙ sym st.holds.missed ∙ c.if-self.true in
+    room_missed _ _ _ _ _ _ c.args.q f m missed c.settle.ensures.tracks
+
+pub returns-in_default-clause-tracks : goal.returns-in_default-clause-tracks
+returns-in_default-clause-tracks g c m h =
+    let f = c.args.g.0 in
+    let st = c.settle.ensures.settles m h in
+    let missed = settle_missed f m (sym h.missed ∙ c.requires.drawn) ∙ sym st.holds.missed ∙ c.if-self.false in
+    let nowhere : (k : ℕ) → held_in c.settle.new.self.pager k ≢ Some c.args.q = search rules in
+    room_drawn _ _ _ _ _ _ c.args.q f m missed
+    (λ s keeps. goes_on_none _ _ _ c.args.q (touched (frame f) s) nowhere (c.settle.ensures.tracks s keeps))
+
+pub returns-clause-tracks : goal.returns-clause-tracks
+returns-clause-tracks g c m h =
+    let f = c.args.g.0 in
+    let home = c.in-Some.home.0 in
+    let st = c.settle.ensures.settles m h in
+    let missed = settle_missed f m (sym h.missed ∙ c.requires.drawn) ∙ sym st.holds.missed ∙ c.if-self.false in
+    let held : held_in c.settle.new.self.pager home ≡ Some c.args.q = search rules in
+    room_drawn _ _ _ _ _ _ c.args.q f m missed
+    (λ s keeps. goes_on_home _ _ _ _ (held_in c.settle.new.self.pager) _ c.args.q home (touched (frame f) s) (c.settle.ensures.tracks s keeps) held
+    (λ k is. st.holds.pager.whole.one_home k home c.args.q is held) (c.settle-2.ensures.tracks (touched (frame f) s) (c.settle.ensures.tracks s keeps)))
+
+pub returns-in_default-clause-drawn : goal.returns-in_default-clause-drawn
+returns-in_default-clause-drawn g c made m h =
+    let st = c.settle.ensures.settles m h in
+    settle_missed c.args.g.0 m (sym h.missed ∙ c.requires.drawn) ∙ sym st.holds.missed ∙ c.if-self.false
+
+pub returns-clause-drawn : goal.returns-clause-drawn
+returns-clause-drawn g c made m h =
+    let st = c.settle.ensures.settles m h in
+    settle_missed c.args.g.0 m (sym h.missed ∙ c.requires.drawn) ∙ sym st.holds.missed ∙ c.if-self.false

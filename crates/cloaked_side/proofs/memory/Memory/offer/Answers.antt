@@ -1,4 +1,4 @@
-use Rattle.std.proofs.Common.{◌≡◌, refl, sym, ap, subst, ◌∙◌}
+use Rattle.std.proofs.Common.{◌≡◌, true, false, refl, sym, ap, subst, ◌∙◌}
 use Rattle.cloak_model.specs.Cloaking.{Ready, Mismatch, Missed, offer}
 use Rattle.shadow_fold.specs.Keeping.{Agrees}
 use Rattle.shadow_law.specs.Agreeing.{present}
@@ -6,6 +6,8 @@ use Rattle.cloak_pager.specs.State.{held_in}
 use Rattle.cloaked_side.specs.declared.memory.Offer.TheVariants as ended
 use Rattle.cloaked_side.proofs.Rooming.{rooms_self, offers_so, offers_missed}
 use Rattle.cloaked_side.proofs.Translating.{killed_frames, offered_again, offered_new, offered_vain}
+use Rattle.cloak_pager.specs.State.{PagerState, page_of}
+use Rattle.cloaked_side.proofs.Tracking.{tracks_offer, effect_again, effect_new, effect_missed, room_is, goes_on_granted, goes_on_same, same_held}
 use Rattle.cloaked_side.proofs.memory.Memory.offer.Goals as goal
 
 pub returns-in-Ready-clause-offers : goal.returns-in-Ready-clause-offers
@@ -47,3 +49,42 @@ returns-in-Mismatch-offer-clause-offers g c m h clash =
     room.shadows r.holds.pager c.in-Mismatch-offer.ensures.state (c.if-not-make_room.ensures.alone refl)
     (c.if-not-make_room.ensures.room refl) ends r.holds.agrees)
     refl c.offer-2.ensures.stays.count clash
+
+pub returns-in-Ready-clause-tracks : goal.returns-in-Ready-clause-tracks
+returns-in-Ready-clause-tracks g c m h clash space =
+    let old = c.args.self.now in
+    let is = returns-in-Ready-clause-offers g c m h clash in
+    let was = c.if-is_held.ensures.held refl in
+    tracks_offer space _ _ _ _ _ _ c.args.q c.args.g.0 m Ready _ is.answer
+    (effect_again old.counting old.shadows (held_in old.pager) (held_in c.offer.new.self) c.args.q c.args.g.0 true was
+    (same_held old.pager c.offer.new.self c.args.g.0 c.offer.ensures.stays (c.in-Ready.ensures.held refl ∙ sym was)))
+
+pub returns-then-not-make_room-clause-tracks : goal.returns-then-not-make_room-clause-tracks
+returns-then-not-make_room-clause-tracks g c m h clash space =
+    let is = returns-then-not-make_room-clause-offers g c m h clash in
+    tracks_offer space _ _ _ _ _ _ c.args.q c.args.g.0 m Missed _ is.answer
+    (effect_missed _ _ _ _ (held_in c.args.self.now.pager) _ c.args.q c.args.g.0 m (c.if-is_held.ensures.not_held refl) (c.if-not-make_room.ensures.tracks m h))
+
+pub returns-in-Ready-offer-clause-tracks : goal.returns-in-Ready-offer-clause-tracks
+returns-in-Ready-offer-clause-tracks g c m h clash space =
+    let f = c.args.g.0 in
+    let q = c.args.q in
+    let room = c.make_room.new.self in
+    let is = returns-in-Ready-offer-clause-offers g c m h clash in
+    let made = room_is _ _ _ _ (held_in c.args.self.now.pager) _ q f m (c.if-not-make_room.ensures.drawn refl m h) (c.if-not-make_room.ensures.tracks m h) in
+    tracks_offer space _ _ _ _ _ _ q f m Ready _ is.answer
+    (effect_new _ _ _ _ (held_in c.args.self.now.pager) _ q f true (c.if-is_held.ensures.not_held refl)
+    (λ s keeps. goes_on_granted room.counting room.shadows _ (held_in room.pager) (held_in c.offer-2.new.self) q f _ (made s keeps) c.end_entries.ensures
+    (c.in-Ready-offer.ensures.held refl) (λ k n. ap page_of (c.offer-2.ensures.stays.rights k n))))
+
+pub returns-in-Mismatch-offer-clause-tracks : goal.returns-in-Mismatch-offer-clause-tracks
+returns-in-Mismatch-offer-clause-tracks g c m h clash space =
+    let f = c.args.g.0 in
+    let q = c.args.q in
+    let room = c.make_room.new.self in
+    let is = returns-in-Mismatch-offer-clause-offers g c m h clash in
+    let made = room_is _ _ _ _ (held_in c.args.self.now.pager) _ q f m (c.if-not-make_room.ensures.drawn refl m h) (c.if-not-make_room.ensures.tracks m h) in
+    tracks_offer space _ _ _ _ _ _ q f m Mismatch _ is.answer
+    (effect_new _ _ _ _ (held_in c.args.self.now.pager) _ q f false (c.if-is_held.ensures.not_held refl)
+    (λ s keeps. goes_on_same room.counting room.shadows (held_in room.pager) (held_in c.offer-2.new.self) _ (made s keeps)
+    (λ k. ap (λ (p : PagerState). held_in p k) c.in-Mismatch-offer.ensures.state)))

@@ -6,6 +6,7 @@ use Rattle.shadow_fold.specs.Table.{Table}
 use Rattle.cloaked_side.proofs.Settling.{settled_so}
 use Rattle.cloaked_side.proofs.Emitting.{emits_none}
 use Rattle.cloaked_side.proofs.Translating.{quiet_agrees, settled_agrees, read_agrees, ended_frames}
+use Rattle.cloaked_side.proofs.Tracking.{settle_tracks, quiet_ends, loud_ends, read_held}
 use Rattle.cloaked_side.proofs.memory.Memory.settle.Goals as goal
 
 pub returns-in-Quiet-clause-settles : goal.returns-in-Quiet-clause-settles
@@ -58,3 +59,53 @@ returns-in-Wiped-clause-settles g c =
     (ap (λ (t : Table). t.frames) c.emit_frame-in-Wiped.ensures.shadows
     ∙ ended_frames c.args.f old.shadows c.end_entries-in-Wiped.new.shadows c.end_entries-in-Wiped.ensures)
     (ap (λ (p : PagerState). length p.frames) c.emit_frame-in-Wiped.ensures.read ∙ c.touch.ensures.stays.count)
+
+pub returns-in-Quiet-clause-tracks : goal.returns-in-Quiet-clause-tracks
+returns-in-Quiet-clause-tracks g c =
+    let f = c.args.f.0 in
+    settle_tracks c.args.self.now.pager c.touch.new.self _ _ c.args.self.now.shadows _ f (quiet_ends c.args.self.now.pager f _ c.args.self.now.shadows c.in-Quiet.ensures.exact_cause) refl
+    (ap page_of c.touch.ensures.outside) (λ k n. ap page_of (c.touch.ensures.stays.rights k n))
+
+pub returns-in-Resealed-clause-tracks : goal.returns-in-Resealed-clause-tracks
+returns-in-Resealed-clause-tracks g c =
+    let f = c.args.f.0 in
+    settle_tracks c.args.self.now.pager c.touch.new.self _ _ c.args.self.now.shadows _ f
+    (c.end_entries.ensures ∙ loud_ends c.args.self.now.pager f _ c.args.self.now.shadows (λ q. (let clash = c.in-Resealed.ensures.exact_cause ∙ q in cc))) refl
+    (ap page_of c.touch.ensures.outside) (λ k n. ap page_of (c.touch.ensures.stays.rights k n))
+
+pub returns-in-Sealed-clause-tracks : goal.returns-in-Sealed-clause-tracks
+returns-in-Sealed-clause-tracks g c =
+    let f = c.args.f.0 in
+    let read = read_held c.touch.new.self c.emit_frame.new.self.pager c.emit_frame.ensures.read in
+    settle_tracks c.args.self.now.pager c.emit_frame.new.self.pager _ _ c.args.self.now.shadows _ f
+    (c.emit_frame.ensures.shadows ∙ c.end_entries-in-Sealed.ensures
+    ∙ loud_ends c.args.self.now.pager f _ c.args.self.now.shadows (λ q. (let clash = c.in-Sealed.ensures.exact_cause ∙ q in cc)))
+    c.emit_frame.ensures.counting
+    (read f ∙ ap page_of c.touch.ensures.outside) (λ k n. read k ∙ ap page_of (c.touch.ensures.stays.rights k n))
+
+pub returns-in-Wiped-clause-tracks : goal.returns-in-Wiped-clause-tracks
+returns-in-Wiped-clause-tracks g c =
+    let f = c.args.f.0 in
+    let read = read_held c.touch.new.self c.emit_frame-in-Wiped.new.self.pager c.emit_frame-in-Wiped.ensures.read in
+    settle_tracks c.args.self.now.pager c.emit_frame-in-Wiped.new.self.pager _ _ c.args.self.now.shadows _ f
+    (c.emit_frame-in-Wiped.ensures.shadows ∙ c.end_entries-in-Wiped.ensures
+    ∙ loud_ends c.args.self.now.pager f _ c.args.self.now.shadows (λ q. (let clash = c.in-Wiped.ensures.exact_cause ∙ q in cc)))
+    c.emit_frame-in-Wiped.ensures.counting
+    (read f ∙ ap page_of c.touch.ensures.outside) (λ k n. read k ∙ ap page_of (c.touch.ensures.stays.rights k n))
+
+pub returns-in-Quiet-clause-ends : goal.returns-in-Quiet-clause-ends
+returns-in-Quiet-clause-ends g c = quiet_ends c.args.self.now.pager c.args.f.0 _ c.args.self.now.shadows c.in-Quiet.ensures.exact_cause
+
+pub returns-in-Resealed-clause-ends : goal.returns-in-Resealed-clause-ends
+returns-in-Resealed-clause-ends g c =
+    c.end_entries.ensures ∙ loud_ends c.args.self.now.pager c.args.f.0 _ c.args.self.now.shadows (λ q. (let clash = c.in-Resealed.ensures.exact_cause ∙ q in cc))
+
+pub returns-in-Sealed-clause-ends : goal.returns-in-Sealed-clause-ends
+returns-in-Sealed-clause-ends g c =
+    c.emit_frame.ensures.shadows ∙ c.end_entries-in-Sealed.ensures
+    ∙ loud_ends c.args.self.now.pager c.args.f.0 _ c.args.self.now.shadows (λ q. (let clash = c.in-Sealed.ensures.exact_cause ∙ q in cc))
+
+pub returns-in-Wiped-clause-ends : goal.returns-in-Wiped-clause-ends
+returns-in-Wiped-clause-ends g c =
+    c.emit_frame-in-Wiped.ensures.shadows ∙ c.end_entries-in-Wiped.ensures
+    ∙ loud_ends c.args.self.now.pager c.args.f.0 _ c.args.self.now.shadows (λ q. (let clash = c.in-Wiped.ensures.exact_cause ∙ q in cc))

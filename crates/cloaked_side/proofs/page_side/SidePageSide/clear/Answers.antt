@@ -1,11 +1,14 @@
 use Rattle.std.proofs.Common.{◌≡◌, ◌<◌, ◌∙◌, sym, subst, ap, ℕ, length, rules}
 use Rattle.cloak_pager.specs.State.{IsNoneOwed}
 use Rattle.cloaked_side.proofs.Sided.{within_of, stays_on}
-use Rattle.cloaked_side.proofs.Serving.{served_is, unused_still, served_same, mark_inside}
+use Rattle.cloaked_side.proofs.Serving.{served_is, unused_still, served_same, mark_inside, wrap_inside}
 use Rattle.cloaked_side.proofs.page_side.SidePageSide.clear.Goals as goal
 
 pub returns-clause-follows : goal.returns-clause-follows
-returns-clause-follows g c first w sees unclashed = c.clear_frames.ensures.told first w sees
+returns-clause-follows g c first w sees unclashed =
+    let kept = within_of g.E.Emit.gave c.args.self.now c.clear_frames.new.self c.clear_frames.ensures.keeps in
+    wrap_inside g.E.Emit.gave first c.args.self.now c.clear_frames.new.self _ _ kept.stays.space sees.1
+    (c.clear_frames.ensures.told first w sees.0)
 
 pub returns-clause-keeps : goal.returns-clause-keeps
 returns-clause-keeps g c first stays = stays_on g.E.Emit.gave first c.args.self.now _ c.clear_frames.ensures.keeps stays

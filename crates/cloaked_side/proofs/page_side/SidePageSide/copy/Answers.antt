@@ -1,9 +1,12 @@
-use Rattle.std.proofs.Common.{refl, sym, subst, ℕ}
-use Rattle.cloak_pager.specs.State.{IsNoneOwed, IsNoneHeld}
+use Rattle.std.proofs.Common.{refl, sym, subst, ap, ℕ, Option}
+use Rattle.cloak_base.specs.declared.names.PageId.{PageId}
+use Rattle.cloak_pager.specs.State.{IsNoneOwed, IsNoneHeld, held_in}
 use Rattle.cloaked_side.proofs.Holders.{no_more_rights}
 use Rattle.cloaked_side.proofs.Cleared.{sees_copied}
 use Rattle.cloaked_side.proofs.Sided.{stays_repaged, still_turned, turned_size, turned_count}
-use Rattle.cloaked_side.proofs.Serving.{served_is, cleared_still, unused_still, served_same}
+use Rattle.cloaked_side.proofs.Serving.{served_is, cleared_still, unused_still, served_same, wrap_inside}
+use Rattle.cloaked_side.proofs.Tracking.{same_tracks}
+use Rattle.cloaked_side.proofs.Translating.{held_by_rights}
 use Rattle.cloaked_side.proofs.page_side.SidePageSide.copy.Goals as goal
 
 pub copy_pages-requires-clause-domain : goal.copy_pages-requires-clause-domain
@@ -26,16 +29,19 @@ copy_pages-requires-clause-away g c =
 
 pub returns-clause-follows : goal.returns-clause-follows
 returns-clause-follows g c first w sees unclashed =
-    sees_copied g.E.Emit.gave first c.args.self.now _ c.args.domain c.args.from c.args.to w
-    (record { stream = refl; draws = refl; missed = refl; emitter = refl; violation = refl; view = refl })
+    wrap_inside g.E.Emit.gave first c.args.self.now _ _ _ refl sees.1
+    (sees_copied g.E.Emit.gave first c.args.self.now _ c.args.domain c.args.from c.args.to w
+    (record { stream = refl; draws = refl; missed = refl; emitter = refl; violation = refl; view = refl; space = refl })
     (λ m m' seen. still_turned _ _ m m' c.copy_pages.ensures.state.rights_are
     (turned_count _ _ _ c.copy_pages.ensures.state) refl seen)
-    c.copy_pages.ensures.model sees
+    c.copy_pages.ensures.model
+    (same_tracks _ _ _ _ (held_in c.args.self.now.memory.now.pager) (held_in c.copy_pages.new.self) refl refl
+    (λ k. ap (λ (h : ℕ → Option PageId). h k) (held_by_rights c.args.self.now.memory.now.pager c.copy_pages.new.self c.copy_pages.ensures.state.rights_are))) sees.0)
 
 pub returns-clause-keeps : goal.returns-clause-keeps
 returns-clause-keeps g c first stays =
     stays_repaged g.E.Emit.gave first c.args.self.now _ stays refl refl
-    (turned_size _ _ _ c.copy_pages.ensures.state) refl (no_more_rights _ _ c.copy_pages.ensures.state.rights_are)
+    (turned_size _ _ _ c.copy_pages.ensures.state) refl refl refl (no_more_rights _ _ c.copy_pages.ensures.state.rights_are)
 
 pub returns-clause-cleared : goal.returns-clause-cleared
 returns-clause-cleared g c r cleared =

@@ -1,9 +1,12 @@
-use Rattle.std.proofs.Common.{◌<◌, ◌∙◌, refl, sym, ap, subst, ℕ}
-use Rattle.cloak_pager.specs.State.{IsNoneOwed, IsNoneHeld}
+use Rattle.std.proofs.Common.{◌<◌, ◌∙◌, refl, sym, ap, subst, ℕ, Option}
+use Rattle.cloak_base.specs.declared.names.PageId.{PageId}
+use Rattle.cloak_pager.specs.State.{IsNoneOwed, IsNoneHeld, held_in}
 use Rattle.cloaked_side.proofs.Holders.{no_more_rights, no_more_then}
-use Rattle.cloaked_side.proofs.Cleared.{sees_dropped}
+use Rattle.cloaked_side.proofs.Cleared.{sees_dropped, shows_of}
 use Rattle.cloaked_side.proofs.Sided.{within_of, stays_repaged, stays_on, still_turned, turned_size, turned_count}
-use Rattle.cloaked_side.proofs.Serving.{served_is, cleared_still, unused_still, served_same}
+use Rattle.cloaked_side.proofs.Serving.{served_is, cleared_still, unused_still, served_same, wrap_inside}
+use Rattle.cloaked_side.proofs.Tracking.{same_tracks}
+use Rattle.cloaked_side.proofs.Translating.{held_by_rights}
 use Rattle.cloaked_side.proofs.page_side.SidePageSide.forget.Goals as goal
 
 pub empty_frames-requires : goal.empty_frames-requires
@@ -24,17 +27,26 @@ drop_pages-requires-clause-resource g c = c.requires.cleared.resource
 
 pub returns-clause-follows : goal.returns-clause-follows
 returns-clause-follows g c first w sees unclashed =
-    sees_dropped g.E.Emit.gave first c.empty_frames.new.self _ c.args.domain c.args.resource w
-    (record { stream = refl; draws = refl; missed = refl; emitter = refl; violation = refl; view = refl })
-    (λ m m' seen. still_turned _ _ m m' c.drop_pages.ensures.state.rights_are
-    (turned_count _ _ _ c.drop_pages.ensures.state) refl seen)
-    c.drop_pages.ensures.model (c.empty_frames.ensures.sees first w sees)
+    let gave = g.E.Emit.gave in
+    let begun = c.args.self.now in
+    let mid = c.empty_frames.new.self in
+    let kept = within_of gave begun mid c.empty_frames.ensures.keeps in
+    let rights = c.drop_pages.ensures.state.rights_are in
+    wrap_inside gave first begun _ _ _ kept.stays.space sees.1
+    (sees_dropped gave first begun mid _ c.args.domain c.args.resource w
+    (record { stream = refl; draws = refl; missed = refl; emitter = refl; violation = refl; view = refl; space = refl })
+    (λ m m' seen. still_turned _ _ m m' rights (turned_count _ _ _ c.drop_pages.ensures.state) refl seen)
+    c.drop_pages.ensures.model kept.stays.space
+    (λ s keeps. same_tracks _ _ _ _ (held_in mid.memory.now.pager) (held_in c.drop_pages.new.self) refl refl
+    (λ k. ap (λ (h : ℕ → Option PageId). h k) (held_by_rights mid.memory.now.pager c.drop_pages.new.self rights))
+    _ (c.empty_frames.ensures.tracks s keeps))
+    sees.0 (c.empty_frames.ensures.shows first w (shows_of gave first begun w sees.0)))
 
 pub returns-clause-keeps : goal.returns-clause-keeps
 returns-clause-keeps g c first stays =
     stays_repaged g.E.Emit.gave first c.empty_frames.new.self _
     (stays_on g.E.Emit.gave first c.args.self.now c.empty_frames.new.self c.empty_frames.ensures.keeps stays)
-    refl refl (turned_size _ _ _ c.drop_pages.ensures.state) refl
+    refl refl (turned_size _ _ _ c.drop_pages.ensures.state) refl refl refl
     (no_more_rights _ _ c.drop_pages.ensures.state.rights_are)
 
 pub returns-clause-cleared : goal.returns-clause-cleared

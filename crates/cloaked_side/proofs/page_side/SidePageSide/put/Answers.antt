@@ -1,11 +1,13 @@
 use Rattle.cloaked_side.proofs.Sided.{within_of, stays_on}
-use Rattle.cloaked_side.proofs.Serving.{asked_put, unused_still, served_same}
+use Rattle.cloaked_side.proofs.Serving.{asked_put, unused_still, served_same, wrap_inside}
 use Rattle.cloaked_side.proofs.page_side.SidePageSide.put.Goals as goal
 
 pub returns-clause-follows : goal.returns-clause-follows
 returns-clause-follows g c first w sees unclashed =
-    asked_put g.E.Emit.gave first c.args.self.now _ c.args.va c.args.width c.args.v _ w sees unclashed
-    (λ u. c.put_value.ensures.follows first w sees u)
+    let kept = within_of g.E.Emit.gave c.args.self.now c.put_value.new.self c.put_value.ensures.keeps in
+    wrap_inside g.E.Emit.gave first c.args.self.now c.put_value.new.self _ _ kept.stays.space sees.1
+    (asked_put g.E.Emit.gave first c.args.self.now c.put_value.new.self c.args.va c.args.width c.args.v _ w sees.0 unclashed
+    (λ u. c.put_value.ensures.follows first w sees.1.0 sees.0 sees.1.1 u))
 
 pub returns-clause-keeps : goal.returns-clause-keeps
 returns-clause-keeps g c first stays = stays_on g.E.Emit.gave first c.args.self.now _ c.put_value.ensures.keeps stays

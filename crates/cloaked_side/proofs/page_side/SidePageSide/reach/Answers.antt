@@ -1,11 +1,13 @@
 use Rattle.cloaked_side.proofs.Sided.{stays_self}
-use Rattle.cloaked_side.proofs.Serving.{asked_reach, unused_offered, served_same}
+use Rattle.cloaked_side.proofs.Serving.{asked_reach, unused_offered, served_same, wrap_inside}
 use Rattle.cloaked_side.proofs.page_side.SidePageSide.reach.Goals as goal
 
 pub returns-clause-follows : goal.returns-clause-follows
 returns-clause-follows g c first w has sees unclashed =
-    asked_reach g.E.Emit.gave first c.args.self.now _ c.args.q c.args.va c.args.kind _ w sees unclashed
-    (λ u. c.reach_page.ensures.follows first w sees u)
+    let kept = c.reach_page.ensures.keeps c.args.self.now (stays_self g.E.Emit.gave c.args.self.now) in
+    wrap_inside g.E.Emit.gave first c.args.self.now c.reach_page.new.self _ _ kept.space sees.1
+    (asked_reach g.E.Emit.gave first c.args.self.now c.reach_page.new.self c.args.q c.args.va c.args.kind _ w sees.0 unclashed
+    (λ u. c.reach_page.ensures.follows first w sees.1.0 sees.0 sees.1.1 u))
 
 pub returns-clause-unused : goal.returns-clause-unused
 returns-clause-unused g c n other unused =

@@ -1,7 +1,10 @@
+use Rattle.std.proofs.Common.{refl}
 use Rattle.cloaked_side.proofs.Answering.{plain_told}
+use Rattle.cloaked_side.proofs.Serving.{wrap_inside}
 use Rattle.cloaked_side.proofs.page_side.SidePageSide.read.Goals as goal
 
 pub returns-clause-follows : goal.returns-clause-follows
 returns-clause-follows g c first w sees unclashed =
-    plain_told g.E.Emit.gave first c.args.self.now c.args.q c.args.at c.args.width c.read_plain.result w sees
-    c.requires.reached.drawn c.read_plain.ensures.model
+    wrap_inside g.E.Emit.gave first c.args.self.now c.args.self.now _ _ refl sees.1
+    (plain_told g.E.Emit.gave first c.args.self.now c.args.q c.args.at c.args.width c.read_plain.result w sees.0
+    c.requires.reached.drawn c.read_plain.ensures.model)

@@ -1,27 +1,33 @@
-use Rattle.std.proofs.Common.{◌<◌, ◌∙◌, ℕ, List, slice_index_or, refl, sym, ap, subst}
-use Rattle.cloak_pager.specs.State.{owed_under}
+use Rattle.std.proofs.Common.{◌<◌, ◌∙◌, ℕ, List, slice_index_or, Option, refl, sym, ap, subst}
+use Rattle.cloak_base.specs.declared.names.PageId.{PageId}
+use Rattle.cloak_pager.specs.State.{held_in, owed_under}
 use Rattle.cloak_pager.specs.declared.held.Held.{Held}
 use Rattle.cloak_pager.specs.declared.held.Held.TheVariants.{Spent}
 use Rattle.cloaked_side.proofs.Answering.{plain_stored}
 use Rattle.cloaked_side.proofs.Holders.{no_more_rights}
 use Rattle.cloaked_side.proofs.Sided.{stays_repaged, written_size, written_count}
-use Rattle.cloaked_side.proofs.Serving.{unused_still, served_same}
+use Rattle.cloaked_side.proofs.Serving.{unused_still, served_same, wrap_inside}
+use Rattle.cloaked_side.proofs.Tracking.{same_tracks}
+use Rattle.cloaked_side.proofs.Translating.{held_by_rights}
 use Rattle.cloaked_side.proofs.page_side.SidePageSide.write.Goals as goal
 
 pub returns-clause-follows : goal.returns-clause-follows
 returns-clause-follows g c first w sees unclashed =
     let owed = c.requires.writable.owed in
     let state = c.write_plain.ensures.state owed.0 owed.1 in
-    plain_stored g.E.Emit.gave first c.args.self.now _ c.args.q c.args.at c.args.width c.args.v w
-    (record { stream = refl; draws = refl; missed = refl; emitter = refl; violation = refl; view = refl }) refl
+    wrap_inside g.E.Emit.gave first c.args.self.now _ _ _ refl sees.1
+    (plain_stored g.E.Emit.gave first c.args.self.now _ c.args.q c.args.at c.args.width c.args.v w
+    (record { stream = refl; draws = refl; missed = refl; emitter = refl; violation = refl; view = refl; space = refl }) refl
     state.rights_are (written_count _ _ _ _ state)
-    c.write_plain.ensures.model sees
+    c.write_plain.ensures.model
+    (same_tracks _ _ _ _ (held_in c.args.self.now.memory.now.pager) (held_in c.write_plain.new.self) refl refl
+    (λ k. ap (λ (h : ℕ → Option PageId). h k) (held_by_rights c.args.self.now.memory.now.pager c.write_plain.new.self state.rights_are))) sees.0)
 
 pub returns-clause-keeps : goal.returns-clause-keeps
 returns-clause-keeps g c first stays =
     let owed = c.requires.writable.owed in
     let state = c.write_plain.ensures.state owed.0 owed.1 in
-    stays_repaged g.E.Emit.gave first c.args.self.now _ stays refl refl (written_size _ _ _ _ state) refl
+    stays_repaged g.E.Emit.gave first c.args.self.now _ stays refl refl (written_size _ _ _ _ state) refl refl refl
     (no_more_rights _ _ state.rights_are)
 
 pub returns-clause-writable : goal.returns-clause-writable

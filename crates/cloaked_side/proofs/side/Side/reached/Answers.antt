@@ -1,52 +1,114 @@
-use Rattle.std.proofs.Common.{◌≡◌, ◌∙◌, Some, ap, sym, subst, ℕ, true}
+use Rattle.std.proofs.Common.{◌≡◌, ◌∙◌, Some, ap, refl, sym, subst, ℕ, true}
+use Rattle.cloak_base.specs.declared.causes.Violation.TheVariants as violation
 use Rattle.cloak_model.specs.Memory.{is_in_frames}
-use Rattle.cloak_model.specs.AskPages.{is_store, reached}
+use Rattle.cloak_model.specs.AskPages.{is_store}
+use Rattle.cloak_model.specs.Cloaking.{offer}
+use Rattle.cloak_model.specs.World.{World, Cloaked}
 use Rattle.cloak_pager.specs.State.{held_in, owed_at}
-use Rattle.cloaked_side.proofs.Known.{reached_by, reached_told}
-use Rattle.cloaked_side.proofs.Sided.{stays_on, stays_of}
+use Rattle.cloaked_side.specs.declared.memory.Offer.TheVariants as ended
+use Rattle.cloaked_side.specs.Leading.{IsLedSo}
+use Rattle.cloaked_side.proofs.Answering.{asked_offer, granted_told, mismatched_told, missed_told, reached_told, with_violation}
+use Rattle.cloaked_side.proofs.Known.{known_inside, reached_so, viewed_inside}
+use Rattle.cloaked_side.proofs.Sided.{stays_on, stays_offered}
 use Rattle.cloaked_side.proofs.side.Side.reached.Goals as goal
 
 pub learn_page-requires : goal.learn_page-requires
 learn_page-requires g c = record {
-  inside = subst (λ (n : ℕ). is_in_frames n c.args.led.now.pa ≡ true)
-      (sym (stays_of g.E.Emit.gave c.args.self.now c.offered-answer.new.self c.offered-answer.ensures.keeps).size.frames) c.requires.inside;
+  inside = subst (λ (n : ℕ). is_in_frames n c.args.led.now.pa ≡ true) (sym c.offer.ensures.same.frames) c.requires.inside;
 }
 
-pub returns-in-Ok-clause-told : goal.returns-in-Ok-clause-told
-unfolding reached
-returns-in-Ok-clause-told g c first w sees by unclashed =
+pub returns-in-Ready-clause-told : goal.returns-in-Ready-clause-told
+returns-in-Ready-clause-told g c first w s sees spaced is so unclashed =
     let gave = g.E.Emit.gave in
     let old = c.args.self.now in
-    let mid = c.offered-answer.new.self in
-    let pa = c.args.led.now.pa in
+    let mid = record old {
+      memory = record old.memory { now = c.offer.new.self };
+      emitter = record old.emitter { now = c.offer.new.e };
+    } in
     let q = c.args.q in
-    let pager = mid.memory.now.pager in
-    let f = reached_told gave first mid q c.args.kind pa c.frame_of.result.0 c.is_store.result c.offered-answer.result w
-    c.frame_of.ensures c.is_store.ensures unclashed (λ u. c.offered-answer.ensures.follows first w sees u) in
-    let here = subst (λ (n : ℕ). held_in pager n ≡ Some q) c.frame_of.ensures (c.offered-answer.ensures.held c.in-Ok.is) in
-    record {
-      answer = f.answer;
-      stands = c.learn_page.ensures.sees first _ f.stands
-          (reached_by gave first old mid c.args.view.now c.args.va c.args.kind q c.args.led.now w sees f.stands by c.requires.tables
-          c.offered-answer.ensures.others here
-          (λ store. subst (λ (n : ℕ). owed_at pager n ≡ Some q) c.frame_of.ensures
-          (c.offered-answer.ensures.owed c.in-Ok.is (c.is_store.ensures ∙ ap is_store store)))
-          (stays_of gave old mid c.offered-answer.ensures.keeps).size.frames);
-    }
+    let led = c.args.led.now in
+    let view = c.args.view.now in
+    let at = c.frame_of-g.ensures in
+    reached_told gave first _ q c.args.va c.args.kind led.pa c.frame_of-g.result.0 _ w at unclashed (λ u.
+    asked_offer gave first old mid _ ended.Ready q c.args.va c.args.kind c.frame_of-g.result.0 c.is_store.result _ w c.is_store.ensures sees u
+    c.in-Ready.ensures.offers c.in-Ready.ensures.tracks refl refl refl
+    (λ k k' there seen seen' is_memory same_view.
+    let here = subst (λ (n : ℕ). held_in mid.memory.now.pager n ≡ Some q) at (c.in-Ready.ensures.held refl) in
+    let reached = reached_so gave first old mid view c.args.va c.args.kind q led k k' seen seen'
+    (is_memory ∙ ap (λ (n : ℕ). (offer q n (is_store c.args.kind) k.memory).memory) at)
+    (subst (λ (v : World). IsLedSo old.memory.now v view c.args.va c.args.kind (Some q) led) there so) c.offer.ensures.others here
+    (λ store. subst (λ (n : ℕ). owed_at mid.memory.now.pager n ≡ Some q) at (c.in-Ready.ensures.owed refl (c.is_store.ensures ∙ ap is_store store)))
+    c.offer.ensures.same.frames c.offer.ensures.counting
+    (λ held. c.offer.ensures.again (subst (λ (n : ℕ). held_in old.memory.now.pager n ≡ Some q) (sym at) held)) in
+    granted_told gave first c.learn_page.new.self _ q c.args.va c.args.kind c.frame_of-g.result.0 _ k'
+    (known_inside gave first mid c.learn_page.new.self s view c.args.va c.args.kind (Some q) (Cloaked k') seen' is
+    (c.learn_page.ensures.sees first (Cloaked k') seen' (viewed_inside old.space s view old.view spaced is) reached))
+    (λ v stands. c.answer.ensures.told first v stands)))
 
-pub returns-in-Ok-clause-keeps : goal.returns-in-Ok-clause-keeps
-returns-in-Ok-clause-keeps g c first stays =
-    stays_on g.E.Emit.gave first c.offered-answer.new.self _ c.learn_page.ensures.keeps (c.offered-answer.ensures.keeps first stays)
+pub returns-in-Mismatch-clause-told : goal.returns-in-Mismatch-clause-told
+returns-in-Mismatch-clause-told g c first w s sees spaced is so unclashed =
+    let gave = g.E.Emit.gave in
+    let old = c.args.self.now in
+    let mid = record old {
+      memory = record old.memory { now = c.offer.new.self };
+      emitter = record old.emitter { now = c.offer.new.e };
+    } in
+    let at = c.frame_of-g.ensures in
+    let after = record mid { violation = Some (violation.Page c.args.q c.frame_of-g.result) } in
+    reached_told gave first _ c.args.q c.args.va c.args.kind c.args.led.now.pa c.frame_of-g.result.0 _ w at unclashed (λ u.
+    asked_offer gave first old mid _ ended.Mismatch c.args.q c.args.va c.args.kind c.frame_of-g.result.0 c.is_store.result _ w c.is_store.ensures sees u
+    c.in-Mismatch.ensures.offers c.in-Mismatch.ensures.tracks refl refl refl
+    (λ k k' there seen seen' is_memory same_view.
+    mismatched_told gave first after _ c.args.q c.args.va c.args.kind c.frame_of-g.result.0 _ k'
+    (with_violation gave first mid after _ k' seen' refl refl refl refl refl)
+    (λ v stands. c.answer-in-Mismatch.ensures.told first v stands)))
 
-pub returns-in_default : goal.returns-in_default
-unfolding reached
-returns-in_default g c = record {
-  told = λ first w sees by unclashed.
-      reached_told g.E.Emit.gave first c.offered-answer.new.self c.args.q c.args.kind c.args.led.now.pa c.frame_of.result.0
-      c.is_store.result c.offered-answer.result w c.frame_of.ensures c.is_store.ensures unclashed
-      (λ u. c.offered-answer.ensures.follows first w sees u);
-  keeps = λ first stays. c.offered-answer.ensures.keeps first stays;
-  others = λ k p n e. c.offered-answer.ensures.others k p n e;
-  readable = λ is. absurd (c.in_default.not-Ok is);
-  writable = λ is. absurd (c.in_default.not-Ok is);
-}
+pub returns-in-Missed-clause-told : goal.returns-in-Missed-clause-told
+returns-in-Missed-clause-told g c first w s sees spaced is so unclashed =
+    let gave = g.E.Emit.gave in
+    let old = c.args.self.now in
+    let mid = record old {
+      memory = record old.memory { now = c.offer.new.self };
+      emitter = record old.emitter { now = c.offer.new.e };
+    } in
+    reached_told gave first _ c.args.q c.args.va c.args.kind c.args.led.now.pa c.frame_of-g.result.0 _ w c.frame_of-g.ensures unclashed (λ u.
+    asked_offer gave first old mid _ ended.Missed c.args.q c.args.va c.args.kind c.frame_of-g.result.0 c.is_store.result _ w c.is_store.ensures sees u
+    c.in-Missed.ensures.offers c.in-Missed.ensures.tracks refl refl refl
+    (λ k k' there seen seen' is_memory same_view.
+    missed_told gave first mid _ c.args.q c.args.va c.args.kind c.frame_of-g.result.0 _ k' seen'
+    (λ v stands. c.answer-in-Missed.ensures.told first v stands)))
+
+pub returns-in-Ready-clause-keeps : goal.returns-in-Ready-clause-keeps
+returns-in-Ready-clause-keeps g c first stays =
+    let gave = g.E.Emit.gave in
+    let old = c.args.self.now in
+    let mid = record old {
+      memory = record old.memory { now = c.offer.new.self };
+      emitter = record old.emitter { now = c.offer.new.e };
+    } in
+    stays_on gave first c.learn_page.new.self _ c.answer.ensures.keeps
+    (stays_on gave first mid c.learn_page.new.self c.learn_page.ensures.keeps
+    (stays_offered gave first old mid c.args.q stays c.requires.own refl refl c.offer.ensures.emits_some c.offer.ensures.same refl refl c.offer.ensures.counting c.offer.ensures.others))
+
+pub returns-in-Mismatch-clause-keeps : goal.returns-in-Mismatch-clause-keeps
+returns-in-Mismatch-clause-keeps g c first stays =
+    let gave = g.E.Emit.gave in
+    let old = c.args.self.now in
+    let mid = record old {
+      memory = record old.memory { now = c.offer.new.self };
+      emitter = record old.emitter { now = c.offer.new.e };
+      violation = Some (violation.Page c.args.q c.frame_of-g.result);
+    } in
+    stays_on gave first mid _ c.answer-in-Mismatch.ensures.keeps
+    (stays_offered gave first old mid c.args.q stays c.requires.own refl refl c.offer.ensures.emits_some c.offer.ensures.same refl refl c.offer.ensures.counting c.offer.ensures.others)
+
+pub returns-in-Missed-clause-keeps : goal.returns-in-Missed-clause-keeps
+returns-in-Missed-clause-keeps g c first stays =
+    let gave = g.E.Emit.gave in
+    let old = c.args.self.now in
+    let mid = record old {
+      memory = record old.memory { now = c.offer.new.self };
+      emitter = record old.emitter { now = c.offer.new.e };
+    } in
+    stays_on gave first mid _ c.answer-in-Missed.ensures.keeps
+    (stays_offered gave first old mid c.args.q stays c.requires.own refl refl c.offer.ensures.emits_some c.offer.ensures.same refl refl c.offer.ensures.counting c.offer.ensures.others)

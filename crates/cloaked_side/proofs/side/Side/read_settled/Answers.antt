@@ -11,7 +11,7 @@ returns-clause-told g c first w sees =
     let bytes = c.read_outside.result.now in
     read_after g.E.Emit.gave first side _ (frame_of pa) w
     (λ b. value_in b (place_of pa) c.args.width) bytes c.value_in.result
-    (record { stream = refl; draws = refl; missed = refl; emitter = refl; violation = refl; view = refl }) refl
+    (record { stream = refl; draws = refl; missed = refl; emitter = refl; violation = refl; view = refl; space = refl }) refl refl
     (subst (λ (f : ℕ). SeesFrame side.memory.now.pager f bytes) c.frame_of.ensures c.read_outside.ensures.model)
     c.read_outside.follows.holds-at-none
     (c.value_in.ensures ∙ ap (λ n. value_in bytes n c.args.width) c.place_of.ensures.value) sees
@@ -19,5 +19,5 @@ returns-clause-told g c first w sees =
 pub returns-clause-keeps : goal.returns-clause-keeps
 returns-clause-keeps g c first stays =
     within_repaged g.E.Emit.gave first c.args.self.now _ stays refl refl
-    (read_size _ _ c.read_outside.follows.holds-at-none) refl
+    (read_size _ _ c.read_outside.follows.holds-at-none) refl refl refl
     (no_more_read _ _ c.read_outside.follows.holds-at-none)

@@ -5,9 +5,9 @@ use Rattle.cloaked_side.proofs.side.Side.settle.Goals as goal
 
 pub returns-clause-sees : goal.returns-clause-sees
 returns-clause-sees g c first w sees =
-    sees_settled _ first c.args.self.now _ c.args.f.0 w c.settle.ensures.settles refl refl sees
+    sees_settled _ first c.args.self.now _ c.args.f.0 w c.settle.ensures.settles c.settle.ensures.tracks refl refl refl sees
 
 pub returns-clause-keeps : goal.returns-clause-keeps
 returns-clause-keeps g c first stays =
-    within_more _ first c.args.self.now _ stays refl refl c.settle.ensures.emits_some c.settle.ensures.same refl
-    (no_more_emptied c.args.f.0 _ _ c.settle.ensures.stays c.settle.ensures.outside)
+    within_more _ first c.args.self.now _ stays refl refl c.settle.ensures.emits_some c.settle.ensures.same refl refl
+    c.settle.ensures.counting (no_more_emptied c.args.f.0 _ _ c.settle.ensures.stays c.settle.ensures.outside)

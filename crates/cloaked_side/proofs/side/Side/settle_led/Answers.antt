@@ -1,23 +1,47 @@
-use Rattle.std.proofs.Common.{◌≡◌, subst, ℕ, None}
+use Rattle.std.proofs.Common.{◌≡◌, sym, ap, subst, ℕ, Option, None}
+use Rattle.std.specs.Prelude.{IfSome}
+use Rattle.cloak_base.specs.declared.names.SpaceId.{SpaceId}
+use Rattle.cloak_model.specs.declared.access.Walked.{Walked}
 use Rattle.cloak_model.specs.World.{settled}
 use Rattle.cloak_model.specs.Memory.{frame_of}
 use Rattle.cloak_pager.specs.State.{held_in}
-use Rattle.cloaked_side.specs.Leading.{IsEntryOf}
+use Rattle.shadow_fold.specs.Agreement.{satp_in, access_in}
+use Rattle.shadow_fold.specs.Fold.{is_own_table}
+use Rattle.shadow_law.specs.Agreeing.{AreOutside}
+use Rattle.cloaked_side.specs.Leading.{IsEntryOf, IsViewIn, IsWalkOf}
 use Rattle.cloaked_side.specs.Seeing.{Sees}
-use Rattle.cloaked_side.proofs.Known.{led_entry, entry_is}
+use Rattle.cloaked_side.proofs.Known.{born_known, entry_is, entry_same, led_entry, opened_live, settled_is}
 use Rattle.cloaked_side.proofs.Sided.{within_of}
 use Rattle.cloaked_side.proofs.side.Side.settle_led.Goals as goal
 
 pub returns-in-Some-clause-sees : goal.returns-in-Some-clause-sees
-returns-in-Some-clause-sees g c first w sees by =
+returns-in-Some-clause-sees g c first w sees viewed so =
     let gave = g.E.Emit.gave in
     let old = c.args.self.now in
     let mid = c.settle.new.self in
-    let pa = c.args.led.now.pa in
+    let led = c.args.led.now in
+    let view = c.args.view.now in
+    let walked = c.in-Some.walked in
+    let pa = led.pa in
     let kept = within_of gave old mid c.settle.ensures.keeps in
     let seen = subst (λ (f : ℕ). Sees gave first mid (settled f w)) c.frame_of-f.ensures (c.settle.ensures.sees first w sees) in
     let none = subst (λ (f : ℕ). held_in mid.memory.now.pager f ≡ None) c.frame_of-f.ensures c.settle.ensures.outside in
-    let entry = led_entry gave first old mid c.args.view.now c.args.va c.args.kind c.args.led.now c.in-Some.walked w sees c.in-Some.is by
-    c.requires.tables kept.no_more none c.settle.ensures.same_count in
-    c.learn.ensures.sees first (settled (frame_of pa) w) seen
-    (subst (λ e. IsEntryOf (settled (frame_of pa) w) (held_in mid.memory.now.pager) e) (entry_is _ _ _ c.frame_of-f.result pa c.in-Some.walked None _ c.frame_of-f.ensures c.entry_of.ensures) entry)
+    let by = subst (λ (o : Option Walked). IfSome o (λ x. IsWalkOf w view c.args.va c.args.kind x × (x.pa ≡ pa))) c.in-Some.is so.by in
+    let out = subst (λ (o : Option Walked). IfSome o (AreOutside (held_in old.memory.now.pager))) c.in-Some.is so.outside in
+    let entry = led_entry gave first old mid view c.args.va c.args.kind led walked w sees c.in-Some.is so.by so.outside kept.no_more none c.settle.ensures.same_count in
+    born_known gave first c.learn.new.self view c.args.va c.args.kind walked None (settled (frame_of pa) w)
+    (settled_is gave first old view c.args.va c.args.kind walked (frame_of pa) w sees out by.0)
+    (c.learn.ensures.sees first (settled (frame_of pa) w) (satp_in view) (access_in view c.args.va c.args.kind) walked None seen
+    (subst (λ e. IsEntryOf (settled (frame_of pa) w) (held_in mid.memory.now.pager) e) (entry_is _ _ _ c.frame_of-f.result pa walked None _ c.frame_of-f.ensures c.entry_of.ensures) entry)
+    (entry_same mid.space view c.args.va c.args.kind walked None c.frame_of-f.result pa _ (subst (λ (o : Option SpaceId). IsViewIn o view) (sym kept.stays.space) viewed) by.1 c.frame_of-f.ensures c.entry_of.ensures)
+    (ap is_own_table c.entry_of.ensures))
+
+pub returns-in_default-clause-sees : goal.returns-in_default-clause-sees
+returns-in_default-clause-sees g c first w sees viewed so =
+    let gave = g.E.Emit.gave in
+    let old = c.args.self.now in
+    let mid = c.settle.new.self in
+    let kept = within_of gave old mid c.settle.ensures.keeps in
+    let seen = subst (λ (f : ℕ). Sees gave first mid (settled f w)) c.frame_of-f.ensures (c.settle.ensures.sees first w sees) in
+    opened_live gave first old mid c.args.view.now c.args.va c.args.kind c.args.led.now c.frame_of-f.result.0 w c.frame_of-f.ensures seen
+    (subst (λ (o : Option SpaceId). IsViewIn o c.args.view.now) (sym kept.stays.space) viewed) (c.in_default.is) so.live c.settle.ensures.counting c.settle.ensures.ends

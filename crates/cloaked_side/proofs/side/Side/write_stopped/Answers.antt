@@ -5,5 +5,5 @@ use Rattle.cloaked_side.proofs.side.Side.write_stopped.Goals as goal
 
 pub returns-clause-keeps : goal.returns-clause-keeps
 returns-clause-keeps g c first stays =
-    within_more g.E.Emit.gave first c.args.self.now _ stays refl refl (_, c.item.ensures) same_size refl
+    within_more g.E.Emit.gave first c.args.self.now _ stays refl refl (_, c.item.ensures) same_size refl refl refl
     (no_more_self _)

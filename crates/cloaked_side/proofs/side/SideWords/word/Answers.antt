@@ -15,7 +15,7 @@ returns-clause-follows g c first w sees unclashed =
     (search rules)
     (read_after g.E.Emit.gave first side _ (frame_of pa) (settled (frame_of pa) w)
     (λ b. Some (value_in b (place_of pa) 4)) bytes _
-    (record { stream = refl; draws = refl; missed = refl; emitter = refl; violation = refl; view = refl }) refl
+    (record { stream = refl; draws = refl; missed = refl; emitter = refl; violation = refl; view = refl; space = refl }) refl refl
     (subst (λ (f : ℕ). SeesFrame side.memory.now.pager f bytes) c.frame_of-f.ensures c.read_outside.ensures.model)
     c.read_outside.follows.holds-at-none
     (ap (λ n. Some n) (c.word_in.ensures ∙ ap (λ n. value_in bytes n 4) c.place_of.ensures.value))
@@ -25,4 +25,4 @@ returns-clause-follows g c first w sees unclashed =
 pub returns-clause-keeps : goal.returns-clause-keeps
 returns-clause-keeps g c first stays =
     within_repaged g.E.Emit.gave first c.settle.new.self _ (c.settle.ensures.keeps first stays) refl refl
-    (read_size _ _ c.read_outside.follows.holds-at-none) refl (no_more_read _ _ c.read_outside.follows.holds-at-none)
+    (read_size _ _ c.read_outside.follows.holds-at-none) refl refl refl (no_more_read _ _ c.read_outside.follows.holds-at-none)

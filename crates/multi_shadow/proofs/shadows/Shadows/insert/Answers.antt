@@ -1,7 +1,7 @@
-use Rattle.std.proofs.Common.{◌≡◌, ◌≤◌, ◌<◌, ◌∷◌, true, false, length, refl, sym, ap, subst, arith, ◌∙◌}
+use Rattle.std.proofs.Common.{◌∷◌, refl, sym, ap, subst, ◌∙◌}
 use Rattle.std.specs.List.Sorted.{IsPermutation}
 use Rattle.shadow_fold.specs.Entries.{IsWithin}
-use Rattle.shadow_fold.specs.Table.{is_known, emptied, with_room, with_live}
+use Rattle.shadow_fold.specs.Table.{is_known, emptied, with_live}
 use Rattle.multi_shadow.proofs.Pruning.{not_false}
 use Rattle.multi_shadow.proofs.Tables.{full, roomy, none_known, never_full, none_frames}
 use Rattle.multi_shadow.proofs.shadows.Shadows.insert.Goals as goal

@@ -1,4 +1,4 @@
-use Rattle.std.proofs.Common.{◌≡◌, ◌||◌, Bool, false, sym, ap, ◌∙◌}
+use Rattle.std.proofs.Common.{Bool, sym, ap, ◌∙◌}
 use Rattle.shadow_fold.specs.declared.entry.Entry.{Entry}
 use Rattle.shadow_fold.specs.Entries.{is_table, is_frame}
 use Rattle.shadow_fold.specs.Table.{ending}

@@ -1,4 +1,4 @@
-use Rattle.std.proofs.Common.{◌≡◌, ◌≤◌, ◌<◌, sym, ap, subst, arith, ◌∙◌}
+use Rattle.std.proofs.Common.{◌≤◌, sym, ap, subst, arith}
 use Rattle.std.proofs.Math.Nat.{le-max_left, le-max_right}
 use Rattle.multi_shadow.proofs.Ending.{empty_long, empty_placed, empty_apart}
 use Rattle.multi_shadow.proofs.shadows.Shadows.open.Goals as goal

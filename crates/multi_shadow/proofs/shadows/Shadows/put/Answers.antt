@@ -5,7 +5,6 @@ use Rattle.shadow_fold.specs.Entries.{is_for, IsWithin}
 use Rattle.shadow_fold.specs.Table.{is_known, with_live}
 use Rattle.multi_shadow.specs.Placed.{live_in}
 use Rattle.multi_shadow.proofs.Ending.{put_long, put_apart, within_more, table_of}
-use Rattle.multi_shadow.proofs.Placing.{fewer_apart}
 use Rattle.multi_shadow.proofs.Slots.{put, all_held, fewer_held}
 use Rattle.multi_shadow.proofs.shadows.Shadows.put.Goals as goal
 

@@ -5,25 +5,26 @@ use Rattle.cloak_model.specs.declared.image.Segment.{Segment}
 use Rattle.cloak_model.specs.Opening.{opening}
 use Rattle.command_words.specs.Request.{randomness_of}
 use Rattle.item_law.specs.Writing.{AreBytes}
-use Rattle.run_command.proofs.PrepareFacts.{stream_before}
+use Rattle.run_command.proofs.PrepareFacts.{run_named, stream_before}
 use Rattle.cloak_base.specs.Random.{Random}
 use Rattle.program_parts.proofs.Refused.{no_bundle, no_file}
-use Rattle.run_command.proofs.prepare.prepare.Goals as goal
+use Rattle.run_command.proofs.prepare.prepare_run.Goals as goal
 
 pub returns-in-Err-clause-prepares : goal.returns-in-Err-clause-prepares
-returns-in-Err-clause-prepares g c =
+returns-in-Err-clause-prepares g c = λ record_name steps few.
     let e = c.in-Err.ensures in
-    no_bundle c.in-Err.refusal _ _ refl e.bundle c.requires.reading e.files e.writing
+    no_bundle c.in-Err.refusal _ _ (run_named c.args.bundle_name.now record_name steps _) e.bundle c.requires.reading
+    e.files e.writing
 
 pub returns-in-Err-open_stream-clause-prepares : goal.returns-in-Err-open_stream-clause-prepares
-returns-in-Err-open_stream-clause-prepares g c =
+returns-in-Err-open_stream-clause-prepares g c = λ record_name steps few.
     let first = c.in-Ok.ensures in
     let e = c.in-Err-open_stream.ensures in
-    no_file Random c.in-Err-open_stream.refusal _ _ _ refl first.bundle.0 e.stream c.requires.reading
-    (λ name. e.files name ∙ first.files name) (e.writing ∙ first.writing)
+    no_file Random c.in-Err-open_stream.refusal _ _ _ (run_named c.args.bundle_name.now record_name steps _)
+    first.bundle.0 e.stream c.requires.reading (λ name. e.files name ∙ first.files name) (e.writing ∙ first.writing)
 
 pub returns-in-Ok-open-clause-prepares : goal.returns-in-Ok-open-clause-prepares
-returns-in-Ok-open-clause-prepares g c =
+returns-in-Ok-open-clause-prepares g c = λ record_name steps few.
     let b = c.in-Ok.ensures in
     let s = c.in-Ok-open_stream.ensures in
     let o = c.in-Ok-open.ensures.opens in (
@@ -36,8 +37,8 @@ returns-in-Ok-open-clause-prepares g c =
         bundle = c.in-Ok.bundle;
         stream = c.in-Ok-open_stream.stream;
         asks = record {
-          bundle_name = c.args.run.now.bundle.now;
-          randomness = randomness_of c.args.run.now.randomness;
+          bundle_name = c.args.bundle_name.now;
+          randomness = randomness_of c.args.randomness.now;
           run = refl;
           file = b.bundle.1;
           source = stream_before _ _ _ _ b.files s.stream.1;
@@ -49,7 +50,7 @@ returns-in-Ok-open-clause-prepares g c =
         }) c.in-Ok-open_stream.stream ≡ Ok o.opened) c.as_slice-4.ensures o.opens;
         stands = o.stands;
         programs = refl;
-        few_steps = c.args.run.now.few_steps;
+        few_steps = few;
         image_bytes = record {
           segments = subst (AllByRecursion (λ (x : Segment). AreBytes x.bytes)) c.as_slice.ensures
               c.segments_are_bytes.ensures;

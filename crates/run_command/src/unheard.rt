@@ -7,7 +7,7 @@ use cloak_model::{Emit, Item};
 pub struct Unheard {}
 
 impl Emit for Unheard {
-    ghost use Rattle.image_commands.specs.Unheard.{gave_nothing};
+    ghost use Rattle.run_command.specs.Unheard.{gave_nothing};
 
     ghost gave = { gave_nothing };
 

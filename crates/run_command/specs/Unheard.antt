@@ -1,7 +1,7 @@
 -- An emitter that nobody hears.
 use Rattle.std.specs.Prelude.{List}
 use Rattle.cloak_model.specs.Exchange.{Piece}
-use Rattle.image_commands.specs.declared.unheard.Unheard.{Unheard}
+use Rattle.run_command.specs.declared.unheard.Unheard.{Unheard}
 
 -- whatever it is given, nothing is written
 abbrev pub gave_nothing : Unheard → Unheard → List Piece → Type 0

@@ -28,7 +28,7 @@ last_stop-last : (so_far : Option Stop) (ts : List Turn) (t : Turn) → last_sto
 unfolding last_stop
 last_stop-last so_far ts t = last_stop-append so_far ts (t ∷ [])
 
-behind_none : (m : Moment) → moment_behind m [] ≡ m
+pub behind_none : (m : Moment) → moment_behind m [] ≡ m
 unfolding joint_after
 behind_none m i = record {
   schedule = m.schedule;
@@ -47,14 +47,14 @@ behind_last m ts t i = record {
 }
 
 -- the next of the steps that are left
-turns_from-next : (n budget : ℕ) (m : Moment) → n < budget →
+pub turns_from-next : (n budget : ℕ) (m : Moment) → n < budget →
     turns_from (budget - n) m ≡ joint_step m ∷ unless_stopped (stop_of (joint_step m)) (turns_from (budget - (n + 1)))
     (after_turn m (joint_step m))
 unfolding turns_from
 turns_from-next n budget m within =
     ap (λ k. turns_from k m) (let e : budget - n ≡ suc (budget - (n + 1)) = omega (arith, within) in e)
 
-turns_from-none : (n budget : ℕ) (m : Moment) → n ≡ budget → turns_from (budget - n) m ≡ []
+pub turns_from-none : (n budget : ℕ) (m : Moment) → n ≡ budget → turns_from (budget - n) m ≡ []
 unfolding turns_from
 turns_from-none n budget m all = ap (λ k. turns_from k m) (let e : budget - n ≡ 0 = omega (arith, all) in e)
 

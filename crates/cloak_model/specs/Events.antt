@@ -1,0 +1,32 @@
+-- What a step does to translations that are known: its events, in the order in which they come about.
+use Rattle.std.specs.Prelude.{ℕ, Bool, List, [], ◌∷◌, Option, Ok, Err}
+use Rattle.cloak_base.specs.declared.names.PageId.{PageId}
+use Rattle.cloak_base.specs.declared.names.SpaceId.{SpaceId}
+use Rattle.cloak_model.specs.declared.access.Access.{Access}
+use Rattle.cloak_model.specs.declared.access.Walked.{Walked}
+use Rattle.cloak_model.specs.Walk.{Walk, walk}
+
+pub data Event : Type 0 where
+  -- where an access leads under a satp is asked for
+  Look : ℕ → Access → Event
+  -- a frame is made outside
+  Touch : ℕ → Event
+  -- a page is offered in a frame, and that is granted or not
+  Offer : PageId → ℕ → Bool → Event
+  -- where it leads is known: the walk that led there, and the cloaked page that lies there
+  Born : ℕ → Access → Walked → Option PageId → Event
+  -- a byte of a frame is written
+  Write : ℕ → Event
+  -- a resource of a domain is dropped
+  Drop : ℕ → ℕ → Event
+  -- the regions of a space changed, or it ended
+  Space : SpaceId → Event
+
+-- a walk that led to an address makes that known
+abbrev pub births_by : ℕ → Access → Option PageId → Walk → List Event
+births_by satp a cloaked (Err cause) = []
+births_by satp a cloaked (Ok walked) = Born satp a walked cloaked ∷ []
+
+-- over the frames as the walk saw them
+abbrev pub births : List (List ℕ) → ℕ → Access → Option PageId → List Event
+births ram satp a cloaked = births_by satp a cloaked (walk ram satp a)

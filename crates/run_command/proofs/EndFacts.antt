@@ -1,0 +1,49 @@
+-- The end of a run of which nothing was written, and what was shown of it in part.
+use Rattle.std.proofs.Common.{◌≡◌, ◌+◌, ℕ, List, [], ◌∷◌, ◌++◌, length, take, refl, ◌∙◌, ap, subst}
+use Rattle.std.proofs.Common.{arith, length-append, Option, Some, None}
+use Rattle.std.specs.Prelude.{unwrap_or}
+use Rattle.cloak_base.specs.declared.causes.Stop.{Stop}
+use Rattle.cloak_base.specs.declared.causes.Stop.TheVariants as stop
+use Rattle.outside_io.specs.Told.{Grows, GrowsByFront, Tells}
+use Rattle.cloak_model.specs.declared.image.Bundle.{Bundle}
+use Rattle.cloak_model.specs.Exchange.{Piece}
+use Rattle.cloak_model.specs.Joint.{Moment}
+use Rattle.cloak_model.specs.Opening.{Opened}
+use Rattle.cloak_model.specs.Run.{cause_of, closing, first_moment, joint_after, last_stop, run_of, turns_from}
+use Rattle.cloak_machine.specs.declared.end.End.{End}
+use Rattle.cloak_machine.specs.declared.machine.Machine.{Machine}
+use Rattle.cloak_machine.specs.Ending.{short_report}
+use Rattle.cloak_machine.specs.Standing.{FinishesAs, StandsForMoment}
+use Rattle.run_command.specs.Running.{IsEndOf, MadeAll, moment_behind}
+
+-- the end of a machine that made all steps of a run
+pub end_of : {E : Type 0} {gave : E → E → List Piece → Type 0} {e f : E} (b : Bundle) (steps : ℕ) (o : Opened)
+    (machine : Machine) (stopped : Option Stop) (cause : Stop) (end : End) →
+    MadeAll machine stopped (first_moment b o.joint) (turns_from steps (first_moment b o.joint)) →
+    cause ≡ unwrap_or stopped stop.Budget →
+    ((m : Moment) → StandsForMoment machine m → FinishesAs gave e f end cause m (closing m.joint)) →
+    IsEndOf end (run_of b steps o)
+unfolding run_of
+end_of {E} {gave} {e} {f} b steps o machine stopped cause end all unwrapped each =
+    let turns = turns_from steps (first_moment b o.joint) in
+    let ends = each (moment_behind (first_moment b o.joint) turns) all.stands in
+    let closed = closing (joint_after o.joint turns) in
+    let stop_is : end.stop ≡ cause_of closed.joint (last_stop None turns) =
+    ends.stop ∙ ap (λ (s : Stop). cause_of closed.joint (Some s))
+    (unwrapped ∙ ap (λ (s : Option Stop). unwrap_or s stop.Budget) all.last) in
+    let count : 0 + length turns ≡ length turns = omega arith in
+    record {
+      stop = stop_is;
+      short = ends.short ∙ (λ i. short_report (stop_is i) (count i) closed.joint);
+    }
+
+-- a front that was shown has one length, whatever stood before it
+pub fixed_front : (old new : Option (List ℕ)) (piece : List ℕ) → GrowsByFront old new piece →
+    (n : ℕ) × Grows old new (take n piece)
+fixed_front (Some x) new piece front =
+    let f = front x refl in (f.0, λ before told. subst (λ (l : List ℕ). Tells new (l ++ take f.0 piece)) told f.2)
+fixed_front None None piece front = (0, λ before told. tt)
+fixed_front None (Some y) piece front =
+    let f = front (y ++ 0 ∷ []) tt in
+    absurd (let long = ap (λ (l : List ℕ). length l) f.2 in let one = length-append y (0 ∷ []) in let more =
+    length-append (y ++ 0 ∷ []) (take f.0 piece) in omega (arith, long, one, more))
