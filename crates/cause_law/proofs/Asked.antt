@@ -10,8 +10,8 @@ use Rattle.cloak_model.specs.declared.access.Access.{Access}
 use Rattle.cloak_model.specs.declared.access.Walked.{Walked}
 use Rattle.cloak_model.specs.declared.answer.Answer.{Answer}
 use Rattle.cloak_model.specs.declared.answer.Answer.TheVariants as told
-use Rattle.cloak_model.specs.Ask.{ask_word, ask_second, ask_after, ask_first, ask_walk, ask_inside, ask_translate, ask_led, opened, ask_value}
-use Rattle.cloak_model.specs.AskPages.{replies, if_drawn, is_store, offer_events, ask_inside_address, offered_by, ask_offer, reached, reach_by_table, got, get_by_table, put_at, stored_inside, put_by_table, settled_if_marked, clear_from, ask_reach, ask_write, ask_get, ask_put, ask_clear, ask_copy, ask_forget}
+use Rattle.cloak_model.specs.Ask.{ask_word, ask_second, ask_after, ask_first, ask_walk, ask_inside, ask_translate, ask_led, opened}
+use Rattle.cloak_model.specs.AskPages.{replies, if_drawn, is_store, offer_events, ask_inside_address, offered_by, ask_offer, reached, reach_by_table, get_at, got, get_by_table, put_at, stored_inside, put_by_table, settled_if_marked, clear_from, ask_reach, ask_write, ask_get, ask_put, ask_clear, ask_copy, ask_forget}
 use Rattle.cloak_model.specs.Asking.{Told, Asking}
 use Rattle.cloak_model.specs.Cloaking.{Offer, Ready, Mismatch, Missed, offer}
 use Rattle.cloak_model.specs.Events.{Event}
@@ -132,10 +132,14 @@ calms_drawn : (ask : Asking Answer) (w : World) → Calms w (ask w).world → Ca
 unfolding if_drawn
 calms_drawn ask w next = Calms-either _ _ _ w (calms_replies _ w) next
 
+calms_get_at : (pa width : ℕ) (w : World) → Calms w (get_at pa width w).world
+unfolding get_at
+calms_get_at pa width w = Calms-trans _ _ _ (Calms-noted _ w) (calms_replies _ _)
+
 calms_got : (va width : ℕ) (to : Result ℕ ℕ) (w : World) → Calms w (got va width to w).world
-unfolding got ask_value
+unfolding got
 calms_got va width (Err cause) w = calms_replies _ w
-calms_got va width (Ok pa) w = Calms-trans _ _ _ (Calms-opened _ _ pa w) (calms_drawn _ _ (calms_replies _ _))
+calms_got va width (Ok pa) w = Calms-trans _ _ _ (Calms-opened _ _ pa w) (calms_drawn _ _ (calms_get_at pa width _))
 
 calms_get : (va width : ℕ) (w : World) → Calms w (get_by_table va width w).world
 unfolding get_by_table

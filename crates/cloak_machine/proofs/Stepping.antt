@@ -25,9 +25,14 @@ use Rattle.cloaked_side.proofs.Emitting.{emits_then, emits_items}
 use Rattle.kernel_report.specs.Console.{ConsoleShows}
 use Rattle.kernel_report.specs.KernelText.{kernel_text}
 use Rattle.kernel_report.proofs.KernelSaid.{IsSaid, kernel_text-is}
-use Rattle.shadow_fold.specs.Events.{after_step, after_step_of}
-use Rattle.shadow_fold.specs.Fold.{Fold}
-use Rattle.cloaked_side.specs.Tracking.{Tracks, TracksBy}
+use Rattle.shadow_fold.specs.Events.{after_step, asked_in, asked_of}
+use Rattle.shadow_fold.specs.Fold.{Fold, after_events}
+use Rattle.shadow_fold.specs.Reads.{Spends, events_in, reads_due}
+use Rattle.cloaked_side.specs.Tracking.{AreMapped, Tracks, GoesBy, spent_in}
+use Rattle.cloaked_side.proofs.Spending.{maps_same}
+use Rattle.joint_machine.proofs.Mapped.{none_mapped}
+use Rattle.space_law.specs.Mapping.{mapped_in}
+use Rattle.cloaked_side.specs.declared.memory.Memory.{Memory}
 use Rattle.cloak_machine.specs.Counting.{Counts}
 use Rattle.cloak_machine.specs.Lines.{lines_kept}
 use Rattle.cloak_machine.specs.Standing.{StandsForMoment, MakesTurn, FinishesAs, HaveFewLoads}
@@ -45,8 +50,8 @@ use Rattle.cloak_machine.proofs.Turning.{goes}
 pub first_stands : (machine : Machine) (b : Bundle) (s : Random) (o : Opened) → opening b s ≡ Ok o →
     StandsForJoint machine.joint o.joint → machine.schedule.turns.items ≡ b.kernel.schedule →
     machine.schedule.place ≡ 0 → machine.steps ≡ 0 → ConsoleShows machine.console [] →
-    StandsForMoment machine (first_moment b o.joint)
-first_stands machine b s o opens joint schedule place steps console =
+    machine.joint.memory.shadows.live ≡ [] → StandsForMoment machine (first_moment b o.joint)
+first_stands machine b s o opens joint schedule place steps console empty =
     let is = begun b s o opens in record {
       schedule = sym schedule;
       place = place ∙ sym (zero_mod (length machine.schedule.turns.items));
@@ -54,6 +59,7 @@ first_stands machine b s o opens joint schedule place steps console =
       joint = joint;
       console = subst (λ (bytes : List ℕ). ConsoleShows machine.console bytes) (sym is.console) console;
       loads = is.loads;
+      mapped = none_mapped (mapped_in o.joint) machine.joint.memory empty;
     }
   where
     zero_mod : (n : ℕ) → 0 % n ≡ 0
@@ -62,14 +68,30 @@ first_stands machine b s o opens joint schedule place steps console =
 -- the same machine once it showed what the kernel is shown
 pub still_first : (old new : Machine) (b : Bundle) (o : Opened) → StandsForMoment old (first_moment b o.joint) →
     StandsForJoint new.joint o.joint → new.schedule ≡ old.schedule → new.steps ≡ old.steps →
-    new.console ≡ old.console → StandsForMoment new (first_moment b o.joint)
-still_first old new b o stands joint schedule steps console = record {
+    new.console ≡ old.console → new.joint.memory.shadows ≡ old.joint.memory.shadows →
+    StandsForMoment new (first_moment b o.joint)
+still_first old new b o stands joint schedule steps console shadows = record {
   schedule = stands.schedule ∙ ap (λ (x : Schedule). x.turns.items) (sym schedule);
   place = subst (λ (x : Schedule). IsAt x 0) (sym schedule) stands.place;
   steps = stands.steps ∙ sym steps;
   joint = joint;
   console = subst (λ (x : Console). ConsoleShows x o.joint.console) (sym console) stands.console;
   loads = stands.loads;
+  mapped = maps_same old.joint.memory new.joint.memory shadows (mapped_in o.joint) stands.mapped;
+}
+
+-- one that begins to count
+pub counting_first : (old new : Machine) (m : Moment) → StandsForMoment old m → StandsForJoint new.joint m.joint →
+    new.schedule ≡ old.schedule → new.steps ≡ old.steps → new.console ≡ old.console →
+    new.joint.memory.shadows.live ≡ [] → StandsForMoment new m
+counting_first old new m stands joint schedule steps console empty = record {
+  schedule = stands.schedule ∙ ap (λ (x : Schedule). x.turns.items) (sym schedule);
+  place = subst (λ (x : Schedule). IsAt x m.steps) (sym schedule) stands.place;
+  steps = stands.steps ∙ sym steps;
+  joint = joint;
+  console = subst (λ (x : Console). ConsoleShows x m.joint.console) (sym console) stands.console;
+  loads = stands.loads;
+  mapped = none_mapped (mapped_in m.joint) new.joint.memory empty;
 }
 
 -- A step.
@@ -92,14 +114,22 @@ next_number machine m number stands told =
 -- the counts go on with the fold behind the step
 pub counts_behind : (old new : Machine) (m : Moment) (number : ℕ) (s : Fold) → number ≡ next_hart m → Counts old s →
     new.joint.memory.counting ≡ old.joint.memory.counting →
-    TracksBy old.joint.memory new.joint.memory (after_step_of m.joint (hart_in m.joint number) (hart_in m.joint number).inside) →
+    GoesBy old.joint.memory new.joint.memory (asked_of m.joint (hart_in m.joint number) (hart_in m.joint number).inside) →
     Counts new (after_step m s)
 unfolding after_step
-counts_behind old new m number s is counts same tracks = record {
+counts_behind old new m number s is counts same goes = record {
   counting = same ∙ counts.counting;
-  tracks = subst (λ (n : ℕ). Tracks new.joint.memory (after_step_of m.joint (hart_in m.joint n) (hart_in m.joint n).inside s)) is
-      (tracks s counts.tracks);
+  tracks = subst (λ (n : ℕ). let a = asked_of m.joint (hart_in m.joint n) (hart_in m.joint n).inside in
+      Tracks new.joint.memory (after_events a.space (events_in a) s)) is (goes.tracks s counts.tracks);
 }
+
+-- and the reads are those that are due
+pub reads_behind : (old new : Memory) (m : Moment) (number : ℕ) → number ≡ next_hart m →
+    GoesBy old new (asked_of m.joint (hart_in m.joint number) (hart_in m.joint number).inside) →
+    Spends 0 (reads_due (asked_in m)) (spent_in old) (spent_in new)
+reads_behind old new m number is goes =
+    subst (λ (n : ℕ). Spends 0 (reads_due (asked_of m.joint (hart_in m.joint n) (hart_in m.joint n).inside)) (spent_in old) (spent_in new))
+    is goes.spends
 
 -- What a step left of a machine.
 pub record Leaves (old new : Machine) (m : Moment) (given : Turned) (t : Turn) : Type 0 where
@@ -108,6 +138,7 @@ pub record Leaves (old new : Machine) (m : Moment) (given : Turned) (t : Turn) :
   pub steps : new.steps ≡ old.steps + 1
   pub joint : StandsForJoint new.joint t.joint
   pub console : ConsoleShows new.console (m.joint.console ++ shown_byte given.console)
+  pub mapped : AreMapped (mapped_in t.joint) new.joint.memory
 
 stands_after : (old new : Machine) (m : Moment) (number : ℕ) (given : Turned) → StandsForMoment old m →
     shown_byte given.console ≡ (turn_in m.joint number).console → Leaves old new m given (turn_in m.joint number) →
@@ -121,6 +152,7 @@ stands_after old new m number given stands byte left =
       console = subst (λ (bytes : List ℕ). ConsoleShows new.console bytes)
           (ap (λ (bytes : List ℕ). m.joint.console ++ bytes) byte ∙ sym went.console) left.console;
       loads = went.loads.few m.steps stands.loads;
+      mapped = left.mapped;
     }
 
 -- a whole step
@@ -131,8 +163,9 @@ pub step_made : {E : Type 0} {gave : E → E → List Piece → Type 0} {e f g h
     Emits gave g h (shown_each (shown_byte given.console)) →
     new.schedule.turns.items ≡ old.schedule.turns.items → IsAt new.schedule (m.steps + 1) →
     new.steps ≡ old.steps + 1 → ConsoleShows new.console (m.joint.console ++ shown_byte given.console) →
+    AreMapped (mapped_in (turn_in m.joint number).joint) new.joint.memory →
     MakesTurn gave e h new given.stop m (joint_step m)
-step_made {E} {gave} {e} {f} {g} {h} old new m number given stands next marker takes shows turns place steps console =
+step_made {E} {gave} {e} {f} {g} {h} old new m number given stands next marker takes shows turns place steps console mapped =
     let t = turn_in m.joint number in
     let first : Emits gave e f (item_pieces (item.Step (m.steps + 1) ∷ [])) =
     subst (λ n. Emits gave e f (item_pieces (item.Step (n + 1) ∷ []))) (sym stands.steps) marker in
@@ -147,6 +180,7 @@ step_made {E} {gave} {e} {f} {g} {h} old new m number given stands next marker t
         steps = steps;
         joint = takes.stands;
         console = console;
+        mapped = mapped;
       });
     })
 

@@ -10,7 +10,9 @@ use Rattle.cloak_model.specs.Opening.{Opened, NoKey, NoPageDraw, opening}
 use Rattle.cloak_model.specs.Report.{report}
 use Rattle.cloak_model.specs.Joint.{Moment, Turn, after_turn, stop_of}
 use Rattle.cloak_model.specs.Run.{first_moment, turn_pieces, cause_of}
+use Rattle.cloaked_side.specs.Tracking.{AreMapped}
 use Rattle.joint_machine.specs.Standing.{StandsForJoint}
+use Rattle.space_law.specs.Mapping.{mapped_in}
 use Rattle.joint_machine.specs.declared.opened.OpenFault.{OpenFault}
 use Rattle.joint_machine.specs.declared.opened.OpenFault.TheVariants as fault
 use Rattle.kernel_report.specs.Console.{ConsoleShows}
@@ -28,7 +30,7 @@ abbrev pub HaveFewLoads : ℕ → List Domain → Type 0
 HaveFewLoads most domains = All (λ d. length d.loads ≤ most) domains
 
 -- The machine is that of this moment. Of what its console was shown it knows the digest and the length. A program made
--- at most one load a step.
+-- at most one load a step. The page of each translation that is known lies where its space has it.
 pub record StandsForMoment (machine : Machine) (m : Moment) : Type 0 where
   pub schedule : m.schedule ≡ machine.schedule.turns.items
   pub place : IsAt machine.schedule m.steps
@@ -36,6 +38,7 @@ pub record StandsForMoment (machine : Machine) (m : Moment) : Type 0 where
   pub joint : StandsForJoint machine.joint m.joint
   pub console : ConsoleShows machine.console m.joint.console
   pub loads : HaveFewLoads m.steps m.joint.domains
+  pub mapped : AreMapped (mapped_in m.joint) machine.joint.memory
 
 -- a run opens so, and the machine is that of its first moment
 pub record OpensMachine (b : Bundle) (stream : Random) (machine : Machine) : Type 0 where

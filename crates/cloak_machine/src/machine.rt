@@ -69,9 +69,10 @@ fn stop_of(missed: bool, stop: Stop) -> Stop
 impl Machine {
     ghost use Rattle.cloak_machine.specs.Standing.{FinishesAs, MakesTurn, Opens, ShowsOpening};
     ghost use Rattle.cloak_machine.specs.Standing.{StandsForMoment, steps_made};
-    ghost use Rattle.cloak_machine.specs.Counting.{Counts};
-    ghost use Rattle.shadow_fold.specs.Events.{after_step};
+    ghost use Rattle.cloak_machine.specs.Counting.{Counts, spent_by};
+    ghost use Rattle.shadow_fold.specs.Events.{after_step, asked_in};
     ghost use Rattle.shadow_fold.specs.Fold.{Fold, fresh_fold};
+    ghost use Rattle.shadow_fold.specs.Reads.{Spends, reads_due};
 
     /// The machine of a guest image, before its first step. Its key is the first draw of the stream, and each page of
     /// a program takes the next one. The memory of the kernel's image is taken over or given back.
@@ -125,12 +126,15 @@ impl Machine {
 
     /// How often a translation was asked for, was not known, and all that were known ended for want of room.
     pub fn counts(&self) -> ShadowCounts
-        ensures { (s : Fold) → Counts self.now s → result ≡ s.table.counts }
+        ensures counted { (s : Fold) → Counts self.now s → result ≡ s.table.counts }
+        ensures misses { result.misses ≡ (spent_by self.now).misses }
     {
         self.joint.counts()
     }
 
-    /// Makes the next step of the schedule, and answers why it stopped the run, if it did.
+    /// Makes the next step of the schedule, and answers why it stopped the run, if it did. Frames are read no more often
+    /// than its questions and what the kernel is shown call for, and twice for each look that misses, for the words of page
+    /// tables.
     pub fn step<E: Emit>(&mut self, e: &mut E) -> Option<Stop>
         requires { steps_made self.old < most_steps }
         ensures steps { steps_made self.new ≡ steps_made self.old + 1 }
@@ -140,6 +144,8 @@ impl Machine {
             MakesTurn E.gave e.old e.new self.new result m (joint_step m) }
         ensures counts { (m : Moment) (s : Fold) → StandsForMoment self.old m → Counts self.old s →
             (joint_step m).joint.memory.ledger.clashed ≡ false → Counts self.new (after_step m s) }
+        ensures reads { (m : Moment) → StandsForMoment self.old m → (joint_step m).joint.memory.ledger.clashed ≡ false →
+            Spends 0 (reads_due (asked_in m)) (spent_by self.old) (spent_by self.new) }
     {
         let number = self.schedule.next();
         self.steps += 1;
@@ -152,7 +158,8 @@ impl Machine {
 
     /// The machine's own pager.
     pub fn pager(&self) -> &Pager
-        ensures { (m : Moment) → StandsForMoment self.now m → LendsPager result.now m.joint.memory }
+        ensures lends { (m : Moment) → StandsForMoment self.now m → LendsPager result.now m.joint.memory }
+        ensures reads { result.now.reads ≡ (spent_by self.now).reads }
     {
         self.joint.pager()
     }

@@ -1,4 +1,4 @@
--- What a step does to translations that are known: its events, in the order in which they come about.
+-- What a step does to frames and to translations that are known: its events, in the order in which they come about.
 use Rattle.std.specs.Prelude.{ℕ, Bool, List, [], ◌∷◌, Option, Ok, Err}
 use Rattle.cloak_base.specs.declared.names.PageId.{PageId}
 use Rattle.cloak_base.specs.declared.names.SpaceId.{SpaceId}
@@ -15,6 +15,8 @@ pub data Event : Type 0 where
   Offer : PageId → ℕ → Bool → Event
   -- where it leads is known: the walk that led there, and the cloaked page that lies there
   Born : ℕ → Access → Walked → Option PageId → Event
+  -- a frame is read, to answer what its bytes are
+  Read : ℕ → Event
   -- a byte of a frame is written
   Write : ℕ → Event
   -- a resource of a domain is dropped

@@ -24,7 +24,8 @@ impl Pager {
     ghost use Rattle.cloak_pager.specs.Turns.{touched_by, left_by, TouchTurns, StaysBut, CloseTurns, IsClosed};
     ghost use Rattle.cloak_pager.specs.AfterCall.{Meets, MeetsStill, after_touch, shown_by, after_close};
 
-    /// Makes the frame outside.
+    /// Makes the frame outside. Made where it is asked for, since most frames are outside already.
+    #[inline(always)]
     pub fn touch(&mut self, f: Frame, s: &mut Stream) -> Touched
         requires { f.0 < length self.old.frames }
         ensures exact_cause { result ≡ touched_by (right_at self.old f.0) (next_draw s.old) }

@@ -1,5 +1,5 @@
 -- The questions of a cloaked program, over plain variables.
-use Rattle.std.proofs.Common.{◌≡◌, ℕ, Bool, true, false, cond, List, length, ◌++◌, Option, Some, ◌*◌, ◌%◌, ◌^◌, Result, Ok}
+use Rattle.std.proofs.Common.{◌≡◌, ◌+◌, arith, ℕ, Bool, true, false, cond, List, length, ◌++◌, Option, Some, ◌*◌, ◌%◌, ◌^◌, Result, Ok}
 use Rattle.std.proofs.Common.{Err, refl, ap, sym, ◌∙◌, subst}
 use Rattle.cloak_model.specs.declared.answer.Answer.{Answer}
 use Rattle.cloak_model.specs.declared.answer.Answer.TheVariants.{Stopped, Absent, Word, Ok as Granted}
@@ -7,13 +7,13 @@ use Rattle.cloak_base.specs.declared.names.Kind.{Kind}
 use Rattle.cloak_base.specs.declared.names.Kind.TheVariants.{Load, Store}
 use Rattle.cloak_model.specs.declared.item.Item.TheVariants as item
 use Rattle.cloak_model.specs.Memory.{with_value_in}
-use Rattle.cloak_model.specs.Ask.{opened, ask_value, shown_value}
+use Rattle.cloak_model.specs.Ask.{opened, shown_value}
 use Rattle.cloak_model.proofs.Later.{IsLater}
 use Rattle.cloak_model.proofs.PagesLater.{later_drawn, later_offered}
 use Rattle.cloak_model.specs.World.{World, Cloak, Flat, Cloaked, Alone, cipher_items, is_clashed, stored_at}
 use Rattle.cloak_model.specs.World.{view_of, is_missed, written}
 use Rattle.cloak_model.specs.Asking.{Asking, FollowsFrom, then_ask}
-use Rattle.cloak_model.specs.AskPages.{answer_item, replies, if_drawn, inside_access, ask_inside_address, got, put_at, stored_inside}
+use Rattle.cloak_model.specs.AskPages.{answer_item, replies, if_drawn, inside_access, ask_inside_address, get_at, got, put_at, stored_inside}
 use Rattle.cloak_model.specs.AskPages.{offer_events, offered_by, ask_offer, reached, is_store, ask_read, ask_write}
 use Rattle.cloak_base.specs.declared.names.PageId.{PageId}
 use Rattle.cloak_base.specs.declared.causes.Violation.{Violation}
@@ -27,7 +27,10 @@ use Rattle.cloaked_side.specs.declared.memory.Offer.TheVariants as ended
 use Rattle.cloaked_side.proofs.Emitting.{emits_items}
 use Rattle.cloaked_side.proofs.Sided.{Repaged, still_turned, sees_still}
 use Rattle.cloaked_side.proofs.Tracking.{respaced, tracks_on}
-use Rattle.cloaked_side.specs.Tracking.{Tracks, TracksBy}
+use Rattle.cloaked_side.specs.Tracking.{Tracks, TracksBy, MapsBy, MapsStill, spent_in}
+use Rattle.shadow_fold.specs.Reads.{Spends, reads_due}
+use Rattle.cloaked_side.specs.Seeing.{asked_by}
+use Rattle.cloaked_side.proofs.Spending.{ciphers_due, due_then, maps_of, maps_on, maps_still, spends_more, spends_then}
 use Rattle.shadow_fold.specs.Fold.{Fold, after_events}
 use Rattle.cloak_base.specs.declared.names.SpaceId.{SpaceId}
 use Rattle.cloak_model.specs.Ask.{known}
@@ -137,18 +140,25 @@ unfolding got
 got_err gave first new va width cause a to w is told =
     subst (λ t. FollowsFrom (Sees gave first) new a (got va width t w)) (sym is) told
 
-pub got_led : {E : Type 0} (gave : E → E → List Piece → Type 0) (first now new : Side E) (va width pa value low : ℕ)
-    (a : Answer) (w : World) →
-    FollowsFrom (λ side v. Sees gave first side v) now value
-    (shown_value pa width (opened (view_of w).satp (inside_access w va Load) pa w)) →
+-- the value at a settled address was read, and told
+pub get_told : {E : Type 0} (gave : E → E → List Piece → Type 0) (first mid new : Side E) (pa width value low : ℕ)
+    (a : Answer) (w : World) → FollowsFrom (λ side v. Sees gave first side v) mid value (shown_value pa width w) →
     low ≡ value % 2 ^ (8 * width) →
-    ((v : World) → Sees gave first now v → FollowsFrom (Sees gave first) new a (if_drawn (replies (Word low)) v)) →
+    ((v : World) → Sees gave first mid v → FollowsFrom (Sees gave first) new a (replies (Word low) v)) →
+    FollowsFrom (Sees gave first) new a (get_at pa width w)
+unfolding get_at
+get_told gave first mid new pa width value low a w read cut told =
+    let same : low ≡ (shown_value pa width w).answer % 2 ^ (8 * width) = cut ∙ ap (λ (n : ℕ). n % 2 ^ (8 * width)) read.answer in
+    subst (λ (n : ℕ). FollowsFrom (Sees gave first) new a (replies (Word n) (shown_value pa width w).world)) same
+    (told (shown_value pa width w).world read.stands)
+
+pub get_at_led : {E : Type 0} (gave : E → E → List Piece → Type 0) (first new : Side E) (va width pa : ℕ)
+    (a : Answer) (w : World) →
+    FollowsFrom (Sees gave first) new a
+    (if_drawn (get_at pa width) (opened (view_of w).satp (inside_access w va Load) pa w)) →
     FollowsFrom (Sees gave first) new a (got va width (Ok pa) w)
-unfolding got ask_value
-got_led gave first now new va width pa value low a w read cut told =
-    let v = opened (view_of w).satp (inside_access w va Load) pa w in
-    let same : low ≡ (shown_value pa width v).answer % 2 ^ (8 * width) = cut ∙ ap (λ (n : ℕ). n % 2 ^ (8 * width)) read.answer in
-    subst (λ (n : ℕ). FollowsFrom (Sees gave first) new a (if_drawn (replies (Word n)) v)) same (told v read.stands)
+unfolding got
+get_at_led gave first new va width pa a w told = told
 
 -- A value was stored, that was written, and it was granted.
 pub put_told : {E : Type 0} (gave : E → E → List Piece → Type 0) (first mid after new : Side E) (pa width value : ℕ)
@@ -190,15 +200,27 @@ sees_offered : {E : Type 0} (gave : E → E → List Piece → Type 0) (first ol
     (q : PageId) (g : ℕ) (write : Bool) (c : Cloak) → SeesCloak gave first old c →
     Offers gave old.emitter.now mid.emitter.now mid.memory.now given (offer q g write c.memory) →
     TracksBy old.memory.now mid.memory.now (after_events mid.space (offer_events q g c.memory (offer q g write c.memory).answer)) →
+    Spends 0 (length (offer q g write c.memory).ciphers) (spent_in old.memory.now) (spent_in mid.memory.now) →
+    MapsStill old.memory.now mid.memory.now →
     mid.violation ≡ old.violation → mid.view ≡ old.view → mid.space ≡ old.space →
     SeesCloak gave first mid (offered_cloak q g write c)
-sees_offered gave first old mid given q g write c sees o tracks violation view space = record {
+sees_offered gave first old mid given q g write c sees o tracks spends maps violation view space = record {
   holds = o.holds;
   emits = emits_items c.items (cipher_items (offer q g write c.memory).ciphers) sees.emits o.emits;
   violation = violation ∙ sees.violation;
   view = view ∙ sees.view;
   tracks = tracks_on first.memory.now old.memory.now mid.memory.now mid.space c.events (offer_events q g c.memory (offer q g write c.memory).answer)
       (respaced first.memory.now old.memory.now old.space mid.space c.events space sees.tracks) tracks;
+  spends = spends_more (0 + 0) 0 (reads_due (asked_by old.space c) + length (offer q g write c.memory).ciphers)
+      (reads_due (asked_by mid.space (offered_cloak q g write c))) (spent_in first.memory.now) (spent_in mid.memory.now)
+      (let both = due_then mid.space c.events (offer_events q g c.memory (offer q g write c.memory).answer) c.items
+      (cipher_items (offer q g write c.memory).ciphers) in
+      let shown = ciphers_due (offer q g write c.memory).ciphers in omega (arith, both, shown))
+      (spends_then 0 0 (reads_due (asked_by old.space c)) (length (offer q g write c.memory).ciphers) (spent_in first.memory.now)
+      (spent_in old.memory.now) (spent_in mid.memory.now) sees.spends spends);
+  maps = maps_on first.memory.now old.memory.now mid.memory.now mid.space c.events (offer_events q g c.memory (offer q g write c.memory).answer)
+      (maps_of first.memory.now old.memory.now old.space mid.space c.events space sees.maps)
+      (maps_still old.memory.now mid.memory.now mid.space _ maps);
 }
 
 -- the same side, but for a violation
@@ -212,6 +234,9 @@ with_violation gave first mid after v c sees memory emitter view space violated 
   view = view ∙ sees.view;
   tracks = subst (λ x. TracksBy first.memory.now x.now (after_events after.space c.events)) (sym memory)
       (respaced first.memory.now mid.memory.now mid.space after.space c.events space sees.tracks);
+  spends = subst (λ x. Spends 0 (reads_due (asked_by after.space c)) (spent_in first.memory.now) (spent_in x.now)) (sym memory) sees.spends;
+  maps = subst (λ x. MapsBy first.memory.now x.now after.space c.events) (sym memory)
+      (maps_of first.memory.now mid.memory.now mid.space after.space c.events space sees.maps);
 }
 
 -- What follows of an offer, by how it ended.
@@ -222,15 +247,18 @@ pub asked_offer : {E : Type 0} (gave : E → E → List Piece → Type 0) (first
     Offers gave old.emitter.now mid.emitter.now mid.memory.now given (offer q g write m)) →
     ((m : CloakedMemory) → Holds old.memory.now m → (offer q g write m).memory.ledger.clashed ≡ false → (space : Option SpaceId) →
     TracksBy old.memory.now mid.memory.now (after_events space (offer_events q g m (offer q g write m).answer))) →
+    ((m : CloakedMemory) → Holds old.memory.now m →
+    Spends 0 (length (offer q g write m).ciphers) (spent_in old.memory.now) (spent_in mid.memory.now)) →
+    MapsStill old.memory.now mid.memory.now →
     mid.violation ≡ old.violation → mid.view ≡ old.view → mid.space ≡ old.space →
     ((c c' : Cloak) → w ≡ Cloaked c → SeesCloak gave first old c → SeesCloak gave first mid c' →
     c'.memory ≡ (offer q g (is_store kind) c.memory).memory → c'.view ≡ c.view →
     FollowsFrom (Sees gave first) new a (offered_by q va kind g (offer_of given) (Cloaked c'))) →
     FollowsFrom (Sees gave first) new a (ask_offer q va kind g w)
 unfolding ask_offer
-asked_offer gave first old mid new given q va kind g write a (Flat ram) kind_is sees clash offered tracks violation view space told = absurd sees
-asked_offer gave first old mid new given q va kind g write a (Alone handed) kind_is sees clash offered tracks violation view space told = absurd sees
-asked_offer {E} gave first old mid new given q va kind g write a (Cloaked c) kind_is sees clash offered tracks violation view space told =
+asked_offer gave first old mid new given q va kind g write a (Flat ram) kind_is sees clash offered tracks spends maps violation view space told = absurd sees
+asked_offer gave first old mid new given q va kind g write a (Alone handed) kind_is sees clash offered tracks spends maps violation view space told = absurd sees
+asked_offer {E} gave first old mid new given q va kind g write a (Cloaked c) kind_is sees clash offered tracks spends maps violation view space told =
     let store = is_store kind in
     let o = offer q g store c.memory in
     let c' = offered_cloak q g store c in
@@ -238,11 +266,13 @@ asked_offer {E} gave first old mid new given q va kind g write a (Cloaked c) kin
     let done = subst (λ (b : Bool). (offer q g b c.memory).memory.ledger.clashed ≡ false →
     Offers gave old.emitter.now mid.emitter.now mid.memory.now given (offer q g b c.memory)) kind_is
     (offered c.memory sees.holds) unclashed in
+    let least = subst (λ (b : Bool). Spends 0 (length (offer q g b c.memory).ciphers) (spent_in old.memory.now) (spent_in mid.memory.now)) kind_is
+    (spends c.memory sees.holds) in
     let goes = subst (λ (b : Bool). (offer q g b c.memory).memory.ledger.clashed ≡ false → (sp : Option SpaceId) →
     TracksBy old.memory.now mid.memory.now (after_events sp (offer_events q g c.memory (offer q g b c.memory).answer))) kind_is
     (tracks c.memory sees.holds) unclashed mid.space in
     subst (λ (x : Offer). FollowsFrom (Sees gave first) new a (offered_by q va kind g x (Cloaked c'))) done.answer
-    (told c c' refl sees (sees_offered gave first old mid given q g store c sees done goes violation view space) refl refl)
+    (told c c' refl sees (sees_offered gave first old mid given q g store c sees done goes least maps violation view space) refl refl)
 
 -- It is granted, once its translation is known.
 pub granted_told : {E : Type 0} (gave : E → E → List Piece → Type 0) (first after new : Side E) (q : PageId) (va : ℕ) (kind : Kind)
@@ -305,15 +335,16 @@ pub plain_stored : {E : Type 0} (gave : E → E → List Piece → Type 0) (firs
     MeetsStill old.memory.now.pager new.memory.now.pager (tt {0})
     (after_write_plain q (record { at = at; width = width; value = value })) →
     ((s : Fold) → Tracks old.memory.now s → Tracks new.memory.now s) →
+    new.memory.now.pager.reads ≡ old.memory.now.pager.reads →
     Sees gave first old w → FollowsFrom (λ side v. Sees gave first side v) new (tt {0}) (ask_write q at width value w)
 unfolding ask_write
-plain_stored gave first old new q at width value (Flat ram) same shadows rights count meets tracks sees = absurd sees
-plain_stored gave first old new q at width value (Alone handed) same shadows rights count meets tracks sees = absurd sees
-plain_stored gave first old new q at width value (Cloaked c) same shadows rights count meets tracks sees = record {
+plain_stored gave first old new q at width value (Flat ram) same shadows rights count meets tracks reads sees = absurd sees
+plain_stored gave first old new q at width value (Alone handed) same shadows rights count meets tracks reads sees = absurd sees
+plain_stored gave first old new q at width value (Cloaked c) same shadows rights count meets tracks reads sees = record {
   answer = refl;
   stands = sees_still gave first old new c
       (with_newest q (with_value_in (c.memory.plain q) at width value) c.memory) same
       (record { stream = refl; draws = refl; missed = refl })
       (still_turned old.memory.now new.memory.now c.memory _ rights count shadows (λ held. refl))
-      (λ wiped s. (meets wiped c.memory s).stands) tracks sees;
+      (λ wiped s. (meets wiped c.memory s).stands) tracks reads shadows sees;
 }

@@ -1,5 +1,5 @@
 -- What is asked for whole resources, over plain variables.
-use Rattle.std.proofs.Common.{◌≡◌, ◌<◌, ◌≤◌, ◌+◌, ℕ, suc, Bool, true, false, cond, ◌&&◌, ◌||◌, List, [], ◌∷◌, Option, Some}
+use Rattle.std.proofs.Common.{◌≡◌, ◌<◌, ◌≤◌, ◌+◌, ℕ, suc, Bool, true, false, cond, ◌&&◌, ◌||◌, List, [], ◌∷◌, ◌++◌, Option, Some}
 use Rattle.std.proofs.Common.{None, length, slice_index_or, nat_eq, refl, ap, sym, ◌∙◌, subst, inl, inr, arith}
 use Rattle.std.proofs.lemmas.Bool.{false≢true}
 use Rattle.std.proofs.lemmas.Bool.Decides.{Decides-eqb}
@@ -25,12 +25,15 @@ use Rattle.cloak_pager.proofs.Touches.{settle_none}
 use Rattle.cloak_pager.proofs.Writes.{held_within}
 use Rattle.cloak_pager.proofs.Pages.{same_or_not}
 use Rattle.cloaked_side.specs.Holding.{Holds, HoldsNoMore, Settles, frames_of}
-use Rattle.cloaked_side.specs.Seeing.{Sees, Shows}
+use Rattle.cloaked_side.specs.Seeing.{Sees, Shows, asked_by}
+use Rattle.shadow_fold.specs.Reads.{Spends, reads_due}
+use Rattle.shadow_fold.specs.Table.{Table}
+use Rattle.cloaked_side.proofs.Spending.{due_events, maps_further, maps_of, maps_on, maps_same, maps_still, spends_more, spends_still, spends_then}
 use Rattle.cloaked_side.specs.declared.side.Side.{Side}
 use Rattle.cloaked_side.proofs.Rooming.{changed_or_not, unheld_unowed}
 use Rattle.cloaked_side.proofs.Sided.{Repaged, AgreesAlways, count_of}
 use Rattle.cloaked_side.proofs.Tracking.{respaced, tracks_drop, tracks_on, tracks_same}
-use Rattle.cloaked_side.specs.Tracking.{Tracks, TracksBy}
+use Rattle.cloaked_side.specs.Tracking.{Tracks, TracksBy, MapsStill, spent_in}
 use Rattle.shadow_fold.specs.Fold.{Fold, holds, touched_where}
 use Rattle.cloaked_side.proofs.Answering.{drawn_told, undrawn_told}
 use Rattle.cloaked_side.proofs.Emitting.{emits_items}
@@ -202,16 +205,26 @@ none_held_still p p' domain r less none k q e = none k q (less.held k q e)
 pub shows_of : {E : Type 0} (gave : E → E → List Piece → Type 0) (first now : Side E) (w : World) → Sees gave first now w → Shows gave first now w
 shows_of gave first now (Flat ram) sees = sees
 shows_of gave first now (Alone handed) sees = sees
-shows_of gave first now (Cloaked c) sees = record { holds = sees.holds; emits = sees.emits; violation = sees.violation; view = sees.view }
+shows_of gave first now (Cloaked c) sees = record {
+  holds = sees.holds;
+  emits = sees.emits;
+  violation = sees.violation;
+  view = sees.view;
+  spends = sees.spends;
+  maps = sees.maps;
+}
 
 pub shows_settled : {E : Type 0} (gave : E → E → List Piece → Type 0) (first old new : Side E) (f : ℕ) (w : World) →
     ((m : CloakedMemory) → Holds old.memory.now m →
     Settles gave old.emitter.now new.emitter.now new.memory.now (settle f m)) →
-    new.violation ≡ old.violation → new.view ≡ old.view →
+    ((m : CloakedMemory) → Holds old.memory.now m →
+    Spends 0 (length (settle f m).ciphers) (spent_in old.memory.now) (spent_in new.memory.now)) →
+    MapsStill old.memory.now new.memory.now →
+    new.violation ≡ old.violation → new.view ≡ old.view → new.space ≡ old.space →
     owed_at old.memory.now.pager f ≡ None → Shows gave first old w → Shows gave first new w
-shows_settled gave first old new f (Flat ram) settles violation view none shows = shows
-shows_settled gave first old new f (Alone handed) settles violation view none shows = shows
-shows_settled gave first old new f (Cloaked c) settles violation view none shows =
+shows_settled gave first old new f (Flat ram) settles spends maps violation view space none shows = shows
+shows_settled gave first old new f (Alone handed) settles spends maps violation view space none shows = shows
+shows_settled gave first old new f (Cloaked c) settles spends maps violation view space none shows =
     let h = shows.holds in
     let unowed : owed_in c.memory f ≡ None = owed_by_right old.memory.now.pager h.wiped c.memory h.pager f ∙ none in
     let s = subst (λ (x : AfterSettling). Settles gave old.emitter.now new.emitter.now new.memory.now x) (settle_none f c.memory unowed) (settles c.memory h) in
@@ -221,6 +234,14 @@ shows_settled gave first old new f (Cloaked c) settles violation view none shows
           (append-nil c.items) (emits_items c.items [] shows.emits s.emits);
       violation = violation ∙ shows.violation;
       view = view ∙ shows.view;
+      spends = spends_more (0 + 0) 0 (reads_due (asked_by old.space c) + 0) (reads_due (asked_by new.space c))
+          (spent_in first.memory.now) (spent_in new.memory.now) (omega arith)
+          (spends_then 0 0 (reads_due (asked_by old.space c)) 0 (spent_in first.memory.now) (spent_in old.memory.now) (spent_in new.memory.now)
+          shows.spends
+          (subst (λ (x : AfterSettling). Spends 0 (length x.ciphers) (spent_in old.memory.now) (spent_in new.memory.now))
+          (settle_none f c.memory unowed) (spends c.memory h)));
+      maps = maps_further first.memory.now old.memory.now new.memory.now new.space c.events
+          (maps_of first.memory.now old.memory.now old.space new.space c.events space shows.maps) maps;
     }
 
 none_copied : (b c d : Bool) → b ≡ false → d ≡ false → (b || (c && d)) ≡ false
@@ -233,11 +254,12 @@ pub sees_copied : {E : Type 0} (gave : E → E → List Piece → Type 0) (first
     AgreesAlways old.memory.now new.memory.now →
     MeetsStill old.memory.now.pager new.memory.now.pager (tt {0}) (after_copy_pages domain from to) →
     ((s : Fold) → Tracks old.memory.now s → Tracks new.memory.now s) →
+    new.memory.now.pager.reads ≡ old.memory.now.pager.reads → new.memory.now.shadows ≡ old.memory.now.shadows →
     Sees gave first old w → FollowsFrom (λ side v. Sees gave first side v) new (tt {0}) (ask_copy domain from to w)
 unfolding ask_copy copy_pages
-sees_copied gave first old new domain from to (Flat ram) same still meets tracks sees = absurd sees
-sees_copied gave first old new domain from to (Alone handed) same still meets tracks sees = absurd sees
-sees_copied gave first old new domain from to (Cloaked c) same still meets tracks sees =
+sees_copied gave first old new domain from to (Flat ram) same still meets tracks reads shadows sees = absurd sees
+sees_copied gave first old new domain from to (Alone handed) same still meets tracks reads shadows sees = absurd sees
+sees_copied gave first old new domain from to (Cloaked c) same still meets tracks reads shadows sees =
     let h = sees.holds in
     let agreed = still c.memory (copy_pages domain from to c.memory) (λ held. refl) in
     record {
@@ -259,6 +281,13 @@ sees_copied gave first old new domain from to (Cloaked c) same still meets track
         view = same.view ∙ sees.view;
         tracks = tracks_same first.memory.now old.memory.now new.memory.now new.space c.events
             (respaced first.memory.now old.memory.now old.space new.space c.events same.space sees.tracks) tracks;
+        spends = spends_more (0 + 0) 0 (reads_due (asked_by old.space c) + 0) (reads_due (asked_by new.space c))
+            (spent_in first.memory.now) (spent_in new.memory.now) (omega arith)
+            (spends_then 0 0 (reads_due (asked_by old.space c)) 0 (spent_in first.memory.now) (spent_in old.memory.now) (spent_in new.memory.now)
+            sees.spends (spends_still old.memory.now new.memory.now reads (ap (λ (t : Table). t.counts.misses) shadows)));
+        maps = maps_further first.memory.now old.memory.now new.memory.now new.space c.events
+            (maps_of first.memory.now old.memory.now old.space new.space c.events same.space sees.maps)
+            (maps_same old.memory.now new.memory.now shadows);
       };
     }
 
@@ -269,12 +298,13 @@ pub sees_dropped : {E : Type 0} (gave : E → E → List Piece → Type 0) (firs
     MeetsStill old.memory.now.pager new.memory.now.pager (tt {0}) (after_drop_pages domain r) →
     new.space ≡ begun.space →
     TracksBy begun.memory.now new.memory.now (touched_where (is_of domain r)) →
+    new.memory.now.pager.reads ≡ old.memory.now.pager.reads → new.memory.now.shadows ≡ old.memory.now.shadows →
     Sees gave first begun w → Shows gave first old w →
     FollowsFrom (λ side v. Sees gave first side v) new (tt {0}) (ask_forget domain r w)
 unfolding ask_forget drop_pages
-sees_dropped gave first begun old new domain r (Flat ram) same still meets space tracks sees shows = absurd sees
-sees_dropped gave first begun old new domain r (Alone handed) same still meets space tracks sees shows = absurd sees
-sees_dropped gave first begun old new domain r (Cloaked c) same still meets space tracks sees shows =
+sees_dropped gave first begun old new domain r (Flat ram) same still meets space tracks reads shadows sees shows = absurd sees
+sees_dropped gave first begun old new domain r (Alone handed) same still meets space tracks reads shadows sees shows = absurd sees
+sees_dropped gave first begun old new domain r (Cloaked c) same still meets space tracks reads shadows sees shows =
     let h = shows.holds in
     let m' = drop_pages domain r c.memory in
     let agreed = still c.memory m' (λ held. refl) in
@@ -297,6 +327,14 @@ sees_dropped gave first begun old new domain r (Cloaked c) same still meets spac
         tracks = tracks_on first.memory.now begun.memory.now new.memory.now new.space c.events (Drop domain r ∷ [])
             (respaced first.memory.now begun.memory.now begun.space new.space c.events space sees.tracks)
             (tracks_drop begun.memory.now new.memory.now new.space domain r tracks);
+        spends = spends_more (0 + 0) 0 (reads_due (asked_by old.space c) + 0) (reads_due (asked_by new.space (record c { events = c.events ++ Drop domain r ∷ [] })))
+            (spent_in first.memory.now) (spent_in new.memory.now)
+            (let further = due_events new.space c.events (Drop domain r ∷ []) c.items in omega (arith, further))
+            (spends_then 0 0 (reads_due (asked_by old.space c)) 0 (spent_in first.memory.now) (spent_in old.memory.now) (spent_in new.memory.now)
+            shows.spends (spends_still old.memory.now new.memory.now reads (ap (λ (t : Table). t.counts.misses) shadows)));
+        maps = maps_on first.memory.now old.memory.now new.memory.now new.space c.events (Drop domain r ∷ [])
+            (maps_of first.memory.now old.memory.now old.space new.space c.events same.space shows.maps)
+            (maps_still old.memory.now new.memory.now new.space (Drop domain r ∷ []) (maps_same old.memory.now new.memory.now shadows));
       };
     }
 

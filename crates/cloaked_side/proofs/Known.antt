@@ -1,15 +1,15 @@
 -- Where an access leads by a known translation, and how translations become known.
-use Rattle.std.proofs.Common.{◌≡◌, ◌∙◌, ◌+◌, ◌/◌, ◌%◌, ◌<◌, ℕ, Bool, true, false, cond, List, [], ◌∷◌, length, ◌||◌, ◌&&◌, ◌≢◌, Option, Some, None, is_some, Result, Ok, Err, refl, sym, ap, subst, arith, nat_le, inl, inr, find}
+use Rattle.std.proofs.Common.{◌≡◌, ◌∙◌, ◌⊎◌, ◌+◌, ◌/◌, ◌%◌, ◌<◌, ◌≤◌, ℕ, Bool, true, false, cond, List, [], ◌∷◌, length, ◌||◌, ◌&&◌, ◌≢◌, Option, Some, None, is_some, Result, Ok, Err, refl, sym, ap, subst, arith, nat_le, inl, inr, find}
 use Rattle.std.specs.List.{list_any}
-use Rattle.std.proofs.lemmas.Bool.{false≢true, ltb-true}
+use Rattle.std.proofs.lemmas.Bool.{false≢true}
 use Rattle.std.specs.Prelude.{◌++◌, IfOk, IfSome}
 use Rattle.std.proofs.lemmas.Option.{none-some}
 use Rattle.cloak_base.proofs.Pages.{same_page_tells}
 use Rattle.cloak_base.specs.declared.names.Kind.TheVariants.{Store}
 use Rattle.cloak_model.specs.AskPages.{is_store, offer_events, replies, offered_by, ask_offer, ask_inside_address}
-use Rattle.cloak_model.specs.Events.{Event, Look, Born, births_by}
+use Rattle.cloak_model.specs.Events.{Event, Look, Touch, Born, births_by}
 use Rattle.cloak_model.specs.Cloaking.{CloakedMemory, Offer, Ready, Mismatch, Missed, owed_in, settle, offer}
-use Rattle.cloak_model.specs.World.{is_clashed, noted, settled, cipher_items}
+use Rattle.cloak_model.specs.World.{is_clashed, noted, settled, settled_in, cipher_items}
 use Rattle.cloak_model.proofs.Later.{later_inside, later_loaded_at, later_stored_to}
 use Rattle.cloak_base.specs.declared.names.Frame.{Frame}
 use Rattle.cloak_pager.specs.State.{PagerState, IsWholePager, owed_at}
@@ -25,7 +25,7 @@ use Rattle.shadow_law.proofs.Changes.{settle_count, offer_count}
 use Rattle.shadow_law.proofs.Misses.{asked_walk, open_entry_agrees, page_entry_agrees, entry_within, keeps_birth}
 use Rattle.cloaked_side.specs.Holding.{HoldsNoMore, HoldsNoOther}
 use Rattle.cloaked_side.specs.Leading.{IsWalkOf, IsLedBy, IsLedSo, IsLive, IsReachedSo, IsViewIn, AreLedOutside, IsEntryOf, asked_led, entry_at, inside_view}
-use Rattle.cloaked_side.specs.Tracking.{Tracks, TracksBy}
+use Rattle.cloaked_side.specs.Tracking.{Tracks, TracksBy, MapsBy, spent_in}
 use Rattle.cloaked_side.specs.declared.memory.Memory.{Memory}
 use Rattle.cloaked_side.proofs.Tracking.{birth_made, birth_never, birth_still, born_tracks, events_then, look_tracks, no_events, touches_still, tracks_on}
 use Rattle.cloaked_side.proofs.Tabled.{tables_none, walked_touches}
@@ -38,18 +38,18 @@ use Rattle.shadow_fold.specs.Agreement.{TargetAgrees}
 use Rattle.shadow_fold.specs.Fold.{Fold, after_events, entry_in, frame, is_own_table}
 use Rattle.shadow_fold.specs.Following.{AreBirthCallsUnless, killed_if}
 use Rattle.shadow_law.proofs.Misses.{settled_walk}
-use Rattle.cloaked_side.specs.Seeing.{SeesCloak}
+use Rattle.cloaked_side.specs.Seeing.{SeesCloak, SeesCounted, SeesWalking, asked_by, paid, touched_since}
 use Rattle.cloak_base.specs.declared.names.Kind.{Kind}
 use Rattle.cloak_base.specs.declared.names.PageId.{PageId}
 use Rattle.cloak_model.specs.declared.access.Walked.{Walked}
 use Rattle.cloak_model.specs.declared.access.Access.{Access}
 use Rattle.cloak_model.specs.declared.view.View.{View}
 use Rattle.cloak_base.specs.declared.names.Mode.TheVariants.{U}
-use Rattle.cloak_model.specs.Ask.{ask_walk, ask_inside, ask_translate, ask_led, opened, ask_value, ask_store, shown_value, stored_value, loaded_at, ask_load, stored_to, ask_store_at, ask_first}
-use Rattle.cloak_model.specs.Asking.{Told, FollowsFrom}
+use Rattle.cloak_model.specs.Ask.{shown_word, ask_word, ask_second, ask_after, ask_walk, ask_inside, ask_translate, ask_led, opened, ask_value, ask_store, shown_value, stored_value, loaded_at, ask_load, stored_to, ask_store_at, ask_first}
+use Rattle.cloak_model.specs.Asking.{Told, FollowsFrom, answered}
 use Rattle.cloak_model.specs.Exchange.{Piece}
 use Rattle.cloak_model.specs.Memory.{is_in_ram, frame_of, is_in_frames}
-use Rattle.cloak_model.specs.Walk.{Walk, walk, has_paging, without_paging, first_entry, access_fault}
+use Rattle.cloak_model.specs.Walk.{Walk, FirstWord, Ends, GoesOn, first_word, walk, has_paging, without_paging, first_entry, access_fault}
 use Rattle.cloak_model.specs.World.{World, Cloak, Flat, Cloaked, Alone}
 use Rattle.shadow_fold.specs.Agreement.{Present, EntryAgrees, satp_in, access_in, start_of}
 use Rattle.shadow_fold.specs.Entries.{is_for}
@@ -58,10 +58,12 @@ use Rattle.shadow_fold.specs.declared.entry.Entry.{Entry}
 use Rattle.shadow_fold.specs.declared.entry.ShadowView.{ShadowView}
 use Rattle.shadow_fold.specs.declared.entry.ShadowView.TheVariants.{Outside, Inside}
 use Rattle.cloak_model.specs.World.{ram_of}
-use Rattle.cloaked_side.proofs.Sided.{count_of, sees_noted}
+use Rattle.cloaked_side.proofs.Sided.{count_of, sees_also, sees_noted}
+use Rattle.cloaked_side.proofs.Spending.{due_events, paid_is, maps_born, maps_looked, maps_on, maps_still, since_then, spends_missed, spends_more, spends_still, spends_then}
+use Rattle.shadow_fold.specs.Reads.{Spends, reads_due}
 use Rattle.shadow_fold.proofs.Keys.{and_true, is_for-key}
 use Rattle.shadow_fold.proofs.Agreeing.{found}
-use Rattle.shadow_law.proofs.Hits.{hit_is_walk}
+use Rattle.shadow_law.proofs.Hits.{hit_is_led}
 use Rattle.cloak_pager.specs.State.{held_in}
 use Rattle.cloaked_side.specs.Holding.{frames_of}
 use Rattle.cloaked_side.specs.Seeing.{Sees}
@@ -69,35 +71,52 @@ use Rattle.cloaked_side.specs.declared.leading.Led.{Led}
 use Rattle.cloaked_side.specs.declared.side.Side.{Side}
 use Rattle.cloaked_side.proofs.Presents.{pager_owes}
 
--- an address of a frame is of that frame
-pub frame_of_start : (f k n : ℕ) → k < 4096 → is_in_frames n (start_of f + k) ≡ true → f < n
-frame_of_start f k n small inside =
-    let low : frame_of (start_of f + k) < n = ltb-true (frame_of (start_of f + k)) n (and_true _ _ inside).1 in
-    omega (arith, small, low)
-
 led_there : (c : Cloak) (view : ShadowView) (va : ℕ) (kind : Kind) (e : Entry) → (e.view ≡ view) × (e.page ≡ va / 4096) × (e.kind ≡ kind)
     → (b : Told (Result ℕ ℕ)) → ask_translate (satp_in e.view) (access_in e.view va e.kind) (Cloaked c) ≡ b
     → ask_translate (satp_in view) (access_in view va kind) (Cloaked c) ≡ b
 led_there c view va kind e same b is =
     sym (λ i. ask_translate (satp_in (same.0 i)) (access_in (same.0 i) va (same.2 i)) (Cloaked c)) ∙ is
 
-pub known_leads : {E : Type 0} (gave : E → E → List Piece → Type 0) (first now : Side E) (w : World) (view : ShadowView) (va : ℕ)
-    (kind : Kind) (e : Entry) → Sees gave first now w → Some e ≡ find (is_for view (va / 4096) kind) now.memory.now.shadows.live
-    → is_in_frames (frames_of now.memory.now) (start_of e.frame.0 + va % 4096) ≡ true
-    → ask_translate (satp_in view) (access_in view va kind) w
-    ≡ record { answer = Ok (start_of e.frame.0 + va % 4096); world = noted (touches (listed e.pt1 ++ listed e.pt0)) w }
-known_leads gave first now (Flat ram) view va kind e sees is inside = absurd sees
-known_leads gave first now (Alone handed) view va kind e sees is inside = absurd sees
-known_leads gave first now (Cloaked c) view va kind e sees is inside =
+walks_there : (ram : List (List ℕ)) (view : ShadowView) (va : ℕ) (kind : Kind) (e : Entry) → (e.view ≡ view) × (e.page ≡ va / 4096) × (e.kind ≡ kind)
+    → (r : Walk) → walk ram (satp_in e.view) (access_in e.view va e.kind) ≡ r → walk ram (satp_in view) (access_in view va kind) ≡ r
+walks_there ram view va kind e same r is =
+    sym (λ i. walk ram (satp_in (same.0 i)) (access_in (same.0 i) va (same.2 i))) ∙ is
+
+kind_of_access : (view : ShadowView) (va : ℕ) (kind : Kind) → (access_in view va kind).kind ≡ kind
+kind_of_access (Outside satp mode sum mxr) va kind = refl
+kind_of_access (Inside satp sum mxr space) va kind = refl
+
+-- where an entry leads: to an address of RAM, or to none
+abbrev pub entry_place : Bool → ℕ → Kind → Result ℕ ℕ
+entry_place b pa kind = cond b (Ok pa) (Err (access_fault kind))
+
+-- the walk of an entry that was found
+abbrev pub entry_walk : Entry → ℕ → Walked
+entry_walk e va = record { pa = start_of e.frame.0 + va % 4096; pt1 = e.pt1; pt0 = e.pt0 }
+
+found_leads : {E : Type 0} (gave : E → E → List Piece → Type 0) (first now : Side E) (c : Cloak) (view : ShadowView) (va : ℕ)
+    (kind : Kind) (e : Entry) (b : Bool) → SeesCloak gave first now c → Some e ≡ find (is_for view (va / 4096) kind) now.memory.now.shadows.live
+    → b ≡ is_in_frames (frames_of now.memory.now) (start_of e.frame.0 + va % 4096)
+    → (walk c.memory.ram (satp_in view) (access_in view va kind) ≡ Ok (entry_walk e va))
+    × (ask_translate (satp_in view) (access_in view va kind) (Cloaked c)
+    ≡ record { answer = entry_place b (start_of e.frame.0 + va % 4096) kind; world = noted (touches (listed e.pt1 ++ listed e.pt0)) (Cloaked c) })
+found_leads gave first now c view va kind e b sees is inside =
     let h = sees.holds in
     let held = held_in now.memory.now.pager in
     let agrees = found (EntryAgrees (present held c.memory)) (is_for view (va / 4096) kind) now.memory.now.shadows.live e h.agrees (sym is) in
     let key = is_for-key view (va / 4096) kind e agrees.0 in
-    let small : va % 4096 < 4096 = omega arith in
-    let low = frame_of_start e.frame.0 (va % 4096) (frames_of now.memory.now) small inside in
-    led_there c view va kind e key _
-    (hit_is_walk held c e va (pager_owes now.memory.now.pager h.wiped c.memory h.pager) agrees.1 (sym key.1)
-    (subst (λ (n : ℕ). e.frame.0 < n) (sym h.pager.count) low))
+    let hit = hit_is_led held c e va (pager_owes now.memory.now.pager h.wiped c.memory h.pager) agrees.1 (sym key.1) in
+    let there : is_in_ram c.memory.ram (start_of e.frame.0 + va % 4096) ≡ b =
+    ap (λ (n : ℕ). is_in_frames n (start_of e.frame.0 + va % 4096)) h.pager.count ∙ sym inside in
+    let at : (access_in e.view va e.kind).kind ≡ kind = kind_of_access e.view va e.kind ∙ key.2 in (
+      walks_there c.memory.ram view va kind e key _ hit.0,
+      led_there c view va kind e key _
+          (hit.1 b there
+          ∙ ap (λ (k : Kind). let t : Told (Result ℕ ℕ) = record {
+            answer = entry_place b (start_of e.frame.0 + va % 4096) k;
+            world = noted (touches (listed e.pt1 ++ listed e.pt0)) (Cloaked c);
+          } in t) at),
+    )
 
 -- the entry that was found: its tables are outside, and its target holds its page
 target_holds : (p : Present) (e : Entry) (o : Option PageId) → TargetAgrees p e o → p.held e.frame.0 ≡ o
@@ -121,6 +140,14 @@ any_found p (x ∷ xs) e is = by (p x) is (any_found p xs e)
   where
     by : (b : Bool) → Some e ≡ (cond b (Some x) (find p xs)) → (Some e ≡ find p xs → list_any p xs ≡ true) → (b || list_any p xs) ≡ true
     by true is rest = refl
+    by false is rest = rest is
+
+none_found : (p : Entry → Bool) (xs : List Entry) → None ≡ find p xs → list_any p xs ≡ false
+none_found p [] is = refl
+none_found p (x ∷ xs) is = by (p x) is (none_found p xs)
+  where
+    by : (b : Bool) → None ≡ (cond b (Some x) (find p xs)) → (None ≡ find p xs → list_any p xs ≡ false) → (b || list_any p xs) ≡ false
+    by true is rest = absurd (none-some x is)
     by false is rest = rest is
 
 looked_known : (view v : ShadowView) (page n : ℕ) (kind k : Kind) (t : Table) → is_known v n k (looked view page kind t) ≡ is_known v n k t
@@ -149,26 +176,34 @@ found_target gave first now w view page kind e pa k cloaked sees is at small sam
 abbrev pub with_table : {E : Type 0} → Side E → Table → Side E
 with_table old t = record old { memory = record old.memory { now = record old.memory.now { shadows = t } } }
 
-sees_with : {E : Type 0} (gave : E → E → List Piece → Type 0) (first old : Side E) (t : Table) (c : Cloak) (events : List Event) → SeesCloak gave first old c
+sees_with : {E : Type 0} (gave : E → E → List Piece → Type 0) (first old : Side E) (t : Table) (c : Cloak) (events : List Event) (left : ℕ) → SeesCloak gave first old c
     → Agrees (present (held_in old.memory.now.pager) c.memory) t → t.frames ≡ old.memory.now.shadows.frames
     → TracksBy old.memory.now (record old.memory.now { shadows = t }) (after_events old.space events)
-    → SeesCloak gave first (with_table old t) (record c { events = c.events ++ events })
-sees_with gave first old t c events sees agrees room tracks = record {
-  holds = record {
-    wiped = sees.holds.wiped;
-    pager = sees.holds.pager;
-    whole = sees.holds.whole;
-    stream = sees.holds.stream;
-    draws = sees.holds.draws;
-    missed = sees.holds.missed;
-    agrees = agrees;
-    room = room ∙ sees.holds.room;
-  };
-  emits = sees.emits;
-  violation = sees.violation;
-  view = sees.view;
-  tracks = tracks_on first.memory.now old.memory.now (record old.memory.now { shadows = t }) old.space c.events events sees.tracks tracks;
-}
+    → Spends left 0 (spent_in old.memory.now) (spent_in (record old.memory.now { shadows = t }))
+    → MapsBy old.memory.now (record old.memory.now { shadows = t }) old.space events
+    → SeesCounted gave first (with_table old t) (record c { events = c.events ++ events }) left 0
+sees_with gave first old t c events left sees agrees room tracks spends maps =
+    let new = record old.memory.now { shadows = t } in
+    record {
+      holds = record {
+        wiped = sees.holds.wiped;
+        pager = sees.holds.pager;
+        whole = sees.holds.whole;
+        stream = sees.holds.stream;
+        draws = sees.holds.draws;
+        missed = sees.holds.missed;
+        agrees = agrees;
+        room = room ∙ sees.holds.room;
+      };
+      emits = sees.emits;
+      violation = sees.violation;
+      view = sees.view;
+      tracks = tracks_on first.memory.now old.memory.now new old.space c.events events sees.tracks tracks;
+      spends = spends_more (0 + left) left (reads_due (asked_by old.space c) + 0) _ (spent_in first.memory.now) (spent_in new)
+          (let further = due_events old.space c.events events c.items in omega (arith, further))
+          (spends_then 0 left (reads_due (asked_by old.space c)) 0 (spent_in first.memory.now) (spent_in old.memory.now) (spent_in new) sees.spends spends);
+      maps = maps_on first.memory.now old.memory.now new old.space c.events events sees.maps maps;
+    }
 
 agrees_looked : (p : Present) (view : ShadowView) (page : ℕ) (kind : Kind) (t : Table) → Agrees p t → Agrees p (looked view page kind t)
 unfolding looked
@@ -178,18 +213,56 @@ looked_frames : (view : ShadowView) (page : ℕ) (kind : Kind) (t : Table) → (
 unfolding looked
 looked_frames view page kind t = refl
 
+looked_misses : (view : ShadowView) (page : ℕ) (kind : Kind) (t : Table)
+    → (looked view page kind t).counts.misses ≡ cond (is_known view page kind t) t.counts.misses (one_more t.counts.misses)
+unfolding looked
+looked_misses view page kind t = refl
+
 -- a look counts, and changes nothing else
-pub looks : {E : Type 0} (gave : E → E → List Piece → Type 0) (first old : Side E) (t : Table) (view : ShadowView) (va : ℕ)
-    (kind : Kind) (w : World) → Sees gave first old w → IsViewIn old.space view → t ≡ looked view (va / 4096) kind old.memory.now.shadows
-    → Sees gave first (with_table old t) (noted (Look (satp_in view) (access_in view va kind) ∷ []) w)
-looks gave first old t view va kind (Flat ram) sees viewed is = absurd sees
-looks gave first old t view va kind (Alone handed) sees viewed is = absurd sees
-looks gave first old t view va kind (Cloaked c) sees viewed is =
-    sees_with gave first old t c (Look (satp_in view) (access_in view va kind) ∷ []) sees
+looks : {E : Type 0} (gave : E → E → List Piece → Type 0) (first old : Side E) (t : Table) (view : ShadowView) (va : ℕ)
+    (kind : Kind) (c : Cloak) (left : ℕ) → SeesCloak gave first old c → IsViewIn old.space view → t ≡ looked view (va / 4096) kind old.memory.now.shadows
+    → Spends left 0 (spent_in old.memory.now) (spent_in (record old.memory.now { shadows = t }))
+    → SeesCounted gave first (with_table old t) (record c { events = c.events ++ Look (satp_in view) (access_in view va kind) ∷ [] }) left 0
+looks gave first old t view va kind c left sees viewed is spends =
+    sees_with gave first old t c (Look (satp_in view) (access_in view va kind) ∷ []) left sees
     (subst (Agrees (present (held_in old.memory.now.pager) c.memory)) (sym is)
     (agrees_looked _ view (va / 4096) kind old.memory.now.shadows sees.holds.agrees))
     (ap (λ (u : Table). u.frames) is ∙ looked_frames view (va / 4096) kind old.memory.now.shadows)
     (look_tracks old.space view va kind viewed old.memory.now.counting old.memory.now.shadows t (held_in old.memory.now.pager) (λ counts. is))
+    spends (maps_still old.memory.now (record old.memory.now { shadows = t }) old.space (Look (satp_in view) (access_in view va kind) ∷ [])
+    (maps_looked old.memory.now (record old.memory.now { shadows = t }) view (va / 4096) kind is))
+
+-- one that finds an entry
+pub looks_found : {E : Type 0} (gave : E → E → List Piece → Type 0) (first old : Side E) (t : Table) (view : ShadowView) (va : ℕ)
+    (kind : Kind) (e : Entry) (c : Cloak) → SeesCloak gave first old c → IsViewIn old.space view → t ≡ looked view (va / 4096) kind old.memory.now.shadows
+    → Some e ≡ find (is_for view (va / 4096) kind) old.memory.now.shadows.live
+    → SeesCloak gave first (with_table old t) (record c { events = c.events ++ Look (satp_in view) (access_in view va kind) ∷ [] })
+looks_found gave first old t view va kind e c sees viewed is there =
+    looks gave first old t view va kind c 0 sees viewed is
+    (spends_still old.memory.now (record old.memory.now { shadows = t }) refl
+    (ap (λ (u : Table). u.counts.misses) is ∙ looked_misses view (va / 4096) kind old.memory.now.shadows
+    ∙ ap (λ (b : Bool). cond b old.memory.now.shadows.counts.misses (one_more old.memory.now.shadows.counts.misses))
+    (known_found view (va / 4096) kind old.memory.now.shadows e there)))
+
+unknown_missed : (view : ShadowView) (page : ℕ) (kind : Kind) (t : Table) → None ≡ find (is_for view page kind) t.live → is_known view page kind t ≡ false
+unfolding is_known
+unknown_missed view page kind t is = none_found (is_for view page kind) t.live is
+
+-- one that misses
+pub looks_missed : {E : Type 0} (gave : E → E → List Piece → Type 0) (first old : Side E) (t : Table) (view : ShadowView) (va : ℕ)
+    (kind : Kind) (w : World) → Sees gave first old w → IsViewIn old.space view → t ≡ looked view (va / 4096) kind old.memory.now.shadows
+    → None ≡ find (is_for view (va / 4096) kind) old.memory.now.shadows.live
+    → SeesWalking gave first (with_table old t) (noted (Look (satp_in view) (access_in view va kind) ∷ []) w)
+looks_missed gave first old t view va kind (Flat ram) sees viewed is none = absurd sees
+looks_missed gave first old t view va kind (Alone handed) sees viewed is none = absurd sees
+looks_missed gave first old t view va kind (Cloaked c) sees viewed is none =
+    let look = Look (satp_in view) (access_in view va kind) in
+    subst (λ (n : ℕ). SeesCounted gave first (with_table old t) (record c { events = c.events ++ look ∷ [] }) 2 n) (sym (since_then 0 c.events (look ∷ [])))
+    (looks gave first old t view va kind c 2 sees viewed is
+    (spends_missed old.memory.now (record old.memory.now { shadows = t }) refl
+    (ap (λ (u : Table). u.counts.misses) is ∙ looked_misses view (va / 4096) kind old.memory.now.shadows
+    ∙ ap (λ (b : Bool). cond b old.memory.now.shadows.counts.misses (one_more old.memory.now.shadows.counts.misses))
+    (unknown_missed view (va / 4096) kind old.memory.now.shadows none))))
 
 -- where accesses are not counted, a look is nothing
 pub looks_uncounted : {E : Type 0} (gave : E → E → List Piece → Type 0) (first now : Side E) (view : ShadowView) (va : ℕ)
@@ -204,26 +277,74 @@ live_looked : (view : ShadowView) (page : ℕ) (kind : Kind) (t : Table) → (lo
 unfolding looked
 live_looked view page kind t = refl
 
--- a hit: the access is looked up, and its tables, which are outside, are touched
-pub known_follows : {E : Type 0} (gave : E → E → List Piece → Type 0) (first old : Side E) (t : Table) (w : World) (view : ShadowView) (va : ℕ)
-    (kind : Kind) (e : Entry) (pa : ℕ) → Sees gave first old w → IsViewIn old.space view → t ≡ looked view (va / 4096) kind old.memory.now.shadows
-    → Some e ≡ find (is_for view (va / 4096) kind) old.memory.now.shadows.live → pa ≡ start_of e.frame.0 + va % 4096
-    → is_in_frames (frames_of old.memory.now) (start_of e.frame.0 + va % 4096) ≡ true
-    → FollowsFrom (Sees gave first) (with_table old t) (Ok pa) (asked_led view va kind w)
+-- An access is led by an entry.
+
+found_after : (view : ShadowView) (page : ℕ) (kind : Kind) (t u : Table) (e : Entry) → u ≡ looked view page kind t
+    → Some e ≡ find (is_for view page kind) t.live → Some e ≡ find (is_for view page kind) u.live
+found_after view page kind t u e is there =
+    there ∙ ap (λ (x : List Entry). find (is_for view page kind) x) (sym (ap (λ (y : Table). y.live) is ∙ live_looked view page kind t))
+
+-- the access is looked up, and the tables of the entry, which are outside, are touched
+pub entry_follows : {E : Type 0} (gave : E → E → List Piece → Type 0) (first old : Side E) (t : Table) (w : World) (view : ShadowView) (va : ℕ)
+    (kind : Kind) (e : Entry) (b : Bool) (to : Result ℕ ℕ) → Sees gave first old w → IsViewIn old.space view → t ≡ looked view (va / 4096) kind old.memory.now.shadows
+    → Some e ≡ find (is_for view (va / 4096) kind) old.memory.now.shadows.live
+    → b ≡ is_in_frames (frames_of old.memory.now) (start_of e.frame.0 + va % 4096) → to ≡ entry_place b (start_of e.frame.0 + va % 4096) kind
+    → FollowsFrom (Sees gave first) (with_table old t) to (asked_led view va kind w)
 unfolding ask_led
-known_follows gave first old t w view va kind e pa sees viewed is there at inside =
+entry_follows gave first old t (Flat ram) view va kind e b to sees viewed is there inside at = absurd sees
+entry_follows gave first old t (Alone handed) view va kind e b to sees viewed is there inside at = absurd sees
+entry_follows gave first old t (Cloaked c) view va kind e b to sees viewed is there inside at =
     let new = with_table old t in
-    let w1 = noted (Look (satp_in view) (access_in view va kind) ∷ []) w in
-    let sees1 = looks gave first old t view va kind w sees viewed is in
-    let there1 : Some e ≡ find (is_for view (va / 4096) kind) t.live = there ∙ ap (λ (x : List Entry). find (is_for view (va / 4096) kind) x) (sym (ap (λ (u : Table). u.live) is ∙ live_looked view (va / 4096) kind old.memory.now.shadows)) in
-    let led = known_leads gave first new w1 view va kind e sees1 there1 inside in
-    let agrees = found_agrees gave first new w1 view (va / 4096) kind e sees1 there1 in
-    subst (λ (x : Told (Result ℕ ℕ)). FollowsFrom (Sees gave first) new (Ok pa) x) (sym led)
+    let c1 : Cloak = record c { events = c.events ++ Look (satp_in view) (access_in view va kind) ∷ [] } in
+    let sees1 = looks_found gave first old t view va kind e c sees viewed is there in
+    let there1 = found_after view (va / 4096) kind old.memory.now.shadows t e is there in
+    let led = found_leads gave first new c1 view va kind e b sees1 there1 inside in
+    let agrees = found_agrees gave first new (Cloaked c1) view (va / 4096) kind e sees1 there1 in
+    subst (λ (x : Told (Result ℕ ℕ)). FollowsFrom (Sees gave first) new to x) (sym led.1)
     (record {
-      answer = ap (λ (n : ℕ). Ok n) at;
-      stands = sees_noted gave first new (touches (listed e.pt1 ++ listed e.pt0)) w1
+      answer = at;
+      stands = sees_also gave first new c1 0 0 (touches (listed e.pt1 ++ listed e.pt0))
           (touches_still old.space old.memory.now.counting t (held_in old.memory.now.pager) e.pt1 e.pt0 agrees.1 agrees.2) sees1;
     })
+
+-- it is led so, whether its walk is handed on or not
+pub entry_so : {E : Type 0} (gave : E → E → List Piece → Type 0) (first old : Side E) (t : Table) (w : World) (view : ShadowView) (va : ℕ)
+    (kind : Kind) (e : Entry) (cloaked : Option PageId) (led : Led) → Sees gave first old w → IsViewIn old.space view
+    → t ≡ looked view (va / 4096) kind old.memory.now.shadows → Some e ≡ find (is_for view (va / 4096) kind) old.memory.now.shadows.live
+    → is_in_frames (frames_of old.memory.now) (start_of e.frame.0 + va % 4096) ≡ true → led.pa ≡ start_of e.frame.0 + va % 4096
+    → (led.walked ≡ Some (entry_walk e va)) ⊎ ((led.walked ≡ None) × (e.cloaked ≡ cloaked))
+    → IsLedSo (with_table old t).memory.now (asked_led view va kind w).world view va kind cloaked led
+unfolding ask_led
+entry_so gave first old t (Flat ram) view va kind e cloaked led sees viewed is there inside at so = absurd sees
+entry_so gave first old t (Alone handed) view va kind e cloaked led sees viewed is there inside at so = absurd sees
+entry_so gave first old t (Cloaked c) view va kind e cloaked led sees viewed is there inside at so =
+    let new = with_table old t in
+    let c1 : Cloak = record c { events = c.events ++ Look (satp_in view) (access_in view va kind) ∷ [] } in
+    let sees1 = looks_found gave first old t view va kind e c sees viewed is there in
+    let there1 = found_after view (va / 4096) kind old.memory.now.shadows t e is there in
+    let found_there = found_leads gave first new c1 view va kind e true sees1 there1 (sym inside) in
+    let agrees = found_agrees gave first new (Cloaked c1) view (va / 4096) kind e sees1 there1 in
+    let inside_ram : is_in_ram c.memory.ram (start_of e.frame.0 + va % 4096) ≡ true =
+    ap (λ (n : ℕ). is_in_frames n (start_of e.frame.0 + va % 4096)) sees.holds.pager.count ∙ inside in
+    let after = noted (touches (listed e.pt1 ++ listed e.pt0)) (Cloaked c1) in
+    subst (λ (x : Told (Result ℕ ℕ)). IsLedSo new.memory.now x.world view va kind cloaked led) (sym found_there.1)
+    (elim so [
+      | inl walked ↦ record {
+        by = subst (λ (o : Option Walked). IfSome o (λ x. IsWalkOf after view va kind x × (x.pa ≡ led.pa))) (sym walked)
+            ((found_there.0, inside_ram), sym at);
+        outside = subst (λ (o : Option Walked). IfSome o (AreOutside (held_in new.memory.now.pager))) (sym walked)
+            (record { first = agrees.1; second = agrees.2 });
+        live = λ none. absurd (none-some (entry_walk e va) (sym none ∙ walked));
+      }
+      | inr same ↦ record {
+        by = subst (λ (o : Option Walked). IfSome o (λ x. IsWalkOf after view va kind x × (x.pa ≡ led.pa))) (sym same.0) tt;
+        outside = subst (λ (o : Option Walked). IfSome o (AreOutside (held_in new.memory.now.pager))) (sym same.0) tt;
+        live = λ none counts. (
+          found_known view (va / 4096) kind old.memory.now.shadows t e there is,
+          found_target gave first old (Cloaked c) view (va / 4096) kind e led.pa (va % 4096) cloaked sees there at (omega arith) same.1,
+        );
+      }
+    ])
 
 room_frames : (t : Table) → (with_room t).frames ≡ t.frames
 unfolding with_room emptied
@@ -237,6 +358,18 @@ birth_frames : (known : Bool) (e : Entry) (old new : Table) → AreBirthCalls kn
 birth_frames true e old new made = ap (λ (t : Table). t.frames) made
 birth_frames false e old new made = ap (λ (t : Table). t.frames) made.1 ∙ room_frames old
 
+room_misses : (t : Table) → (with_room t).counts.misses ≡ t.counts.misses
+unfolding with_room emptied
+room_misses t = by_test (nat_le 1024 (length t.live))
+  where
+    by_test : (b : Bool) → (cond b (record t { live = []; counts = record t.counts { flushes = one_more t.counts.flushes } }) t).counts.misses ≡ t.counts.misses
+    by_test true = refl
+    by_test false = refl
+
+birth_misses : (known : Bool) (e : Entry) (old new : Table) → AreBirthCalls known e old new → new.counts.misses ≡ old.counts.misses
+birth_misses true e old new made = ap (λ (t : Table). t.counts.misses) made
+birth_misses false e old new made = ap (λ (t : Table). t.counts.misses) made.1 ∙ room_misses old
+
 pub learns : {E : Type 0} (gave : E → E → List Piece → Type 0) (first old : Side E) (t : Table) (e : Entry) (satp : ℕ) (a : Access) (walked : Walked)
     (cloaked : Option PageId) (w : World) → Sees gave first old w → IsEntryOf w (held_in old.memory.now.pager) e
     → entry_in old.space satp a walked cloaked ≡ e → is_own_table e ≡ false
@@ -248,18 +381,20 @@ learns gave first old t e satp a walked cloaked (Alone handed) sees is same othe
 learns gave first old t e satp a walked cloaked (Cloaked c) sees is same other born =
     let h = sees.holds in
     let made = born (subst (λ (n : ℕ). IsWithin n e) (h.pager.count ∙ sym h.room) is.1) in
-    sees_with gave first old t c (Born satp a walked cloaked ∷ []) sees
+    sees_with gave first old t c (Born satp a walked cloaked ∷ []) 0 sees
     (keeps_birth (EntryAgrees (present (held_in old.memory.now.pager) c.memory)) _ e old.memory.now.shadows t made is.0 h.agrees)
     (birth_frames _ e old.memory.now.shadows t made)
     (born_tracks old.space satp a walked cloaked old.memory.now.counting old.memory.now.shadows t (held_in old.memory.now.pager)
     (λ counts. subst (λ (x : Entry). AreBirthCallsUnless (is_own_table x) x old.memory.now.shadows t) (sym same)
     (birth_made e old.memory.now.shadows t other made)))
+    (spends_still old.memory.now (record old.memory.now { shadows = t }) refl (birth_misses _ e old.memory.now.shadows t made))
+    (maps_born old.memory.now (record old.memory.now { shadows = t }) old.space satp a walked cloaked _ e same made)
 
 -- The walk of an access that led somewhere.
 
 pub walk_of : {E : Type 0} (gave : E → E → List Piece → Type 0) (first old mid : Side E) (view : ShadowView) (va : ℕ) (kind : Kind)
-    (walked : Walked) (w : World) → Sees gave first old w → is_in_frames (frames_of mid.memory.now) walked.pa ≡ true
-    → FollowsFrom (Sees gave first) mid (Ok walked) (ask_walk (satp_in view) (access_in view va kind) w)
+    (walked : Walked) (w : World) → SeesWalking gave first old w → is_in_frames (frames_of mid.memory.now) walked.pa ≡ true
+    → FollowsFrom (SeesWalking gave first) mid (Ok walked) (ask_walk (satp_in view) (access_in view va kind) w)
     → IsWalkOf (ask_translate (satp_in view) (access_in view va kind) w).world view va kind walked
 unfolding ask_translate ask_inside
 walk_of gave first old mid view va kind walked (Flat ram) sees inside told = absurd sees
@@ -269,12 +404,12 @@ walk_of gave first old mid view va kind walked (Cloaked c) sees inside told =
     let a = access_in view va kind in
     let asked = asked_walk satp a c in
     let c' : Cloak = asked.0 in
-    let stands : SeesCloak gave first mid c' = subst (λ (v : World). Sees gave first mid v) asked.1 told.stands in
+    let stands = subst (λ (v : World). SeesWalking gave first mid v) asked.1 told.stands in
     subst (λ (o : Walk). IsWalkOf (ask_inside a o (ask_walk satp a (Cloaked c)).world).world view va kind walked) told.answer
     (subst (λ (v : World). IsWalkOf v view va kind walked) (sym asked.1)
     (asked.2 ∙ sym told.answer, ap (λ (n : ℕ). is_in_frames n walked.pa) stands.holds.pager.count ∙ inside))
 
-pub translate_unclashed : (satp : ℕ) (a : Access) (w : World) → is_clashed (ask_translate satp a w).world ≡ false
+translate_unclashed : (satp : ℕ) (a : Access) (w : World) → is_clashed (ask_translate satp a w).world ≡ false
     → is_clashed (ask_walk satp a w).world ≡ false
 unfolding ask_translate
 translate_unclashed satp a w unclashed = let told = ask_walk satp a w in (later_inside a told.answer told.world).mark unclashed
@@ -282,15 +417,11 @@ translate_unclashed satp a w unclashed = let told = ask_walk satp a w in (later_
 -- a walk by another name of the same access
 pub walked_by : {E : Type 0} (gave : E → E → List Piece → Type 0) (first mid : Side E) (satp satp' : ℕ) (a a' : Access) (r : Walk)
     (w : World) → satp ≡ satp' → a ≡ a'
-    → (is_clashed (ask_walk satp a w).world ≡ false → FollowsFrom (Sees gave first) mid r (ask_walk satp a w))
-    → is_clashed (ask_walk satp' a' w).world ≡ false → FollowsFrom (Sees gave first) mid r (ask_walk satp' a' w)
+    → (is_clashed (ask_walk satp a w).world ≡ false → FollowsFrom (SeesWalking gave first) mid r (ask_walk satp a w))
+    → is_clashed (ask_walk satp' a' w).world ≡ false → FollowsFrom (SeesWalking gave first) mid r (ask_walk satp' a' w)
 walked_by gave first mid satp satp' a a' r w same also told =
-    subst (λ (x : ℕ × Access). is_clashed (ask_walk x.0 x.1 w).world ≡ false → FollowsFrom (Sees gave first) mid r (ask_walk x.0 x.1 w))
+    subst (λ (x : ℕ × Access). is_clashed (ask_walk x.0 x.1 w).world ≡ false → FollowsFrom (SeesWalking gave first) mid r (ask_walk x.0 x.1 w))
     (λ i. (same i, also i)) told
-
-pub led_so : (v : World) (view : ShadowView) (va : ℕ) (kind : Kind) (walked : Walked) (pa : ℕ) → IsWalkOf v view va kind walked → walked.pa ≡ pa
-    → IsLedBy v view va kind (record { pa = pa; walked = Some walked })
-led_so v view va kind walked pa is at = (is, at)
 
 -- the fold of a memory itself
 fold_of : Memory → Fold
@@ -302,13 +433,13 @@ tracks_self memory = record { pages = λ f. refl; entries = λ counts. record { 
 
 -- the tables of a walk that led somewhere are outside behind it
 pub walk_outside : {E : Type 0} (gave : E → E → List Piece → Type 0) (first old mid : Side E) (satp : ℕ) (a : Access) (walked : Walked) (w : World)
-    → Sees gave first old w → FollowsFrom (Sees gave first) mid (Ok walked) (ask_walk satp a w) → AreOutside (held_in mid.memory.now.pager) walked
+    → SeesWalking gave first old w → FollowsFrom (SeesWalking gave first) mid (Ok walked) (ask_walk satp a w) → AreOutside (held_in mid.memory.now.pager) walked
 walk_outside gave first old mid satp a walked (Flat ram) sees told = absurd sees
 walk_outside gave first old mid satp a walked (Alone handed) sees told = absurd sees
 walk_outside gave first old mid satp a walked (Cloaked c) sees told =
     let there = walked_touches satp a c walked (sym told.answer) in
     let c' = there.0 in
-    let stands : SeesCloak gave first mid c' = subst (λ (v : World). Sees gave first mid v) there.1 told.stands in
+    let stands = subst (λ (v : World). SeesWalking gave first mid v) there.1 told.stands in
     let tables = touches (listed walked.pt1 ++ listed walked.pt0) in
     let s = fold_of first.memory.now in
     let before = after_events mid.space c.events s in
@@ -491,18 +622,128 @@ page_entry_in gave first old new view va kind q pa walked c c' sees sees' is_mem
 
 -- Where an access was led.
 
-pub if_led : {P Q R S : Led → Type 0} (r : Result Led ℕ) → ((led : Led) → P led → Q led → R led → S led) → IfOk r P → IfOk r Q → IfOk r R → IfOk r S
-if_led (Ok led) all p q r = all led p q r
-if_led (Err cause) all p q r = tt
+-- Where an access was led.
 
-pub led_behind_walk : {E : Type 0} (gave : E → E → List Piece → Type 0) (first mid : Side E) (memory : Memory) (view : ShadowView) (va : ℕ) (kind : Kind) (cloaked : Option PageId)
-    (led : Led) (w : World) → Sees gave first mid (noted (Look (satp_in view) (access_in view va kind) ∷ []) w) → led.walked ≢ None
-    → ((v : World) → Sees gave first mid v → let t = ask_translate (satp_in view) (access_in view va kind) v in is_clashed t.world ≡ false → IsLedBy t.world view va kind led)
-    → ((v : World) → Sees gave first mid v → let t = ask_translate (satp_in view) (access_in view va kind) v in is_clashed t.world ≡ false → AreLedOutside (held_in memory.pager) led)
-    → let t = asked_led view va kind w in is_clashed t.world ≡ false → IsLedSo memory t.world view va kind cloaked led
+pub if_led : {P Q : Led → Type 0} (r : Result Led ℕ) → ((led : Led) → P led → Q led) → IfOk r P → IfOk r Q
+if_led (Ok led) all p = all led p
+if_led (Err cause) all p = tt
+
+-- The walk of an access, behind a look that missed.
+
+-- the touches of a walk are few
+word_since : (pa : ℕ) (c : Cloak) → (c' : Cloak) × ((ask_word pa (Cloaked c)).world ≡ Cloaked c') × (touched_since 0 c'.events ≤ touched_since 0 c.events + 1)
+unfolding ask_word
+word_since pa c = by (is_in_ram c.memory.ram pa)
+  where
+    by : (b : Bool) → (c' : Cloak) × ((cond b (shown_word pa (settled (frame_of pa) (Cloaked c))) (answered None (Cloaked c))).world ≡ Cloaked c')
+        × (touched_since 0 c'.events ≤ touched_since 0 c.events + 1)
+    by true = let one = since_then 0 c.events (Touch (frame_of pa) ∷ []) in (settled_in (frame_of pa) c, refl, omega (arith, one))
+    by false = (c, refl, omega arith)
+
+after_since : (a : Access) (at1 : ℕ) (word : FirstWord) (c : Cloak) → (c' : Cloak) × ((ask_after a at1 word (Cloaked c)).world ≡ Cloaked c')
+    × (touched_since 0 c'.events ≤ touched_since 0 c.events + 1)
+unfolding ask_after ask_second
+after_since a at1 (Ends walk) c = (c, refl, omega arith)
+after_since a at1 (GoesOn at0) c = word_since at0 c
+
+first_since : (a : Access) (at1 : ℕ) (c : Cloak) → (c' : Cloak) × ((ask_first a at1 (Cloaked c)).world ≡ Cloaked c')
+    × (touched_since 0 c'.events ≤ touched_since 0 c.events + 2)
+unfolding ask_first
+first_since a at1 c =
+    let told = ask_word at1 (Cloaked c) in
+    let one = word_since at1 c in
+    let two = after_since a at1 (first_word a at1 told.answer) one.0 in (
+      two.0,
+      ap (λ (v : World). (ask_after a at1 (first_word a at1 told.answer) v).world) one.1 ∙ two.1,
+      let few = one.2 in let more = two.2 in omega (arith, few, more),
+    )
+
+walk_since : (satp : ℕ) (a : Access) (c : Cloak) → (c' : Cloak) × ((ask_walk satp a (Cloaked c)).world ≡ Cloaked c')
+    × (touched_since 0 c'.events ≤ touched_since 0 c.events + 2)
+unfolding ask_walk
+walk_since satp a c = by (has_paging satp)
+  where
+    by : (b : Bool) → (c' : Cloak) × ((cond b (ask_first a (first_entry satp a.va) (Cloaked c)) (answered (without_paging a) (Cloaked c))).world ≡ Cloaked c')
+        × (touched_since 0 c'.events ≤ touched_since 0 c.events + 2)
+    by true = first_since a (first_entry satp a.va) c
+    by false = (c, refl, omega arith)
+
+-- so the walk is paid for
+walked_sees : {E : Type 0} (gave : E → E → List Piece → Type 0) (first now : Side E) (satp : ℕ) (a : Access) (c : Cloak)
+    → SeesWalking gave first now (ask_walk satp a (noted (Look satp a ∷ []) (Cloaked c))).world
+    → Sees gave first now (ask_walk satp a (noted (Look satp a ∷ []) (Cloaked c))).world
+walked_sees gave first now satp a c =
+    let c1 : Cloak = record c { events = c.events ++ Look satp a ∷ [] } in
+    let there = walk_since satp a c1 in
+    let none : touched_since 0 c1.events ≡ 0 = since_then 0 c.events (Look satp a ∷ []) in
+    let few = there.2 in
+    subst (λ (u : World). SeesWalking gave first now u → Sees gave first now u) (sym there.1) (λ seen. record {
+      holds = seen.holds;
+      emits = seen.emits;
+      violation = seen.violation;
+      view = seen.view;
+      tracks = seen.tracks;
+      spends = (
+          let n = touched_since 0 there.0.events in
+          let due = reads_due (asked_by now.space there.0) in
+          let more = paid_is n due in
+          spends_more 2 0 (paid n due) due (spent_in first.memory.now) (spent_in now.memory.now) (omega (arith, none, few, more)) seen.spends
+          );
+      maps = seen.maps;
+    })
+
+-- where a walk leads: to an address of RAM, or to a fault
+abbrev pub walk_place : ℕ → Kind → Walk → Result ℕ ℕ
+walk_place n kind (Err cause) = Err cause
+walk_place n kind (Ok walked) = entry_place (is_in_frames n walked.pa) walked.pa kind
+
+inside_told : {E : Type 0} (gave : E → E → List Piece → Type 0) (first mid : Side E) (view : ShadowView) (va : ℕ) (kind : Kind)
+    (r : Walk) (to : Result ℕ ℕ) (v : World) → Sees gave first mid v → to ≡ walk_place (frames_of mid.memory.now) kind r
+    → FollowsFrom (Sees gave first) mid to (ask_inside (access_in view va kind) r v)
+unfolding ask_inside
+inside_told gave first mid view va kind (Err cause) to v sees is = record { answer = is; stands = sees }
+inside_told gave first mid view va kind (Ok walked) to v sees is = record {
+  answer = is
+      ∙ ap (λ (n : ℕ). entry_place (is_in_frames n walked.pa) walked.pa kind) (sym (count_of gave first mid v sees))
+      ∙ ap (λ (k : Kind). entry_place (is_in_frames (length (ram_of v)) walked.pa) walked.pa k) (sym (kind_of_access view va kind));
+  stands = sees;
+}
+
+-- an access is led by its walk
+pub walk_follows : {E : Type 0} (gave : E → E → List Piece → Type 0) (first old mid : Side E) (view : ShadowView) (va : ℕ) (kind : Kind)
+    (r : Walk) (to : Result ℕ ℕ) (w : World) → let w1 = noted (Look (satp_in view) (access_in view va kind) ∷ []) w in
+    SeesWalking gave first old w1 → FollowsFrom (SeesWalking gave first) mid r (ask_walk (satp_in view) (access_in view va kind) w1)
+    → to ≡ walk_place (frames_of mid.memory.now) kind r → FollowsFrom (Sees gave first) mid to (asked_led view va kind w)
+unfolding ask_led ask_translate
+walk_follows gave first old mid view va kind r to (Flat ram) sees told is = absurd sees
+walk_follows gave first old mid view va kind r to (Alone handed) sees told is = absurd sees
+walk_follows gave first old mid view va kind r to (Cloaked c) sees told is =
+    let satp = satp_in view in
+    let a = access_in view va kind in
+    let t = ask_walk satp a (noted (Look satp a ∷ []) (Cloaked c)) in
+    subst (λ (o : Walk). FollowsFrom (Sees gave first) mid to (ask_inside a o t.world)) told.answer
+    (inside_told gave first mid view va kind r to t.world (walked_sees gave first mid satp a c told.stands) is)
+
+-- and led so
+pub walk_so : {E : Type 0} (gave : E → E → List Piece → Type 0) (first old mid : Side E) (view : ShadowView) (va : ℕ) (kind : Kind)
+    (cloaked : Option PageId) (walked : Walked) (pa : ℕ) (w : World) → let w1 = noted (Look (satp_in view) (access_in view va kind) ∷ []) w in
+    SeesWalking gave first old w1 → FollowsFrom (SeesWalking gave first) mid (Ok walked) (ask_walk (satp_in view) (access_in view va kind) w1)
+    → is_in_frames (frames_of mid.memory.now) walked.pa ≡ true → walked.pa ≡ pa
+    → IsLedSo mid.memory.now (asked_led view va kind w).world view va kind cloaked (record { pa = pa; walked = Some walked })
 unfolding ask_led
-led_behind_walk gave first mid memory view va kind cloaked led w sees walked by outside unclashed =
-    record { by = by _ sees unclashed; outside = outside _ sees unclashed; live = λ none. absurd (walked none) }
+walk_so gave first old mid view va kind cloaked walked pa w sees told inside at =
+    let w1 = noted (Look (satp_in view) (access_in view va kind) ∷ []) w in
+    record {
+      by = (walk_of gave first old mid view va kind walked w1 sees inside told, at);
+      outside = walk_outside gave first old mid (satp_in view) (access_in view va kind) walked w1 sees told;
+      live = λ none. absurd (none-some walked (sym none));
+    }
+
+-- the walk of an access that is not clashed is not
+pub led_unclashed : (view : ShadowView) (va : ℕ) (kind : Kind) (w : World) → is_clashed (asked_led view va kind w).world ≡ false
+    → is_clashed (ask_walk (satp_in view) (access_in view va kind) (noted (Look (satp_in view) (access_in view va kind) ∷ []) w)).world ≡ false
+unfolding ask_led
+led_unclashed view va kind w unclashed = translate_unclashed (satp_in view) (access_in view va kind) _ unclashed
 
 -- The target of an open access was settled. Where it was led without a walk, its translation stays.
 
@@ -625,23 +866,6 @@ pub viewed_outside : (space : Option SpaceId) (satp : ℕ) (a : Access) → spac
 viewed_outside space satp a none = subst (λ (o : Option SpaceId). IsViewIn o (Outside satp a.mode a.sum a.mxr)) (sym none) (λ va kind. refl)
 
 -- A whole access of the kernel.
-
--- it was looked up, and then it is led by a walk
-pub walk_follows : {E : Type 0} (gave : E → E → List Piece → Type 0) (first mid new : Side E) (view : ShadowView) (va : ℕ) (kind : Kind)
-    (to : Result ℕ ℕ) (w : World) → Sees gave first mid (noted (Look (satp_in view) (access_in view va kind) ∷ []) w)
-    → ((v : World) → Sees gave first mid v → is_clashed (ask_translate (satp_in view) (access_in view va kind) v).world ≡ false
-    → FollowsFrom (Sees gave first) new to (ask_translate (satp_in view) (access_in view va kind) v))
-    → is_clashed (asked_led view va kind w).world ≡ false → FollowsFrom (Sees gave first) new to (asked_led view va kind w)
-unfolding ask_led
-walk_follows gave first mid new view va kind to w sees told = told _ sees
-
--- what is so of the world behind the walk is so of the one behind the access
-pub behind_walk : {E : Type 0} (gave : E → E → List Piece → Type 0) (first mid : Side E) (P : World → Type 0) (view : ShadowView) (va : ℕ) (kind : Kind)
-    (w : World) → Sees gave first mid (noted (Look (satp_in view) (access_in view va kind) ∷ []) w)
-    → ((v : World) → Sees gave first mid v → let t = ask_translate (satp_in view) (access_in view va kind) v in is_clashed t.world ≡ false → P t.world)
-    → let t = asked_led view va kind w in is_clashed t.world ≡ false → P t.world
-unfolding ask_led
-behind_walk gave first mid P view va kind w sees by = by _ sees
 
 pub loaded_told : {E : Type 0} (gave : E → E → List Piece → Type 0) (first mid new : Side E) (satp : ℕ) (a : Access) (width pa value : ℕ)
     (w : World) → FollowsFrom (Sees gave first) mid (Ok pa) (ask_led satp a w)

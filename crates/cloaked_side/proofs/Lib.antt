@@ -11,5 +11,6 @@ pub mod Serving
 pub mod Telling
 pub mod Known
 pub mod Tracking
+pub mod Spending
 pub mod Tabled
 pub mod Offered

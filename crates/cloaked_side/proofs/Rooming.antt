@@ -1,11 +1,11 @@
 -- Room for a page: what the settlings before an offer come to.
-use Rattle.std.proofs.Common.{◌≡◌, ◌≢◌, ◌<◌, ℕ, Bool, true, false, not, cond, List, [], ◌∷◌, ◌++◌, Option, Some, None}
+use Rattle.std.proofs.Common.{◌≡◌, ◌≢◌, ◌<◌, ◌+◌, ℕ, Bool, true, false, not, cond, List, [], ◌∷◌, ◌++◌, Option, Some, None}
 use Rattle.std.proofs.Common.{length, get_or, append_assoc, inl, inr, ◌⊎◌, refl, ap, sym, ◌∙◌, subst, arith}
 use Rattle.std.specs.Str.{bytes_eq}
 use Rattle.std.specs.List.{position, position_or_len}
 use Rattle.std.proofs.lemmas.Grind.{common_steps}
 use Rattle.std.proofs.lemmas.Bool.{false≢true}
-use Rattle.std.proofs.lemmas.List.{append-nil, length-map}
+use Rattle.std.proofs.lemmas.List.{append-nil, length-append, length-map}
 use Rattle.std.proofs.lemmas.List.Quantifiers.{position-Some}
 use Rattle.std.proofs.lemmas.List.Sums.{fails_before_first}
 use Rattle.cloak_base.specs.declared.names.PageId.{PageId}
@@ -28,6 +28,9 @@ use Rattle.cloak_pager.specs.AfterCall.{MeetsUnclashed, after_offer}
 use Rattle.shadow_fold.specs.Keeping.{Agrees}
 use Rattle.shadow_law.specs.Agreeing.{present}
 use Rattle.cloaked_side.specs.Holding.{Holds}
+use Rattle.cloaked_side.specs.Tracking.{spent_in}
+use Rattle.shadow_fold.specs.Reads.{Spends}
+use Rattle.cloaked_side.proofs.Spending.{spends_more}
 use Rattle.cloaked_side.proofs.Emitting.{emits_none}
 use Rattle.cloaked_side.specs.Offering.{behind_ciphers, offer_left, Rooms, Offers, offer_of}
 use Rattle.cloaked_side.specs.declared.memory.Memory.{Memory}
@@ -320,6 +323,16 @@ abbrev pub rooms_self : {E : Type 0} (gave : E → E → List Piece → Type 0) 
     Holds memory m → Rooms gave e e memory true q g m
 rooms_self gave e memory q g m h =
     record { memory = m; ciphers = []; holds = h; emits = emits_none gave e; offers = λ write. refl }
+
+-- Making room read no more than the whole offer shows.
+pub rooms_spend : {E : Type 0} (gave : E → E → List Piece → Type 0) (e e' : E) (old new : Memory) (room : Bool) (q : PageId)
+    (g : ℕ) (m : CloakedMemory) (r : Rooms gave e e' new room q g m) → Spends 0 (length r.ciphers) (spent_in old) (spent_in new) →
+    (write : Bool) → Spends 0 (length (offer q g write m).ciphers) (spent_in old) (spent_in new)
+rooms_spend gave e e' old new room q g m r spends write =
+    let o = offer_left room q g write r.memory in
+    let shown : length (offer q g write m).ciphers ≡ length r.ciphers + length o.ciphers =
+    ap (λ (x : AfterOffer). length x.ciphers) (r.offers write) ∙ length-append r.ciphers o.ciphers in
+    spends_more 0 0 (length r.ciphers) (length (offer q g write m).ciphers) (spent_in old) (spent_in new) (omega (arith, shown)) spends
 
 -- What an offer of the pager comes to, once there is room, of the memory around it.
 pub offers_so : {E : Type 0} (gave : E → E → List Piece → Type 0) (e e' : E) (old new : Memory) (given : Ended)

@@ -14,7 +14,9 @@ use Rattle.cloak_pager.specs.AfterCall.{Meets, after_touch, wiped_with}
 use Rattle.shadow_fold.specs.Keeping.{Agrees}
 use Rattle.shadow_law.specs.Agreeing.{present}
 use Rattle.cloaked_side.specs.Holding.{Holds, Settles}
+use Rattle.cloaked_side.specs.Tracking.{spent_in}
 use Rattle.cloaked_side.specs.declared.memory.Memory.{Memory}
+use Rattle.shadow_fold.specs.Reads.{Spends, Spent}
 
 -- the draws behind a settling that showed this
 abbrev pub draws_by : List (ℕ × List ℕ) → Bool → ℕ → ℕ
@@ -81,6 +83,15 @@ settled_so {E} gave e e' old new p left f shown missed meets again stream draws 
       };
       emits = subst (λ (x : List (ℕ × List ℕ)). Emits gave e e' (item_pieces (cipher_items x))) cs emits;
     }
+
+-- It read what it showed.
+pub settled_spends : (old : Memory) (p : PagerState) (left : Random) (f : ℕ) (shown : List (ℕ × List ℕ)) (missed : Bool) (n : Spent) →
+    Meets old.pager old.stream p left (shown, missed) (after_touch f) → Spends 0 (length shown) (spent_in old) n →
+    (m : CloakedMemory) → Holds old m → Spends 0 (length (settle f m).ciphers) (spent_in old) n
+settled_spends old p left f shown missed n meets spends m h =
+    let v = meets h.wiped m h.pager h.stream in
+    subst (λ (cs : List (ℕ × List ℕ)). Spends 0 (length cs) (spent_in old) n)
+    (ap (λ (x : List (ℕ × List ℕ) × Bool). x.0) v.answered) spends
 
 -- whether a draw was missing in a settling, where none was before
 pub settle_missed : (f : ℕ) (m : CloakedMemory) → m.ledger.missed ≡ false →

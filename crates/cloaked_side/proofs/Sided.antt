@@ -1,11 +1,12 @@
 -- A side after a call on its memory.
-use Rattle.std.proofs.Common.{◌≡◌, ◌≢◌, ℕ, Bool, true, cond, Option, None, length, slice_index_or, List, [], ◌∷◌, ◌++◌, append-nil, refl, ap}
+use Rattle.std.proofs.Common.{suc, ◌≡◌, ◌≢◌, ◌+◌, arith, ℕ, Bool, true, cond, Option, None, length, slice_index_or, List, [], ◌∷◌, ◌++◌, append-nil, refl, ap}
 use Rattle.std.proofs.Common.{sym, ◌∙◌, subst}
 use Rattle.std.proofs.lemmas.List.{length-set}
 use Rattle.cloak_model.specs.declared.view.View.{View}
 use Rattle.cloak_model.specs.Cloaking.{CloakedMemory, settle}
-use Rattle.cloak_model.specs.Events.{Event, Touch, Write}
-use Rattle.cloak_model.specs.World.{World, Cloak, Flat, Cloaked, Alone, cipher_items, noted, settled, ram_of, stored_at}
+use Rattle.cloak_model.specs.declared.item.Item.{Item}
+use Rattle.cloak_model.specs.Events.{Event, Read, Touch, Write}
+use Rattle.cloak_model.specs.World.{World, Cloak, Flat, Cloaked, Alone, cipher_items, noted, settled, settled_in, ram_of, stored_at, written}
 use Rattle.cloak_model.specs.World.{filled_frame}
 use Rattle.cloak_model.specs.Memory.{frame_of, place_of, with_value_in, is_in_ram, is_in_frames}
 use Rattle.cloak_model.specs.Asking.{FollowsFrom, Keeps, answered}
@@ -24,30 +25,67 @@ use Rattle.shadow_fold.specs.Table.{Table, ending}
 use Rattle.shadow_law.specs.Agreeing.{present}
 use Rattle.shadow_law.proofs.Tables.{write_agrees}
 use Rattle.cloaked_side.specs.Holding.{Holds, Settles, SameSize, HoldsNoMore, HoldsNoOther, frames_of}
-use Rattle.cloaked_side.specs.Seeing.{Sees, SeesCloak, Stays, StaysWithin}
+use Rattle.cloaked_side.specs.Seeing.{Sees, SeesCloak, SeesCounted, SeesWalking, Stays, StaysWithin, asked_by, paid, touched_since}
 use Rattle.protect_meta.specs.declared.meta.Meta.{Meta}
 use Rattle.protect_meta.specs.Table.{domains_of}
 use Rattle.cloak_pager.specs.State.{PagerState, held_in}
 use Rattle.cloaked_side.proofs.Emitting.{emits_none, emits_items, some_then}
 use Rattle.cloaked_side.proofs.Holders.{no_more_self, no_more_then, no_more_rights}
 use Rattle.cloaked_side.proofs.Translating.{agrees_read, agrees_rights, ending_frames}
-use Rattle.cloaked_side.specs.Tracking.{Tracks, TracksBy}
-use Rattle.cloaked_side.proofs.Tracking.{no_events, read_held, respaced, same_tracks, tracks_on, tracks_touch}
+use Rattle.cloaked_side.specs.Tracking.{Tracks, TracksBy, MapsBy, MapsStill, spent_in}
+use Rattle.shadow_fold.specs.Reads.{Spends, reads_due}
+use Rattle.cloaked_side.proofs.Spending.{paid_is, spends_more, spends_on, spends_then, spends_read, spends_still, spends_ended, due_events, due_items, due_event, ciphers_due, maps_ending, maps_further, maps_of, maps_on, maps_same, maps_still, since_then}
+use Rattle.cloaked_side.proofs.Tracking.{no_events, read_held, respaced, same_tracks, tracks_on, tracks_read, tracks_same, tracks_touch}
 use Rattle.shadow_fold.specs.Fold.{Fold, after_events, frame, touched}
 use Rattle.cloaked_side.specs.declared.memory.Memory.{Memory}
 use Rattle.cloaked_side.specs.declared.side.Side.{Side}
 
+-- What calls did to a side that sees this: events and items more, and a memory that went on with them.
+pub counted_on : {E : Type 0} (gave : E → E → List Piece → Type 0) (first old new : Side E) (c c' : Cloak) (left more : ℕ)
+    (es : List Event) (is : List Item) → c'.events ≡ c.events ++ es → c'.items ≡ c.items ++ is → c'.violation ≡ new.violation →
+    c'.view ≡ c.view → new.view ≡ old.view → new.space ≡ old.space → Holds new.memory.now c'.memory →
+    Emits gave first.emitter.now new.emitter.now (item_pieces (c.items ++ is)) →
+    TracksBy old.memory.now new.memory.now (after_events new.space es) →
+    Spends 0 (reads_due (record { space = new.space; events = es; items = is; changed = [] })) (spent_in old.memory.now) (spent_in new.memory.now) →
+    MapsBy old.memory.now new.memory.now new.space es →
+    SeesCounted gave first old c left more → SeesCounted gave first new c' left more
+counted_on gave first old new c c' left more es is evented itemed violated viewed view space holds emits tracks spends maps sees = record {
+  holds = holds;
+  emits = subst (λ (xs : List Item). Emits gave first.emitter.now new.emitter.now (item_pieces xs)) (sym itemed) emits;
+  violation = sym violated;
+  view = view ∙ sees.view ∙ sym viewed;
+  tracks = subst (λ (xs : List Event). TracksBy first.memory.now new.memory.now (after_events new.space xs)) (sym evented)
+      (tracks_on first.memory.now old.memory.now new.memory.now new.space c.events es
+      (respaced first.memory.now old.memory.now old.space new.space c.events space sees.tracks) tracks);
+  spends = subst (λ (x : List Event × List Item). Spends left
+      (paid more (reads_due (record { space = new.space; events = x.0; items = x.1; changed = [] }))) (spent_in first.memory.now) (spent_in new.memory.now))
+      (λ i. (sym evented i, sym itemed i))
+      (spends_on left more new.space c.events es c.items is (spent_in first.memory.now) (spent_in old.memory.now) (spent_in new.memory.now)
+      sees.spends spends);
+  maps = subst (λ (xs : List Event). MapsBy first.memory.now new.memory.now new.space xs) (sym evented)
+      (maps_on first.memory.now old.memory.now new.memory.now new.space c.events es
+      (maps_of first.memory.now old.memory.now old.space new.space c.events space sees.maps) maps);
+}
+
 -- events that leave a memory as it is
 
-pub sees_also : {E : Type 0} (gave : E → E → List Piece → Type 0) (first now : Side E) (c : Cloak) (events : List Event) →
-    TracksBy now.memory.now now.memory.now (after_events now.space events) → SeesCloak gave first now c →
-    SeesCloak gave first now (record c { events = c.events ++ events })
-sees_also gave first now c events still sees = record {
+pub sees_also : {E : Type 0} (gave : E → E → List Piece → Type 0) (first now : Side E) (c : Cloak) (left more : ℕ) (events : List Event) →
+    TracksBy now.memory.now now.memory.now (after_events now.space events) → SeesCounted gave first now c left more →
+    SeesCounted gave first now (record c { events = c.events ++ events }) left more
+sees_also gave first now c left more events still sees = record {
   holds = sees.holds;
   emits = sees.emits;
   violation = sees.violation;
   view = sees.view;
   tracks = tracks_on first.memory.now now.memory.now now.memory.now now.space c.events events sees.tracks still;
+  spends = (
+      let further = due_events now.space c.events events c.items in
+      let few = paid_is more (reads_due (asked_by now.space c)) in
+      let many = paid_is more (reads_due (record { space = now.space; events = c.events ++ events; items = c.items; changed = [] })) in
+      spends_more left left (paid more (reads_due (asked_by now.space c))) _ (spent_in first.memory.now) (spent_in now.memory.now)
+      (omega (arith, further, few, many)) sees.spends
+      );
+  maps = maps_on first.memory.now now.memory.now now.memory.now now.space c.events events sees.maps (λ mapped make are. are);
 }
 
 pub sees_noted : {E : Type 0} (gave : E → E → List Piece → Type 0) (first now : Side E) (events : List Event)
@@ -55,27 +93,59 @@ pub sees_noted : {E : Type 0} (gave : E → E → List Piece → Type 0) (first 
     Sees gave first now (noted events w)
 sees_noted gave first now events (Flat ram) still sees = sees
 sees_noted gave first now events (Alone handed) still sees = sees
-sees_noted gave first now events (Cloaked c) still sees = sees_also gave first now c events still sees
+sees_noted gave first now events (Cloaked c) still sees = sees_also gave first now c 0 0 events still sees
+
+-- an item more, and the memory as it was
+pub sees_written : {E : Type 0} (gave : E → E → List Piece → Type 0) (first old new : Side E) (i : Item) (w : World) →
+    new.memory ≡ old.memory → new.violation ≡ old.violation → new.view ≡ old.view → new.space ≡ old.space →
+    Emits gave old.emitter.now new.emitter.now (item_pieces (i ∷ [])) → Sees gave first old w → Sees gave first new (written i w)
+sees_written gave first old new i (Flat ram) memory violation view space emits sees = sees
+sees_written gave first old new i (Alone handed) memory violation view space emits sees = sees
+sees_written gave first old new i (Cloaked c) memory violation view space emits sees = record {
+  holds = subst (λ x. Holds x.now c.memory) (sym memory) sees.holds;
+  emits = emits_items c.items (i ∷ []) sees.emits emits;
+  violation = violation ∙ sees.violation;
+  view = view ∙ sees.view;
+  tracks = subst (λ x. TracksBy first.memory.now x.now (after_events new.space c.events)) (sym memory)
+      (respaced first.memory.now old.memory.now old.space new.space c.events space sees.tracks);
+  spends = subst (λ x. Spends 0 (reads_due (asked_by new.space (record c { items = c.items ++ i ∷ [] }))) (spent_in first.memory.now) (spent_in x.now)) (sym memory)
+      (spends_more 0 0 (reads_due (asked_by old.space c)) _ (spent_in first.memory.now) (spent_in old.memory.now)
+      (let further = due_items old.space c.events c.items (i ∷ []) in omega (arith, further)) sees.spends);
+  maps = subst (λ x. MapsBy first.memory.now x.now new.space c.events) (sym memory)
+      (maps_of first.memory.now old.memory.now old.space new.space c.events space sees.maps);
+}
+
+pub counted_settled : {E : Type 0} (gave : E → E → List Piece → Type 0) (first old new : Side E) (f : ℕ) (c : Cloak) (left more : ℕ) →
+    ((m : CloakedMemory) → Holds old.memory.now m →
+    Settles gave old.emitter.now new.emitter.now new.memory.now (settle f m)) →
+    TracksBy old.memory.now new.memory.now (touched (frame f)) →
+    ((m : CloakedMemory) → Holds old.memory.now m → Spends 0 (length (settle f m).ciphers) (spent_in old.memory.now) (spent_in new.memory.now)) →
+    MapsStill old.memory.now new.memory.now →
+    new.violation ≡ old.violation → new.view ≡ old.view → new.space ≡ old.space →
+    SeesCounted gave first old c left more → SeesCounted gave first new (settled_in f c) left more
+counted_settled gave first old new f c left more settles tracks spends maps violation view space sees =
+    let s = settles c.memory sees.holds in
+    let cs = (settle f c.memory).ciphers in
+    let due : reads_due (record { space = new.space; events = Touch f ∷ []; items = cipher_items cs; changed = [] }) ≡ length cs =
+    (let shown = ciphers_due cs in omega (arith, shown)) in
+    counted_on gave first old new c (settled_in f c) left more (Touch f ∷ []) (cipher_items cs) refl refl (sym (violation ∙ sees.violation)) refl
+    view space s.holds (emits_items c.items (cipher_items cs) sees.emits s.emits)
+    (tracks_touch old.memory.now new.memory.now new.space f tracks)
+    (subst (λ (n : ℕ). Spends 0 n (spent_in old.memory.now) (spent_in new.memory.now)) (sym due) (spends c.memory sees.holds))
+    (maps_still old.memory.now new.memory.now new.space (Touch f ∷ []) maps) sees
 
 pub sees_settled : {E : Type 0} (gave : E → E → List Piece → Type 0) (first old new : Side E) (f : ℕ) (w : World) →
     ((m : CloakedMemory) → Holds old.memory.now m →
     Settles gave old.emitter.now new.emitter.now new.memory.now (settle f m)) →
     TracksBy old.memory.now new.memory.now (touched (frame f)) →
+    ((m : CloakedMemory) → Holds old.memory.now m → Spends 0 (length (settle f m).ciphers) (spent_in old.memory.now) (spent_in new.memory.now)) →
+    MapsStill old.memory.now new.memory.now →
     new.violation ≡ old.violation → new.view ≡ old.view → new.space ≡ old.space →
     Sees gave first old w → Sees gave first new (settled f w)
-sees_settled gave first old new f (Flat ram) settles tracks violation view space sees = sees
-sees_settled gave first old new f (Alone handed) settles tracks violation view space sees = sees
-sees_settled gave first old new f (Cloaked c) settles tracks violation view space sees =
-    let s = settles c.memory sees.holds in
-    record {
-      holds = s.holds;
-      emits = emits_items c.items (cipher_items (settle f c.memory).ciphers) sees.emits s.emits;
-      violation = violation ∙ sees.violation;
-      view = view ∙ sees.view;
-      tracks = tracks_on first.memory.now old.memory.now new.memory.now new.space c.events (Touch f ∷ [])
-          (respaced first.memory.now old.memory.now old.space new.space c.events space sees.tracks)
-          (tracks_touch old.memory.now new.memory.now new.space f tracks);
-    }
+sees_settled gave first old new f (Flat ram) settles tracks spends maps violation view space sees = sees
+sees_settled gave first old new f (Alone handed) settles tracks spends maps violation view space sees = sees
+sees_settled gave first old new f (Cloaked c) settles tracks spends maps violation view space sees =
+    counted_settled gave first old new f c 0 0 settles tracks spends maps violation view space sees
 
 pub same_size : {memory : Memory} → SameSize memory memory
 same_size = record { frames = refl; domains = refl }
@@ -246,32 +316,32 @@ still_written old new m f n bytes shown is written same = record {
 }
 
 -- another memory, and these events more
-pub sees_moved : {E : Type 0} (gave : E → E → List Piece → Type 0) (first old new : Side E) (c : Cloak)
-    (m' : CloakedMemory) (events : List Event) → Repaged old new → SameDraws c.memory m' →
+pub counted_moved : {E : Type 0} (gave : E → E → List Piece → Type 0) (first old new : Side E) (c : Cloak)
+    (m' : CloakedMemory) (events : List Event) (left more : ℕ) → Repaged old new → SameDraws c.memory m' →
     AgreesStill old.memory.now new.memory.now c.memory m' →
     ((w : PageId → Bool) → StandsForMemory old.memory.now.pager w c.memory →
     StandsForMemory new.memory.now.pager w m') →
     TracksBy old.memory.now new.memory.now (after_events new.space events) →
-    SeesCloak gave first old c → SeesCloak gave first new (record c { memory = m'; events = c.events ++ events })
-sees_moved gave first old new c m' events same kept still stands tracks sees =
+    Spends 0 (reads_due (record { space = new.space; events = events; items = []; changed = [] })) (spent_in old.memory.now) (spent_in new.memory.now) →
+    MapsStill old.memory.now new.memory.now →
+    SeesCounted gave first old c left more → SeesCounted gave first new (record c { memory = m'; events = c.events ++ events }) left more
+counted_moved gave first old new c m' events left more same kept still stands tracks spends maps sees =
     let h = sees.holds in
-    record {
-      holds = record {
-        wiped = h.wiped;
-        pager = stands h.wiped h.pager;
-        whole = λ none. h.whole (sym same.missed ∙ none);
-        stream = kept.stream ∙ h.stream ∙ sym same.stream;
-        draws = same.draws ∙ h.draws ∙ sym kept.draws;
-        missed = same.missed ∙ h.missed ∙ sym kept.missed;
-        agrees = still.agrees h.agrees;
-        room = still.room ∙ h.room ∙ sym still.count;
-      };
-      emits = subst (λ e. Emits gave first.emitter.now e (item_pieces c.items)) (sym same.emitter) sees.emits;
-      violation = same.violation ∙ sees.violation;
-      view = same.view ∙ sees.view;
-      tracks = tracks_on first.memory.now old.memory.now new.memory.now new.space c.events events
-          (respaced first.memory.now old.memory.now old.space new.space c.events same.space sees.tracks) tracks;
-    }
+    counted_on gave first old new c (record c { memory = m'; events = c.events ++ events }) left more events [] refl
+    (sym (append-nil c.items)) (sym (same.violation ∙ sees.violation)) refl same.view same.space
+    (record {
+      wiped = h.wiped;
+      pager = stands h.wiped h.pager;
+      whole = λ none. h.whole (sym same.missed ∙ none);
+      stream = kept.stream ∙ h.stream ∙ sym same.stream;
+      draws = same.draws ∙ h.draws ∙ sym kept.draws;
+      missed = same.missed ∙ h.missed ∙ sym kept.missed;
+      agrees = still.agrees h.agrees;
+      room = still.room ∙ h.room ∙ sym still.count;
+    })
+    (subst (λ (is : List Item). Emits gave first.emitter.now new.emitter.now (item_pieces is)) (sym (append-nil c.items))
+    (subst (λ e. Emits gave first.emitter.now e (item_pieces c.items)) (sym same.emitter) sees.emits))
+    tracks spends (maps_still old.memory.now new.memory.now new.space events maps) sees
 
 -- and no events
 pub sees_still : {E : Type 0} (gave : E → E → List Piece → Type 0) (first old new : Side E) (c : Cloak)
@@ -280,10 +350,71 @@ pub sees_still : {E : Type 0} (gave : E → E → List Piece → Type 0) (first 
     ((w : PageId → Bool) → StandsForMemory old.memory.now.pager w c.memory →
     StandsForMemory new.memory.now.pager w m') →
     ((s : Fold) → Tracks old.memory.now s → Tracks new.memory.now s) →
+    new.memory.now.pager.reads ≡ old.memory.now.pager.reads → new.memory.now.shadows ≡ old.memory.now.shadows →
     SeesCloak gave first old c → SeesCloak gave first new (record c { memory = m' })
-sees_still gave first old new c m' same kept still stands tracks sees =
+sees_still gave first old new c m' same kept still stands tracks reads shadows sees =
     subst (λ (es : List Event). SeesCloak gave first new (record c { memory = m'; events = es })) (append-nil c.events)
-    (sees_moved gave first old new c m' [] same kept still stands (λ s keeps. subst (λ (u : Fold). Tracks new.memory.now u) (no_events new.space s) (tracks s keeps)) sees)
+    (counted_moved gave first old new c m' [] 0 0 same kept still stands
+    (λ s keeps. subst (λ (u : Fold). Tracks new.memory.now u) (no_events new.space s) (tracks s keeps))
+    (spends_still old.memory.now new.memory.now reads (ap (λ (t : Table). t.counts.misses) shadows))
+    (maps_same old.memory.now new.memory.now shadows) sees)
+
+-- A frame was read, and events came about.
+pub counted_read : {E : Type 0} (gave : E → E → List Piece → Type 0) (first old new : Side E) (c : Cloak) (left more : ℕ) →
+    Repaged old new → new.memory.now.shadows ≡ old.memory.now.shadows → new.memory.now.counting ≡ old.memory.now.counting →
+    IsReadOnce old.memory.now.pager new.memory.now.pager → SeesCounted gave first old c left more →
+    SeesCounted gave first new c left (more + 1)
+counted_read gave first old new c left more same shadows counting read sees =
+    let h = sees.holds in
+    let still = still_read old.memory.now new.memory.now c.memory read shadows in
+    record {
+      holds = record {
+        wiped = h.wiped;
+        pager = stands_read _ _ read h.wiped c.memory h.pager;
+        whole = λ none. h.whole (sym same.missed ∙ none);
+        stream = h.stream ∙ sym same.stream;
+        draws = same.draws ∙ h.draws;
+        missed = same.missed ∙ h.missed;
+        agrees = still.agrees h.agrees;
+        room = still.room ∙ h.room ∙ sym still.count;
+      };
+      emits = subst (λ e. Emits gave first.emitter.now e (item_pieces c.items)) (sym same.emitter) sees.emits;
+      violation = same.violation ∙ sees.violation;
+      view = same.view ∙ sees.view;
+      tracks = tracks_same first.memory.now old.memory.now new.memory.now new.space c.events
+          (respaced first.memory.now old.memory.now old.space new.space c.events same.space sees.tracks)
+          (same_tracks _ _ _ _ (held_in old.memory.now.pager) (held_in new.memory.now.pager) counting shadows
+          (read_held old.memory.now.pager new.memory.now.pager read));
+      spends = (
+          let n = reads_due (asked_by old.space c) in
+          let few = paid_is more n in
+          let many = paid_is (more + 1) n in
+          spends_more (left + 0) left (paid more n + 1) (paid (more + 1) n)
+          (spent_in first.memory.now) (spent_in new.memory.now) (omega (arith, few, many))
+          (spends_then left 0 (paid more n) 1 (spent_in first.memory.now) (spent_in old.memory.now) (spent_in new.memory.now)
+          sees.spends (spends_read old.memory.now new.memory.now read (ap (λ (t : Table). t.counts.misses) shadows)))
+          );
+      maps = maps_further first.memory.now old.memory.now new.memory.now new.space c.events
+          (maps_of first.memory.now old.memory.now old.space new.space c.events same.space sees.maps)
+          (maps_same old.memory.now new.memory.now shadows);
+    }
+
+-- one more read is due by the event of it
+counted_event : {E : Type 0} (gave : E → E → List Piece → Type 0) (first now : Side E) (c : Cloak) (f : ℕ) →
+    SeesCounted gave first now c 0 1 → SeesCloak gave first now (record c { events = c.events ++ Read f ∷ [] })
+counted_event gave first now c f sees =
+    record {
+      holds = sees.holds;
+      emits = sees.emits;
+      violation = sees.violation;
+      view = sees.view;
+      tracks = tracks_on first.memory.now now.memory.now now.memory.now now.space c.events (Read f ∷ []) sees.tracks
+          (tracks_read now.memory.now now.space f);
+      spends = spends_more 0 0 (suc (reads_due (asked_by now.space c))) _ (spent_in first.memory.now) (spent_in now.memory.now)
+          (let both : reads_due (record { space = now.space; events = c.events ++ Read f ∷ []; items = c.items; changed = [] })
+          ≡ reads_due (asked_by now.space c) + 1 = due_event now.space c.events c.items (Read f) in omega (arith, both)) sees.spends;
+      maps = maps_on first.memory.now now.memory.now now.memory.now now.space c.events (Read f ∷ []) sees.maps (λ mapped make are. are);
+    }
 
 -- Frame f was read: what is shown of it is what the world shows.
 pub read_after : {E A : Type 0} (gave : E → E → List Piece → Type 0) (first old new : Side E) (f : ℕ) (v : World)
@@ -291,15 +422,12 @@ pub read_after : {E A : Type 0} (gave : E → E → List Piece → Type 0) (firs
     new.memory.now.shadows ≡ old.memory.now.shadows → new.memory.now.counting ≡ old.memory.now.counting →
     SeesFrame old.memory.now.pager f bytes → IsReadOnce old.memory.now.pager new.memory.now.pager → a ≡ show bytes →
     Sees gave first old v → FollowsFrom (λ side w. Sees gave first side w) new a
-    (record { answer = show (slice_index_or (ram_of v) f []); world = v })
+    (record { answer = show (slice_index_or (ram_of v) f []); world = noted (Read f ∷ []) v })
 read_after gave first old new f (Flat ram) show bytes a same shadows counting sees_frame read is sees = absurd sees
 read_after gave first old new f (Alone handed) show bytes a same shadows counting sees_frame read is sees = absurd sees
 read_after gave first old new f (Cloaked c) show bytes a same shadows counting sees_frame read is sees = record {
   answer = is ∙ ap show (sees_frame sees.holds.wiped c.memory sees.holds.pager);
-  stands = sees_still gave first old new c c.memory same (record { stream = refl; draws = refl; missed = refl })
-      (still_read old.memory.now new.memory.now c.memory read shadows) (λ w s. stands_read _ _ read w c.memory s)
-      (same_tracks _ _ _ _ (held_in old.memory.now.pager) (held_in new.memory.now.pager) counting shadows
-      (read_held old.memory.now.pager new.memory.now.pager read)) sees;
+  stands = counted_event gave first new c f (counted_read gave first old new c 0 0 same shadows counting read sees);
 }
 
 -- A value was stored in a frame.
@@ -312,14 +440,16 @@ pub stored_after : {E : Type 0} (gave : E → E → List Piece → Type 0) (firs
     (with_shown_frame (frame_of pa)
     (with_value_in (slice_index_or m.ram (frame_of pa) []) (place_of pa) width value) m)) →
     TracksBy old.memory.now new.memory.now (after_events new.space (Write (frame_of pa) ∷ [])) →
+    (g : Frame) → new.memory.now.pager.reads ≡ old.memory.now.pager.reads → new.memory.now.shadows ≡ ending (is_table g) old.memory.now.shadows →
     Sees gave first old v → FollowsFrom (λ side w. Sees gave first side w) new (tt {0})
     (record { answer = tt; world = stored_at pa width value v })
-stored_after gave first old new pa width value (Flat ram) same still stands tracks sees = absurd sees
-stored_after gave first old new pa width value (Alone handed) same still stands tracks sees = absurd sees
-stored_after gave first old new pa width value (Cloaked c) same still stands tracks sees = record {
+stored_after gave first old new pa width value (Flat ram) same still stands tracks g reads ended sees = absurd sees
+stored_after gave first old new pa width value (Alone handed) same still stands tracks g reads ended sees = absurd sees
+stored_after gave first old new pa width value (Cloaked c) same still stands tracks g reads ended sees = record {
   answer = refl;
-  stands = sees_moved gave first old new c _ (Write (frame_of pa) ∷ []) same (record { stream = refl; draws = refl; missed = refl })
-      (still c.memory) (λ w s. stands w c.memory s) tracks sees;
+  stands = counted_moved gave first old new c _ (Write (frame_of pa) ∷ []) 0 0 same (record { stream = refl; draws = refl; missed = refl })
+      (still c.memory) (λ w s. stands w c.memory s) tracks (spends_ended old.memory.now new.memory.now g reads ended)
+      (maps_ending old.memory.now new.memory.now (is_table g) ended) sees;
 }
 
 -- A frame was filled.
@@ -329,14 +459,16 @@ pub filled_after : {E : Type 0} (gave : E → E → List Piece → Type 0) (firs
     ((w : PageId → Bool) (m : CloakedMemory) → StandsForMemory old.memory.now.pager w m →
     StandsForMemory new.memory.now.pager w (with_shown_frame f bytes m)) →
     TracksBy old.memory.now new.memory.now (after_events new.space (Write f ∷ [])) →
+    (g : Frame) → new.memory.now.pager.reads ≡ old.memory.now.pager.reads → new.memory.now.shadows ≡ ending (is_table g) old.memory.now.shadows →
     Sees gave first old v → FollowsFrom (λ side w. Sees gave first side w) new (tt {0})
     (record { answer = tt; world = filled_frame f bytes v })
-filled_after gave first old new f bytes (Flat ram) same still stands tracks sees = absurd sees
-filled_after gave first old new f bytes (Alone handed) same still stands tracks sees = absurd sees
-filled_after gave first old new f bytes (Cloaked c) same still stands tracks sees = record {
+filled_after gave first old new f bytes (Flat ram) same still stands tracks g reads ended sees = absurd sees
+filled_after gave first old new f bytes (Alone handed) same still stands tracks g reads ended sees = absurd sees
+filled_after gave first old new f bytes (Cloaked c) same still stands tracks g reads ended sees = record {
   answer = refl;
-  stands = sees_moved gave first old new c _ (Write f ∷ []) same (record { stream = refl; draws = refl; missed = refl })
-      (still c.memory) (λ w s. stands w c.memory s) tracks sees;
+  stands = counted_moved gave first old new c _ (Write f ∷ []) 0 0 same (record { stream = refl; draws = refl; missed = refl })
+      (still c.memory) (λ w s. stands w c.memory s) tracks (spends_ended old.memory.now new.memory.now g reads ended)
+      (maps_ending old.memory.now new.memory.now (is_table g) ended) sees;
 }
 
 -- the world has as many frames as the memory
@@ -346,16 +478,48 @@ count_of gave first now (Flat ram) sees = absurd sees
 count_of gave first now (Alone handed) sees = absurd sees
 count_of gave first now (Cloaked c) sees = sees.holds.pager.count
 
+pub count_walking : {E : Type 0} (gave : E → E → List Piece → Type 0) (first now : Side E) (v : World) →
+    SeesWalking gave first now v → length (ram_of v) ≡ frames_of now.memory.now
+count_walking gave first now (Flat ram) sees = absurd sees
+count_walking gave first now (Alone handed) sees = absurd sees
+count_walking gave first now (Cloaked c) sees = sees.holds.pager.count
+
+-- In a walk a frame is settled, and a word of it read: the touch pays for the read.
+
+pub walking_read : {E A : Type 0} (gave : E → E → List Piece → Type 0) (first old mid new : Side E) (f : ℕ) (v : World)
+    (show : List ℕ → A) (bytes : List ℕ) (a : A) →
+    ((m : CloakedMemory) → Holds old.memory.now m →
+    Settles gave old.emitter.now mid.emitter.now mid.memory.now (settle f m)) →
+    TracksBy old.memory.now mid.memory.now (touched (frame f)) →
+    ((m : CloakedMemory) → Holds old.memory.now m → Spends 0 (length (settle f m).ciphers) (spent_in old.memory.now) (spent_in mid.memory.now)) →
+    MapsStill old.memory.now mid.memory.now →
+    mid.violation ≡ old.violation → mid.view ≡ old.view → mid.space ≡ old.space → Repaged mid new →
+    new.memory.now.shadows ≡ mid.memory.now.shadows → new.memory.now.counting ≡ mid.memory.now.counting →
+    SeesFrame mid.memory.now.pager f bytes → IsReadOnce mid.memory.now.pager new.memory.now.pager → a ≡ show bytes →
+    SeesWalking gave first old v → FollowsFrom (λ side w. SeesWalking gave first side w) new a
+    (record { answer = show (slice_index_or (ram_of (settled f v)) f []); world = settled f v })
+walking_read gave first old mid new f (Flat ram) show bytes a settles tracks spends maps violation view space same shadows counting sees_frame read is sees = absurd sees
+walking_read gave first old mid new f (Alone handed) show bytes a settles tracks spends maps violation view space same shadows counting sees_frame read is sees = absurd sees
+walking_read gave first old mid new f (Cloaked c) show bytes a settles tracks spends maps violation view space same shadows counting sees_frame read is sees =
+    let c' = settled_in f c in
+    let n = touched_since 0 c.events in
+    let seen : SeesCounted gave first mid c' 2 n = counted_settled gave first old mid f c 2 n settles tracks spends maps violation view space sees in
+    record {
+      answer = is ∙ ap show (sees_frame seen.holds.wiped c'.memory seen.holds.pager);
+      stands = subst (λ (k : ℕ). SeesCounted gave first new c' 2 k) (sym (since_then 0 c.events (Touch f ∷ [])))
+          (counted_read gave first mid new c' 2 n same shadows counting read seen);
+    }
+
 -- The word of an address in RAM.
 pub word_told : {E : Type 0} (gave : E → E → List Piece → Type 0) (first old new : Side E) (w : World) (pa : ℕ)
-    (a : Option ℕ) (b : Bool) → Sees gave first old w → b ≡ is_in_frames (frames_of old.memory.now) pa → b ≡ true →
-    FollowsFrom (λ side v. Sees gave first side v) new a (shown_word pa (settled (frame_of pa) w)) →
-    FollowsFrom (λ side v. Sees gave first side v) new a (ask_word pa w)
+    (a : Option ℕ) (b : Bool) → SeesWalking gave first old w → b ≡ is_in_frames (frames_of old.memory.now) pa → b ≡ true →
+    FollowsFrom (λ side v. SeesWalking gave first side v) new a (shown_word pa (settled (frame_of pa) w)) →
+    FollowsFrom (λ side v. SeesWalking gave first side v) new a (ask_word pa w)
 unfolding ask_word
 word_told gave first old new w pa a b sees is inside told =
     let in_ram : is_in_ram (ram_of w) pa ≡ true =
-    ap (λ n. is_in_frames n pa) (count_of gave first old w sees) ∙ sym is ∙ inside in
-    subst (λ (t : Bool). FollowsFrom (λ side v. Sees gave first side v) new a
+    ap (λ n. is_in_frames n pa) (count_walking gave first old w sees) ∙ sym is ∙ inside in
+    subst (λ (t : Bool). FollowsFrom (λ side v. SeesWalking gave first side v) new a
     (cond t (shown_word pa (settled (frame_of pa) w)) (answered None w))) (sym in_ram) told
 
 -- reading a frame leaves as many frames and domains

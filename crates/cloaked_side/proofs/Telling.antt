@@ -1,5 +1,6 @@
 -- What a side saw is told of its memory and its emitter.
-use Rattle.std.proofs.Common.{◌≡◌, ℕ, Bool, false, List, [], Option, ap, sym, ◌∙◌, subst}
+use Rattle.std.proofs.Common.{◌≡◌, arith, ℕ, Bool, false, List, [], Option, ap, sym, ◌∙◌, subst}
+use Rattle.std.proofs.lemmas.List.{append-nil}
 use Rattle.cloak_model.specs.declared.view.View.{View}
 use Rattle.cloak_model.specs.World.{World, Cloak, Flat, Cloaked, Alone, is_clashed, unnoted}
 use Rattle.cloak_model.specs.Asking.{Told, FollowsFrom}
@@ -13,11 +14,13 @@ use Rattle.cloak_model.specs.World.{events_of, items_of}
 use Rattle.cloak_model.specs.Events.{Event}
 use Rattle.cloak_base.specs.declared.names.SpaceId.{SpaceId}
 use Rattle.shadow_fold.specs.Fold.{Fold, after_events}
-use Rattle.cloaked_side.specs.Tracking.{Tracks, TracksBy}
+use Rattle.cloaked_side.specs.Tracking.{Tracks, TracksBy, GoesBy, spent_in}
+use Rattle.shadow_fold.specs.Reads.{Asked, reads_due}
+use Rattle.cloaked_side.proofs.Spending.{spends_more, spends_none}
 use Rattle.cloaked_side.proofs.Tracking.{no_events}
 use Rattle.cloak_pager.specs.State.{PagerState}
 use Rattle.cloaked_side.specs.Holding.{Holds, SameSize, HoldsNoMore}
-use Rattle.cloaked_side.specs.Seeing.{Sees}
+use Rattle.cloaked_side.specs.Seeing.{Sees, asked_by}
 use Rattle.cloaked_side.specs.Telling.{HoldsWorld, TellsSide}
 use Rattle.cloaked_side.specs.declared.memory.Memory.{Memory}
 use Rattle.cloaked_side.specs.declared.side.Side.{Side}
@@ -35,28 +38,37 @@ sees_first gave s c holds none quiet violation view = record {
   view = view;
   tracks = subst (λ (es : List Event). TracksBy s.memory.now s.memory.now (after_events s.space es)) (sym quiet)
       (λ f keeps. subst (λ (u : Fold). Tracks s.memory.now u) (no_events s.space f) keeps);
+  spends = spends_more 0 0 0 (reads_due (asked_by s.space c)) (spent_in s.memory.now) (spent_in s.memory.now) (omega arith)
+      (spends_none (spent_in s.memory.now));
+  maps = λ mapped make are. are;
 }
 
--- the memory of a side has come to what the events of its world come to
-pub tracks_world : {E : Type 0} (gave : E → E → List Piece → Type 0) (first now : Side E) (space : Option SpaceId) (w : World) →
-    now.space ≡ space → Sees gave first now w → TracksBy first.memory.now now.memory.now (after_events space (events_of w))
-tracks_world gave first now space (Flat ram) at sees = absurd sees
-tracks_world gave first now space (Alone handed) at sees = absurd sees
-tracks_world gave first now space (Cloaked c) at sees =
-    subst (λ (o : Option SpaceId). TracksBy first.memory.now now.memory.now (after_events o c.events)) at sees.tracks
+-- the memory of a side has gone on by what its world was asked
+pub goes_world : {E : Type 0} (gave : E → E → List Piece → Type 0) (first now : Side E) (space : Option SpaceId) (w : World) →
+    now.space ≡ space → Sees gave first now w →
+    GoesBy first.memory.now now.memory.now (record { space = space; events = events_of w; items = items_of w; changed = [] })
+goes_world gave first now space (Flat ram) at sees = absurd sees
+goes_world gave first now space (Alone handed) at sees = absurd sees
+goes_world gave first now space (Cloaked c) at sees =
+    subst (λ (o : Option SpaceId). GoesBy first.memory.now now.memory.now (asked_by o c)) at
+    (record {
+      tracks = subst (λ (es : List Event). TracksBy first.memory.now now.memory.now (after_events now.space es)) (sym (append-nil c.events)) sees.tracks;
+      spends = sees.spends;
+      maps = sees.maps;
+      gone = tt;
+    })
 
 -- so it is of the memory that was given back, whose size is told
-pub tracks_back : (old back new : Memory) (next : Fold → Fold) → SameSize old back → back ≡ new → TracksBy old new next →
-    TracksBy old back next
-tracks_back old back new next size same tracks = subst (λ (m : Memory). TracksBy old m next) (sym same) tracks
+pub goes_back : (old back new : Memory) (a : Asked) → SameSize old back → back ≡ new → GoesBy old new a → GoesBy old back a
+goes_back old back new a size same goes = subst (λ (m : Memory). GoesBy old m a) (sym same) goes
 
-holds_world : {E : Type 0} (gave : E → E → List Piece → Type 0) (first now : Side E) (w : World) →
+pub holds_world : {E : Type 0} (gave : E → E → List Piece → Type 0) (first now : Side E) (w : World) →
     Sees gave first now w → HoldsWorld now.memory.now w
 holds_world gave first now (Flat ram) sees = sees
 holds_world gave first now (Alone handed) sees = sees
 holds_world gave first now (Cloaked c) sees = sees.holds
 
-emits_world : {E : Type 0} (gave : E → E → List Piece → Type 0) (first now : Side E) (w : World) →
+pub emits_world : {E : Type 0} (gave : E → E → List Piece → Type 0) (first now : Side E) (w : World) →
     Sees gave first now w → Emits gave first.emitter.now now.emitter.now (item_pieces (items_of w))
 emits_world gave first now (Flat ram) sees = absurd sees
 emits_world gave first now (Alone handed) sees = absurd sees

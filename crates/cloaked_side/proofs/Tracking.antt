@@ -12,7 +12,7 @@ use Rattle.cloak_base.specs.declared.names.SpaceId.{SpaceId}
 use Rattle.cloak_model.specs.declared.access.Access.{Access}
 use Rattle.cloak_model.specs.AskPages.{offer_events}
 use Rattle.cloak_model.specs.Cloaking.{CloakedMemory, Offer as OfferEnd, Ready, Mismatch, Missed, settle}
-use Rattle.cloak_model.specs.Events.{Event, Look, Touch, Offer, Born, Write, Drop}
+use Rattle.cloak_model.specs.Events.{Event, Look, Touch, Offer, Born, Read, Write, Drop}
 use Rattle.cloak_base.specs.declared.names.Kind.{Kind}
 use Rattle.cloak_model.specs.declared.access.Walked.{Walked}
 use Rattle.shadow_fold.specs.declared.entry.Entry.{Entry}
@@ -311,6 +311,11 @@ tracks_same first old new space es before after s keeps = after (after_events sp
 pub tracks_touch : (old new : Memory) (space : Option SpaceId) (f : ℕ) → TracksBy old new (touched (frame f)) → TracksBy old new (after_events space (Touch f ∷ []))
 unfolding after_events after_event
 tracks_touch old new space f tracks s keeps = tracks s keeps
+
+-- a frame is read
+pub tracks_read : (memory : Memory) (space : Option SpaceId) (f : ℕ) → TracksBy memory memory (after_events space (Read f ∷ []))
+unfolding after_events after_event
+tracks_read memory space f s keeps = keeps
 
 -- of the same space
 pub respaced : (first old : Memory) (space space' : Option SpaceId) (es : List Event) → space' ≡ space → TracksBy first old (after_events space es)

@@ -1,38 +1,80 @@
 -- What a side stands for.
-use Rattle.std.specs.Prelude.{ℕ, ◌≡◌, ◌≢◌, ◌<◌, ◌^◌, nat_lt, false, Some, None, List, if◌then◌else◌}
+use Rattle.std.specs.Prelude.{ℕ, ◌≡◌, ◌≢◌, ◌<◌, ◌+◌, ◌^◌, zero, suc, nat_lt, false, Option, Some, None, List, [], ◌∷◌, if◌then◌else◌}
 use Rattle.cloak_base.specs.declared.names.PageId.{PageId}
 use Rattle.cloak_base.specs.declared.names.SpaceId.{SpaceId}
 use Rattle.cloak_pager.specs.State.{held_in, owed_at, IsNoneOwed, IsNoneHeld}
 use Rattle.cloak_model.specs.World.{World, Cloak, Flat, Cloaked, Alone, is_clashed}
 use Rattle.cloak_model.specs.Asking.{Asking, FollowsFrom}
 use Rattle.cloak_model.specs.Exchange.{Piece, Emits, EmitsSome, item_pieces}
+use Rattle.cloak_model.specs.Events.{Event, Look, Touch, Offer, Born, Read, Write, Drop, Space}
 use Rattle.shadow_fold.specs.Fold.{after_events}
-use Rattle.cloaked_side.specs.Tracking.{TracksBy}
+use Rattle.shadow_fold.specs.Reads.{Asked, Spends, reads_due}
+use Rattle.cloaked_side.specs.Tracking.{TracksBy, MapsBy, spent_in}
 use Rattle.cloaked_side.specs.Holding.{Holds, SameSize, HoldsNoMore, domains_in}
 use Rattle.cloaked_side.specs.declared.side.Side.{Side}
 
+-- What a step has asked so far, for a context of this space or outside.
+abbrev pub asked_by : Option SpaceId → Cloak → Asked
+asked_by space c = record { space = space; events = c.events; items = c.items; changed = [] }
+
+-- so many more than are due
+abbrev pub paid : ℕ → ℕ → ℕ
+paid zero due = due
+paid (suc more) due = suc (paid more due)
+
 -- From an earlier state of the side on, in which the emitter was as a step had begun, this is what memory and step have
--- come to. Which pages lie at the addresses of a space a side does not know.
-pub record SeesCloak {E : Type 0} (gave : E → E → List Piece → Type 0) (first now : Side E) (c : Cloak) : Type 0 where
+-- come to. Which pages lie at the addresses of a space a side does not know. Of the reads of page tables that the misses
+-- pay for so many are left, and so many more reads are paid for than are due.
+pub record SeesCounted {E : Type 0} (gave : E → E → List Piece → Type 0) (first now : Side E) (c : Cloak)
+    (left more : ℕ) : Type 0 where
   pub holds : Holds now.memory.now c.memory
   pub emits : Emits gave first.emitter.now now.emitter.now (item_pieces c.items)
   pub violation : now.violation ≡ c.violation
   pub view : now.view ≡ c.view
   -- the memory has come to what the step's events come to
   pub tracks : TracksBy first.memory.now now.memory.now (after_events now.space c.events)
+  pub spends : Spends left (paid more (reads_due (asked_by now.space c)))
+      (spent_in first.memory.now) (spent_in now.memory.now)
+  pub maps : MapsBy first.memory.now now.memory.now now.space c.events
+
+abbrev pub SeesCloak : {E : Type 0} → (E → E → List Piece → Type 0) → Side E → Side E → Cloak → Type 0
+SeesCloak gave first now c = SeesCounted gave first now c 0 0
 
 abbrev pub Sees : {E : Type 0} → (E → E → List Piece → Type 0) → Side E → Side E → World → Type 0
 Sees gave first now (Flat ram) = ⊥
 Sees gave first now (Alone handed) = ⊥
 Sees gave first now (Cloaked c) = SeesCloak gave first now c
 
--- The same but for the fold: what memory and step have come to while the frames of a resource are emptied one by one.
+-- In the middle of a walk, behind a look that missed: the two words of page tables that the miss pays for are left, and
+-- one was read of each frame that was touched since.
+
+-- the frames that were touched since the last look, behind so many
+abbrev pub touched_since : ℕ → List Event → ℕ
+touched_since n [] = n
+touched_since n (Look satp a ∷ events) = touched_since 0 events
+touched_since n (Touch f ∷ events) = touched_since (n + 1) events
+touched_since n (Offer q g grant ∷ events) = touched_since n events
+touched_since n (Born satp a walked cloaked ∷ events) = touched_since n events
+touched_since n (Read f ∷ events) = touched_since n events
+touched_since n (Write f ∷ events) = touched_since n events
+touched_since n (Drop d resource ∷ events) = touched_since n events
+touched_since n (Space changed ∷ events) = touched_since n events
+
+abbrev pub SeesWalking : {E : Type 0} → (E → E → List Piece → Type 0) → Side E → Side E → World → Type 0
+SeesWalking gave first now (Flat ram) = ⊥
+SeesWalking gave first now (Alone handed) = ⊥
+SeesWalking gave first now (Cloaked c) = SeesCounted gave first now c 2 (touched_since 0 c.events)
+
+-- The same as is seen but for the fold: what memory and step have come to while the frames of a resource are emptied one
+-- by one.
 
 pub record ShowsCloak {E : Type 0} (gave : E → E → List Piece → Type 0) (first now : Side E) (c : Cloak) : Type 0 where
   pub holds : Holds now.memory.now c.memory
   pub emits : Emits gave first.emitter.now now.emitter.now (item_pieces c.items)
   pub violation : now.violation ≡ c.violation
   pub view : now.view ≡ c.view
+  pub spends : Spends 0 (reads_due (asked_by now.space c)) (spent_in first.memory.now) (spent_in now.memory.now)
+  pub maps : MapsBy first.memory.now now.memory.now now.space c.events
 
 abbrev pub Shows : {E : Type 0} → (E → E → List Piece → Type 0) → Side E → Side E → World → Type 0
 Shows gave first now (Flat ram) = ⊥

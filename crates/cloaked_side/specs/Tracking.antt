@@ -1,13 +1,18 @@
 -- A memory beside the fold over the shadow events of a run.
-use Rattle.std.specs.Prelude.{ℕ, ◌≡◌, Bool, true, Option, if◌then◌else◌}
+use Rattle.std.specs.Prelude.{ℕ, ◌≡◌, Bool, true, false, List, [], ◌∷◌, Option, if◌then◌else◌}
+use Rattle.std.specs.List.{All}
 use Rattle.cloak_base.specs.declared.names.PageId.{PageId}
 use Rattle.cloak_base.specs.declared.names.SpaceId.{SpaceId}
 use Rattle.cloak_base.specs.Pages.{same_page}
 use Rattle.cloak_model.specs.Cloaking.{CloakedMemory, settle}
-use Rattle.cloak_model.specs.World.{World, Flat, Cloaked, Alone}
+use Rattle.cloak_model.specs.Events.{Event}
 use Rattle.cloak_pager.specs.State.{held_in}
+use Rattle.shadow_fold.specs.Agreement.{IsMapped}
+use Rattle.shadow_fold.specs.Births.{MakeAll}
+use Rattle.shadow_fold.specs.Entries.{is_of_space}
 use Rattle.shadow_fold.specs.Fold.{Fold, frame, touched, touched_where, after_events}
 use Rattle.shadow_fold.specs.Following.{Follows}
+use Rattle.shadow_fold.specs.Reads.{Asked, Spent, Spends, events_in, reads_due}
 use Rattle.shadow_fold.specs.Table.{Table}
 use Rattle.cloaked_side.specs.declared.memory.Memory.{Memory}
 
@@ -33,8 +38,38 @@ room_made q g m s =
 abbrev pub touched_if : Bool → ℕ → Fold → Fold
 touched_if b f s = if b then touched (frame f) s else s
 
--- From an earlier memory on, this one has come to what the events of a world come to.
-abbrev pub TracksWorld : Memory → Memory → Option SpaceId → World → Type 0
-TracksWorld first now space (Flat ram) = ⊥
-TracksWorld first now space (Alone handed) = ⊥
-TracksWorld first now space (Cloaked c) = TracksBy first now (after_events space c.events)
+-- What calls on a memory did beside.
+
+-- how often its frames were read, and how many of its looks missed
+abbrev pub spent_in : Memory → Spent
+spent_in memory = record { reads = memory.pager.reads; misses = memory.shadows.counts.misses }
+
+-- The pages of all live entries lie where their spaces have them.
+abbrev pub AreMapped : (SpaceId → ℕ → Option PageId) → Memory → Type 0
+AreMapped mapped memory = All (IsMapped mapped) memory.shadows.live
+
+-- Entries come about by events alone: they lie where their spaces have them, where those that events make do.
+abbrev pub MapsBy : Memory → Memory → Option SpaceId → List Event → Type 0
+MapsBy old new space events = (mapped : SpaceId → ℕ → Option PageId) →
+    MakeAll (IsMapped mapped) space events → AreMapped mapped old → AreMapped mapped new
+
+-- so where no entry comes about
+abbrev pub MapsStill : Memory → Memory → Type 0
+MapsStill old new = (mapped : SpaceId → ℕ → Option PageId) → AreMapped mapped old → AreMapped mapped new
+
+-- P holds of all of them
+abbrev pub AreAll : (SpaceId → Type 0) → List SpaceId → Type 0
+AreAll P [] = Unit {0}
+AreAll P (s ∷ spaces) = P s × AreAll P spaces
+
+-- no live entry is of a space
+abbrev pub IsGone : Memory → SpaceId → Type 0
+IsGone memory s = All (λ e. is_of_space s e ≡ false) memory.shadows.live
+
+-- What a step that asks this does to a memory: it follows the fold of its events, it is read no more often than is due,
+-- its entries come about by its events, and no entry is left of a space that changed.
+pub record GoesBy (old new : Memory) (a : Asked) : Type 0 where
+  pub tracks : TracksBy old new (after_events a.space (events_in a))
+  pub spends : Spends 0 (reads_due a) (spent_in old) (spent_in new)
+  pub maps : MapsBy old new a.space a.events
+  pub gone : AreAll (IsGone new) a.changed

@@ -39,7 +39,7 @@ impl<'m, 'e, E: Emit> Side<'m, 'e, E> {
     ghost use Rattle.cloak_model.specs.World.{World, is_clashed, written};
     ghost use Rattle.cloak_model.specs.Asking.{Follows, FollowsFrom, Keeps};
     ghost use Rattle.cloak_model.specs.Memory.{is_in_frames, frame_of};
-    ghost use Rattle.cloak_model.specs.AskPages.{replies, if_drawn, got, put_at, stored_inside, ask_offer, reached};
+    ghost use Rattle.cloak_model.specs.AskPages.{replies, if_drawn, get_at, got, put_at, stored_inside, ask_offer, reached};
     ghost use Rattle.cloak_model.specs.AskPages.{reach_by_table, get_by_table, put_by_table};
     ghost use Rattle.cloak_pager.specs.State.{held_in, owed_at};
     ghost use Rattle.cloaked_side.specs.Holding.{HoldsNoOther, frames_of, domains_in};
@@ -152,20 +152,24 @@ impl<'m, 'e, E: Emit> Side<'m, 'e, E> {
         a
     }
 
-    /// Answers with a value, unless a draw was missing.
-    fn answer_word(&mut self, value: u32) -> Answer
-        ensures told { FollowsAlways E.gave self.old self.new result (if_drawn (replies (Answer.Word value))) }
+    /// Answers with the value at a settled address, unless a draw was missing.
+    fn get_settled(&mut self, pa: u32, width: u32) -> Answer
+        requires inside { IsTrue (is_in_frames (frames_of self.old.memory.now) pa) }
+        requires outside { held_in self.old.memory.now.pager (frame_of pa) ≡ None }
+        requires width { IsWidth width }
+        requires aligned { pa % width ≡ 0 }
+        ensures told { FollowsAlways E.gave self.old self.new result (if_drawn (get_at pa width)) }
         ensures keeps { Keeps (StaysWithin E.gave) self.old self.new }
-        ensures view { self.new.view ≡ self.old.view }
     {
         if self.memory.missed {
             return self.answer(Answer::Stopped);
         }
-        self.answer(Answer::Word(value))
+        let value = self.read_settled(pa, width);
+        self.answer(Answer::Word(low_bytes(width, value)))
     }
 
     /// The value to which an access was led that is not cloaked.
-    fn got(&mut self, view: &ShadowView, va: u32, width: u32, led: &Led) -> Answer
+    fn get_led(&mut self, view: &ShadowView, va: u32, width: u32, led: &Led) -> Answer
         requires inside { IsTrue (is_in_frames (frames_of self.old.memory.now) led.now.pa) }
         requires width { IsWidth width }
         requires aligned { led.now.pa % width ≡ 0 }
@@ -175,8 +179,7 @@ impl<'m, 'e, E: Emit> Side<'m, 'e, E> {
         ensures keeps { Keeps (StaysWithin E.gave) self.old self.new }
     {
         self.settle_led(view, va, Kind::Load, led);
-        let value = self.read_settled(led.pa, width);
-        self.answer_word(low_bytes(width, value))
+        self.get_settled(led.pa, width)
     }
 
     /// The value at an address that is not cloaked.
@@ -193,7 +196,7 @@ impl<'m, 'e, E: Emit> Side<'m, 'e, E> {
         }
         match to {
             Err(cause) => self.answer(Answer::Absent(cause)),
-            Ok(led) => self.got(&view, va, width, &led),
+            Ok(led) => self.get_led(&view, va, width, &led),
         }
     }
 

@@ -85,70 +85,82 @@ impl<'m, 'e, E: Emit> Side<'m, 'e, E> {
     ghost use Rattle.cloak_model.specs.declared.access.Access.{Access as AnyAccess};
     ghost use Rattle.cloak_model.specs.declared.access.Walked.{Walked as AnyWalk};
     ghost use Rattle.cloak_base.specs.declared.names.PageId.{PageId as AnyPage};
-    ghost use Rattle.cloak_model.specs.Ask.{ask_translate, known, opened};
+    ghost use Rattle.cloak_model.specs.Ask.{known, opened};
     ghost use Rattle.cloak_model.specs.Events.{Look, Born};
     ghost use Rattle.cloak_model.specs.Walk.{has_paging};
-    ghost use Rattle.cloak_model.specs.Asking.{Follows, FollowsFrom, Keeps};
+    ghost use Rattle.cloak_model.specs.Asking.{FollowsFrom, Keeps};
     ghost use Rattle.cloak_model.specs.Memory.{is_in_frames};
     ghost use Rattle.cloak_model.specs.Memory as model;
     ghost use Rattle.cloak_model.specs.World.{World, is_clashed, noted};
     ghost use Rattle.cloak_pager.specs.State.{held_in};
     ghost use Rattle.cloaked_side.specs.Holding.{frames_of};
-    ghost use Rattle.cloaked_side.specs.Leading.{place_in, AreLedOutside, IsLedBy, IsLedSo, IsEntryOf, IsReachedSo, IsViewIn, asked_led};
-    ghost use Rattle.cloaked_side.specs.Seeing.{Sees, StaysWithin};
+    ghost use Rattle.cloaked_side.specs.Leading.{place_in, IsLedSo, IsEntryOf, IsReachedSo, IsViewIn, asked_led};
+    ghost use Rattle.cloaked_side.specs.Seeing.{Sees, SeesWalking, StaysWithin};
     ghost use Rattle.shadow_fold.specs.Fold.{entry_in, is_own_table};
-    ghost use Rattle.shadow_fold.specs.Table.{is_known};
-    ghost use Rattle.shadow_law.specs.Agreeing.{AreOutside};
 
-    /// The address to which a known translation leads, where it is of this page, or of none.
+    /// Where an access leads by a translation that is known, or the cause of its fault. Where that is of another page, or of
+    /// none, its walk is handed on, so that this access makes its own known. None where no translation is known: the look
+    /// missed.
     #[inline(always)]
-    fn known(
+    fn led_by_entry(
         &mut self,
         view: &ShadowView,
         va: u32,
         kind: Kind,
         cloaked: Option<PageId>,
-    ) -> Option<u32>
-        ensures leads { IfSome result (λ pa. (first : _) (w : World) → Sees E.gave first self.old w →
-            IsViewIn self.old.space view.now → FollowsFrom (Sees E.gave first) self.new (Ok pa) (asked_led view.now va kind w)) }
-        ensures looked { (first : _) (w : World) → Sees E.gave first self.old w → IsViewIn self.old.space view.now →
-            Sees E.gave first self.new (noted (Look (satp_in view.now) (access_in view.now va kind) ∷ []) w) }
-        ensures live { IfSome result (λ pa. (first : _) (w : World) → Sees E.gave first self.old w →
-            (is_known view.now (va / 4096) kind self.new.memory.now.shadows ≡ true)
-            × (held_in self.new.memory.now.pager (model.frame_of pa) ≡ cloaked)) }
+    ) -> Option<Result<Led, u32>>
+        ensures follows { IfSome result (λ to. (first : _) (w : World) → Sees E.gave first self.old w →
+            IsViewIn self.old.space view.now →
+            FollowsFrom (Sees E.gave first) self.new (place_in to) (asked_led view.now va kind w)) }
+        ensures missed { result ≡ None → (first : _) (w : World) → Sees E.gave first self.old w →
+            IsViewIn self.old.space view.now →
+            SeesWalking E.gave first self.new (noted (Look (satp_in view.now) (access_in view.now va kind) ∷ []) w) }
         ensures keeps { Keeps (StaysWithin E.gave) self.old self.new }
-        ensures inside { IfSome result (λ pa. IsTrue (is_in_frames (frames_of self.old.memory.now) pa)) }
-        ensures offset { IfSome result (λ pa. pa % 4096 ≡ va % 4096) }
+        ensures inside { IfSome result (λ to. IfOk to (λ led. IsTrue (is_in_frames (frames_of self.old.memory.now) led.pa))) }
+        ensures offset { IfSome result (λ to. IfOk to (λ led. led.pa % 4096 ≡ va % 4096)) }
         ensures same_count { frames_of self.new.memory.now ≡ frames_of self.old.memory.now }
+        ensures leads { IfSome result (λ to. IfOk to (λ led. (first : _) (w : World) → Sees E.gave first self.old w →
+            IsViewIn self.old.space view.now →
+            IsLedSo self.new.memory.now (asked_led view.now va kind w).world view.now va kind cloaked led)) }
     {
         let e = self.memory.shadows.find(view, va / 4096, kind)?;
-        if e.cloaked != cloaked {
-            return None;
-        }
         let pa = RAM_START + 4096 * e.frame.0 as u64 + (va % 4096) as u64;
-        if self.memory.is_inside(pa) {
-            Some(pa as u32)
-        } else {
-            None
+        if !self.memory.is_inside(pa) {
+            return Some(Err(access_fault(kind)));
         }
+        if e.cloaked == cloaked {
+            return Some(Ok(Led {
+                pa: pa as u32,
+                walked: None,
+            }));
+        }
+        Some(Ok(Led {
+            pa: pa as u32,
+            walked: Some(Walked {
+                pa,
+                pt1: e.pt1,
+                pt0: e.pt0,
+            }),
+        }))
     }
 
-    /// Where an access leads by a walk, or the cause of its fault.
+    /// Where an access leads by a walk, or the cause of its fault, behind a look that missed. The walk reads at most the two
+    /// words of page tables that the miss pays for.
+    #[inline(never)]
     #[tactic(auto, using(cloak_model::proofs::Later::laters), unfolding(cloak_model::specs::Ask::ask_translate, cloak_model::specs::Ask::ask_inside))]
     fn led_by_walk(&mut self, view: &ShadowView, va: u32, kind: Kind) -> Result<Led, u32>
-        ensures follows { Follows (Sees E.gave) self.old self.new (place_in result)
-            (ask_translate (satp_in view.now) (access_in view.now va kind)) }
+        ensures follows { (first : _) (w : World) →
+            SeesWalking E.gave first self.old (noted (Look (satp_in view.now) (access_in view.now va kind) ∷ []) w) →
+            is_clashed (asked_led view.now va kind w).world ≡ false →
+            FollowsFrom (Sees E.gave first) self.new (place_in result) (asked_led view.now va kind w) }
         ensures keeps { Keeps (StaysWithin E.gave) self.old self.new }
         ensures inside { IfOk result (λ led. IsTrue (is_in_frames (frames_of self.old.memory.now) led.pa)) }
         ensures offset { IfOk result (λ led. led.pa % 4096 ≡ va % 4096) }
         ensures same_count { frames_of self.new.memory.now ≡ frames_of self.old.memory.now }
-        ensures led_by { IfOk result (λ led. (first : _) (w : World) → Sees E.gave first self.old w →
-            let told = ask_translate (satp_in view.now) (access_in view.now va kind) w in
-            is_clashed told.world ≡ false → IsLedBy told.world view.now va kind led) }
-        ensures tables { IfOk result (λ led. (first : _) (w : World) → Sees E.gave first self.old w →
-            let told = ask_translate (satp_in view.now) (access_in view.now va kind) w in
-            is_clashed told.world ≡ false → AreLedOutside (held_in self.new.memory.now.pager) led) }
-        ensures walked { IfOk result (λ led. led.walked ≢ None) }
+        ensures leads { IfOk result (λ led. (first : _) (w : World) (cloaked : Option AnyPage) →
+            SeesWalking E.gave first self.old (noted (Look (satp_in view.now) (access_in view.now va kind) ∷ []) w) →
+            let told = asked_led view.now va kind w in is_clashed told.world ≡ false →
+            IsLedSo self.new.memory.now told.world view.now va kind cloaked led) }
     {
         let a = access_of(view, va, kind);
         let walked = walk(satp_of(view), a.mode, a.sum, a.mxr, a.va, a.kind, self)?;
@@ -162,7 +174,7 @@ impl<'m, 'e, E: Emit> Side<'m, 'e, E> {
     }
 
     /// Where an access leads without paging, or the cause of its fault, where accesses are not counted.
-    #[inline]
+    #[inline(always)]
     fn led_bare(&mut self, view: &ShadowView, va: u32, kind: Kind) -> Result<Led, u32>
         requires bare { has_paging (satp_in view.now) ≡ false }
         requires uncounted { self.old.memory.now.counting ≡ false }
@@ -185,6 +197,7 @@ impl<'m, 'e, E: Emit> Side<'m, 'e, E> {
 
     /// Where an access leads that is of this page, or not cloaked, or the cause of its fault. Without paging it leads to its
     /// own address, and nothing is kept, unless accesses are counted.
+    #[inline(always)]
     pub(crate) fn led(
         &mut self,
         view: &ShadowView,
@@ -206,8 +219,8 @@ impl<'m, 'e, E: Emit> Side<'m, 'e, E> {
         if !self.memory.counting && !has_bit(satp_of(view), 31) {
             return self.led_bare(view, va, kind);
         }
-        match self.known(view, va, kind, cloaked) {
-            Some(pa) => Ok(Led { pa, walked: None }),
+        match self.led_by_entry(view, va, kind, cloaked) {
+            Some(to) => to,
             None => self.led_by_walk(view, va, kind),
         }
     }
@@ -226,6 +239,7 @@ impl<'m, 'e, E: Emit> Side<'m, 'e, E> {
     }
 
     /// Settles the frame to which an access was led that is not cloaked. Its translation is known then.
+    #[inline(always)]
     pub(crate) fn settle_led(&mut self, view: &ShadowView, va: u32, kind: Kind, led: &Led)
         requires inside { IsTrue (is_in_frames (frames_of self.old.memory.now) led.now.pa) }
         ensures sees { (first : _) (w : World) → Sees E.gave first self.old w → IsViewIn self.old.space view.now →

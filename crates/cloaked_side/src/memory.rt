@@ -1,4 +1,4 @@
-ghost use Rattle.std.specs.Prelude.{◌≡◌, ◌≢◌, ◌^◌, IsTrue, ◌⊎◌, ℕ, true, false, not, ◌<◌, ◌≤◌, [], ◌∷◌, Option, is_some};
+ghost use Rattle.std.specs.Prelude.{◌≡◌, ◌≢◌, ◌^◌, IsTrue, ◌⊎◌, ℕ, Bool, true, false, not, ◌<◌, ◌≤◌, [], ◌∷◌, Option, is_some, length};
 ghost use Rattle.cloak_model.specs.Memory as memory;
 ghost use Rattle.cloak_model.specs.Memory.{is_in_frames};
 ghost use Rattle.cloak_model.specs.declared.item.Item.TheVariants.{Cipher};
@@ -59,7 +59,9 @@ pub struct Memory {
     pub counting: bool,
 }
 
-/// Ends the translations that lead to a frame or through it.
+/// Ends the translations that lead to a frame or through it. Apart, since few frames that are settled held a page.
+#[cold]
+#[inline(never)]
 fn end_entries(shadows: &mut Shadows, f: Frame)
     ensures { shadows.new ≡ killed f shadows.old }
 {
@@ -75,13 +77,15 @@ impl Memory {
     ghost use Rattle.cloaked_side.specs.Offering.{Rooms, Offers};
     ghost use Rattle.cloaked_side.specs.Holding.{Holds, Settles, SameSize, HoldsNoMore, HoldsNoOther};
     ghost use Rattle.cloaked_side.specs.Holding.{frames_of, domains_in};
-    ghost use Rattle.cloaked_side.specs.Tracking.{Tracks, TracksBy, room_made};
+    ghost use Rattle.cloaked_side.specs.Tracking.{Tracks, TracksBy, MapsStill, room_made, spent_in};
     ghost use Rattle.cloak_base.specs.declared.names.SpaceId.{SpaceId};
     ghost use Rattle.cloak_model.specs.AskPages.{offer_events};
     ghost use Rattle.shadow_fold.specs.Fold.{after_events, frame, fresh_fold, touched};
     ghost use Rattle.shadow_fold.specs.Following.{killed_if};
+    ghost use Rattle.shadow_fold.specs.Reads.{Spends};
 
     /// Settles a frame, and emits what the kernel is shown of it.
+    #[inline(always)]
     pub fn settle<E: Emit>(&mut self, f: Frame, e: &mut E)
         requires { f.0 < frames_of self.old }
         ensures outside { held_in self.new.pager f.0 ≡ None }
@@ -90,6 +94,8 @@ impl Memory {
         ensures emits_some { EmitsSome E.gave e.old e.new }
         ensures settles { (m : CloakedMemory) → Holds self.old m → Settles E.gave e.old e.new self.new (settle f.0 m) }
         ensures tracks { TracksBy self.old self.new (touched (frame f.0)) }
+        ensures spends { (m : CloakedMemory) → Holds self.old m →
+            Spends 0 (length (settle f.0 m).ciphers) (spent_in self.old) (spent_in self.new) }
         ensures ends { self.new.shadows ≡ killed_if (is_some (held_in self.old.pager f.0)) (frame f.0) self.old.shadows }
         ensures counting { self.new.counting ≡ self.old.counting }
     {
@@ -148,6 +154,9 @@ impl Memory {
         ensures no_more { HoldsNoMore self.old.pager self.new.pager }
         ensures rooms { (m : CloakedMemory) → Holds self.old m → Rooms E.gave e.old e.new self.new result q g.0 m }
         ensures tracks { (m : CloakedMemory) → Holds self.old m → TracksBy self.old self.new (room_made q g.0 m) }
+        ensures spends { (m : CloakedMemory) → Holds self.old m → (write : Bool) →
+            Spends 0 (length (offer q g.0 write m).ciphers) (spent_in self.old) (spent_in self.new) }
+        ensures maps { MapsStill self.old self.new }
         ensures counting { self.new.counting ≡ self.old.counting }
         ensures drawn { IsTrue result → (m : CloakedMemory) → Holds self.old m → (settle g.0 m).missed ≡ false }
     {
@@ -180,6 +189,9 @@ impl Memory {
         ensures tracks { (m : CloakedMemory) → Holds self.old m →
             (offer q g.0 write m).memory.ledger.clashed ≡ false → (space : Option SpaceId) →
             TracksBy self.old self.new (after_events space (offer_events q g.0 m (offer q g.0 write m).answer)) }
+        ensures spends { (m : CloakedMemory) → Holds self.old m →
+            Spends 0 (length (offer q g.0 write m).ciphers) (spent_in self.old) (spent_in self.new) }
+        ensures maps { MapsStill self.old self.new }
         ensures again { held_in self.old.pager g.0 ≡ Some q → self.new.shadows ≡ self.old.shadows }
         ensures counting { self.new.counting ≡ self.old.counting }
         ensures held { result ≡ Offer.Ready → held_in self.new.pager g.0 ≡ Some q }
@@ -234,6 +246,8 @@ impl Memory {
     }
 
     /// Emits what the kernel is shown of an outside frame.
+    #[cold]
+    #[inline(never)]
     fn emit_frame<E: Emit>(&mut self, f: Frame, e: &mut E)
         requires inside { f.0 < frames_of self.old }
         requires outside { held_in self.old.pager f.0 ≡ None }

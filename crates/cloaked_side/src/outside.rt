@@ -1,16 +1,15 @@
 //! The step of a hart outside.
-ghost use Rattle.std.specs.Prelude.{◌≡◌, false, None};
+ghost use Rattle.std.specs.Prelude.{◌≡◌, false, None, []};
 ghost use Rattle.cloak_model.specs.Csr as spec;
 ghost use Rattle.cloak_model.specs.Cloaking.{CloakedMemory};
 ghost use Rattle.cloak_model.specs.Ahead.{settled_step};
 ghost use Rattle.cloak_model.specs.Joint.{cloak_outside};
 ghost use Rattle.cloak_model.specs.KernelStep as plain;
-ghost use Rattle.cloak_model.specs.World.{Cloaked, events_of};
-ghost use Rattle.shadow_fold.specs.Fold.{after_events};
+ghost use Rattle.cloak_model.specs.World.{Cloaked, events_of, items_of};
 ghost use Rattle.cloak_model.specs.Exchange.{EmitsSome};
 ghost use Rattle.cloaked_side.specs.Holding.{Holds, HoldsNoMore, SameSize};
 ghost use Rattle.cloaked_side.specs.Telling.{TellsSide};
-ghost use Rattle.cloaked_side.specs.Tracking.{TracksBy};
+ghost use Rattle.cloaked_side.specs.Tracking.{GoesBy};
 
 use crate::kept_items::KeptItems;
 use crate::memory::Memory;
@@ -49,8 +48,9 @@ pub fn outside_step<E: Emit>(
     ensures tells { (m : CloakedMemory) → Holds memory.old m → m.ledger.clashed ≡ false →
         TellsSide E.gave e.old e.new memory.new (record { hart = h.new; disk = d.new; ending = result })
         (settled_step h.old d.old (cloak_outside m h.old)) }
-    ensures tracks { (m : CloakedMemory) → Holds memory.old m → m.ledger.clashed ≡ false → TracksBy memory.old memory.new
-        (after_events None (events_of (plain.kernel_step h.old d.old (Cloaked (cloak_outside m h.old))).world)) }
+    ensures goes { (m : CloakedMemory) → Holds memory.old m → m.ledger.clashed ≡ false →
+        let told = plain.kernel_step h.old d.old (Cloaked (cloak_outside m h.old)) in GoesBy memory.old memory.new
+        (record { space = None; events = events_of told.world; items = items_of told.world; changed = [] }) }
 {
     let view = view_of(h, 0);
     let mut side = Side {

@@ -30,7 +30,8 @@ impl<'m, 'e, E: Emit> Side<'m, 'e, E> {
     ghost use Rattle.cloak_model.specs.Cloaking.{CloakedMemory, settle};
     ghost use Rattle.cloaked_side.specs.Holding.{Holds, Settles, frames_of};
     ghost use Rattle.cloaked_side.specs.Seeing.{Becomes, FollowsAlways, StaysWithin};
-    ghost use Rattle.cloaked_side.specs.Tracking.{TracksBy};
+    ghost use Rattle.cloaked_side.specs.Tracking.{TracksBy, spent_in};
+    ghost use Rattle.shadow_fold.specs.Reads.{Spends};
     ghost use Rattle.shadow_fold.specs.Fold.{frame, touched};
     ghost use Rattle.shadow_fold.specs.Following.{killed_if};
     ghost use Rattle.cloak_model.specs.Ask.{shown_value, stored_value};
@@ -39,6 +40,7 @@ impl<'m, 'e, E: Emit> Side<'m, 'e, E> {
     ghost use Rattle.cloak_model.specs.Memory.{is_in_frames};
 
     /// Settles a frame.
+    #[inline(always)]
     pub fn settle(&mut self, f: Frame)
         requires { f.0 < frames_of self.old.memory.now }
         ensures sees { Becomes E.gave self.old self.new (settled f.0) }
@@ -49,6 +51,8 @@ impl<'m, 'e, E: Emit> Side<'m, 'e, E> {
             self.old.memory.now.shadows }
         ensures counting { self.new.memory.now.counting ≡ self.old.memory.now.counting }
         ensures tracks { TracksBy self.old.memory.now self.new.memory.now (touched (frame f.0)) }
+        ensures spends { (m : CloakedMemory) → Holds self.old.memory.now m →
+            Spends 0 (length (settle f.0 m).ciphers) (spent_in self.old.memory.now) (spent_in self.new.memory.now) }
         ensures settles { (m : CloakedMemory) → Holds self.old.memory.now m →
             Settles E.gave self.old.emitter.now self.new.emitter.now self.new.memory.now (settle f.0 m) }
         ensures violation { self.new.violation ≡ self.old.violation }
@@ -94,9 +98,9 @@ impl<'m, 'e, E: Emit> Side<'m, 'e, E> {
 }
 
 impl<'m, 'e, E: Emit> Words for Side<'m, 'e, E> {
-    ghost use Rattle.cloaked_side.specs.Seeing.{Sees, StaysWithin};
+    ghost use Rattle.cloaked_side.specs.Seeing.{SeesWalking, StaysWithin};
 
-    ghost stands_for = { λ first side w. Sees E.gave first side w };
+    ghost stands_for = { λ first side w. SeesWalking E.gave first side w };
 
     ghost kept = { λ first side. StaysWithin E.gave first side };
 

@@ -16,8 +16,8 @@ use Rattle.cloak_model.specs.PageMoves.{copy_pages, drop_pages}
 use Rattle.cloak_model.specs.Parts.{domain_pages}
 use Rattle.cloak_model.specs.World.{World, Flat, Cloaked, Alone, Handed, plain_of, view_of, items_of, is_missed}
 use Rattle.cloak_model.specs.Asking.{Told, Asking}
-use Rattle.cloak_model.specs.AskPages.{inside_access, replies, if_drawn, ask_inside_address, offered_by, ask_offer, reached, reach_by_table, got, get_by_table, put_at, stored_inside, put_by_table, clear_from, is_for_access, is_for_value, is_for_clearing, of_width, next_answer, ask_reach, ask_read, ask_write, ask_get, ask_put, ask_clear, ask_copy, ask_forget}
-use Rattle.cloak_model.specs.Ask.{opened, ask_value}
+use Rattle.cloak_model.specs.AskPages.{inside_access, replies, if_drawn, ask_inside_address, offered_by, ask_offer, reached, reach_by_table, get_at, got, get_by_table, put_at, stored_inside, put_by_table, clear_from, is_for_access, is_for_value, is_for_clearing, of_width, next_answer, ask_reach, ask_read, ask_write, ask_get, ask_put, ask_clear, ask_copy, ask_forget}
+use Rattle.cloak_model.specs.Ask.{opened}
 use Rattle.domain_isolation.proofs.Scripts.{Question, Reach, Get, Put, Clear, Change, Write, Copy, Forget, asked, changed}
 use Rattle.domain_isolation.proofs.Steady.{is_cloaked, Replied, replied_reach, replied_get, replied_put, replied_clear}
 
@@ -102,13 +102,16 @@ word_has : (width value : ℕ) (w : World) → ForValue width (replies (told.Wor
 unfolding replies
 word_has width value w = record { kind = refl; narrow = ap (λ (n : ℕ). told.Word n) (mod-mod value (2 ^ (8 * width))) }
 
+get_at_has : (pa width : ℕ) (w : World) → ForValue width (get_at pa width w).answer
+unfolding get_at
+get_at_has pa width w = word_has width _ _
+
 got_has : (va width : ℕ) (to : Result ℕ ℕ) (w : World) → ForValue width (got va width to w).answer
 unfolding got replies
 got_has va width (Err cause) w = record { kind = refl; narrow = refl }
 got_has va width (Ok pa) w =
-    let v = ask_value (view_of w).satp (inside_access w va Load) pa width w in
-    drawn_has (ForValue width) (replies (told.Word (v.answer % 2 ^ (8 * width)))) v.world
-    (record { kind = refl; narrow = refl }) (word_has width v.answer v.world)
+    drawn_has (ForValue width) (get_at pa width) (opened (view_of w).satp (inside_access w va Load) pa w)
+    (record { kind = refl; narrow = refl }) (get_at_has pa width _)
 
 get_has : (va width : ℕ) (w : World) → ForValue width (get_by_table va width w).answer
 unfolding get_by_table

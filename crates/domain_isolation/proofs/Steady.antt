@@ -21,8 +21,8 @@ use Rattle.cloak_model.specs.Cloaking.{CloakedMemory, AfterSettling, AfterOffer,
 use Rattle.cloak_model.specs.World.{World, Flat, Cloaked, Alone, plain_of, view_of, items_of, violation_of, is_missed, noted, stored_at, settled, written, cipher_items}
 use Rattle.cloak_model.specs.Asking.{Told, Asking}
 use Rattle.cloak_model.specs.Walk.{Walk, FirstWord, Ends, GoesOn, first_entry}
-use Rattle.cloak_model.specs.Ask.{ask_word, ask_second, ask_after, ask_first, ask_walk, ask_inside, ask_translate, ask_led, opened, ask_value}
-use Rattle.cloak_model.specs.AskPages.{answer_item, is_store, inside_access, replies, if_drawn, ask_inside_address, offered_by, ask_offer, reached, reach_by_table, got, get_by_table, put_at, stored_inside, put_by_table, settled_if_marked, clear_from}
+use Rattle.cloak_model.specs.Ask.{ask_word, ask_second, ask_after, ask_first, ask_walk, ask_inside, ask_translate, ask_led, opened}
+use Rattle.cloak_model.specs.AskPages.{answer_item, is_store, inside_access, replies, if_drawn, ask_inside_address, offered_by, ask_offer, reached, reach_by_table, get_at, got, get_by_table, put_at, stored_inside, put_by_table, settled_if_marked, clear_from}
 
 abbrev pub is_cloaked : World → Bool
 is_cloaked (Flat ram) = false
@@ -244,10 +244,6 @@ steady_led : (satp : ℕ) (a : Access) (w : World) → Steady w (ask_led satp a 
 unfolding ask_led
 steady_led satp a w = Steady-trans _ _ _ (Steady-noted _ w) (steady_translate satp a _)
 
-steady_value : (satp : ℕ) (a : Access) (pa width : ℕ) (w : World) → Steady w (ask_value satp a pa width w).world
-unfolding ask_value
-steady_value satp a pa width w = Steady-opened satp a pa w
-
 steady_inside_address : (va : ℕ) (kind : Kind) (w : World) → Steady w (ask_inside_address va kind w).world
 unfolding ask_inside_address
 steady_inside_address va kind w = steady_led _ _ w
@@ -353,16 +349,19 @@ replied_reach q va kind w cloaked =
     replied_after w to.world _ steady (replied_drawn (reached q va kind to.answer) to.world cloaked'
     (replied_reached q va kind to.answer to.world cloaked'))
 
+replied_get_at : (pa width : ℕ) (w : World) → is_cloaked w ≡ true → Replied w (get_at pa width w)
+unfolding get_at
+replied_get_at pa width w cloaked =
+    let steady = Steady-noted _ w in replied_after w _ _ steady (replied _ _ (steady.form ∙ cloaked) (λ e. absurd cc))
+
 replied_got : (va width : ℕ) (to : Result ℕ ℕ) (w : World) → is_cloaked w ≡ true → Replied w (got va width to w)
 unfolding got
 replied_got va width (Err cause) w cloaked = replied (told.Absent cause) w cloaked (λ e. absurd cc)
 replied_got va width (Ok pa) w cloaked =
-    let v = ask_value (view_of w).satp (inside_access w va Load) pa width w in
-    let steady = steady_value (view_of w).satp (inside_access w va Load) pa width w in
-    let cloaked' : is_cloaked v.world ≡ true = steady.form ∙ cloaked in
-    let answer = told.Word (v.answer % 2 ^ (8 * width)) in
-    replied_after w v.world _ steady (replied_drawn (replies answer) v.world cloaked'
-    (replied answer v.world cloaked' (λ e. absurd cc)))
+    let v = opened (view_of w).satp (inside_access w va Load) pa w in
+    let steady = Steady-opened _ _ pa w in
+    let cloaked' : is_cloaked v ≡ true = steady.form ∙ cloaked in
+    replied_after w _ _ steady (replied_drawn (get_at pa width) _ cloaked' (replied_get_at pa width _ cloaked'))
 
 pub replied_get : (va width : ℕ) (w : World) → is_cloaked w ≡ true → Replied w (get_by_table va width w)
 unfolding get_by_table

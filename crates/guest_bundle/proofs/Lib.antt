@@ -1,3 +1,4 @@
+pub mod Places
 pub mod Loop
 pub mod Steps
 pub mod Takes

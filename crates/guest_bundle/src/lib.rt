@@ -9,6 +9,7 @@
 
 mod fields;
 mod header;
+mod moving;
 mod parts;
 mod reading;
 mod writing;

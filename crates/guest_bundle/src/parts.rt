@@ -1,7 +1,7 @@
-ghost use Rattle.std.specs.Prelude.{◌≡◌, ◌+◌, ◌≤◌, length, OnOk, IfOk};
-ghost use Rattle.cloak_model.specs.declared.image.Segment.{Segment};
-ghost use Rattle.cloak_model.specs.declared.image.Program.{Program};
+ghost use Rattle.std.specs.Prelude.{◌≡◌, ◌≤◌, length, map, IfOk, OnOk, ◌+◌};
 ghost use Rattle.guest_bundle.specs.Fields.{Gives, Shows};
+ghost use Rattle.guest_bundle.specs.Places.{segment_of, program_of, IsSegmentPlace, IsProgramPlace, AreSegmentPlaces};
+ghost use Rattle.guest_bundle.specs.Places.{AreProgramPlaces};
 ghost use Rattle.cloak_model.specs.BundleFault.{lies_in_ram, is_base_of};
 ghost use Rattle.guest_bundle.specs.Reading.{turn_at, segment_at, segment_size, place_at, base_at, program_at};
 ghost use Rattle.guest_bundle.specs.Reading.{program_size, parts_at};
@@ -9,8 +9,24 @@ ghost use Rattle.guest_bundle.specs.Reading.{program_size, parts_at};
 use crate::BundleFault;
 use crate::fields::{bytes, count, entry, number, pages};
 use cloak_base::Start;
-use cloak_model::{Program, Segment, Sequence};
 use std::alloc::Global;
+
+/// A segment of a file: its address, and where its bytes begin and end.
+#[derive(Clone, Copy)]
+pub struct SegmentPlace {
+    pub address: u32,
+    pub from: usize,
+    pub to: usize,
+}
+
+/// A program of a file: its place and start, and where its bytes begin and end.
+#[derive(Clone, Copy)]
+pub struct ProgramPlace {
+    pub place: u32,
+    pub start: Start,
+    pub from: usize,
+    pub to: usize,
+}
 
 /// A byte of the schedule.
 fn turn(file: &[u8], at: usize, harts: u32) -> Result<u8, BundleFault>
@@ -58,21 +74,24 @@ fn is_in_ram(frames: u32, address: u32, size: u32) -> bool
     address >= 0x80000000 && address as u64 + size as u64 <= end
 }
 
-/// The address of a segment, and its bytes.
+/// A segment.
 #[tactic(auto, unfolding(crate::specs::Reading::segment_at))]
-fn segment(file: &[u8], at: usize, frames: u32) -> Result<(u32, &[u8]), BundleFault>
+fn segment(file: &[u8], at: usize, frames: u32) -> Result<SegmentPlace, BundleFault>
     requires { at ≤ length file.now }
-    ensures field { Shows (λ x. let s : Segment = record { address = x.0; bytes = x.1.now } in s)
-        result (segment_at frames file.now at) }
-    ensures whole { IfOk result (λ x. at + (8 + length x.1.now) ≤ length file.now) }
+    ensures field { Shows (segment_of file.now) result (segment_at frames file.now at) }
+    ensures whole { IfOk result (λ p. IsSegmentPlace (length file.now) at p) }
 {
     let address = number(file, at)?;
     let size = number(file, at + 4)?;
     if !is_in_ram(frames, address, size) {
         return Err(BundleFault::BadRange(at as u64));
     }
-    let bytes = bytes(file, at + 8, size as usize)?;
-    Ok((address, bytes))
+    bytes(file, at + 8, size as usize)?;
+    Ok(SegmentPlace {
+        address,
+        from: at + 8,
+        to: at + 8 + size as usize,
+    })
 }
 
 /// The segments, and the offset after them.
@@ -82,20 +101,21 @@ pub fn segments(
     from: usize,
     frames: u32,
     n: u32,
-) -> Result<(Vec<Segment>, usize), BundleFault>
+) -> Result<(Vec<SegmentPlace>, usize), BundleFault>
     requires { from ≤ length file.now }
-    ensures fields { Gives (λ x. (x.0.items, x.1)) result (parts_at (segment_at frames file.now) segment_size n from) }
+    ensures fields { Gives (λ x. (map (segment_of file.now) x.0.items, x.1)) result
+        (parts_at (segment_at frames file.now) segment_size n from) }
+    ensures places { IfOk result (λ x. AreSegmentPlaces 0 x.0.items x.1) }
     ensures whole { IfOk result (λ x. x.1 ≤ length file.now) }
 {
-    let mut segments = Vec::new(alloc);
+    let mut places = Vec::new(alloc);
     let mut at = from;
     for _ in 0..n {
-        let (address, bytes) = segment(file, at, frames)?;
-        at += 8 + bytes.len();
-        let bytes = Sequence::new(Vec::from_slice(alloc, bytes)?);
-        segments.push(Segment { address, bytes })?;
+        let place = segment(file, at, frames)?;
+        at = place.to;
+        places.push(place)?;
     }
-    Ok((segments, at))
+    Ok((places, at))
 }
 
 /// The frame of the first of some pages.
@@ -133,27 +153,31 @@ fn base(file: &[u8], at: usize, pages: u32) -> Result<u32, BundleFault>
     Ok(base)
 }
 
-/// The place of a program, its start, and the bytes of its pages.
+/// A program.
 #[tactic(auto, unfolding(crate::specs::Reading::program_at))]
-fn program(file: &[u8], at: usize, frames: u32) -> Result<(u32, Start, &[u8]), BundleFault>
+fn program(file: &[u8], at: usize, frames: u32) -> Result<ProgramPlace, BundleFault>
     requires { at ≤ length file.now }
-    ensures field { Shows (λ x. let p : Program = record { place = x.0; start = x.1; bytes = x.2.now } in p)
-        result (program_at frames file.now at) }
-    ensures whole { IfOk result (λ x. at + (20 + length x.2.now) ≤ length file.now) }
+    ensures field { Shows (program_of file.now) result (program_at frames file.now at) }
+    ensures whole { IfOk result (λ p. IsProgramPlace (length file.now) at p) }
 {
     let page_count = count(file, at, 1, 1024)?;
     let place = place(file, at + 4, frames, page_count)?;
     let base = base(file, at + 8, page_count)?;
     let entry = entry(file, at + 12)?;
     let sp = number(file, at + 16)?;
-    let bytes = pages(file, at + 20, page_count)?;
+    pages(file, at + 20, page_count)?;
     let start = Start {
         pages: page_count,
         base,
         entry,
         sp,
     };
-    Ok((place, start, bytes))
+    Ok(ProgramPlace {
+        place,
+        start,
+        from: at + 20,
+        to: at + 20 + 4096 * page_count as usize,
+    })
 }
 
 /// The programs, and the offset after them.
@@ -163,22 +187,19 @@ pub fn programs(
     from: usize,
     frames: u32,
     n: u32,
-) -> Result<(Vec<Program>, usize), BundleFault>
+) -> Result<(Vec<ProgramPlace>, usize), BundleFault>
     requires { from ≤ length file.now }
-    ensures fields { Gives (λ x. (x.0.items, x.1)) result (parts_at (program_at frames file.now) program_size n from) }
+    ensures fields { Gives (λ x. (map (program_of file.now) x.0.items, x.1)) result
+        (parts_at (program_at frames file.now) program_size n from) }
+    ensures places { IfOk result (λ x. AreProgramPlaces from x.0.items x.1) }
     ensures whole { IfOk result (λ x. x.1 ≤ length file.now) }
 {
-    let mut programs = Vec::new(alloc);
+    let mut places = Vec::new(alloc);
     let mut at = from;
     for _ in 0..n {
-        let (place, start, bytes) = program(file, at, frames)?;
-        at += 20 + bytes.len();
-        let bytes = Sequence::new(Vec::from_slice(alloc, bytes)?);
-        programs.push(Program {
-            place,
-            start,
-            bytes,
-        })?;
+        let place = program(file, at, frames)?;
+        at = place.to;
+        places.push(place)?;
     }
-    Ok((programs, at))
+    Ok((places, at))
 }

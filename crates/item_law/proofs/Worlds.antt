@@ -14,7 +14,7 @@ use Rattle.cloak_model.specs.declared.answer.Answer.{Answer}
 use Rattle.cloak_model.specs.declared.answer.Answer.TheVariants as answer
 use Rattle.cloak_model.specs.declared.item.Item.{Item}
 use Rattle.cloak_model.specs.Ask.{ask_word, ask_second, ask_after, ask_first, ask_walk, ask_inside, ask_translate, ask_led, opened, ask_count, ask_value, ask_store, loaded_at, ask_load, stored_to, ask_store_at, ask_frame, ask_fill}
-use Rattle.cloak_model.specs.AskPages.{answer_item, replies, if_drawn, inside_access, ask_inside_address, is_store, offered_by, ask_offer, reached, reach_by_table, got, get_by_table, put_at, stored_inside, put_by_table, settled_if_marked, clear_from, ask_reach, ask_read, ask_write, ask_get, ask_put, ask_clear, ask_copy, ask_forget}
+use Rattle.cloak_model.specs.AskPages.{answer_item, replies, if_drawn, inside_access, ask_inside_address, is_store, offered_by, ask_offer, reached, reach_by_table, get_at, got, get_by_table, put_at, stored_inside, put_by_table, settled_if_marked, clear_from, ask_reach, ask_read, ask_write, ask_get, ask_put, ask_clear, ask_copy, ask_forget}
 use Rattle.cloak_model.specs.Asking.{Told, Asking, answered, then_ask}
 use Rattle.cloak_model.specs.Cloaking.{Offer, Ready, Mismatch, Missed}
 use Rattle.cloak_model.specs.Effect.{IsWidth}
@@ -241,7 +241,7 @@ value_told : (satp : ℕ) (a : Access) (pa width : ℕ) (w : World) → WorldFit
 unfolding ask_value
 value_told satp a pa width w fits =
     let there = opened_fits satp a pa w fits in
-    record { answer = value_fits pa width (opened satp a pa w) there; world = there }
+    record { answer = value_fits pa width (opened satp a pa w) there; world = noted_fits _ _ there }
 
 store_told : (satp : ℕ) (a : Access) (pa width value : ℕ) (w : World) → WorldFits w →
     ToldFits Anything (ask_store satp a pa width value w)
@@ -286,7 +286,7 @@ pub frame_told : (f : ℕ) (w : World) → WorldFits w → ToldFits AreBytes (as
 unfolding ask_frame
 frame_told f w fits =
     let there = settled_fits f w fits in
-    record { answer = frame_bytes (ram_of (settled f w)) f (frames_of (settled f w) there); world = there }
+    record { answer = frame_bytes (ram_of (settled f w)) f (frames_of (settled f w) there); world = noted_fits _ _ there }
 
 pub fill_told : (f : ℕ) (bytes : List ℕ) (w : World) → WorldFits w → AreBytes bytes →
     ToldFits Anything (ask_fill f bytes w)
@@ -373,17 +373,18 @@ low_fits width n (inr (inr is)) = subst (λ (k : ℕ). IsWord (n % 2 ^ (8 * k)))
     four : (n : ℕ) → IsWord (n % 2 ^ (8 * 4))
     four n = omega arith
 
+get_at_told : (pa width : ℕ) (w : World) → IsWidth width → WorldFits w → ToldFits AnswerFits (get_at pa width w)
+unfolding get_at
+get_at_told pa width w is fits =
+    replies_told (answer.Word _) _ (low_fits width (value_at (ram_of w) pa width) is) (noted_fits _ w fits)
+
 got_told : (va width : ℕ) (to : Result ℕ ℕ) (w : World) → IsWidth width → LeadFits to → WorldFits w →
     ToldFits AnswerFits (got va width to w)
 unfolding got
 got_told va width (Err cause) w is leads fits = replies_told (answer.Absent cause) w leads fits
 got_told va width (Ok pa) w is leads fits =
-    let satp : ℕ = (view_of w).satp in
-    let a : Access = inside_access w va Load in
-    then_fits IsWord AnswerFits (ask_value satp a pa width)
-    (λ value. if_drawn (replies (answer.Word (value % 2 ^ (8 * width))))) w (value_told satp a pa width w fits)
-    (λ value v here there. drawn_told (replies (answer.Word (value % 2 ^ (8 * width)))) v there
-    (replies_told (answer.Word (value % 2 ^ (8 * width))) v (low_fits width value is) there))
+    let there = opened_fits (view_of w).satp (inside_access w va Load) pa w fits in
+    drawn_told (get_at pa width) _ there (get_at_told pa width _ is there)
 
 get_by_table_told : (va width : ℕ) (w : World) → IsWidth width → WorldFits w →
     ToldFits AnswerFits (get_by_table va width w)

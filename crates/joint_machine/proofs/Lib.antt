@@ -15,3 +15,4 @@ pub mod Resumed
 pub mod Clashed
 pub mod Lent
 pub mod Tracked
+pub mod Mapped

@@ -7,11 +7,11 @@ use Rattle.cloak_model.specs.Events.{Event}
 use Rattle.cloak_model.specs.World.{World, Flat, Cloaked, Alone, noted, stored_at, settled, Handed, written, with_plain}
 use Rattle.cloak_model.specs.Asking.{Told, Asking}
 use Rattle.cloak_model.specs.Walk.{Walk, FirstWord, Ends, GoesOn, first_entry}
-use Rattle.cloak_model.specs.Ask.{ask_word, ask_second, ask_after, ask_first, ask_walk, ask_inside, ask_translate, ask_led, opened, ask_value}
+use Rattle.cloak_model.specs.Ask.{ask_word, ask_second, ask_after, ask_first, ask_walk, ask_inside, ask_translate, ask_led, opened}
 use Rattle.cloak_base.specs.declared.names.Kind.{Kind}
 use Rattle.cloak_model.specs.declared.answer.Answer.{Answer}
 use Rattle.cloak_model.specs.declared.item.Item.{Item}
-use Rattle.cloak_model.specs.AskPages.{is_store, replies, if_drawn, ask_inside_address, offered_by, ask_offer, reached, reach_by_table, got, get_by_table, put_at, stored_inside, put_by_table, settled_if_marked, clear_from, next_answer, ask_reach, ask_read, ask_write, ask_get, ask_put, ask_clear, ask_copy, ask_forget}
+use Rattle.cloak_model.specs.AskPages.{is_store, replies, if_drawn, ask_inside_address, offered_by, ask_offer, reached, reach_by_table, get_at, got, get_by_table, put_at, stored_inside, put_by_table, settled_if_marked, clear_from, next_answer, ask_reach, ask_read, ask_write, ask_get, ask_put, ask_clear, ask_copy, ask_forget}
 use Rattle.std.specs.Str.{bytes_eq}
 use Rattle.cloak_base.specs.Random.{Random}
 use Rattle.cloak_base.specs.declared.names.SpaceId.{SpaceId}
@@ -137,10 +137,6 @@ pub rooted_led : (satp : ℕ) (a : Access) (w : World) → SameRoot w (ask_led s
 unfolding ask_led
 rooted_led satp a w = same_trans _ _ _ (same_noted _ w) (rooted_translate satp a _)
 
-pub rooted_value : (satp : ℕ) (a : Access) (pa width : ℕ) (w : World) → SameRoot w (ask_value satp a pa width w).world
-unfolding ask_value
-rooted_value satp a pa width w = same_opened satp a pa w
-
 pub same_written : (i : Item) (w : World) → SameRoot w (written i w)
 same_written i (Flat ram) = same_refl (Flat ram)
 same_written i (Cloaked c) = record { root = refl }
@@ -181,10 +177,14 @@ pub rooted_reach_by_table : (q : PageId) (va : ℕ) (kind : Kind) (w : World) �
 unfolding reach_by_table
 rooted_reach_by_table q va kind w = same_trans _ _ _ (rooted_inside_address va kind w) (rooted_drawn _ _ (rooted_reached q va kind _))
 
+pub rooted_get_at : (pa width : ℕ) (w : World) → SameRoot w (get_at pa width w).world
+unfolding get_at
+rooted_get_at pa width w = same_trans _ _ _ (same_noted _ w) (rooted_answers _ _)
+
 pub rooted_got : (va width : ℕ) (to : Result ℕ ℕ) (w : World) → SameRoot w (got va width to w).world
 unfolding got
 rooted_got va width (Err cause) w = rooted_answers _ w
-rooted_got va width (Ok pa) w = same_trans _ _ _ (rooted_value _ _ pa width w) (rooted_drawn _ _ (rooted_answers _))
+rooted_got va width (Ok pa) w = same_trans _ _ _ (same_opened _ _ pa w) (rooted_drawn _ _ (rooted_get_at pa width))
 
 pub rooted_get_by_table : (va width : ℕ) (w : World) → SameRoot w (get_by_table va width w).world
 unfolding get_by_table

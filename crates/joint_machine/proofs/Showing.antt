@@ -71,13 +71,14 @@ emits_more gave e f h programs frames frames' n same first second =
 -- Reads.
 
 pub read_none : (memory : Memory) → IsReadOnly memory memory
-read_none memory = record { frames = refl; rights = refl; domains = refl; holds = λ m h. h }
+read_none memory = record { frames = refl; rights = refl; domains = refl; shadows = refl; holds = λ m h. h }
 
 pub read_then : (a b c : Memory) → IsReadOnly a b → IsReadOnly b c → IsReadOnly a c
 read_then a b c first second = record {
   frames = second.frames ∙ first.frames;
   rights = second.rights ∙ first.rights;
   domains = second.domains ∙ first.domains;
+  shadows = second.shadows ∙ first.shadows;
   holds = λ m h. second.holds m (first.holds m h);
 }
 
@@ -87,6 +88,7 @@ read_once a b once stream draws missed shadows = record {
   frames = ap (λ (p : PagerState). p.frames) once;
   rights = ap (λ (p : PagerState). p.rights) once;
   domains = ap (λ (p : PagerState). domains_of p.table) once;
+  shadows = shadows;
   holds = λ m h. record {
     wiped = h.wiped;
     pager = stands_read a.pager b.pager once h.wiped m h.pager;

@@ -17,6 +17,7 @@ use Rattle.cloak_pager.specs.State.{PagerState, IsNoneHeld, held_in}
 use Rattle.cloaked_fork.specs.Marks.{AreUnused}
 use Rattle.cloaked_side.specs.Holding.{domains_in}
 use Rattle.cloaked_side.specs.Seeing.{Sees, SeesInside, IsUnused, served}
+use Rattle.cloaked_side.proofs.Telling.{emits_world, holds_world}
 use Rattle.cloaked_side.specs.Telling.{HoldsWorld}
 use Rattle.cloaked_side.specs.declared.memory.Memory.{Memory}
 use Rattle.cloaked_side.specs.declared.side.Side.{Side}
@@ -38,16 +39,6 @@ pub pages_begun : (m : CloakedMemory) (view : View) (slot : ℕ) (d : program.Do
 pages_begun m view slot d k same = subst (λ (k : program.Control). HasPagesOf slot k (Cloaked (begun m view slot d))) same (pages_in d (context_at d.control.contexts slot))
 
 -- What a side saw, it saw of its memory and its emitter.
-
-holds_world : {E : Type 0} (gave : E → E → List Piece → Type 0) (first now : Side E) (w : World) → Sees gave first now w → HoldsWorld now.memory.now w
-holds_world gave first now (Flat ram) sees = sees
-holds_world gave first now (Alone handed) sees = sees
-holds_world gave first now (Cloaked c) sees = sees.holds
-
-emits_world : {E : Type 0} (gave : E → E → List Piece → Type 0) (first now : Side E) (w : World) → Sees gave first now w → Emits gave first.emitter.now now.emitter.now (item_pieces (items_of w))
-emits_world gave first now (Flat ram) sees = absurd sees
-emits_world gave first now (Alone handed) sees = absurd sees
-emits_world gave first now (Cloaked c) sees = sees.emits
 
 violation_world : {E : Type 0} (gave : E → E → List Piece → Type 0) (first now : Side E) (w : World) → Sees gave first now w → now.violation ≡ violation_of w
 violation_world gave first now (Flat ram) sees = absurd sees

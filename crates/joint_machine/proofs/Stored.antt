@@ -1,6 +1,6 @@
 -- RAM as a run begins, over plain variables.
-use Rattle.std.proofs.Common.{inl, inr, ◌≡◌, ◌<◌, ◌≤◌, ◌+◌, ◌-◌, ◌*◌, ◌/◌, ◌%◌, ℕ, false, List, [], ◌∷◌, ◌++◌, length, drop, take, slice_index_or, slice_set, All, refl, ap, sym, ◌∙◌, subst, arith, add-one, None, Some, Option, map}
-use Rattle.std.proofs.lemmas.List.{get_or_past, set_split, length-set, length-replicate, at_drop_more, at_drop_all}
+use Rattle.std.proofs.Common.{inl, inr, ◌≡◌, ◌<◌, ◌≤◌, ◌+◌, ◌-◌, ◌*◌, ◌/◌, ◌%◌, ℕ, false, List, [], ◌∷◌, ◌++◌, length, drop, take, reverse, suc, slice_index_or, slice_set, All, refl, ap, sym, ◌∙◌, subst, arith, add-one, None, Some, Option, map}
+use Rattle.std.proofs.lemmas.List.{get_or_past, set_split, length-set, length-replicate, length-take, length-drop, length-reverse, at_drop_more, at_drop_all, take-append-drop, reverse-append, reverse-reverse}
 use Rattle.std.proofs.lemmas.Bool.{cases_lt}
 use Rattle.std.proofs.lemmas.List.Elements.{All-nil, All-set, All-replicate}
 use Rattle.cloak_base.specs.Pages.{zero_page}
@@ -153,74 +153,160 @@ pages_with_bytes ram pa (b ∷ bytes) high fits pages =
     pages_with_bytes (with_byte ram pa b) (pa + 1) bytes (omega arith) (rw same (omega (arith, fits)))
     (pages_with_byte ram pa b pages inside)
 
--- of these segments the first i are stored
-pub record LoadsFrom (old p : PagerState) (i : ℕ) (segments : List Segment) : Type 0 where
+-- of these segments all but the last ones are stored
+pub record LoadsFrom (old p : PagerState) (rest segments : List Segment) : Type 0 where
   pub stays : HasFrames old p p.frames
   pub count : length p.frames ≡ length old.frames
   pub pages : ArePages p.frames
-  pub stored : with_segments p.frames (drop i segments) ≡ with_segments old.frames segments
+  pub stored : with_segments p.frames rest ≡ with_segments old.frames segments
 
-pub loads_none : (n domains : ℕ) (key : List ℕ) (p : PagerState) (segments : List Segment) →
-    IsNewPager n domains key p → LoadsFrom p p 0 segments
+pub loads_none : (n domains : ℕ) (key : List ℕ) (p : PagerState) (rest segments : List Segment) →
+    IsNewPager n domains key p → rest ≡ segments → LoadsFrom p p rest segments
 unfolding zero_page
-loads_none n domains key p segments new = record {
+loads_none n domains key p rest segments new same = record {
   stays = frames_same p;
   count = refl;
   pages =
       subst ArePages (sym new.zeros)
       (All-replicate (λ (page : List ℕ). length page ≡ 4096) n zero_page (length-replicate {A = ℕ} 4096 0));
-  stored = refl;
+  stored = ap (with_segments p.frames) same;
 }
 
 -- no frame holds a page yet
-pub loads_outside : (n domains : ℕ) (key : List ℕ) (old p : PagerState) (i : ℕ) (segments : List Segment) →
-    IsNewPager n domains key old → LoadsFrom old p i segments → (k : ℕ) → held_in p k ≡ None
-loads_outside n domains key old p i segments new so_far k =
+pub loads_outside : (n domains : ℕ) (key : List ℕ) (old p : PagerState) (rest segments : List Segment) →
+    IsNewPager n domains key old → LoadsFrom old p rest segments → (k : ℕ) → held_in p k ≡ None
+loads_outside n domains key old p rest segments new so_far k =
     ap (λ (rights : List Held). page_of (slice_index_or rights k Spent)) so_far.stays.rights_are ∙ elim (cases_lt k n) [
       | inl inside ↦ ap page_of (new.outside k inside)
       | inr past ↦ ap page_of (get_or_past old.rights k Spent (let count = new.count in omega (arith, past, count)))
     ]
 
 -- and none was shown
-pub loads_ready : (n domains : ℕ) (key : List ℕ) (old p : PagerState) (i : ℕ) (segments : List Segment) →
-    IsNewPager n domains key old → LoadsFrom old p i segments → IsReady p 0 0
-loads_ready n domains key old p i segments new so_far = record {
-  outside = loads_outside n domains key old p i segments new so_far;
+pub loads_ready : (n domains : ℕ) (key : List ℕ) (old p : PagerState) (rest segments : List Segment) →
+    IsNewPager n domains key old → LoadsFrom old p rest segments → IsReady p 0 0
+loads_ready n domains key old p rest segments new so_far = record {
+  outside = loads_outside n domains key old p rest segments new so_far;
   rest = λ q here past. so_far.stays.metas_are q ∙ new.no_metas q;
   later = λ q past. so_far.stays.metas_are q ∙ new.no_metas q;
 }
 
-loads_more : (old p p' : PagerState) (i : ℕ) (s : Segment) (segments : List Segment) → LoadsFrom old p i segments →
-    i < length segments → s ≡ slice_index_or segments i s → 0x80000000 ≤ s.address →
-    s.address + length s.bytes ≤ 0x80000000 + 4096 * length old.frames →
-    HasFrames p p' (with_bytes p.frames s.address s.bytes) → LoadsFrom old p' (i + 1) segments
-loads_more old p p' i s segments so_far more read high fits has =
+loads_more : (old p p' : PagerState) (s : Segment) (rest segments : List Segment) → LoadsFrom old p (s ∷ rest) segments →
+    0x80000000 ≤ s.address → s.address + length s.bytes ≤ 0x80000000 + 4096 * length old.frames →
+    HasFrames p p' (with_bytes p.frames s.address s.bytes) → LoadsFrom old p' rest segments
+loads_more old p p' s rest segments so_far high fits has =
     let count = so_far.count in
     let room : s.address + length s.bytes ≤ 0x80000000 + 4096 * length p.frames = omega (arith, fits, count) in
-    let here : with_segments p.frames (drop i segments) ≡ with_segments (with_bytes p.frames s.address s.bytes) (drop (i + 1) segments) =
-    at_drop_more (with_segments p.frames) segments i s more
-    ∙ ap (λ (x : Segment). with_segments (with_bytes p.frames x.address x.bytes) (drop (i + 1) segments)) (sym read) in
     record {
       stays = frames_are old p' _ p'.frames (sym has.frames_are) (frames_then old p p' p.frames _ so_far.stays has);
       count = ap (λ (x : List (List ℕ)). length x) has.frames_are ∙ (length-with_bytes p.frames s.address s.bytes ∙ count);
       pages = subst ArePages (sym has.frames_are) (pages_with_bytes p.frames s.address s.bytes high room so_far.pages);
-      stored =
-          ap (λ (x : List (List ℕ)). with_segments x (drop (i + 1) segments)) has.frames_are
-          ∙ (sym here ∙ so_far.stored);
+      stored = ap (λ (x : List (List ℕ)). with_segments x rest) has.frames_are ∙ so_far.stored;
     }
 
--- a segment that the image has
-pub loads_next : (n domains : ℕ) (key : List ℕ) (old p p' : PagerState) (i : ℕ) (s : Segment) (bytes : List ℕ)
-    (segments : List Segment) → IsNewPager n domains key old → All (IsSegmentIn n) segments →
-    LoadsFrom old p i segments → i < length segments → s ≡ slice_index_or segments i s → bytes ≡ s.bytes →
-    HasFrames p p' (with_bytes p.frames s.address bytes) → LoadsFrom old p' (i + 1) segments
-loads_next n domains key old p p' i s bytes segments new fit so_far more read same has =
-    let fits : IsSegmentIn n s = subst (IsSegmentIn n) (sym read) (fit i s more) in
-    let count : length old.frames ≡ n =
-    ap (λ (x : List (List ℕ)). length x) new.zeros ∙ length-replicate n zero_page in
-    loads_more old p p' i s segments so_far more read fits.from_start
-    (let room = fits.to_end in omega (arith, room, count))
-    (subst (λ (x : List ℕ). HasFrames p p' (with_bytes p.frames s.address x)) same has)
+-- segments that lie in RAM, the last one first, of which some are loaded
+pub record LoadsBack (n : ℕ) (old p : PagerState) (back segments : List Segment) : Type 0 where
+  pub fits : All (IsSegmentIn n) (reverse back)
+  pub loads : LoadsFrom old p (reverse back) segments
+
+back_next : (back others : List Segment) (s : Segment) → back ≡ others ++ s ∷ [] → reverse back ≡ s ∷ reverse others
+back_next back others s e = ap reverse e ∙ reverse-append others (s ∷ [])
+
+new_count : (n domains : ℕ) (key : List ℕ) (old : PagerState) → IsNewPager n domains key old → length old.frames ≡ n
+new_count n domains key old new = ap (λ (x : List (List ℕ)). length x) new.zeros ∙ length-replicate n zero_page
+
+-- the segment that is loaded next lies in RAM
+pub back_fits : (n domains : ℕ) (key : List ℕ) (old p : PagerState) (back others segments : List Segment) (s : Segment) →
+    IsNewPager n domains key old → LoadsBack n old p back segments → back ≡ others ++ s ∷ [] →
+    IsSegmentIn (length p.frames) s
+back_fits n domains key old p back others segments s new so_far e =
+    let all : All (IsSegmentIn n) (s ∷ reverse others) =
+    subst (All (IsSegmentIn n)) (back_next back others s e) so_far.fits in
+    let count : n ≡ length p.frames = sym (so_far.loads.count ∙ new_count n domains key old new) in
+    subst (λ m. IsSegmentIn m s) count (all 0 s (omega arith))
+
+-- a segment more
+pub loads_next : (n domains : ℕ) (key : List ℕ) (old p p' : PagerState) (back others segments : List Segment) (s : Segment) →
+    IsNewPager n domains key old → LoadsBack n old p back segments → back ≡ others ++ s ∷ [] →
+    HasFrames p p' (with_bytes p.frames s.address s.bytes) → LoadsBack n old p' others segments
+loads_next n domains key old p p' back others segments s new so_far e has =
+    let next = back_next back others s e in
+    let all : All (IsSegmentIn n) (s ∷ reverse others) = subst (All (IsSegmentIn n)) next so_far.fits in
+    let fits : IsSegmentIn n s = all 0 s (omega arith) in
+    let count = new_count n domains key old new in
+    record {
+      fits = λ i d h. all (suc i) d (omega arith);
+      loads =
+          loads_more old p p' s (reverse others) segments
+          (subst (λ (x : List Segment). LoadsFrom old p x segments) next so_far.loads) fits.from_start
+          (let room = fits.to_end in omega (arith, room, count)) has;
+    }
+
+-- A segment, piece by piece.
+
+with_bytes_then : (ram : List (List ℕ)) (pa : ℕ) (xs ys : List ℕ) →
+    with_bytes ram pa (xs ++ ys) ≡ with_bytes (with_bytes ram pa xs) (pa + length xs) ys
+with_bytes_then ram pa [] ys = ap (λ (n : ℕ). with_bytes ram n ys) (let e : pa ≡ pa + 0 = omega arith in e)
+with_bytes_then ram pa (x ∷ xs) ys =
+    with_bytes_then (with_byte ram pa x) (pa + 1) xs ys
+    ∙ ap (λ (n : ℕ). with_bytes (with_bytes (with_byte ram pa x) (pa + 1) xs) n ys)
+    (let e : pa + 1 + length xs ≡ pa + suc (length xs) = omega arith in e)
+
+-- of these bytes all but the last ones are stored; those are kept the last one first
+pub record StoresBack (old p : PagerState) (address : ℕ) (back : List ℕ) (first : ℕ) (bytes : List ℕ) : Type 0 where
+  pub stays : HasFrames old p p.frames
+  pub count : length p.frames ≡ length old.frames
+  pub pages : ArePages p.frames
+  pub outside : (k : ℕ) → held_in p k ≡ None
+  pub from_start : 0x80000000 ≤ address
+  pub to_end : address + length back ≤ 0x80000000 + 4096 * length old.frames
+  pub stored : with_bytes p.frames address (reverse back) ≡ with_bytes old.frames first bytes
+
+pub stores_back_none : (p : PagerState) (s : Segment) (back : List ℕ) → ArePages p.frames → ((k : ℕ) → held_in p k ≡ None) →
+    IsSegmentIn (length p.frames) s → back ≡ reverse s.bytes → StoresBack p p s.address back s.address s.bytes
+stores_back_none p s back pages outside fits e = record {
+  stays = frames_same p;
+  count = refl;
+  pages = pages;
+  outside = outside;
+  from_start = fits.from_start;
+  to_end = (let room = fits.to_end in omega (arith, room, ap (λ (x : List ℕ). length x) e, length-reverse s.bytes));
+  stored = ap (with_bytes p.frames s.address) (ap reverse e ∙ reverse-reverse s.bytes);
+}
+
+pub stores_back_more : (old p p' : PagerState) (address n : ℕ) (back rest : List ℕ) (first : ℕ) (bytes : List ℕ) →
+    StoresBack old p address back first bytes → n ≤ length back →
+    HasFrames p p' (with_bytes p.frames address (reverse (drop (length back - n) back))) →
+    rest ≡ take (length back - n) back → StoresBack old p' (address + n) rest first bytes
+stores_back_more old p p' address n back rest first bytes so_far few has e =
+    let m = length back - n in
+    let piece = reverse (drop m back) in
+    let size : length piece ≡ n = omega (arith, length-reverse (drop m back), length-drop m back, few) in
+    let left : length rest ≡ m = omega (arith, ap (λ (x : List ℕ). length x) e, length-take m back) in
+    let count = so_far.count in
+    let end = so_far.to_end in
+    let high = so_far.from_start in
+    let room : address + length piece ≤ 0x80000000 + 4096 * length p.frames = omega (arith, count, end, size, few) in
+    let parts : reverse back ≡ piece ++ reverse rest =
+    ap reverse (sym (take-append-drop m back)) ∙ (reverse-append (take m back) (drop m back)
+    ∙ ap (λ (x : List ℕ). piece ++ reverse x) (sym e)) in
+    let here : with_bytes p.frames address (reverse back) ≡ with_bytes (with_bytes p.frames address piece) (address + n) (reverse rest) =
+    ap (with_bytes p.frames address) parts ∙ (with_bytes_then p.frames address piece (reverse rest)
+    ∙ ap (λ (k : ℕ). with_bytes (with_bytes p.frames address piece) (address + k) (reverse rest)) size) in
+    record {
+      stays = frames_are old p' _ p'.frames (sym has.frames_are) (frames_then old p p' p.frames _ so_far.stays has);
+      count = ap (λ (x : List (List ℕ)). length x) has.frames_are ∙ (length-with_bytes p.frames address piece ∙ count);
+      pages = subst ArePages (sym has.frames_are) (pages_with_bytes p.frames address piece high room so_far.pages);
+      outside = λ k. ap (λ (rights : List Held). page_of (slice_index_or rights k Spent)) has.rights_are ∙ so_far.outside k;
+      from_start = omega (arith, high);
+      to_end = omega (arith, left, few, end);
+      stored =
+          ap (λ (x : List (List ℕ)). with_bytes x (address + n) (reverse rest)) has.frames_are ∙ (sym here ∙ so_far.stored);
+    }
+
+pub stores_back_all : (old p : PagerState) (address : ℕ) (back : List ℕ) (first : ℕ) (bytes : List ℕ) →
+    StoresBack old p address back first bytes → length back ≡ 0 → HasFrames old p (with_bytes old.frames first bytes)
+stores_back_all old p address [] first bytes so_far end = frames_are old p p.frames _ so_far.stored so_far.stays
+stores_back_all old p address (b ∷ back) first bytes so_far end = absurd (omega (arith, end))
 
 -- What is loaded.
 
@@ -231,21 +317,18 @@ pub record IsLoaded (old p : PagerState) (k : KernelImage) (domains : ℕ) (key 
   pub whole : IsWholePager p
   pub stays : HasFrames old p (with_segments (zero_ram k.frames) k.segments)
 
-pub loaded : (old p : PagerState) (k : KernelImage) (domains i : ℕ) (key : List ℕ) (segments : List Segment) →
-    segments ≡ k.segments → IsNewPager k.frames domains key old → StandsBlank k.frames key old →
-    LoadsFrom old p i segments → length segments ≤ i → IsWholePager p → IsLoaded old p k domains key
-loaded old p k domains i key segments same new blank so_far end whole = record {
+pub loaded : (old p : PagerState) (k : KernelImage) (domains : ℕ) (key : List ℕ) (back : List Segment) →
+    IsNewPager k.frames domains key old → StandsBlank k.frames key old → LoadsBack k.frames old p back k.segments →
+    length back ≡ 0 → IsWholePager p → IsLoaded old p k domains key
+loaded old p k domains key [] new blank so_far end whole = record {
   new = new;
   blank = blank;
   whole = whole;
   stays =
       frames_are old p p.frames _
-      (sym (at_drop_all (with_segments p.frames) segments i end)
-      ∙ (so_far.stored
-      ∙ (ap (λ (x : List (List ℕ)). with_segments x segments) new.zeros
-      ∙ ap (with_segments (zero_ram k.frames)) same)))
-      so_far.stays;
+      (so_far.loads.stored ∙ ap (λ (x : List (List ℕ)). with_segments x k.segments) new.zeros) so_far.loads.stays;
 }
+loaded old p k domains key (s ∷ back) new blank so_far end whole = absurd (omega (arith, end))
 
 loaded_count : (old p : PagerState) (k : KernelImage) (domains : ℕ) (key : List ℕ) → IsLoaded old p k domains key →
     length p.frames ≡ k.frames

@@ -52,4 +52,5 @@ pub record IsReadOnly (old new : Memory) : Type 0 where
   pub frames : new.pager.frames ≡ old.pager.frames
   pub rights : new.pager.rights ≡ old.pager.rights
   pub domains : domains_in new ≡ domains_in old
+  pub shadows : new.shadows ≡ old.shadows
   pub holds : (m : CloakedMemory) → Holds old m → Holds new m

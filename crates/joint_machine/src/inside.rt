@@ -1,5 +1,5 @@
 //! The step of a hart inside.
-ghost use Rattle.std.specs.Prelude.{◌≡◌, ◌≢◌, ◌<◌, ℕ, false, Some, IsSome};
+ghost use Rattle.std.specs.Prelude.{◌≡◌, ◌≢◌, ◌<◌, ℕ, false, [], Some, IsSome};
 ghost use Rattle.cloak_model.specs.Cloaking.{CloakedMemory};
 ghost use Rattle.cloak_model.specs.Contexts.{context_at};
 ghost use Rattle.cloak_model.specs.Csr.{interrupt_due};
@@ -9,11 +9,13 @@ ghost use Rattle.cloak_model.specs.Joint.{after_interrupt, by_interrupt};
 ghost use Rattle.cloak_model.specs.DomainStep as spec;
 ghost use Rattle.cloak_model.specs.Parts as parts;
 ghost use Rattle.cloaked_side.specs.Holding.{Holds, SameSize, domains_in};
-ghost use Rattle.cloaked_side.specs.Tracking.{TracksBy};
+ghost use Rattle.cloaked_side.specs.Tracking.{GoesBy};
 ghost use Rattle.shadow_fold.specs.Events as events;
-ghost use Rattle.shadow_fold.specs.Fold.{after_events};
 ghost use Rattle.std.specs.Prelude.{Option};
+ghost use Rattle.cloak_base.specs.declared.names.PageId.{PageId};
 ghost use Rattle.cloak_base.specs.declared.names.SpaceId.{SpaceId as AnySpace};
+ghost use Rattle.joint_machine.specs.Mapping.{MakesIn};
+ghost use Rattle.space_law.specs.Mapping.{mapped_in, page_of};
 ghost use Rattle.hypercalls.specs.Standing.{StandsFor, control_of, number_of};
 ghost use Rattle.joint_machine.specs.Turning.{AreRoots, HoldsNoFree, HoldsNoOthers, InterruptsIn, TurnsIn};
 
@@ -50,8 +52,8 @@ fn end_space(memory: &mut Memory, domain: u32, went: &Went)
     ensures same_pager { memory.new.pager ≡ memory.old.pager }
     ensures counting { memory.new.counting ≡ memory.old.counting }
     ensures holds { (m : CloakedMemory) → Holds memory.old m → Holds memory.new m }
-    ensures tracks { (space : Option AnySpace) →
-        TracksBy memory.old memory.new (after_events space (events.space_events domain went.now)) }
+    ensures goes { (space : Option AnySpace) → GoesBy memory.old memory.new
+        (record { space = space; events = []; items = []; changed = events.changed_by domain went.now }) }
 {
     match went {
         Went::Remapped(number) => memory.end_space(SpaceId {
@@ -95,12 +97,16 @@ fn step_context<E: Emit>(
         StandsFor domain.old was → Holds memory.old j.memory → AreRoots roots.old j.memory.ledger.root →
         t.joint.memory.ledger.clashed ≡ false →
         TurnsIn E.gave e.old e.new h.new domain.new roots.new memory.new result j number d t }
-    ensures tracks { (j : parts.Joint) (number : ℕ) (was : model.Domain) →
+    ensures goes { (j : parts.Joint) (number : ℕ) (was : model.Domain) →
         let due = interrupt_due h.old.mode h.old.csrs in
         StandsFor domain.old was → Holds memory.old j.memory →
         (by_interrupt due j number h.old d slot was).joint.memory.ledger.clashed ≡ false →
-        TracksBy memory.old memory.new
-        (events.by_interrupt due j h.old d slot was (context_at was.control.contexts slot)) }
+        GoesBy memory.old memory.new (events.asked_if due j h.old d slot was (context_at was.control.contexts slot)) }
+    ensures makes { (j : parts.Joint) (was : model.Domain) (mapped : AnySpace → ℕ → Option PageId) →
+        StandsFor domain.old was →
+        ((space va : ℕ) → mapped (record { domain = d; number = space }) va ≡ page_of (Some was) space va) →
+        MakesIn mapped (events.asked_if (interrupt_due h.old.mode h.old.csrs) j h.old d slot was
+        (context_at was.control.contexts slot)) }
 {
     if h.csrs.due(h.mode) {
         take_interrupt(h, d, slot, domain, e);
@@ -109,6 +115,7 @@ fn step_context<E: Emit>(
     let Some((space, _)) = domain.context(slot) else {
         return None;
     };
+    domain.whole(space);
     let view = view_of(h, d);
     let space = SpaceId {
         domain: d as u32,
@@ -139,12 +146,14 @@ impl Joint {
             StandsForJoint self.old j → t.joint.memory.ledger.clashed ≡ false →
             EndsTurn E.gave e.old e.new self.new result t }
         ensures counting { self.new.memory.counting ≡ self.old.memory.counting }
-        ensures tracks { (j : parts.Joint) →
+        ensures goes { (j : parts.Joint) →
             let d = domain_of ctx in
             let h = ticked (hart_in j number) in
             StandsForJoint self.old j →
             (inside_step j number h d (slot_of ctx) (slice_get j.domains d)).joint.memory.ledger.clashed ≡ false →
-            TracksBy self.old.memory self.new.memory (events.after_inside j h d (slot_of ctx) (slice_get j.domains d)) }
+            GoesBy self.old.memory self.new.memory (events.asked_inside j h d (slot_of ctx) (slice_get j.domains d)) }
+        ensures makes { (j : parts.Joint) → let d = domain_of ctx in StandsForJoint self.old j → MakesIn (mapped_in j)
+            (events.asked_inside j (ticked (hart_in j number)) d (slot_of ctx) (slice_get j.domains d)) }
     {
         let h = &mut self.harts[number];
         tick(h);

@@ -1,6 +1,6 @@
 //! RAM as a run begins.
-ghost use Rattle.std.specs.Prelude.{◌≡◌, ◌≤◌, ◌+◌, ◌*◌, ◌<◌, ℕ, length, IfOk};
-ghost use Rattle.cloak_model.specs.Bundle.{IsKernelImage};
+ghost use Rattle.std.specs.Prelude.{◌≡◌, ◌≤◌, ◌+◌, ◌-◌, ◌*◌, ◌<◌, ℕ, [], length, reverse, take, drop, IfOk};
+ghost use Rattle.cloak_model.specs.Bundle.{IsKernelImage, IsSegmentIn};
 ghost use Rattle.cloak_model.specs.Memory.{with_bytes};
 ghost use Rattle.cloak_model.specs.Opening.{started_memory};
 ghost use Rattle.cloak_pager.specs.State.{held_in};
@@ -8,15 +8,19 @@ ghost use Rattle.cloaked_side.specs.Holding.{Holds, domains_in, frames_of};
 ghost use Rattle.joint_machine.specs.Starting.{ArePages, HasFrames, IsReady};
 
 use cloak_base::{Frame, NoMemory};
-use cloak_model::KernelImage;
+use cloak_model::{KernelImage, Segment};
 use cloak_pager::Pager;
 use cloaked_side::Memory;
+use host_calls::Disk;
 use multi_shadow::Shadows;
 use outside_io::Stream;
 use std::alloc::Global;
 
 /// Where RAM begins.
 const RAM_START: u32 = 0x8000_0000;
+
+/// How many bytes a segment gives back at a time.
+const PIECE: usize = 65_536;
 
 /// Stores bytes from an address on.
 fn store(pager: &mut Pager, address: u32, bytes: &[u8])
@@ -33,34 +37,84 @@ fn store(pager: &mut Pager, address: u32, bytes: &[u8])
     }
 }
 
-/// Memory before any page is placed: zeros, and then the kernel's segments in their order.
+/// Stores the last bytes of a list, the last one first, from an address on. The list gives them back. Answers how many they are.
+fn store_piece(pager: &mut Pager, address: u32, bytes: &mut Vec<u8>) -> u32
+    requires from_start { 0x80000000 ≤ address }
+    requires to_end { address + length bytes.old.items ≤ 0x80000000 + 4096 * length pager.old.frames }
+    requires few { length pager.old.frames ≤ 4096 }
+    requires outside { (k : ℕ) → held_in pager.old k ≡ None }
+    requires pages { ArePages pager.old.frames }
+    ensures frames { HasFrames pager.old pager.new
+        (with_bytes pager.old.frames address (reverse (drop (length bytes.old.items - result) bytes.old.items))) }
+    ensures rest { bytes.new.items ≡ take (length bytes.old.items - result) bytes.old.items }
+    ensures some { 0 < length bytes.old.items → 0 < result }
+    ensures within { result ≤ length bytes.old.items }
+{
+    let from = bytes.len().saturating_sub(PIECE);
+    let count = (bytes.len() - from) as u32;
+    bytes[from..].reverse();
+    store(pager, address, &bytes[from..]);
+    bytes.truncate(from);
+    bytes.shrink_to_fit();
+    count
+}
+
+/// Stores a segment, which gives its bytes back as they are stored.
+fn store_segment(pager: &mut Pager, segment: Segment)
+    requires segment { IsSegmentIn (length pager.old.frames) segment }
+    requires few { length pager.old.frames ≤ 4096 }
+    requires outside { (k : ℕ) → held_in pager.old k ≡ None }
+    requires pages { ArePages pager.old.frames }
+    ensures { HasFrames pager.old pager.new (with_bytes pager.old.frames segment.address segment.bytes) }
+{
+    let Segment { address, bytes } = segment;
+    let mut address = address;
+    let mut bytes = bytes.into_vec();
+    bytes.reverse();
+    while !bytes.is_empty() {
+        address += store_piece(pager, address, &mut bytes);
+    }
+}
+
+/// Memory before any page is placed: zeros, and then the kernel's segments in their order, each of which is given back; and the
+/// disk, in the memory of the image's disk.
 pub(crate) fn load(
     alloc: Global,
-    k: &KernelImage,
+    k: KernelImage,
     domains: u32,
     key: [u8; 16],
     stream: Stream,
-) -> Result<Memory, NoMemory>
-    requires kernel { IsKernelImage k.now }
+) -> Result<(Memory, Disk), NoMemory>
+    requires kernel { IsKernelImage k }
     requires domains { domains ≤ 4 }
-    ensures holds { IfOk result (λ memory. Holds memory (started_memory k.now key stream)) }
-    ensures frames { IfOk result (λ memory. frames_of memory ≡ k.now.frames) }
-    ensures domains { IfOk result (λ memory. domains_in memory ≡ domains) }
-    ensures ready { IfOk result (λ memory. IsReady memory.pager 0 0) }
+    ensures holds { IfOk result (λ p. Holds p.0 (started_memory k key stream)) }
+    ensures frames { IfOk result (λ p. frames_of p.0 ≡ k.frames) }
+    ensures domains { IfOk result (λ p. domains_in p.0 ≡ domains) }
+    ensures ready { IfOk result (λ p. IsReady p.0.pager 0 0) }
+    ensures empty { IfOk result (λ p. p.0.shadows.live ≡ []) }
+    ensures disk { IfOk result (λ p. p.1 ≡ k.disk) }
 {
-    let mut pager = Pager::open(alloc, k.frames, domains, key)?;
-    let shadows = Shadows::open(alloc, k.frames)?;
-    let segments = k.segments.as_slice();
-    for segment in segments {
-        store(&mut pager, segment.address, segment.bytes.as_slice());
+    let KernelImage {
+        frames,
+        segments,
+        disk,
+        ..
+    } = k;
+    let mut pager = Pager::open(alloc, frames, domains, key)?;
+    let shadows = Shadows::open(alloc, frames)?;
+    let mut segments = segments.into_vec();
+    segments.reverse();
+    while let Some(segment) = segments.pop() {
+        store_segment(&mut pager, segment);
     }
     pager.whole();
-    Ok(Memory {
+    let memory = Memory {
         pager,
         stream,
         draws: 0,
         missed: false,
         shadows,
         counting: false,
-    })
+    };
+    Ok((memory, Disk::of(disk.into_vec())))
 }

@@ -18,7 +18,6 @@ use crate::starting::{start_domains, start_harts};
 use cloak_base::Frame;
 use cloak_model::{Emit, KernelImage, Program};
 use cloaked_side::{KeptItems, Memory};
-use host_calls::Disk;
 use outside_io::Stream;
 use std::alloc::Global;
 use thread_context::Roots;
@@ -61,14 +60,6 @@ fn show_placed<E: Emit>(memory: &mut Memory, programs: &[Program], e: &mut E)
     }
 }
 
-/// The disk of a kernel's image, in its memory. All other memory of the image is given back.
-fn disk_of(kernel: KernelImage) -> Disk
-    ensures { result ≡ kernel.disk }
-{
-    let KernelImage { disk, .. } = kernel;
-    Disk::of(disk.into_vec())
-}
-
 impl Joint {
     ghost use Rattle.joint_machine.specs.Standing.{harts_of, AllOutside, OpensAs, ShowsAs, StandsForJoint};
 
@@ -85,14 +76,14 @@ impl Joint {
         ensures opens { OpensAs (record { kernel = kernel; programs = programs.now }) s result }
         ensures harts { IfOk result (λ joint. harts_of joint ≡ kernel.harts) }
         ensures outside { IfOk result (λ joint. AllOutside joint) }
+        ensures empty { IfOk result (λ joint. joint.memory.shadows.live ≡ []) }
     {
         let mut stream = s;
         let Some(key) = stream.draw() else {
             return Err(OpenFault::NoKey);
         };
         let harts = start_harts(alloc, kernel.entry, kernel.harts)?;
-        let mut memory = load(alloc, &kernel, programs.len() as u32, key, stream)?;
-        let disk = disk_of(kernel);
+        let (mut memory, disk) = load(alloc, kernel, programs.len() as u32, key, stream)?;
         let domains = start_domains(alloc, programs)?;
         if !place_programs(&mut memory, programs) {
             return Err(OpenFault::NoRandom);
@@ -113,6 +104,7 @@ impl Joint {
         ensures outside { AllOutside self.new }
         ensures harts { harts_of self.new ≡ harts_of self.old }
         ensures emits_some { EmitsSome E.gave e.old e.new }
+        ensures shadows { self.new.memory.shadows ≡ self.old.memory.shadows }
         ensures shows { (b : Bundle) (s : Random) (o : Opened) → opening b s ≡ Ok o → b.programs ≡ programs.now →
             StandsForJoint self.old o.joint → ShowsAs E.gave e.old e.new self.new o }
     {

@@ -5,7 +5,7 @@ ghost use Rattle.cloak_model.specs.Exchange.{EmitsSome};
 ghost use Rattle.cloak_model.specs.Joint as spec;
 ghost use Rattle.cloak_model.specs.Joint.{hart_in, cloak_outside};
 ghost use Rattle.cloak_model.specs.Parts as parts;
-ghost use Rattle.cloaked_side.specs.Tracking.{TracksBy};
+ghost use Rattle.cloaked_side.specs.Tracking.{GoesBy};
 ghost use Rattle.shadow_fold.specs.Events as events;
 
 use crate::ended::Ended;
@@ -27,8 +27,8 @@ impl Joint {
             StepsPlainly E.gave e.old e.new self.new result j number
             (settled_step (hart_in j number) j.disk (cloak_outside j.memory (hart_in j number))) }
         ensures counting { self.new.memory.counting ≡ self.old.memory.counting }
-        ensures tracks { (j : parts.Joint) → StandsForJoint self.old j → j.memory.ledger.clashed ≡ false →
-            TracksBy self.old.memory self.new.memory (events.after_outside j (hart_in j number)) }
+        ensures goes { (j : parts.Joint) → StandsForJoint self.old j → j.memory.ledger.clashed ≡ false →
+            GoesBy self.old.memory self.new.memory (events.asked_outside j (hart_in j number)) }
     {
         outside_step(
             &mut self.harts[number],
@@ -47,8 +47,8 @@ impl Joint {
         ensures turns { (j : parts.Joint) → StandsForJoint self.old j → j.memory.ledger.clashed ≡ false →
             EndsTurn E.gave e.old e.new self.new result (spec.outside_step j number (hart_in j number)) }
         ensures counting { self.new.memory.counting ≡ self.old.memory.counting }
-        ensures tracks { (j : parts.Joint) → StandsForJoint self.old j → j.memory.ledger.clashed ≡ false →
-            TracksBy self.old.memory self.new.memory (events.after_outside j (hart_in j number)) }
+        ensures goes { (j : parts.Joint) → StandsForJoint self.old j → j.memory.ledger.clashed ≡ false →
+            GoesBy self.old.memory self.new.memory (events.asked_outside j (hart_in j number)) }
     {
         match self.step_plainly(number, e) {
             Kernel::Stay => Ended::met(None),

@@ -1,5 +1,5 @@
 //! The pages of programs as a run begins.
-ghost use Rattle.std.specs.Prelude.{◌≡◌, ◌≤◌, ◌+◌, ◌*◌, ◌<◌, ℕ, length, All};
+ghost use Rattle.std.specs.Prelude.{◌≡◌, ◌≤◌, ◌+◌, ◌*◌, ◌<◌, ℕ, [], length, All};
 ghost use Rattle.cloak_model.specs.Bundle.{IsProgramIn};
 ghost use Rattle.cloak_model.specs.Cloaking.{CloakedMemory};
 ghost use Rattle.cloak_model.specs.Opening as spec;
@@ -33,6 +33,7 @@ fn place_page(memory: &mut Memory, domain: u32, p: &Program, page: u32) -> bool
     requires ready { IsReady memory.old.pager domain page }
     ensures size { SameSize memory.old memory.new }
     ensures ready { IsReady memory.new.pager domain (page + 1) }
+    ensures empty { memory.old.shadows.live ≡ [] → memory.new.shadows.live ≡ [] }
     ensures places { (m : CloakedMemory) → Holds memory.old m → PlacesTo memory.new result
         (place (record { domain = domain; resource = 0; page = page }) (p.now.place + page)
         (program_page p.now.bytes page) m) }
@@ -62,6 +63,7 @@ fn place_pages(memory: &mut Memory, domain: u32, p: &Program) -> bool
     requires ready { IsReady memory.old.pager domain 0 }
     ensures size { SameSize memory.old memory.new }
     ensures ready { IsReady memory.new.pager (domain + 1) 0 }
+    ensures empty { memory.old.shadows.live ≡ [] → memory.new.shadows.live ≡ [] }
     ensures places { (m : CloakedMemory) → Holds memory.old m →
         PlacesTo memory.new result (spec.place_pages domain p.now p.now.start.pages m) }
 {
@@ -81,6 +83,7 @@ pub(crate) fn place_programs(memory: &mut Memory, programs: &[Program]) -> bool
     requires ready { IsReady memory.old.pager 0 0 }
     ensures size { SameSize memory.old memory.new }
     ensures outside { (k : ℕ) → held_in memory.new.pager k ≡ None }
+    ensures empty { memory.old.shadows.live ≡ [] → memory.new.shadows.live ≡ [] }
     ensures places { (m : CloakedMemory) → Holds memory.old m →
         PlacesTo memory.new result (spec.place_programs 0 programs.now m) }
 {

@@ -16,7 +16,7 @@ pub struct JointParts {
 }
 
 impl Joint {
-    ghost use Rattle.std.specs.Prelude.{◌≡◌, ◌≤◌, ℕ, length, true};
+    ghost use Rattle.std.specs.Prelude.{◌≡◌, ◌≤◌, ℕ, [], length, true};
     ghost use Rattle.cloak_model.specs.Parts as model;
     ghost use Rattle.cloaked_side.specs.Tracking.{Tracks};
     ghost use Rattle.joint_machine.specs.Standing.{AllOutside, LendsPager, StandsForJoint, harts_of};
@@ -25,7 +25,8 @@ impl Joint {
     /// The pager with the frames of the machine and the pages of its programs.
     #[tactic(auto, using(crate::proofs::Lent::lends_pager))]
     pub fn pager(&self) -> &Pager
-        ensures { (j : model.Joint) → StandsForJoint self.now j → LendsPager result.now j.memory }
+        ensures lends { (j : model.Joint) → StandsForJoint self.now j → LendsPager result.now j.memory }
+        ensures own { result.now ≡ self.now.memory.pager }
     {
         &self.memory.pager
     }
@@ -36,6 +37,7 @@ impl Joint {
         ensures harts { harts_of self.new ≡ harts_of self.old }
         ensures outside { AllOutside self.old → AllOutside self.new }
         ensures counting { self.new.memory.counting ≡ true }
+        ensures empty { self.new.memory.shadows.live ≡ [] }
         ensures tracks { AllOutside self.old → (frames : ℕ) → Tracks self.new.memory (fresh_fold frames) }
     {
         self.memory.count_accesses();

@@ -1,14 +1,13 @@
 //! The step of a program over the machine's memory.
-ghost use Rattle.std.specs.Prelude.{◌≡◌, ◌≢◌, ◌<◌, ℕ, false, Some, IsSome};
+ghost use Rattle.std.specs.Prelude.{◌≡◌, ◌≢◌, ◌<◌, ℕ, false, [], Some, IsSome};
 ghost use Rattle.cloak_model.specs.Cloaking.{CloakedMemory};
 ghost use Rattle.cloak_model.specs.Contexts.{context_at};
 ghost use Rattle.cloak_model.specs.DomainState as model;
 ghost use Rattle.cloak_model.specs.DomainStep.{domain_step};
 ghost use Rattle.cloak_model.specs.Exchange.{EmitsSome};
-ghost use Rattle.cloak_model.specs.World.{Cloaked, events_of, is_clashed};
-ghost use Rattle.shadow_fold.specs.Fold.{after_events};
+ghost use Rattle.cloak_model.specs.World.{Cloaked, events_of, items_of, is_clashed};
 ghost use Rattle.cloaked_side.specs.Holding.{Holds, SameSize, domains_in};
-ghost use Rattle.cloaked_side.specs.Tracking.{TracksBy};
+ghost use Rattle.cloaked_side.specs.Tracking.{GoesBy};
 ghost use Rattle.hypercalls.specs.Standing.{StandsFor, control_of, number_of};
 ghost use Rattle.joint_machine.specs.Turning.{HoldsNoFree, HoldsNoOthers, StepsDomain, begun};
 
@@ -48,9 +47,10 @@ pub fn step_domain<E: Emit>(
     ensures steps { (m : CloakedMemory) (d : model.Domain) → Holds memory.old m → StandsFor domain.old d →
         is_clashed (domain_step slot d (Cloaked (begun m view slot d))).world ≡ false →
         StepsDomain E.gave e.old e.new memory.new domain.new result (domain_step slot d (Cloaked (begun m view slot d))) }
-    ensures tracks { (m : CloakedMemory) (d : model.Domain) → Holds memory.old m → StandsFor domain.old d →
+    ensures goes { (m : CloakedMemory) (d : model.Domain) → Holds memory.old m → StandsFor domain.old d →
         let told = domain_step slot d (Cloaked (begun m view slot d)) in is_clashed told.world ≡ false →
-        TracksBy memory.old memory.new (after_events (Some space) (events_of told.world)) }
+        GoesBy memory.old memory.new
+        (record { space = Some space; events = events_of told.world; items = items_of told.world; changed = [] }) }
 {
     let mut side = Side {
         memory,

@@ -2,8 +2,10 @@ ghost use Rattle.std.specs.Prelude.{◌≡◌, ◌<◌, false};
 ghost use Rattle.cloak_model.specs.Exchange.{EmitsSome};
 ghost use Rattle.cloak_model.specs.Joint.{hart_in};
 ghost use Rattle.cloak_model.specs.Parts as model;
-ghost use Rattle.cloaked_side.specs.Tracking.{TracksBy};
-ghost use Rattle.shadow_fold.specs.Events.{after_step_of};
+ghost use Rattle.cloaked_side.specs.Tracking.{AreMapped, GoesBy};
+ghost use Rattle.joint_machine.specs.Mapping.{MakesIn};
+ghost use Rattle.space_law.specs.Mapping.{mapped_in};
+ghost use Rattle.shadow_fold.specs.Events.{asked_of};
 
 use crate::ended::Ended;
 use crate::joint::Joint;
@@ -32,10 +34,11 @@ impl Joint {
             (turn_in j number).joint.memory.ledger.clashed ≡ false →
             EndsTurn E.gave e.old e.new self.new result (turn_in j number) }
         ensures counting { self.new.memory.counting ≡ self.old.memory.counting }
-        ensures tracks { (j : model.Joint) → StandsForJoint self.old j →
+        ensures goes { (j : model.Joint) → StandsForJoint self.old j →
             (turn_in j number).joint.memory.ledger.clashed ≡ false →
-            TracksBy self.old.memory self.new.memory
-            (after_step_of j (hart_in j number) (hart_in j number).inside) }
+            GoesBy self.old.memory self.new.memory (asked_of j (hart_in j number) (hart_in j number).inside) }
+        ensures makes { (j : model.Joint) → StandsForJoint self.old j →
+            MakesIn (mapped_in j) (asked_of j (hart_in j number) (hart_in j number).inside) }
     {
         match self.harts[number].inside {
             None => self.outside(number, e),
@@ -54,10 +57,12 @@ impl Joint {
             (turn_in j number).joint.memory.ledger.clashed ≡ false →
             TakesTurn E.gave e.old e.new self.new result (turn_in j number) }
         ensures counting { self.new.memory.counting ≡ self.old.memory.counting }
-        ensures tracks { (j : model.Joint) → StandsForJoint self.old j →
+        ensures goes { (j : model.Joint) → StandsForJoint self.old j →
             (turn_in j number).joint.memory.ledger.clashed ≡ false →
-            TracksBy self.old.memory self.new.memory
-            (after_step_of j (hart_in j number) (hart_in j number).inside) }
+            GoesBy self.old.memory self.new.memory (asked_of j (hart_in j number) (hart_in j number).inside) }
+        ensures maps { (j : model.Joint) → StandsForJoint self.old j →
+            (turn_in j number).joint.memory.ledger.clashed ≡ false → AreMapped (mapped_in j) self.old.memory →
+            AreMapped (mapped_in (turn_in j number).joint) self.new.memory }
     {
         let ended = self.step(number, e);
         Turned {

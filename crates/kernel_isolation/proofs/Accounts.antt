@@ -11,8 +11,8 @@ use Rattle.cloak_model.specs.declared.answer.Answer.{Answer}
 use Rattle.cloak_model.specs.declared.answer.Answer.TheVariants as answer
 use Rattle.cloak_model.specs.declared.item.Item.{Item}
 use Rattle.cloak_model.specs.declared.item.Item.TheVariants as item
-use Rattle.cloak_model.specs.Ask.{ask_word, ask_second, ask_after, ask_first, ask_walk, ask_inside, ask_translate, ask_led, opened, ask_value}
-use Rattle.cloak_model.specs.AskPages.{answer_item, is_store, replies, if_drawn, ask_inside_address, offered_by, ask_offer, reached, reach_by_table, got, get_by_table, put_at, stored_inside, put_by_table, settled_if_marked, clear_from, ask_reach, ask_read, ask_write, ask_get, ask_put, ask_clear, ask_copy, ask_forget}
+use Rattle.cloak_model.specs.Ask.{ask_word, ask_second, ask_after, ask_first, ask_walk, ask_inside, ask_translate, ask_led, opened}
+use Rattle.cloak_model.specs.AskPages.{answer_item, is_store, replies, if_drawn, ask_inside_address, offered_by, ask_offer, reached, reach_by_table, get_at, got, get_by_table, put_at, stored_inside, put_by_table, settled_if_marked, clear_from, ask_reach, ask_read, ask_write, ask_get, ask_put, ask_clear, ask_copy, ask_forget}
 use Rattle.cloak_model.specs.Asking.{Told, Asking}
 use Rattle.cloak_model.specs.Cloaking.{Offer, Ready, Mismatch, Missed, offer, settle}
 use Rattle.cloak_model.specs.Effect.{IsWidth}
@@ -159,10 +159,6 @@ accounts_led : (satp : ℕ) (a : Access) (w : World) → Accounts w (ask_led sat
 unfolding ask_led
 accounts_led satp a w = Accounts-trans _ _ _ (Accounts-noted _ w) (accounts_translate satp a _)
 
-accounts_value : (satp : ℕ) (a : Access) (pa width : ℕ) (w : World) → Accounts w (ask_value satp a pa width w).world
-unfolding ask_value
-accounts_value satp a pa width w = Accounts-opened satp a pa w
-
 -- Answers.
 
 inward_account : (c : Cloak) (d : ℕ) (a : Answer) →
@@ -256,11 +252,15 @@ unfolding reach_by_table
 accounts_reach_by_table q va kind w =
     Accounts-trans _ _ _ (accounts_inside_address va kind w) (accounts_drawn _ _ (accounts_reached q va kind _ _))
 
+accounts_get_at : (pa width : ℕ) (w : World) → Accounts w (get_at pa width w).world
+unfolding get_at
+accounts_get_at pa width w = Accounts-trans _ _ _ (Accounts-noted _ w) (accounts_replies _ _)
+
 accounts_got : (va width : ℕ) (to : Result ℕ ℕ) (w : World) → Accounts w (got va width to w).world
 unfolding got
 accounts_got va width (Err cause) w = accounts_replies _ w
 accounts_got va width (Ok pa) w =
-    Accounts-trans _ _ _ (accounts_value _ _ pa width w) (accounts_drawn _ _ (accounts_replies _ _))
+    Accounts-trans _ _ _ (Accounts-opened _ _ pa w) (accounts_drawn _ _ (accounts_get_at pa width _))
 
 accounts_get_by_table : (va width : ℕ) (w : World) → Accounts w (get_by_table va width w).world
 unfolding get_by_table

@@ -1,6 +1,6 @@
 -- Live entries in the slots of an arena. The slot of an entry stands in a chain of each kind: by view, page and kind in
 -- that of its bucket, and in those of its target and of its table frames.
-use Rattle.std.specs.Prelude.{◌≡◌, ℕ, ◌+◌, ◌*◌, ◌%◌, ◌<◌, ◌==◌, Bool, true, false, ◌&&◌, List, length, slice_get, slice_set, Option, Some, None}
+use Rattle.std.specs.Prelude.{◌≡◌, ℕ, ◌+◌, ◌*◌, ◌%◌, ◌^◌, ◌<◌, ◌==◌, Bool, true, false, ◌&&◌, List, length, slice_get, slice_set, Option, Some, None}
 use Rattle.std.specs.List.{filter_map}
 use Rattle.chain_arena.specs.declared.chain.Chain.{Chain}
 use Rattle.chain_arena.specs.declared.chain.Chain.TheVariants as chain
@@ -27,6 +27,9 @@ abbrev pub kind_number : Kind → ℕ
 kind_number Fetch = 0
 kind_number Load = 1
 kind_number Store = 2
+
+abbrev pub IsPower : ℕ → Type 0
+IsPower n = (k : ℕ) × (n ≡ 2 ^ k)
 
 -- the bucket of a view, page and kind, of n buckets
 unfoldable pub bucket_of : ℕ → ShadowView → ℕ → Kind → ℕ

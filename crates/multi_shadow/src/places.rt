@@ -1,11 +1,11 @@
 //! Live entries in an arena: each stands in the chains of what it hangs on, so that whatever ends entries finds them by
 //! one chain.
-ghost use Rattle.std.specs.Prelude.{◌≡◌, ◌<◌, ℕ, length, slice_get, slice_set, find, Some, None, IfSome, true, false};
+ghost use Rattle.std.specs.Prelude.{◌≡◌, ◌<◌, ◌%◌, ℕ, length, slice_get, slice_set, find, Some, None, IfSome, true, false};
 ghost use Rattle.chain_arena.specs.declared.chain.Chain.{Chain};
 ghost use Rattle.chain_arena.specs.Arena.{IsFree, IsInUse, Stands, chains, chain_at, unhooked, IsTidyArena};
 ghost use Rattle.multi_shadow.specs.Placed as spec;
 ghost use Rattle.multi_shadow.specs.Placed.{ArePlaced, AreApart, LiesAt, live_in, entered, without_if, emptied_if};
-ghost use Rattle.multi_shadow.specs.Placed.{all_entered, hangs_on, is_hit, EndsJust, IsPut};
+ghost use Rattle.multi_shadow.specs.Placed.{all_entered, hangs_on, is_hit, EndsJust, IsPut, IsPower};
 ghost use Rattle.chain_arena.specs.Chains.{without};
 ghost use Rattle.shadow_fold.specs.Agreement.{satp_in};
 ghost use Rattle.shadow_fold.specs.Entries as entries;
@@ -36,15 +36,27 @@ fn satp_of(v: &ShadowView) -> u32
     }
 }
 
+/// The remainder by a power of two.
+#[inline(always)]
+fn low_part(number: u64, power: u32) -> u32
+    requires power { IsPower power }
+    ensures within { result < power }
+    ensures part { result ≡ number % power }
+{
+    let mask = u64::from(power - 1);
+    (number & mask) as u32
+}
+
 /// The bucket of a view, page and kind.
+#[inline(always)]
 #[tactic(auto, unfolding(crate::specs::Placed::bucket_of))]
 fn bucket_of(heads: u32, v: &ShadowView, page: u32, kind: Kind) -> u32
-    requires { 0 < heads }
+    requires power { IsPower heads }
     ensures within { result < heads }
     ensures bucket { result ≡ spec.bucket_of heads v.now page kind }
 {
     let number = 4 * u64::from(page) + kind_number(kind) + 37 * u64::from(satp_of(v));
-    (number % u64::from(heads)) as u32
+    low_part(number, heads)
 }
 
 fn number_of(f: Option<Frame>) -> Option<u32>
@@ -100,6 +112,7 @@ fn enter_all(arena: &mut ChainArena<Entry>, heads: u32, s: Slot, e: Entry)
     requires apart { (c : Chain) → Stands arena.old c s → ⊥ }
     requires heads { heads ≡ arena.old.heads }
     requires some { 0 < heads }
+    requires power { IsPower heads }
     requires within { IsWithin heads e }
     ensures entered { arena.new ≡ all_entered arena.old s e }
     ensures tidy { IsTidyArena arena.new }
@@ -116,6 +129,7 @@ pub(crate) fn place(arena: &mut ChainArena<Entry>, heads: u32, e: Entry) -> bool
     requires placed { ArePlaced arena.old }
     requires heads { heads ≡ arena.old.heads }
     requires some { 0 < heads }
+    requires power { IsPower heads }
     requires within { IsWithin heads e }
     ensures full { result ≡ false → (s : ℕ) → IsFree arena.old s → ⊥ }
     ensures unchanged { result ≡ false → arena.new ≡ arena.old }
@@ -132,7 +146,9 @@ pub(crate) fn place(arena: &mut ChainArena<Entry>, heads: u32, e: Entry) -> bool
     }
 }
 
-/// Takes an entry out of all its chains, and gives its slot back.
+/// Takes an entry out of all its chains, and gives its slot back. Apart, so that a chain that is empty costs little.
+#[cold]
+#[inline(never)]
 fn remove(arena: &mut ChainArena<Entry>, s: Slot)
     requires placed { ArePlaced arena.old }
     requires in_use { IsInUse arena.old s }
@@ -219,6 +235,7 @@ pub(crate) fn search(
     requires apart { AreApart arena.now }
     requires heads { heads ≡ arena.now.heads }
     requires some { 0 < heads }
+    requires power { IsPower heads }
     ensures { result ≡ find (entries.is_for v.now page kind) (live_in arena.now.payloads) }
 {
     let bucket = bucket_of(heads, v, page, kind);

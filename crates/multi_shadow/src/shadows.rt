@@ -1,6 +1,7 @@
 ghost use Rattle.std.specs.Prelude.{◌≡◌, ◌∷◌, ◌<◌, ◌≤◌, true, false, length, find, IfOk};
 ghost use Rattle.std.specs.List.Sorted.{IsPermutation};
 ghost use Rattle.shadow_fold.specs.Entries.{is_for, is_target, is_table, is_of_space, IsWithin};
+ghost use Rattle.multi_shadow.specs.Placed.{IsPower};
 ghost use Rattle.shadow_fold.specs.Following.{AreBirthCalls};
 ghost use Rattle.shadow_fold.specs.Table.{empty_table, is_known, looked, ending, emptied, with_room, with_live};
 
@@ -53,12 +54,26 @@ impl Model for Shadows {
     ghost invariant = { AreKept };
 }
 
+/// The least power of two that is a number or more. None where it is no `u32`.
+fn power_from(number: u32) -> Result<u32, NoMemory>
+    ensures { IfOk result (λ n. (number ≤ n) × IsPower n) }
+{
+    if number <= 1 {
+        return Ok(1);
+    }
+    let places = (number - 1).ilog2() + 1;
+    if places > 31 {
+        return Err(NoMemory);
+    }
+    Ok(1 << places)
+}
+
 impl Shadows {
     /// No entry is live. The one call that takes memory: there is room for 1024 entries.
     pub fn open(alloc: Global, frames: u32) -> Result<Shadows, NoMemory>
         ensures { IfOk result (λ s. s ≡ empty_table frames) }
     {
-        let heads = frames.max(1);
+        let heads = power_from(frames)?;
         let arena = ChainArena::open(alloc, ROOM, heads, NO_ENTRY)?;
         let counts = ShadowCounts {
             accesses: 0,

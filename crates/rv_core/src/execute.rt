@@ -19,6 +19,7 @@ use cloak_model::Effect;
 use rv_isa::Instr;
 
 /// The effect of an instruction on a hart with these registers, at this program counter.
+#[inline(always)]
 #[tactic(auto, unfolding(cloak_model::specs::Effect::effect))]
 pub fn effect(i: &Instr, r: &Regs, pc: u32) -> Effect
     requires { InRange i.now }

@@ -8,6 +8,7 @@ use crate::fields::{bits, imm_b, imm_i, imm_j, imm_s, imm_u, rest};
 use crate::{Instr, opcode};
 
 /// The instruction of a word, or none where the word is illegal. Any `u32` may be given.
+#[inline(always)]
 #[tactic(auto, unfolding(crate::specs::Table::instruction))]
 pub fn decode(word: u32) -> Option<Instr>
     ensures table { result ≡ instruction word }

@@ -12,7 +12,7 @@ use Rattle.shadow_fold.specs.declared.entry.Entry.{Entry}
 use Rattle.shadow_fold.specs.declared.entry.ShadowView.{ShadowView}
 use Rattle.shadow_fold.specs.Entries.{is_for, is_target, is_table, is_frame, is_of_space}
 use Rattle.shadow_fold.specs.Table.{Table, one_more, is_known, looked, ending, killed, emptied, with_room, with_live, born}
-use Rattle.cloak_model.specs.Events.{Event, Look, Touch, Offer, Born, Write, Drop, Space}
+use Rattle.cloak_model.specs.Events.{Event, Look, Touch, Offer, Born, Read, Write, Drop, Space}
 use Rattle.shadow_fold.specs.Fold.{Fold, frame, view_in, entry_in, is_own_table, born_unless, holds, table_holds, part_holds, touched, touched_where, with_held, with_table, granted, offered, after_event, after_events}
 use Rattle.shadow_fold.specs.Following.{Follows, killed_if, killed_each, HasAll, AreOfferCalls, AreBirthCalls, AreBirthCallsUnless, AreCallsFor, AreCallsForAll, CallsFollow}
 use Rattle.shadow_fold.proofs.Counting.{same_from_permutation, same_cons, passing, same_filter, same_any, same_length}
@@ -255,6 +255,7 @@ module _ (space : Option SpaceId) where
   follows_event (Offer q g grant) s t t' f calls = follows_offer q (frame g) grant s t t' f calls
   follows_event (Born satp a walked cloaked) s t t' f calls =
       let e = entry_in space satp a walked cloaked in follows_birth_unless (is_own_table e) e t s.table t' f calls
+  follows_event (Read g) s t t' f calls = subst (λ u. Follows u s.table) (sym calls) f
   follows_event (Write g) s t t' f calls = subst (λ u. Follows u (ending (is_table (frame g)) s.table)) (sym calls) (follows_end _ t s.table f)
   follows_event (Drop d resource) s t t' f calls = subst (λ u. Follows u (touched_where (is_of d resource) s).table) (sym calls.2) (follows_all (is_of d resource) calls.0 s t calls.1 f)
   follows_event (Space changed) s t t' f calls = subst (λ u. Follows u (ending (is_of_space changed) s.table)) (sym calls) (follows_end (is_of_space changed) t s.table f)

@@ -9,7 +9,7 @@ use Rattle.cloak_base.specs.declared.names.PageId.{PageId}
 use Rattle.cloak_base.specs.declared.names.SpaceId.{SpaceId}
 use Rattle.cloak_model.specs.declared.access.Access.{Access}
 use Rattle.cloak_model.specs.declared.access.Walked.{Walked}
-use Rattle.cloak_model.specs.Events.{Event, Look, Touch, Offer, Born, Write, Drop, Space}
+use Rattle.cloak_model.specs.Events.{Event, Look, Touch, Offer, Born, Read, Write, Drop, Space}
 use Rattle.cloak_model.specs.Walk.{frame_at}
 use Rattle.shadow_fold.specs.declared.entry.Entry.{Entry}
 use Rattle.shadow_fold.specs.declared.entry.ShadowView.{ShadowView}
@@ -107,6 +107,7 @@ after_event space (Touch f) s = touched (frame f) s
 after_event space (Offer q g grant) s = offered q (frame g) grant s
 after_event space (Born satp a walked cloaked) s =
     let e = entry_in space satp a walked cloaked in with_table (born_unless (is_own_table e) e s.table) s
+after_event space (Read f) s = s
 after_event space (Write f) s = with_table (ending (is_table (frame f)) s.table) s
 after_event space (Drop d resource) s = touched_where (is_of d resource) s
 after_event space (Space changed) s = with_table (ending (is_of_space changed) s.table) s

@@ -9,7 +9,7 @@ use Rattle.cloak_base.specs.declared.names.SpaceId.{SpaceId}
 use Rattle.shadow_fold.specs.declared.entry.Entry.{Entry}
 use Rattle.shadow_fold.specs.Entries.{is_table, is_of_space}
 use Rattle.shadow_fold.specs.Table.{Table, is_known, looked, ending, killed, with_room, with_live}
-use Rattle.cloak_model.specs.Events.{Event, Look, Touch, Offer, Born, Write, Drop, Space}
+use Rattle.cloak_model.specs.Events.{Event, Look, Touch, Offer, Born, Read, Write, Drop, Space}
 use Rattle.shadow_fold.specs.Fold.{Fold, frame, view_in, entry_in, is_own_table, holds, touched, after_event, after_events}
 
 -- the same entries are live, in any order, as no test can tell them apart, and the counts are the same
@@ -56,6 +56,7 @@ module _ (space : Option SpaceId) where
   AreCallsFor (Offer q g grant) s t t' = AreOfferCalls (holds (same_page q) (s.held g)) q (frame g) grant s t t'
   AreCallsFor (Born satp a walked cloaked) s t t' =
       let e = entry_in space satp a walked cloaked in AreBirthCallsUnless (is_own_table e) e t t'
+  AreCallsFor (Read f) s t t' = t' ≡ t
   AreCallsFor (Write f) s t t' = t' ≡ ending (is_table (frame f)) t
   AreCallsFor (Drop d resource) s t t' =
       (fs : List Frame) × HasAll s.held (is_of d resource) fs × (t' ≡ killed_each s.held (is_of d resource) fs t)

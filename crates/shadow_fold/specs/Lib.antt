@@ -1,8 +1,10 @@
 pub mod Agreement
+pub mod Births
 pub mod Entries
 pub mod Events
 pub mod Fold
 pub mod Following
 pub mod Keeping
+pub mod Reads
 pub mod Rows
 pub mod Table

@@ -115,26 +115,56 @@ below_frames n f k low small =
     let there : frame_of (start_of f + k) < n = omega (arith, low, small) in
     λ i. le-leb 0x80000000 (start_of f + k) from i && lt-ltb (frame_of (start_of f + k)) n there i
 
-pub hit_is_walk : (held : Held) (c : Cloak) (e : Entry) (va : ℕ) → OwedIsHeld held c.memory
-    → EntryAgrees (present held c.memory) e → va / 4096 ≡ e.page → e.frame.0 < length c.memory.ram
-    → ask_translate (satp_in e.view) (access_in e.view va e.kind) (Cloaked c) ≡ record { answer = Ok (start_of e.frame.0 + va % 4096); world = noted (touches (listed e.pt1 ++ listed e.pt0)) (Cloaked c) }
-unfolding ask_translate ask_inside
-hit_is_walk held c e va owed agrees page low =
+-- the walk of an access by an entry that agrees
+hit_leads : (held : Held) (m : CloakedMemory) (e : Entry) (va : ℕ) → EntryAgrees (present held m) e → va / 4096 ≡ e.page
+    → walk m.ram (satp_in e.view) (access_in e.view va e.kind) ≡ Ok (record { pa = start_of e.frame.0 + va % 4096; pt1 = e.pt1; pt0 = e.pt0 })
+hit_leads held m e va agrees page =
     let a = access_in e.view va e.kind in
     let satp = satp_in e.view in
-    let m = c.memory in
     let k = va % 4096 in
-    let w : Walked = record { pa = start_of e.frame.0 + k; pt1 = e.pt1; pt0 = e.pt0 } in
-    let leads : walk m.ram satp a ≡ Ok w =
     walk_of_page m.ram satp a
     ∙ (λ i. moved (va_of_access e.view va e.kind i % 4096) (walk m.ram satp (page_of_access e.view va e.kind i)))
     ∙ ap (λ n. moved k (walk m.ram satp (access_in e.view (4096 * n) e.kind))) page
-    ∙ ap (moved k) agrees.walks in
+    ∙ ap (moved k) agrees.walks
+
+-- what is asked at a hit is what the entry says, whether that is an address of RAM or none
+hit_asks : (held : Held) (c : Cloak) (e : Entry) (va : ℕ) (b : Bool) → OwedIsHeld held c.memory
+    → EntryAgrees (present held c.memory) e → va / 4096 ≡ e.page → is_in_ram c.memory.ram (start_of e.frame.0 + va % 4096) ≡ b
+    → ask_translate (satp_in e.view) (access_in e.view va e.kind) (Cloaked c)
+    ≡ record {
+      answer = cond b (Ok (start_of e.frame.0 + va % 4096)) (Err (access_fault (access_in e.view va e.kind).kind));
+      world = noted (touches (listed e.pt1 ++ listed e.pt0)) (Cloaked c);
+    }
+unfolding ask_translate ask_inside
+hit_asks held c e va b owed agrees page inside =
+    let a = access_in e.view va e.kind in
+    let satp = satp_in e.view in
+    let m = c.memory in
+    let w : Walked = record { pa = start_of e.frame.0 + va % 4096; pt1 = e.pt1; pt0 = e.pt0 } in
     let clean : AreClean m w = record { first = clean_tables held m e.pt1 owed agrees.first; second = clean_tables held m e.pt0 owed agrees.second } in
-    let small : k < 4096 = omega arith in
-    ap (λ (t : Told Walk). ask_inside a t.answer t.world) (leads_still satp a c w clean (walk_leads m.ram satp a w leads))
+    ap (λ (t : Told Walk). ask_inside a t.answer t.world) (leads_still satp a c w clean (walk_leads m.ram satp a w (hit_leads held m e va agrees page)))
     ∙ ap (λ (b : Bool). let t : Told (Result ℕ ℕ) = record { answer = cond b (Ok w.pa) (Err (access_fault a.kind)); world = Cloaked (after (touches (tables_of w)) c) } in t)
-    (below_frames (length m.ram) e.frame.0 k low small)
+    inside
+
+pub hit_is_led : (held : Held) (c : Cloak) (e : Entry) (va : ℕ) → OwedIsHeld held c.memory
+    → EntryAgrees (present held c.memory) e → va / 4096 ≡ e.page
+    → (walk c.memory.ram (satp_in e.view) (access_in e.view va e.kind) ≡ Ok (record { pa = start_of e.frame.0 + va % 4096; pt1 = e.pt1; pt0 = e.pt0 }))
+    × ((b : Bool) → is_in_ram c.memory.ram (start_of e.frame.0 + va % 4096) ≡ b
+    → ask_translate (satp_in e.view) (access_in e.view va e.kind) (Cloaked c)
+    ≡ record {
+      answer = cond b (Ok (start_of e.frame.0 + va % 4096)) (Err (access_fault (access_in e.view va e.kind).kind));
+      world = noted (touches (listed e.pt1 ++ listed e.pt0)) (Cloaked c);
+    })
+hit_is_led held c e va owed agrees page =
+    (hit_leads held c.memory e va agrees page, λ b inside. hit_asks held c e va b owed agrees page inside)
+
+pub hit_is_walk : (held : Held) (c : Cloak) (e : Entry) (va : ℕ) → OwedIsHeld held c.memory
+    → EntryAgrees (present held c.memory) e → va / 4096 ≡ e.page → e.frame.0 < length c.memory.ram
+    → ask_translate (satp_in e.view) (access_in e.view va e.kind) (Cloaked c) ≡ record { answer = Ok (start_of e.frame.0 + va % 4096); world = noted (touches (listed e.pt1 ++ listed e.pt0)) (Cloaked c) }
+hit_is_walk held c e va owed agrees page low =
+    let k = va % 4096 in
+    let small : k < 4096 = omega arith in
+    hit_asks held c e va true owed agrees page (below_frames (length c.memory.ram) e.frame.0 k low small)
 
 -- The offer of the page that a frame holds.
 

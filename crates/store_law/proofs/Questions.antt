@@ -8,8 +8,8 @@ use Rattle.cloak_model.specs.declared.access.Access.{Access}
 use Rattle.cloak_model.specs.declared.answer.Answer.{Answer}
 use Rattle.cloak_model.specs.declared.answer.Answer.TheVariants as answer
 use Rattle.cloak_model.specs.declared.item.Item.TheVariants as item
-use Rattle.cloak_model.specs.Ask.{ask_word, ask_second, ask_after, ask_first, ask_walk, ask_inside, ask_translate, ask_led, opened, ask_value}
-use Rattle.cloak_model.specs.AskPages.{is_store, offer_events, answer_item, replies, if_drawn, ask_inside_address, offered_by, ask_offer, reached, reach_by_table, got, get_by_table, put_at, stored_inside, put_by_table, settled_if_marked, clear_from, ask_reach, ask_read, ask_write, ask_get, ask_put, ask_clear, ask_copy, ask_forget}
+use Rattle.cloak_model.specs.Ask.{ask_word, ask_second, ask_after, ask_first, ask_walk, ask_inside, ask_translate, ask_led, opened}
+use Rattle.cloak_model.specs.AskPages.{is_store, offer_events, answer_item, replies, if_drawn, ask_inside_address, offered_by, ask_offer, reached, reach_by_table, get_at, got, get_by_table, put_at, stored_inside, put_by_table, settled_if_marked, clear_from, ask_reach, ask_read, ask_write, ask_get, ask_put, ask_clear, ask_copy, ask_forget}
 use Rattle.cloak_model.specs.Asking.{Asking}
 use Rattle.cloak_model.specs.Cloaking.{Offer, Ready, Mismatch, Missed, offer, settle}
 use Rattle.cloak_model.specs.Events.{Event}
@@ -71,10 +71,6 @@ shows_led satp a w = OnlyShows-trans _ _ _ (shows_noted _ w) (shows_translate sa
 
 shows_opened : (satp : ℕ) (a : Access) (pa : ℕ) (w : World) → OnlyShows w (opened satp a pa w)
 shows_opened satp a pa w = OnlyShows-trans _ _ _ (shows_settled (frame_of pa) w) (shows_noted _ _)
-
-shows_value : (satp : ℕ) (a : Access) (pa width : ℕ) (w : World) → OnlyShows w (ask_value satp a pa width w).world
-unfolding ask_value
-shows_value satp a pa width w = shows_opened satp a pa w
 
 -- Answers.
 
@@ -140,11 +136,15 @@ unfolding reach_by_table
 shows_reach_by_table q va kind w =
     OnlyShows-trans _ _ _ (shows_inside_address va kind w) (shows_drawn _ _ (shows_reached q va kind _ _))
 
+shows_get_at : (pa width : ℕ) (w : World) → OnlyShows w (get_at pa width w).world
+unfolding get_at
+shows_get_at pa width w = OnlyShows-trans _ _ _ (shows_noted _ w) (shows_replies _ _)
+
 shows_got : (va width : ℕ) (to : Result ℕ ℕ) (w : World) → OnlyShows w (got va width to w).world
 unfolding got
 shows_got va width (Err cause) w = shows_replies _ w
 shows_got va width (Ok pa) w =
-    OnlyShows-trans _ _ _ (shows_value _ _ pa width w) (shows_drawn _ _ (shows_replies _ _))
+    OnlyShows-trans _ _ _ (shows_opened _ _ pa w) (shows_drawn _ _ (shows_get_at pa width _))
 
 shows_get_by_table : (va width : ℕ) (w : World) → OnlyShows w (get_by_table va width w).world
 unfolding get_by_table

@@ -71,7 +71,7 @@ unfolding
     calls.copy_out_step calls.finish_call files.file_found files.file_resource fork.fork_fits fork.forked_resources
     fork.forked fork.ask_copies fork.fork_cleared fork.fork_if fork.fork fork.ask_forgets fork.end_cleared fork.end_if
     fork.end_context ask_pages.replies ask_pages.if_drawn ask_pages.ask_inside_address ask_pages.offered_by
-    ask_pages.ask_offer ask_pages.reached ask_pages.reach_by_table ask_pages.got ask_pages.get_by_table
+    ask_pages.ask_offer ask_pages.reached ask_pages.reach_by_table ask_pages.get_at ask_pages.got ask_pages.get_by_table
     ask_pages.put_at ask_pages.stored_inside ask_pages.put_by_table ask_pages.settled_if_marked ask_pages.clear_from
     ask_pages.next_answer ask_pages.ask_read ask_pages.ask_write ask_pages.ask_get
     ask_pages.ask_put ask_pages.ask_clear ask_pages.ask_copy ask_pages.ask_forget inside_step.loaded_inside

@@ -1,24 +1,45 @@
-ghost use Rattle.std.specs.Prelude.{◌≡◌, ℕ, ◌<◌, ◌≤◌, List, length, slice_get, slice_set, Some, IfOk, replicate};
+ghost use Rattle.std.specs.Prelude.{◌≡◌, ℕ, ◌+◌, ◌<◌, ◌≤◌, List, length, vec_capacity, slice_get, slice_set, Some, IfOk, replicate};
 ghost use Rattle.std.specs.Borrow.{sem};
 ghost use Rattle.cloak_base.specs.Pages.{zero_page};
+ghost use Rattle.frame_store.specs.Frames.{all_frames};
 
 use super::{ChangedRight, CleanRight, OutsideRight};
 use cloak_base::{Frame, NoMemory, PageId};
 use std::alloc::Global;
 use std::marker::Model;
 
-/// The bytes of all frames. Its value is the list of the frames, each a list of its 4096 bytes.
+/// A frame in which nothing was stored yet.
+static ZEROS: [u8; 4096] = [0; 4096];
+
+/// The bytes of all frames. Its value is the list of the frames, each a list of its 4096 bytes. Frames behind the last one in
+/// which something was stored are zeros, and only their room is there: the system gives it memory as something is stored.
 #[derive(Drop)]
 pub struct FrameStore {
     frames: Vec<[u8; 4096]>,
+    count: usize,
 }
 
 impl Model for FrameStore {
-    ghost use Rattle.std.specs.Prelude.{List, ℕ};
+    ghost use Rattle.std.specs.Prelude.{List, ℕ, length, vec_capacity};
+    ghost use Rattle.frame_store.specs.Frames.{all_frames, HasRoom};
 
     ghost Value = { List (List ℕ) };
 
-    ghost view = { λ s. s.frames.items };
+    ghost view = { λ s. all_frames s.frames.items s.count };
+
+    ghost invariant = { λ s. HasRoom (length s.frames.items) s.count (vec_capacity s.frames) };
+}
+
+/// Makes frames of zeros up to this one.
+#[tactic(auto, unfolding(cloak_base::specs::Pages::zero_page))]
+fn reach(frames: &mut Vec<[u8; 4096]>, f: usize)
+    requires { f < vec_capacity frames.old }
+    ensures frames { frames.new.items ≡ all_frames frames.old.items (f + 1) }
+    ensures capacity { vec_capacity frames.new ≡ vec_capacity frames.old }
+{
+    while frames.len() <= f {
+        frames.push_reserved([0; 4096]);
+    }
 }
 
 impl FrameStore {
@@ -33,27 +54,54 @@ impl FrameStore {
         ensures count { IfOk result (λ p. length p.1.items ≡ n) }
         ensures rights { IfOk result (λ p. (k : ℕ) → k < n → slice_get p.1.items k ≡ Some (record { 0 = k })) }
     {
-        let mut frames = Vec::with_capacity(alloc, n as usize)?;
+        let frames = Vec::with_capacity(alloc, n as usize)?;
         let mut rights = Vec::with_capacity(alloc, n as usize)?;
         for i in 0..n {
-            frames.push([0; 4096])?;
             rights.push(OutsideRight { frame: Frame(i) })?;
         }
-        Ok((FrameStore { frames }, rights))
+        Ok((
+            FrameStore {
+                frames,
+                count: n as usize,
+            },
+            rights,
+        ))
+    }
+
+    /// The bytes of a frame.
+    #[tactic(auto, unfolding(cloak_base::specs::Pages::zero_page))]
+    fn at(&self, f: Frame) -> &[u8; 4096]
+        requires { f.0 < length self.now }
+        ensures { slice_get self.now f.0 ≡ Some result.now }
+    {
+        if (f.0 as usize) < self.frames.len() {
+            &self.frames[f.0 as usize]
+        } else {
+            &ZEROS
+        }
+    }
+
+    /// Stores all bytes of a frame.
+    fn fill(&mut self, f: Frame, new: &[u8; 4096])
+        requires { f.0 < length self.old }
+        ensures { self.new ≡ slice_set self.old f.0 new.now }
+    {
+        reach(&mut self.frames, f.0 as usize);
+        self.frames[f.0 as usize] = *new;
     }
 
     /// How many frames there are.
     pub fn count(&self) -> usize
         ensures { result ≡ length self.now }
     {
-        self.frames.len()
+        self.count
     }
 
     pub fn outside(&self, r: &OutsideRight) -> &[u8; 4096]
         requires { r.now.0 < length self.now }
         ensures { slice_get self.now r.now.0 ≡ Some result.now }
     {
-        &self.frames[r.frame.0 as usize]
+        self.at(r.frame)
     }
 
     pub fn outside_mut(&mut self, r: &OutsideRight) -> &mut [u8; 4096]
@@ -61,6 +109,7 @@ impl FrameStore {
         ensures* writes_back { sem 𝓛 (LendsFrameBytes self.entry r.now.0 result) }
         ensures value { slice_get self.old r.now.0 ≡ Some result.now }
     {
+        reach(&mut self.frames, r.frame.0 as usize);
         &mut self.frames[r.frame.0 as usize]
     }
 
@@ -68,14 +117,14 @@ impl FrameStore {
         requires { r.now.frame.0 < length self.now }
         ensures { slice_get self.now r.now.frame.0 ≡ Some result.now }
     {
-        &self.frames[r.frame.0 as usize]
+        self.at(r.frame)
     }
 
     pub fn changed(&self, r: &ChangedRight) -> &[u8; 4096]
         requires { r.now.frame.0 < length self.now }
         ensures { slice_get self.now r.now.frame.0 ≡ Some result.now }
     {
-        &self.frames[r.frame.0 as usize]
+        self.at(r.frame)
     }
 
     pub fn changed_mut(&mut self, r: &ChangedRight) -> &mut [u8; 4096]
@@ -83,6 +132,7 @@ impl FrameStore {
         ensures* writes_back { sem 𝓛 (LendsFrameBytes self.entry r.now.frame.0 result) }
         ensures value { slice_get self.old r.now.frame.0 ≡ Some result.now }
     {
+        reach(&mut self.frames, r.frame.0 as usize);
         &mut self.frames[r.frame.0 as usize]
     }
 
@@ -92,7 +142,7 @@ impl FrameStore {
         ensures bytes { self.new ≡ slice_set self.old r.0 new.now }
         ensures right { result ≡ record { frame = r; page = q } }
     {
-        self.frames[r.frame.0 as usize] = *new;
+        self.fill(r.frame, new);
         CleanRight {
             frame: r.frame,
             page: q,
@@ -106,7 +156,7 @@ impl FrameStore {
         ensures bytes { self.new ≡ slice_set self.old r.0 zero_page }
         ensures right { result ≡ record { frame = r; page = q } }
     {
-        self.frames[r.frame.0 as usize] = [0; 4096];
+        self.fill(r.frame, &ZEROS);
         ChangedRight {
             frame: r.frame,
             page: q,
@@ -119,7 +169,7 @@ impl FrameStore {
         ensures bytes { self.new ≡ slice_set self.old r.frame.0 new.now }
         ensures right { result ≡ r.frame }
     {
-        self.frames[r.frame.0 as usize] = *new;
+        self.fill(r.frame, new);
         OutsideRight { frame: r.frame }
     }
 
@@ -129,7 +179,7 @@ impl FrameStore {
         ensures bytes { self.new ≡ slice_set self.old r.frame.0 new.now }
         ensures right { result ≡ r.frame }
     {
-        self.frames[r.frame.0 as usize] = *new;
+        self.fill(r.frame, new);
         OutsideRight { frame: r.frame }
     }
 }

@@ -5,7 +5,7 @@ use Rattle.cloak_model.specs.World.{Cloaked}
 use Rattle.cloak_model.specs.Joint.{cloak_outside}
 use Rattle.cloak_model.specs.KernelStep.{kernel_step}
 use Rattle.cloaked_side.proofs.Sided.{within_self}
-use Rattle.cloaked_side.proofs.Telling.{counting_back, size_back, no_more_back, some_back, sees_first, tells_ahead, tracks_back, tracks_world, view_is}
+use Rattle.cloaked_side.proofs.Telling.{counting_back, size_back, no_more_back, some_back, sees_first, tells_ahead, goes_back, goes_world, view_is}
 use Rattle.cloaked_side.proofs.outside.outside_step.Goals as goal
 
 pub returns-clause-size : goal.returns-clause-size
@@ -45,8 +45,8 @@ returns-clause-tells g c m holds unclashed =
     tells_ahead g.E.Emit.gave _ c.kernel_step-ending.new.m _ h disk cloak _ _ (search rules) (search rules) unclashed
     (λ u. seen_outside g.E.Emit.gave _ _ _ _ (c.kernel_step-ending.ensures.follows _ (Cloaked cloak) (sees, refl) u))
 
-pub returns-clause-tracks : goal.returns-clause-tracks
-returns-clause-tracks g c m holds unclashed =
+pub returns-clause-goes : goal.returns-clause-goes
+returns-clause-goes g c m holds unclashed =
     let kept = c.kernel_step-ending.ensures.keeps _ (within_self g.E.Emit.gave _) in
     let h = c.args.h.now in
     let disk = c.args.d.now in
@@ -55,5 +55,5 @@ returns-clause-tracks g c m holds unclashed =
     let sees = sees_first g.E.Emit.gave _ cloak holds refl refl refl (view_is _ _ _ _ _ v.satp v.sum v.mxr v.domain) in
     let memory_lent = sym kept.stays.same_memory in
     let f = c.kernel_step-ending.ensures.follows _ (Cloaked cloak) (sees, refl) (unclashed_ahead h disk cloak unclashed) in
-    tracks_back _ _ c.kernel_step-ending.new.m.memory.now _ (returns-clause-size g c) (search rules)
-    (tracks_world g.E.Emit.gave _ c.kernel_step-ending.new.m None (kernel_step h disk (Cloaked cloak)).world f.stands.1 f.stands.0)
+    goes_back _ _ c.kernel_step-ending.new.m.memory.now _ (returns-clause-size g c) (search rules)
+    (goes_world g.E.Emit.gave _ c.kernel_step-ending.new.m None (kernel_step h disk (Cloaked cloak)).world f.stands.1 f.stands.0)

@@ -1,33 +1,42 @@
-use Rattle.std.proofs.Common.{◌≡◌, ℕ, ◌∷◌, [], ◌++◌, ◌∙◌, ap, List, arith}
+use Rattle.std.proofs.Common.{◌≡◌, ℕ, ◌+◌, ◌-◌, ◌∷◌, [], ◌++◌, arith, map, subst}
+use Rattle.std.proofs.lemmas.List.{map-append}
 use Rattle.std.proofs.lemmas.Result.{err_from_is_err_and}
-use Rattle.cloak_model.specs.declared.image.Segment.{Segment}
 use Rattle.guest_bundle.specs.Reading.{segment_at, segment_size, parts_at}
-use Rattle.guest_bundle.proofs.Loop.{goes_on, ends, is_done}
+use Rattle.guest_bundle.specs.Places.{segment_of}
+use Rattle.guest_bundle.specs.declared.parts.SegmentPlace.{SegmentPlace}
+use Rattle.guest_bundle.proofs.Loop.{with_front, goes_on, ends, is_done}
+use Rattle.guest_bundle.proofs.Places.{segment_end, lie_more}
 use Rattle.guest_bundle.proofs.parts.segments.Goals as goal
 
-pub returns-in_err-address-clause-fields : goal.returns-in_err-address-clause-fields
-returns-in_err-address-clause-fields c =
+pub returns-in_err-place-clause-fields : goal.returns-in_err-place-clause-fields
+returns-in_err-place-clause-fields c =
     let p = err_from_is_err_and c.from_residual.result c.from_residual.ensures.1 in
-    rw (p.1, p.2) (ends c.in_err-address.field-0.0 (segment_at c.args.frames c.args.file.now) segment_size
-    c.loop.segments.items c.args.n c.loop.counter c.loop.at
+    rw (p.1, p.2) (ends c.in_err-place.field-0.0 (segment_at c.args.frames c.args.file.now) segment_size
+    (map (segment_of c.args.file.now) c.loop.places.items) c.args.n c.loop.counter c.loop.at
     (parts_at (segment_at c.args.frames c.args.file.now) segment_size c.args.n c.args.from) c.loop-test.true
-    c.in_err-address.ensures.field c.loop.invariant.so_far)
+    c.in_err-place.ensures.field c.loop.invariant.so_far)
 
 pub loop-preserved : goal.loop-preserved
 loop-preserved c =
-    let part : List ℕ → Segment = λ bytes. record { address = c.in_ok-address.address; bytes = bytes } in
-    let pushed : c.push.new.self.items ≡ c.loop.segments.items ++ part c.in_ok-address.bytes.now ∷ [] =
-    c.in_ok-push.ensures.items ∙ ap (λ bytes. c.loop.segments.items ++ part bytes ∷ [])
-    (c.new-bytes.ensures ∙ c.in_ok-from_slice.ensures.items) in
+    let part = segment_of c.args.file.now c.in_ok-place.place in
+    let next = segment_end c.args.file.now c.loop.at c.in_ok-place.place c.in_ok-place.ensures.whole in
+    let front = map (segment_of c.args.file.now) c.loop.places.items in
+    let total = parts_at (segment_at c.args.frames c.args.file.now) segment_size c.args.n c.args.from in
+    let more : with_front (front ++ part ∷ []) (parts_at (segment_at c.args.frames c.args.file.now) segment_size (c.args.n - (c.loop.counter + 1))
+    c.in_ok-place.place.to) ≡ total =
+    subst (λ (e : ℕ). with_front (front ++ part ∷ []) (parts_at (segment_at c.args.frames c.args.file.now) segment_size (c.args.n - (c.loop.counter + 1)) e) ≡ total)
+    next (goes_on (segment_at c.args.frames c.args.file.now) segment_size front c.args.n c.loop.counter c.loop.at part total c.loop-test.true
+    c.in_ok-place.ensures.field c.loop.invariant.so_far) in
+    let pushed = map-append (segment_of c.args.file.now) c.loop.places.items (c.in_ok-place.place ∷ []) in
     record {
-      so_far = rw pushed (goes_on (segment_at c.args.frames c.args.file.now) segment_size c.loop.segments.items c.args.n
-          c.loop.counter c.loop.at (part c.in_ok-address.bytes.now)
-          (parts_at (segment_at c.args.frames c.args.file.now) segment_size c.args.n c.args.from) c.loop-test.true
-          c.in_ok-address.ensures.field c.loop.invariant.so_far);
-      within = omega (arith, c.in_ok-address.ensures.whole);
+      so_far = rw (c.in_ok-push.ensures.items, pushed) more;
+      within = omega (arith, c.in_ok-place.ensures.whole.within);
+      lie = rw c.in_ok-push.ensures.items (lie_more (λ (p : SegmentPlace). p.from) (λ (p : SegmentPlace). p.to) 0
+          c.loop.places.items c.loop.at c.in_ok-place.place c.loop.invariant.lie
+          (omega (arith, c.in_ok-place.ensures.whole.from)) c.in_ok-place.ensures.whole.order);
     }
 
 pub returns-clause-fields : goal.returns-clause-fields
-returns-clause-fields c = is_done (segment_at c.args.frames c.args.file.now) segment_size c.loop.segments.items c.args.n
+returns-clause-fields c = is_done (segment_at c.args.frames c.args.file.now) segment_size (map (segment_of c.args.file.now) c.loop.places.items) c.args.n
     c.loop.counter c.loop.at (parts_at (segment_at c.args.frames c.args.file.now) segment_size c.args.n c.args.from)
     c.loop-test.false c.loop.invariant.so_far

@@ -1,5 +1,4 @@
 use Rattle.std.proofs.Common.{◌≡◌, ◌≢◌, List, ℕ, Result, Ok, Err, Some, None, IfOk, IfErr, MatchResult, subst, sym, ◌∙◌}
-use Rattle.std.proofs.Common.{arith}
 use Rattle.cloak_model.specs.Bundle.{IsBundle}
 use Rattle.cloak_model.specs.declared.image.Bundle.{Bundle}
 use Rattle.cloak_model.specs.declared.fault.BundleFault.{BundleFault}

@@ -1,34 +1,52 @@
-use Rattle.std.proofs.Common.{All, List, sym, subst}
-use Rattle.cloak_model.specs.declared.image.Segment.{Segment}
+use Rattle.std.proofs.Common.{◌≡◌, ◌∙◌, ap, length, reverse, subst, sym, All, arith}
+use Rattle.std.proofs.lemmas.List.{reverse-reverse}
+use Rattle.shadow_fold.specs.Table.{Table}
 use Rattle.cloak_model.specs.Bundle.{IsSegmentIn}
-use Rattle.joint_machine.proofs.Stored.{loads_none, loads_next, loads_outside, loads_ready, loaded, loaded_holds}
+use Rattle.joint_machine.proofs.Stored.{loads_none, loads_next, back_fits, loads_outside, loads_ready, loaded, loaded_holds}
 use Rattle.joint_machine.proofs.loading.load.Goals as goal
 
 pub loop-segment-init : goal.loop-segment-init
-loop-segment-init c = loads_none _ _ _ c.in_ok-pager.pager _ c.in_ok-pager.ensures.state
+loop-segment-init c =
+    let segments = c.args.k.segments in
+    let same : reverse c.reverse.new.self.items ≡ segments =
+    ap reverse (c.reverse.ensures.items ∙ ap reverse c.into_vec-segments.ensures) ∙ reverse-reverse segments in
+    record {
+      fits = subst (All (IsSegmentIn c.args.k.frames)) (sym same) c.requires.kernel.segments;
+      loads =
+          loads_none c.args.k.frames c.args.domains c.args.key c.in_ok-pager.pager (reverse c.reverse.new.self.items) segments
+          c.in_ok-pager.ensures.state same;
+    }
+
+pub store_segment-requires-clause-segment : goal.store_segment-requires-clause-segment
+store_segment-requires-clause-segment c =
+    back_fits c.args.k.frames c.args.domains c.args.key c.in_ok-pager.pager c.loop-segment.pager
+    c.loop-segment.segments.items c.pop.new.self.items c.args.k.segments c.in-Some.segment c.in_ok-pager.ensures.state
+    c.loop-segment.invariant c.in-Some.ensures.items
+
+pub store_segment-requires-clause-outside : goal.store_segment-requires-clause-outside
+store_segment-requires-clause-outside c =
+    loads_outside c.args.k.frames c.args.domains c.args.key c.in_ok-pager.pager c.loop-segment.pager
+    (reverse c.loop-segment.segments.items) c.args.k.segments c.in_ok-pager.ensures.state c.loop-segment.invariant.loads
 
 pub loop-segment-preserved : goal.loop-segment-preserved
 loop-segment-preserved c =
-    let n = c.args.k.now.frames in
-    let segments = c.as_slice-segments.result.now in
-    loads_next n c.args.domains c.args.key c.in_ok-pager.pager c.loop-segment.pager c.store.new.pager
-    c.loop-segment.segment-index c.segment-item.result _ segments c.in_ok-pager.ensures.state
-    (subst (λ (x : List Segment). All (IsSegmentIn n) x) (sym c.as_slice-segments.ensures) c.requires.kernel.segments)
-    c.loop-segment.invariant c.loop-segment-test.true c.segment-item.is c.as_slice.ensures c.store.ensures
+    loads_next c.args.k.frames c.args.domains c.args.key c.in_ok-pager.pager c.loop-segment.pager c.store_segment.new.pager
+    c.loop-segment.segments.items c.pop.new.self.items c.args.k.segments c.in-Some.segment c.in_ok-pager.ensures.state
+    c.loop-segment.invariant c.in-Some.ensures.items c.store_segment.ensures
 
 pub returns-clause-holds : goal.returns-clause-holds
 returns-clause-holds c =
-    loaded_holds c.in_ok-pager.pager c.loop-segment.pager c.args.k.now c.args.domains c.args.key c.args.stream _
-    (loaded c.in_ok-pager.pager c.loop-segment.pager c.args.k.now c.args.domains c.loop-segment.segment-index c.args.key
-    c.as_slice-segments.result.now c.as_slice-segments.ensures c.in_ok-pager.ensures.state c.in_ok-pager.ensures.model
-    c.loop-segment.invariant c.loop-segment-test.false c.whole.ensures) c.in_ok-shadows.ensures
-
-pub store-requires-clause-outside : goal.store-requires-clause-outside
-store-requires-clause-outside c =
-    loads_outside c.args.k.now.frames c.args.domains c.args.key c.in_ok-pager.pager c.loop-segment.pager c.loop-segment.segment-index _
-    c.in_ok-pager.ensures.state c.loop-segment.invariant
+    let none : length c.loop-segment.segments.items ≡ 0 =
+    omega (arith, c.in_default.ensures.cases.0, c.loop-segment.segments.ok) in
+    loaded_holds c.in_ok-pager.pager c.loop-segment.pager c.args.k c.args.domains c.args.key c.args.stream _
+    (loaded c.in_ok-pager.pager c.loop-segment.pager c.args.k c.args.domains c.args.key c.loop-segment.segments.items
+    c.in_ok-pager.ensures.state c.in_ok-pager.ensures.model c.loop-segment.invariant none c.whole.ensures)
+    c.in_ok-shadows.ensures
 
 pub returns-clause-ready : goal.returns-clause-ready
 returns-clause-ready c =
-    loads_ready c.args.k.now.frames c.args.domains c.args.key c.in_ok-pager.pager c.loop-segment.pager c.loop-segment.segment-index _
-    c.in_ok-pager.ensures.state c.loop-segment.invariant
+    loads_ready c.args.k.frames c.args.domains c.args.key c.in_ok-pager.pager c.loop-segment.pager
+    (reverse c.loop-segment.segments.items) c.args.k.segments c.in_ok-pager.ensures.state c.loop-segment.invariant.loads
+
+pub returns-clause-empty : goal.returns-clause-empty
+returns-clause-empty c = ap (λ (t : Table). t.live) c.in_ok-shadows.ensures

@@ -1,5 +1,9 @@
-use Rattle.joint_machine.proofs.Stored.{LoadsFrom}
+use Rattle.std.proofs.Common.{length}
+use Rattle.joint_machine.proofs.Stored.{LoadsBack}
 use Rattle.joint_machine.proofs.loading.load.Given as goal
 
 abbrev pub invariant-loop-segment : goal.invariant-loop-segment
-invariant-loop-segment l = LoadsFrom l.initial.pager l.pager l.segment-index l.segments
+invariant-loop-segment l = LoadsBack l.frames l.initial.pager l.pager l.segments.items l.fn.k.segments
+
+abbrev pub decreases-loop-segment : goal.decreases-loop-segment
+decreases-loop-segment l = length l.segments.items

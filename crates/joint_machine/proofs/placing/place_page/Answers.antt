@@ -1,4 +1,5 @@
 use Rattle.std.proofs.Common.{◌≡◌, refl, arith, true, false}
+use Rattle.joint_machine.proofs.Mapped.{ended_empty}
 use Rattle.joint_machine.proofs.Placed.{first_page, ready_next, page_placed}
 use Rattle.joint_machine.proofs.placing.place_page.Goals as goal
 
@@ -21,3 +22,6 @@ returns-clause-places c m holds =
     page_placed c.args.memory.now _ true (first_page c.args.domain c.args.page) _ c.page_bytes.result.now _
     c.page_bytes.ensures c.if-not-place.ensures.model refl c.saturating_add-memory.ensures c.place.ensures.rights
     c.place.ensures.stays.count (λ is. c.kill_dependents.ensures) m holds
+
+pub returns-clause-empty : goal.returns-clause-empty
+returns-clause-empty c none = ended_empty _ c.args.memory.now.shadows _ c.kill_dependents.ensures none

@@ -1,4 +1,4 @@
-use Rattle.std.proofs.Common.{true}
+use Rattle.std.proofs.Common.{◌≡◌, [], true}
 use Rattle.cloak_model.specs.Cloaking.{CloakedMemory}
 use Rattle.cloak_model.specs.Opening.{place_pages}
 use Rattle.cloaked_side.specs.Holding.{Holds, SameSize}
@@ -9,5 +9,6 @@ abbrev pub invariant-loop-page : goal.invariant-loop-page
 invariant-loop-page l = record {
   size : SameSize l.fn.memory l.memory;
   ready : IsReady l.memory.pager l.domain l.page;
+  empty : l.fn.memory.shadows.live ≡ [] → l.memory.shadows.live ≡ [];
   places : (m : CloakedMemory) → Holds l.fn.memory m → PlacesTo l.memory true (place_pages l.domain l.p l.page m);
 }

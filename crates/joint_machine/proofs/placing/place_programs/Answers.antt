@@ -15,6 +15,7 @@ loop-domain-preserved c = record {
     domains = c.place_pages.ensures.size.domains ∙ c.loop-domain.invariant.size.domains;
   };
   ready = c.place_pages.ensures.ready;
+  empty = λ none. c.place_pages.ensures.empty (c.loop-domain.invariant.empty none);
   places = λ m holds.
       programs_next c.loop-domain.memory c.place_pages.new.memory c.loop-domain.domain c.index-programs-domain.result
       c.args.programs.now m (c.loop-domain.invariant.places m holds) c.loop-domain-test.true c.index-programs-domain.is

@@ -2,7 +2,7 @@ use Rattle.std.proofs.Common.{rules, refl, sym, Some}
 use Rattle.cloak_model.specs.DomainStep.{domain_step}
 use Rattle.cloak_model.specs.World.{Cloaked}
 use Rattle.cloaked_side.proofs.Sided.{stays_self}
-use Rattle.cloaked_side.proofs.Telling.{counting_back, size_back, some_back, sees_first, tracks_back, tracks_world}
+use Rattle.cloaked_side.proofs.Telling.{counting_back, size_back, some_back, sees_first, goes_back, goes_world}
 use Rattle.joint_machine.specs.Turning.{begun}
 use Rattle.joint_machine.proofs.Sides.{others_back, pages_begun, steps_told, unused_back}
 use Rattle.joint_machine.proofs.stepping.step_domain.Goals as goal
@@ -47,12 +47,12 @@ returns-clause-counting g c =
     let lent = sym kept.same_memory in
     counting_back c.args.memory.now _ c.step-went.new.m.memory.now (returns-clause-size g c) (search rules) kept.counting
 
-pub returns-clause-tracks : goal.returns-clause-tracks
-returns-clause-tracks g c m d holds stands unclashed =
+pub returns-clause-goes : goal.returns-clause-goes
+returns-clause-goes g c m d holds stands unclashed =
     let kept = c.step-went.ensures.keeps _ (stays_self g.E.Emit.gave _) in
     let lent = sym kept.same_memory in
     let cloak = begun m c.args.view c.args.slot d in
     let sees = sees_first g.E.Emit.gave _ cloak holds refl refl refl refl in
     let steps = c.step-went.ensures.steps _ d stands (Cloaked cloak) (pages_begun m c.args.view c.args.slot d _ stands.control) (sees, (c.args.space, refl)) unclashed in
-    tracks_back _ _ c.step-went.new.m.memory.now _ (returns-clause-size g c) (search rules)
-    (tracks_world g.E.Emit.gave _ c.step-went.new.m (Some c.args.space) (domain_step c.args.slot d (Cloaked cloak)).world kept.space steps.world_stands.0)
+    goes_back _ _ c.step-went.new.m.memory.now _ (returns-clause-size g c) (search rules)
+    (goes_world g.E.Emit.gave _ c.step-went.new.m (Some c.args.space) (domain_step c.args.slot d (Cloaked cloak)).world kept.space steps.world_stands.0)

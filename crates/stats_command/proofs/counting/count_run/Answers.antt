@@ -18,5 +18,5 @@ returns c = λ b stream o opens stands none.
     record {
       stop = ends.stop;
       counts = counts_told b c.args.steps o _
-          (c.counts-counts.ensures _ (c.run_counted-stopped.ensures.counts m fresh still started calm));
+          (c.counts-counts.ensures.counted _ (c.run_counted-stopped.ensures.counts m fresh still started calm));
     }

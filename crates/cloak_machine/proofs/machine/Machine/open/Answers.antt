@@ -8,5 +8,5 @@ returns-clause-opens c =
       opened = o.opened;
       opens = o.opens;
       stands = first_stands _ _ _ o.opened o.opens o.stands (c.in_ok-schedule.ensures.turns ∙ c.as_slice.ensures)
-          c.in_ok-schedule.ensures.place refl c.new.ensures.shows;
+          c.in_ok-schedule.ensures.place refl c.new.ensures.shows c.in-Ok.ensures.empty;
     }

@@ -5,4 +5,4 @@ use Rattle.cloak_machine.proofs.machine.Machine.opening.Goals as goal
 pub returns-then-self-eq0-clause-shows : goal.returns-then-self-eq0-clause-shows
 returns-then-self-eq0-clause-shows g c b s o opens programs stands =
     let shows = c.show_opening.ensures.shows b s o opens programs stands.joint in
-    record { emits = shows.emits; stands = still_first _ _ b o stands shows.stands refl refl refl }
+    record { emits = shows.emits; stands = still_first _ _ b o stands shows.stands refl refl refl c.show_opening.ensures.shadows }

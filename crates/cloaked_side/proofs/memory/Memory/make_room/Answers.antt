@@ -1,15 +1,18 @@
-use Rattle.std.proofs.Common.{rules, ℕ, ◌≡◌, ◌≢◌, ◌∙◌, ◌++◌, sym, not, Some}
+use Rattle.std.proofs.Common.{rules, arith, length, ◌+◌, ℕ, ◌≡◌, ◌≢◌, ◌∙◌, ◌++◌, sym, not, Some}
 use Rattle.cloak_model.specs.Cloaking.{settle}
 use Rattle.cloak_pager.specs.State.{held_in}
 use Rattle.cloaked_side.proofs.Settling.{settle_missed}
 use Rattle.cloaked_side.proofs.Emitting.{emits_then, emits_ciphers}
-use Rattle.cloaked_side.proofs.Rooming.{rooms_missed, rooms_alone, rooms_home, rest_by, home_gone, outside_still}
+use Rattle.cloaked_side.proofs.Rooming.{rooms_spend, rooms_missed, rooms_alone, rooms_home, rest_by, home_gone, outside_still}
+use Rattle.std.proofs.lemmas.List.{length-append}
+use Rattle.cloaked_side.specs.Tracking.{spent_in}
+use Rattle.cloaked_side.proofs.Spending.{maps_killed, maps_then, spends_more, spends_then}
 use Rattle.cloaked_side.proofs.Holders.{no_more_then, no_more_emptied}
 use Rattle.shadow_fold.specs.Fold.{frame, touched}
 use Rattle.cloaked_side.proofs.Tracking.{room_missed, room_drawn, goes_on_none, goes_on_home}
 use Rattle.cloaked_side.proofs.memory.Memory.make_room.Goals as goal
 
-pub returns-then-self-clause-rooms : goal.returns-then-self-clause-rooms
+unfoldable pub returns-then-self-clause-rooms : goal.returns-then-self-clause-rooms
 returns-then-self-clause-rooms g c m h =
     let f = c.args.g.0 in
     let n : held_in c.args.self.now.pager f ≢ Some c.args.q = c.requires.away in
@@ -23,7 +26,7 @@ returns-then-self-clause-rooms g c m h =
       offers = λ write. rooms_missed _ h.wiped m f c.args.q write h.pager n missed;
     }
 
-pub returns-in_default-clause-rooms : goal.returns-in_default-clause-rooms
+unfoldable pub returns-in_default-clause-rooms : goal.returns-in_default-clause-rooms
 returns-in_default-clause-rooms g c m h =
     let f = c.args.g.0 in
     let n : held_in c.args.self.now.pager f ≢ Some c.args.q = c.requires.away in
@@ -51,7 +54,7 @@ returns-in_default-clause-rooms g c m h =
 pub returns-clause-emits_some : goal.returns-clause-emits_some
 returns-clause-emits_some g c = (_, emits_then c.settle.ensures.emits_some.1 c.settle-2.ensures.emits_some.1)
 
-pub returns-clause-rooms : goal.returns-clause-rooms
+unfoldable pub returns-clause-rooms : goal.returns-clause-rooms
 returns-clause-rooms g c m h =
     let f = c.args.g.0 in
     let home = c.in-Some.home.0 in
@@ -125,3 +128,43 @@ pub returns-clause-drawn : goal.returns-clause-drawn
 returns-clause-drawn g c made m h =
     let st = c.settle.ensures.settles m h in
     settle_missed c.args.g.0 m (sym h.missed ∙ c.requires.drawn) ∙ sym st.holds.missed ∙ c.if-self.false
+
+pub returns-then-self-clause-spends : goal.returns-then-self-clause-spends
+unfolding returns-then-self-clause-rooms
+returns-then-self-clause-spends g c m h =
+    rooms_spend g.E.Emit.gave c.args.e.now _ c.args.self.now _ _ c.args.q c.args.g.0 m (returns-then-self-clause-rooms g c m h)
+    (c.settle.ensures.spends m h)
+
+pub returns-in_default-clause-spends : goal.returns-in_default-clause-spends
+unfolding returns-in_default-clause-rooms
+returns-in_default-clause-spends g c m h =
+    rooms_spend g.E.Emit.gave c.args.e.now _ c.args.self.now _ _ c.args.q c.args.g.0 m (returns-in_default-clause-rooms g c m h)
+    (c.settle.ensures.spends m h)
+
+pub returns-clause-spends : goal.returns-clause-spends
+unfolding returns-clause-rooms
+returns-clause-spends g c m h =
+    let f = c.args.g.0 in
+    let home = c.in-Some.home.0 in
+    let st = c.settle.ensures.settles m h in
+    let m1 = (settle f m).memory in
+    let old = c.args.self.now in
+    let mid = c.settle.new.self in
+    let new = c.settle-2.new.self in
+    rooms_spend g.E.Emit.gave c.args.e.now _ old new _ c.args.q f m (returns-clause-rooms g c m h)
+    (spends_more (0 + 0) 0 (length (settle f m).ciphers + length (settle home m1).ciphers) (length ((settle f m).ciphers ++ (settle home m1).ciphers))
+    (spent_in old) (spent_in new) (let both = length-append (settle f m).ciphers (settle home m1).ciphers in omega (arith, both))
+    (spends_then 0 0 (length (settle f m).ciphers) (length (settle home m1).ciphers) (spent_in old) (spent_in mid) (spent_in new)
+    (c.settle.ensures.spends m h) (c.settle-2.ensures.spends m1 st.holds)))
+
+pub returns-then-self-clause-maps : goal.returns-then-self-clause-maps
+returns-then-self-clause-maps g c = maps_killed c.args.self.now c.settle.new.self _ c.args.g c.settle.ensures.ends
+
+pub returns-in_default-clause-maps : goal.returns-in_default-clause-maps
+returns-in_default-clause-maps g c = maps_killed c.args.self.now c.settle.new.self _ c.args.g c.settle.ensures.ends
+
+pub returns-clause-maps : goal.returns-clause-maps
+returns-clause-maps g c =
+    maps_then c.args.self.now c.settle.new.self c.settle-2.new.self
+    (maps_killed c.args.self.now c.settle.new.self _ c.args.g c.settle.ensures.ends)
+    (maps_killed c.settle.new.self c.settle-2.new.self _ c.in-Some.home c.settle-2.ensures.ends)

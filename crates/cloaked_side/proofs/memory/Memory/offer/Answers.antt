@@ -5,6 +5,11 @@ use Rattle.shadow_law.specs.Agreeing.{present}
 use Rattle.cloak_pager.specs.State.{held_in}
 use Rattle.cloaked_side.specs.declared.memory.Offer.TheVariants as ended
 use Rattle.cloaked_side.proofs.Rooming.{rooms_self, offers_so, offers_missed}
+use Rattle.std.specs.Prelude.{length}
+use Rattle.std.proofs.Common.{arith}
+use Rattle.shadow_fold.specs.Table.{Table}
+use Rattle.cloaked_side.specs.Tracking.{spent_in}
+use Rattle.cloaked_side.proofs.Spending.{killed_misses, maps_killed, maps_then, offer_shows_none, spends_more, spends_none}
 use Rattle.cloaked_side.proofs.Translating.{killed_frames, offered_again, offered_new, offered_vain}
 use Rattle.cloak_pager.specs.State.{PagerState, page_of}
 use Rattle.cloaked_side.proofs.Tracking.{tracks_offer, effect_again, effect_new, effect_missed, room_is, goes_on_granted, goes_on_same, same_held}
@@ -88,3 +93,33 @@ returns-in-Mismatch-offer-clause-tracks g c m h clash space =
     (effect_new _ _ _ _ (held_in c.args.self.now.pager) _ q f false (c.if-is_held.ensures.not_held refl)
     (λ s keeps. goes_on_same room.counting room.shadows (held_in room.pager) (held_in c.offer-2.new.self) _ (made s keeps)
     (λ k. ap (λ (p : PagerState). held_in p k) c.in-Mismatch-offer.ensures.state)))
+
+pub returns-in-Ready-clause-spends : goal.returns-in-Ready-clause-spends
+returns-in-Ready-clause-spends g c m h =
+    offer_shows_none c.args.self.now c.args.self.now c.offer.new.self c.args.self.now.shadows _ _ _ _ c.args.q c.args.g.0
+    (length (offer c.args.q c.args.g.0 c.args.write m).ciphers) c.offer.ensures.state refl
+    (spends_more 0 0 0 _ (spent_in c.args.self.now) (spent_in c.args.self.now) (omega arith) (spends_none (spent_in c.args.self.now)))
+
+pub returns-then-not-make_room-clause-spends : goal.returns-then-not-make_room-clause-spends
+returns-then-not-make_room-clause-spends g c m h = c.if-not-make_room.ensures.spends m h c.args.write
+
+pub returns-in-Ready-offer-clause-spends : goal.returns-in-Ready-offer-clause-spends
+returns-in-Ready-offer-clause-spends g c m h =
+    let room = c.make_room.new.self in
+    offer_shows_none c.args.self.now room c.offer-2.new.self c.end_entries.new.shadows _ _ _ _ c.args.q c.args.g.0
+    (length (offer c.args.q c.args.g.0 c.args.write m).ciphers) c.offer-2.ensures.state
+    (ap (λ (t : Table). t.counts.misses) c.end_entries.ensures ∙ killed_misses c.args.g room.shadows)
+    (c.if-not-make_room.ensures.spends m h c.args.write)
+
+pub returns-in-Mismatch-offer-clause-spends : goal.returns-in-Mismatch-offer-clause-spends
+returns-in-Mismatch-offer-clause-spends g c m h =
+    let room = c.make_room.new.self in
+    offer_shows_none c.args.self.now room c.offer-2.new.self room.shadows _ _ _ _ c.args.q c.args.g.0
+    (length (offer c.args.q c.args.g.0 c.args.write m).ciphers) c.offer-2.ensures.state refl
+    (c.if-not-make_room.ensures.spends m h c.args.write)
+
+pub returns-in-Ready-offer-clause-maps : goal.returns-in-Ready-offer-clause-maps
+returns-in-Ready-offer-clause-maps g c =
+    let room = c.make_room.new.self in
+    let new = record room { pager = c.offer-2.new.self; shadows = c.end_entries.new.shadows } in
+    maps_then c.args.self.now room new c.if-not-make_room.ensures.maps (maps_killed room new true c.args.g c.end_entries.ensures)

@@ -3,7 +3,8 @@ use Rattle.cloak_model.specs.Cloaking.{settle}
 use Rattle.cloak_pager.specs.State.{PagerState, bytes_in, page_of}
 use Rattle.cloak_pager.proofs.Calls.{stands_read}
 use Rattle.shadow_fold.specs.Table.{Table}
-use Rattle.cloaked_side.proofs.Settling.{settled_so}
+use Rattle.cloaked_side.proofs.Settling.{settled_so, settled_spends}
+use Rattle.cloaked_side.proofs.Spending.{killed_misses, touch_shows_frame, touch_shows_none}
 use Rattle.cloaked_side.proofs.Emitting.{emits_none}
 use Rattle.cloaked_side.proofs.Translating.{quiet_agrees, settled_agrees, read_agrees, ended_frames}
 use Rattle.cloaked_side.proofs.Tracking.{settle_tracks, quiet_ends, loud_ends, read_held}
@@ -109,3 +110,32 @@ pub returns-in-Wiped-clause-ends : goal.returns-in-Wiped-clause-ends
 returns-in-Wiped-clause-ends g c =
     c.emit_frame-in-Wiped.ensures.shadows ∙ c.end_entries-in-Wiped.ensures
     ∙ loud_ends c.args.self.now.pager c.args.f.0 _ c.args.self.now.shadows (λ q. (let clash = c.in-Wiped.ensures.exact_cause ∙ q in cc))
+
+pub returns-in-Quiet-clause-spends : goal.returns-in-Quiet-clause-spends
+returns-in-Quiet-clause-spends g c =
+    let old = c.args.self.now in
+    settled_spends old c.touch.new.self c.touch.new.s c.args.f.0 [] false _ c.in-Quiet.ensures.model
+    (touch_shows_none old c.touch.new.self old.shadows _ _ c.args.f.0 c.touch.ensures.state refl)
+
+pub returns-in-Resealed-clause-spends : goal.returns-in-Resealed-clause-spends
+returns-in-Resealed-clause-spends g c =
+    let old = c.args.self.now in
+    settled_spends old c.touch.new.self c.touch.new.s c.args.f.0 [] false _ c.in-Resealed.ensures.model
+    (touch_shows_none old c.touch.new.self c.end_entries.new.shadows _ _ c.args.f.0 c.touch.ensures.state
+    (ap (λ (t : Table). t.counts.misses) c.end_entries.ensures ∙ killed_misses c.args.f old.shadows))
+
+pub returns-in-Sealed-clause-spends : goal.returns-in-Sealed-clause-spends
+returns-in-Sealed-clause-spends g c =
+    let old = c.args.self.now in
+    settled_spends old c.touch.new.self c.touch.new.s c.args.f.0 ((c.args.f.0, bytes_in c.touch.new.self c.args.f.0) ∷ []) false _ c.in-Sealed.ensures.model
+    (touch_shows_frame old c.emit_frame.new.self c.touch.new.self _ _ c.args.f.0 c.touch.ensures.state c.emit_frame.ensures.read
+    (ap (λ (t : Table). t.counts.misses) c.emit_frame.ensures.shadows
+    ∙ ap (λ (t : Table). t.counts.misses) c.end_entries-in-Sealed.ensures ∙ killed_misses c.args.f old.shadows))
+
+pub returns-in-Wiped-clause-spends : goal.returns-in-Wiped-clause-spends
+returns-in-Wiped-clause-spends g c =
+    let old = c.args.self.now in
+    settled_spends old c.touch.new.self c.touch.new.s c.args.f.0 ((c.args.f.0, bytes_in c.touch.new.self c.args.f.0) ∷ []) true _ c.in-Wiped.ensures.model
+    (touch_shows_frame old c.emit_frame-in-Wiped.new.self c.touch.new.self _ _ c.args.f.0 c.touch.ensures.state c.emit_frame-in-Wiped.ensures.read
+    (ap (λ (t : Table). t.counts.misses) c.emit_frame-in-Wiped.ensures.shadows
+    ∙ ap (λ (t : Table). t.counts.misses) c.end_entries-in-Wiped.ensures ∙ killed_misses c.args.f old.shadows))

@@ -36,7 +36,8 @@ returns-clause-follows g c first w sees unclashed =
     (turned_count _ _ _ c.copy_pages.ensures.state) refl seen)
     c.copy_pages.ensures.model
     (same_tracks _ _ _ _ (held_in c.args.self.now.memory.now.pager) (held_in c.copy_pages.new.self) refl refl
-    (λ k. ap (λ (h : ℕ → Option PageId). h k) (held_by_rights c.args.self.now.memory.now.pager c.copy_pages.new.self c.copy_pages.ensures.state.rights_are))) sees.0)
+    (λ k. ap (λ (h : ℕ → Option PageId). h k) (held_by_rights c.args.self.now.memory.now.pager c.copy_pages.new.self c.copy_pages.ensures.state.rights_are)))
+    c.copy_pages.ensures.state.reads_stay refl sees.0)
 
 pub returns-clause-keeps : goal.returns-clause-keeps
 returns-clause-keeps g c first stays =

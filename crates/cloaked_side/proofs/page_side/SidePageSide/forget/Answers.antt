@@ -40,6 +40,7 @@ returns-clause-follows g c first w sees unclashed =
     (λ s keeps. same_tracks _ _ _ _ (held_in mid.memory.now.pager) (held_in c.drop_pages.new.self) refl refl
     (λ k. ap (λ (h : ℕ → Option PageId). h k) (held_by_rights mid.memory.now.pager c.drop_pages.new.self rights))
     _ (c.empty_frames.ensures.tracks s keeps))
+    c.drop_pages.ensures.state.reads_stay refl
     sees.0 (c.empty_frames.ensures.shows first w (shows_of gave first begun w sees.0)))
 
 pub returns-clause-keeps : goal.returns-clause-keeps

@@ -21,7 +21,8 @@ returns-clause-follows g c first w sees unclashed =
     state.rights_are (written_count _ _ _ _ state)
     c.write_plain.ensures.model
     (same_tracks _ _ _ _ (held_in c.args.self.now.memory.now.pager) (held_in c.write_plain.new.self) refl refl
-    (λ k. ap (λ (h : ℕ → Option PageId). h k) (held_by_rights c.args.self.now.memory.now.pager c.write_plain.new.self state.rights_are))) sees.0)
+    (λ k. ap (λ (h : ℕ → Option PageId). h k) (held_by_rights c.args.self.now.memory.now.pager c.write_plain.new.self state.rights_are)))
+    state.reads_stay sees.0)
 
 pub returns-clause-keeps : goal.returns-clause-keeps
 returns-clause-keeps g c first stays =

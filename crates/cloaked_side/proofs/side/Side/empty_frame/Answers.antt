@@ -2,6 +2,8 @@ use Rattle.std.proofs.Common.{◌∙◌, ap, sym, subst, Bool}
 use Rattle.cloak_base.specs.Pages.{is_of}
 use Rattle.shadow_fold.specs.Fold.{holds}
 use Rattle.cloaked_side.specs.Tracking.{Tracks, touched_if}
+use Rattle.cloaked_side.proofs.Spending.{maps_killed}
+use Rattle.cloaked_side.proofs.Sided.{within_of}
 use Rattle.cloaked_side.proofs.Cleared.{shows_settled, unowed_of, away_of}
 use Rattle.cloaked_side.proofs.side.Side.empty_frame.Goals as goal
 
@@ -11,7 +13,10 @@ returns-then-is_page_of-clause-shows g c first w shows =
     let here = ap (λ o. holds (is_of c.args.domain c.args.resource) o) (sym c.holds.ensures)
     ∙ sym c.if-is_page_of.ensures in
     shows_settled g.E.Emit.gave first c.args.self.now c.settle.new.self c.args.f.0 w
-    c.settle.ensures.settles c.settle.ensures.violation c.settle.ensures.view
+    c.settle.ensures.settles c.settle.ensures.spends
+    (maps_killed c.args.self.now.memory.now c.settle.new.self.memory.now _ c.args.f c.settle.ensures.ends)
+    c.settle.ensures.violation c.settle.ensures.view
+    (within_of g.E.Emit.gave c.args.self.now c.settle.new.self c.settle.ensures.keeps).stays.space
     (unowed_of p c.args.domain c.args.resource c.args.f.0 c.requires.cleared here) shows
 
 pub returns-then-is_page_of-clause-tracks : goal.returns-then-is_page_of-clause-tracks

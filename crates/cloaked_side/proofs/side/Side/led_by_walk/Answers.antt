@@ -1,6 +1,9 @@
-use Rattle.std.proofs.Common.{rules, refl, Ok}
+use Rattle.std.proofs.Common.{◌≡◌, ℕ, Bool, true, false, rules, refl, ap, sym, ◌∙◌, Ok, Err}
+use Rattle.cloak_model.specs.Memory.{is_in_frames}
+use Rattle.cloaked_side.specs.Leading.{place_in}
+use Rattle.cloaked_side.specs.Holding.{frames_of}
 use Rattle.shadow_fold.specs.Agreement.{satp_in, access_in}
-use Rattle.cloaked_side.proofs.Known.{walk_of, walk_outside, led_so, walked_by, translate_unclashed}
+use Rattle.cloaked_side.proofs.Known.{entry_place, led_unclashed, walk_follows, walk_so, walked_by}
 use Rattle.cloaked_side.proofs.Sided.{within_of}
 use Rattle.cloaked_side.proofs.side.Side.led_by_walk.Goals as goal
 
@@ -16,23 +19,49 @@ pub returns-clause-same_count : goal.returns-clause-same_count
 returns-clause-same_count g c =
     (within_of g.E.Emit.gave c.args.self.now c.walk.new.w c.walk.ensures.keeps).stays.size.frames
 
-pub returns-clause-led_by : goal.returns-clause-led_by
-returns-clause-led_by g c first w sees unclashed =
+pub returns-in_err-walked-clause-follows : goal.returns-in_err-walked-clause-follows
+returns-in_err-walked-clause-follows g c first w sees unclashed =
     let gave = g.E.Emit.gave in
     let view = c.args.view.now in
-    let walked = c.in_ok-walked.walked in
-    let told = walked_by gave first c.walk.new.w c.satp_of.result (satp_in view) c.access_of-a.result (access_in view c.args.va c.args.kind)
-    (Ok walked) w c.satp_of.ensures c.access_of-a.ensures (λ u. c.in_ok-walked.ensures.follows first w sees u)
-    (translate_unclashed (satp_in view) (access_in view c.args.va c.args.kind) w unclashed) in
-    led_so _ view c.args.va c.args.kind walked walked.pa
-    (walk_of gave first c.args.self.now c.walk.new.w view c.args.va c.args.kind walked w sees (search rules) told) refl
+    let a = access_in view c.args.va c.args.kind in
+    walk_follows gave first c.args.self.now c.walk.new.w view c.args.va c.args.kind (Err c.in_err-walked.field-0.0) (place_in c.from_residual.result) w sees
+    (walked_by gave first c.walk.new.w c.satp_of.result (satp_in view) c.access_of-a.result a
+    (Err c.in_err-walked.field-0.0) _ c.satp_of.ensures c.access_of-a.ensures (λ u. c.in_err-walked.ensures.follows first _ sees u)
+    (led_unclashed view c.args.va c.args.kind w unclashed)) (search rules)
 
-pub returns-clause-tables : goal.returns-clause-tables
-returns-clause-tables g c first w sees unclashed =
+pub returns-then-not-is_inside-clause-follows : goal.returns-then-not-is_inside-clause-follows
+returns-then-not-is_inside-clause-follows g c first w sees unclashed =
     let gave = g.E.Emit.gave in
     let view = c.args.view.now in
+    let a = access_in view c.args.va c.args.kind in
     let walked = c.in_ok-walked.walked in
-    let told = walked_by gave first c.walk.new.w c.satp_of.result (satp_in view) c.access_of-a.result (access_in view c.args.va c.args.kind)
-    (Ok walked) w c.satp_of.ensures c.access_of-a.ensures (λ u. c.in_ok-walked.ensures.follows first w sees u)
-    (translate_unclashed (satp_in view) (access_in view c.args.va c.args.kind) w unclashed) in
-    walk_outside gave first c.args.self.now c.walk.new.w (satp_in view) (access_in view c.args.va c.args.kind) walked w sees told
+    walk_follows gave first c.args.self.now c.walk.new.w view c.args.va c.args.kind (Ok walked) _ w sees
+    (walked_by gave first c.walk.new.w c.satp_of.result (satp_in view) c.access_of-a.result a
+    (Ok walked) _ c.satp_of.ensures c.access_of-a.ensures (λ u. c.in_ok-walked.ensures.follows first _ sees u)
+    (led_unclashed view c.args.va c.args.kind w unclashed))
+    (let no : is_in_frames (frames_of c.walk.new.w.memory.now) walked.pa ≡ false = search rules in
+    ap (λ (cause : ℕ). Err cause) c.access_fault.ensures ∙ ap (λ (b : Bool). entry_place b walked.pa c.args.kind) (sym no))
+
+pub returns-clause-follows : goal.returns-clause-follows
+returns-clause-follows g c first w sees unclashed =
+    let gave = g.E.Emit.gave in
+    let view = c.args.view.now in
+    let a = access_in view c.args.va c.args.kind in
+    let walked = c.in_ok-walked.walked in
+    walk_follows gave first c.args.self.now c.walk.new.w view c.args.va c.args.kind (Ok walked) _ w sees
+    (walked_by gave first c.walk.new.w c.satp_of.result (satp_in view) c.access_of-a.result a
+    (Ok walked) _ c.satp_of.ensures c.access_of-a.ensures (λ u. c.in_ok-walked.ensures.follows first _ sees u)
+    (led_unclashed view c.args.va c.args.kind w unclashed))
+    (let yes : is_in_frames (frames_of c.walk.new.w.memory.now) walked.pa ≡ true = search rules in
+    ap (λ (b : Bool). entry_place b walked.pa c.args.kind) (sym yes))
+
+pub returns-clause-leads : goal.returns-clause-leads
+returns-clause-leads g c first w cloaked sees unclashed =
+    let gave = g.E.Emit.gave in
+    let view = c.args.view.now in
+    let a = access_in view c.args.va c.args.kind in
+    let walked = c.in_ok-walked.walked in
+    walk_so gave first c.args.self.now c.walk.new.w view c.args.va c.args.kind cloaked walked _ w sees
+    (walked_by gave first c.walk.new.w c.satp_of.result (satp_in view) c.access_of-a.result a
+    (Ok walked) _ c.satp_of.ensures c.access_of-a.ensures (λ u. c.in_ok-walked.ensures.follows first _ sees u)
+    (led_unclashed view c.args.va c.args.kind w unclashed)) (search rules) refl

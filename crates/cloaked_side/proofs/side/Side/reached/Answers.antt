@@ -31,7 +31,7 @@ returns-in-Ready-clause-told g c first w s sees spaced is so unclashed =
     let at = c.frame_of-g.ensures in
     reached_told gave first _ q c.args.va c.args.kind led.pa c.frame_of-g.result.0 _ w at unclashed (λ u.
     asked_offer gave first old mid _ ended.Ready q c.args.va c.args.kind c.frame_of-g.result.0 c.is_store.result _ w c.is_store.ensures sees u
-    c.in-Ready.ensures.offers c.in-Ready.ensures.tracks refl refl refl
+    c.in-Ready.ensures.offers c.in-Ready.ensures.tracks c.in-Ready.ensures.spends c.in-Ready.ensures.maps refl refl refl
     (λ k k' there seen seen' is_memory same_view.
     let here = subst (λ (n : ℕ). held_in mid.memory.now.pager n ≡ Some q) at (c.in-Ready.ensures.held refl) in
     let reached = reached_so gave first old mid view c.args.va c.args.kind q led k k' seen seen'
@@ -57,7 +57,7 @@ returns-in-Mismatch-clause-told g c first w s sees spaced is so unclashed =
     let after = record mid { violation = Some (violation.Page c.args.q c.frame_of-g.result) } in
     reached_told gave first _ c.args.q c.args.va c.args.kind c.args.led.now.pa c.frame_of-g.result.0 _ w at unclashed (λ u.
     asked_offer gave first old mid _ ended.Mismatch c.args.q c.args.va c.args.kind c.frame_of-g.result.0 c.is_store.result _ w c.is_store.ensures sees u
-    c.in-Mismatch.ensures.offers c.in-Mismatch.ensures.tracks refl refl refl
+    c.in-Mismatch.ensures.offers c.in-Mismatch.ensures.tracks c.in-Mismatch.ensures.spends c.in-Mismatch.ensures.maps refl refl refl
     (λ k k' there seen seen' is_memory same_view.
     mismatched_told gave first after _ c.args.q c.args.va c.args.kind c.frame_of-g.result.0 _ k'
     (with_violation gave first mid after _ k' seen' refl refl refl refl refl)
@@ -73,7 +73,7 @@ returns-in-Missed-clause-told g c first w s sees spaced is so unclashed =
     } in
     reached_told gave first _ c.args.q c.args.va c.args.kind c.args.led.now.pa c.frame_of-g.result.0 _ w c.frame_of-g.ensures unclashed (λ u.
     asked_offer gave first old mid _ ended.Missed c.args.q c.args.va c.args.kind c.frame_of-g.result.0 c.is_store.result _ w c.is_store.ensures sees u
-    c.in-Missed.ensures.offers c.in-Missed.ensures.tracks refl refl refl
+    c.in-Missed.ensures.offers c.in-Missed.ensures.tracks c.in-Missed.ensures.spends c.in-Missed.ensures.maps refl refl refl
     (λ k k' there seen seen' is_memory same_view.
     missed_told gave first mid _ c.args.q c.args.va c.args.kind c.frame_of-g.result.0 _ k' seen'
     (λ v stands. c.answer-in-Missed.ensures.told first v stands)))

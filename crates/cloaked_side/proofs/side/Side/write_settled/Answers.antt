@@ -25,7 +25,8 @@ returns-clause-told g c first w sees =
     c.write_outside.ensures.state c.kill_dependents.ensures)
     (λ wiped m stands. (meets wiped m stands).stands)
     (write_tracks side.space _ _ _ _ (held_in side.memory.now.pager) (held_in c.write_outside.new.self) c.frame_of-f.result (frame_of pa) c.frame_of-f.ensures refl
-    c.kill_dependents.ensures (λ k. ap (λ (h : ℕ → Option PageId). h k) (held_by_rights side.memory.now.pager c.write_outside.new.self c.write_outside.ensures.state.rights_are))) sees
+    c.kill_dependents.ensures (λ k. ap (λ (h : ℕ → Option PageId). h k) (held_by_rights side.memory.now.pager c.write_outside.new.self c.write_outside.ensures.state.rights_are)))
+    c.frame_of-f.result c.write_outside.ensures.state.reads_stay c.kill_dependents.ensures sees
 
 pub returns-clause-keeps : goal.returns-clause-keeps
 returns-clause-keeps g c first stays =

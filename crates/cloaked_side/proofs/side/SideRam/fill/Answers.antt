@@ -22,6 +22,7 @@ returns-clause-follows g c first w sees unclashed =
     (λ wiped m stands. (c.fill_outside.ensures.model wiped m stands).stands)
     (write_tracks c.settle.new.self.space _ _ _ _ (held_in c.settle.new.self.memory.now.pager) (held_in c.fill_outside.new.self) c.args.f c.args.f.0 refl refl
     c.kill_dependents.ensures (λ k. ap (λ (h : ℕ → Option PageId). h k) (held_by_rights c.settle.new.self.memory.now.pager c.fill_outside.new.self c.fill_outside.ensures.state.rights_are)))
+    c.args.f c.fill_outside.ensures.state.reads_stay c.kill_dependents.ensures
     (c.settle.ensures.sees first w sees.0))
 
 pub returns-clause-keeps : goal.returns-clause-keeps

@@ -1,26 +1,37 @@
-use Rattle.std.proofs.Common.{rules, ◌∙◌, refl, ap, subst, ℕ, Some}
+use Rattle.std.proofs.Common.{rules, ◌∙◌, refl, ap, subst, ℕ, Some, length}
+use Rattle.cloak_model.specs.Cloaking.{settle}
 use Rattle.cloak_model.specs.Memory.{frame_of, place_of, value_in}
-use Rattle.cloak_model.specs.World.{settled}
+use Rattle.shadow_fold.specs.Fold.{frame, touched}
+use Rattle.shadow_fold.specs.Reads.{Spends}
+use Rattle.cloaked_side.specs.Holding.{Settles}
+use Rattle.cloaked_side.specs.Tracking.{TracksBy, spent_in}
+use Rattle.cloaked_side.proofs.Spending.{maps_killed}
 use Rattle.cloak_pager.specs.AfterCall.{SeesFrame}
-use Rattle.cloaked_side.specs.Seeing.{Sees}
-use Rattle.cloaked_side.proofs.Sided.{read_after, word_told, within_repaged, read_size, no_more_read}
+use Rattle.cloaked_side.proofs.Sided.{walking_read, word_told, within_of, within_repaged, read_size, no_more_read}
 use Rattle.cloaked_side.proofs.side.SideWords.word.Goals as goal
 
 pub returns-clause-follows : goal.returns-clause-follows
 returns-clause-follows g c first w sees unclashed =
     let pa = c.args.pa in
+    let old = c.args.self.now in
     let side = c.settle.new.self in
     let bytes = c.read_outside.result.now in
-    word_told g.E.Emit.gave first c.args.self.now _ w pa _ c.is_inside.result sees c.is_inside.ensures.value
+    let kept = within_of g.E.Emit.gave old side c.settle.ensures.keeps in
+    let f = frame_of pa in
+    let at = c.frame_of-f.ensures in
+    word_told g.E.Emit.gave first old _ w pa _ c.is_inside.result sees c.is_inside.ensures.value
     (search rules)
-    (read_after g.E.Emit.gave first side _ (frame_of pa) (settled (frame_of pa) w)
+    (walking_read g.E.Emit.gave first old side _ f w
     (λ b. Some (value_in b (place_of pa) 4)) bytes _
+    (λ m holds. subst (λ (n : ℕ). Settles g.E.Emit.gave old.emitter.now side.emitter.now side.memory.now (settle n m)) at (c.settle.ensures.settles m holds))
+    (subst (λ (n : ℕ). TracksBy old.memory.now side.memory.now (touched (frame n))) at c.settle.ensures.tracks)
+    (λ m holds. subst (λ (n : ℕ). Spends 0 (length (settle n m).ciphers) (spent_in old.memory.now) (spent_in side.memory.now)) at (c.settle.ensures.spends m holds))
+    (maps_killed old.memory.now side.memory.now _ c.frame_of-f.result c.settle.ensures.ends)
+    c.settle.ensures.violation c.settle.ensures.view kept.stays.space
     (record { stream = refl; draws = refl; missed = refl; emitter = refl; violation = refl; view = refl; space = refl }) refl refl
-    (subst (λ (f : ℕ). SeesFrame side.memory.now.pager f bytes) c.frame_of-f.ensures c.read_outside.ensures.model)
+    (subst (λ (n : ℕ). SeesFrame side.memory.now.pager n bytes) at c.read_outside.ensures.model)
     c.read_outside.follows.holds-at-none
-    (ap (λ n. Some n) (c.word_in.ensures ∙ ap (λ n. value_in bytes n 4) c.place_of.ensures.value))
-    (subst (λ (f : ℕ). Sees g.E.Emit.gave first side (settled f w)) c.frame_of-f.ensures
-    (c.settle.ensures.sees first w sees)))
+    (ap (λ n. Some n) (c.word_in.ensures ∙ ap (λ n. value_in bytes n 4) c.place_of.ensures.value)) sees)
 
 pub returns-clause-keeps : goal.returns-clause-keeps
 returns-clause-keeps g c first stays =

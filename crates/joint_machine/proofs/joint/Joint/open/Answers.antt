@@ -35,7 +35,7 @@ returns-clause-opens c =
     let m = started_memory b.kernel c.in-Some.key c.draw.new.self in
     opens_joint _ b c.args.s c.draw.new.self c.in-Some.key c.in-Some.ensures (record {
       harts = c.in_ok-harts.ensures;
-      disk = c.disk_of-disk.ensures;
+      disk = c.in_ok-memory.ensures.disk;
       domains = c.in_ok-domains.ensures.stand;
       roots = c.open.ensures;
       memory = c.if-not-place_programs.ensures.places m c.in_ok-memory.ensures.holds;

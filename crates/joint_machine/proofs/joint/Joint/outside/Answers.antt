@@ -3,7 +3,7 @@ use Rattle.cloak_model.specs.Joint.{outside_step}
 use Rattle.cloaked_side.proofs.Emitting.{some_then}
 use Rattle.joint_machine.proofs.Turns.{ends_stay, ends_put, ends_halt, ends_resumed}
 use Rattle.cloak_model.specs.Joint.{hart_in}
-use Rattle.cloaked_side.specs.Tracking.{TracksBy}
+use Rattle.cloaked_side.specs.Tracking.{GoesBy}
 use Rattle.cloaked_side.specs.declared.memory.Memory.{Memory}
 use Rattle.shadow_fold.specs.Events as events
 use Rattle.joint_machine.proofs.joint.Joint.outside.Goals as goal
@@ -33,7 +33,7 @@ returns-in-Resume-clause-turns g c j s unclashed =
     ends_resumed g.E.Emit.gave _ _ c.step_plainly.new.self _ _ j c.args.number _ steps c.in-Resume.ctx c.in-Resume.answer _ c.resume.new.self c.resume.result c.in-Resume.is c.met-in-Resume.ensures
     (c.resume.ensures.resumes _ steps.stands)
 
-pub returns-in-Resume-clause-tracks : goal.returns-in-Resume-clause-tracks
-returns-in-Resume-clause-tracks g c j s unclashed =
-    subst (λ (m : Memory). TracksBy c.args.self.now.memory m (events.after_outside j (hart_in j c.args.number))) (sym c.resume.ensures.memory)
-    (c.step_plainly.ensures.tracks j s unclashed)
+pub returns-in-Resume-clause-goes : goal.returns-in-Resume-clause-goes
+returns-in-Resume-clause-goes g c j s unclashed =
+    subst (λ (m : Memory). GoesBy c.args.self.now.memory m (events.asked_outside j (hart_in j c.args.number))) (sym c.resume.ensures.memory)
+    (c.step_plainly.ensures.goes j s unclashed)

@@ -14,6 +14,7 @@ invariant_of-self c =
       slots = two.ends.long ∙ one.ends.long ∙ inv.slots;
       heads = inv.heads ∙ sym one.heads ∙ sym two.heads;
       some = inv.some;
+      power = inv.power;
       enough = inv.enough;
       placed = two.placed;
       apart = fewer_apart c.self.inside.arena c.prune_frame-2.new.arena inv.apart

@@ -12,6 +12,7 @@ invariant_of-self c =
       slots = now.ends.long ∙ inv.slots;
       heads = inv.heads ∙ sym now.heads;
       some = inv.some;
+      power = inv.power;
       enough = inv.enough;
       placed = now.placed;
       apart = fewer_apart c.self.inside.arena c.prune_all.new.arena inv.apart (λ t e l. (now.ends.ended t e l).0);

@@ -24,6 +24,7 @@ invariant_of-self c =
       slots = put_long A B e c.place.result now.unchanged now.put ∙ inv.slots;
       heads = inv.heads ∙ sym now.heads;
       some = inv.some;
+      power = inv.power;
       enough = inv.enough;
       placed = now.placed;
       apart = put_apart A B e c.place.result now.unchanged now.put inv.apart unknown;

@@ -1,0 +1,9 @@
+pub mod Births
+pub mod Copying
+pub mod Hypercalls
+pub mod Mapped
+pub mod Outside
+pub mod Questions
+pub mod Regions
+pub mod Running
+pub mod Turns
