@@ -1,6 +1,6 @@
 -- What each method does to an arena, over its fields.
 use Rattle.std.proofs.Common.{◌≡◌, ℕ, zero, suc, ◌+◌, ◌<◌, ◌≤◌, inl, inr, cond, List, [], ◌∷◌, map, length, get_or, slice_get, slice_set, Option, Some, None, refl, sym, ap, ◌∙◌, subst, arith}
-use Rattle.std.specs.List.{range_with_len}
+use Rattle.std.specs.List.{filter_map, range_with_len}
 use Rattle.std.proofs.lemmas.Bool.{cases_eq, eq-eqb, ne_eqb}
 use Rattle.std.proofs.lemmas.Option.{slice_get_within, get_or_from_slice_get, slice_get-get_or, none-some}
 use Rattle.std.proofs.lemmas.List.FromFn.{length-map-range_with_len, get_or-map-range_with_len}
@@ -98,6 +98,13 @@ module _ {X : Type 0} where
       let all = payload_of xs in
       slice_get-get_or (payloads_of xs n) s None (subst (λ k. s < k) (sym (length-map-range_with_len all 0 n)) h)
       ∙ ap Some (get_or-map-range_with_len all 0 n s s None h (omega arith))
+
+  -- as many slots are in use as before
+  pub still_counted : (xs ys : List (Node X)) (n used : ℕ) → ((i : ℕ) → payload_of ys i ≡ payload_of xs i)
+      → used ≡ length (filter_map (λ o. o) (payloads_of xs n)) → used ≡ length (filter_map (λ o. o) (payloads_of ys n))
+  still_counted xs ys n used same counted =
+      counted ∙ ap (λ ps. length (filter_map (λ (o : Option X). o) ps))
+      (sym (map_same (payload_of ys) (payload_of xs) (range_with_len 0 n) same))
 
   abbrev pub shown : List (Node X) → ℕ → ℕ → Arena X
   shown xs n m = arena (payloads_of xs n) m (held xs n m link.Bucket) (held xs n m link.Target)
@@ -268,6 +275,7 @@ module _ {X : Type 0} where
           made = settled ys n m ds made;
           sorted = sorted_settled ys n m ds (held ys n m) sorted (held_is ys n m ds made);
           small = is.small;
+          counted = still_counted xs ys n a.used payloads is.counted;
         }
 
         pub hook_shows : shown ys n m ≡ hooked (arena_of a) c h s
@@ -316,6 +324,7 @@ module _ {X : Type 0} where
           made = settled zs n m es less_made;
           sorted = sorted_settled zs n m es (held zs n m) less_sorted (held_is zs n m es less_made);
           small = is.small;
+          counted = still_counted xs zs n a.used same_payloads is.counted;
         }
 
         pub unhook_shows : shown zs n m ≡ unhooked (arena_of a) c s

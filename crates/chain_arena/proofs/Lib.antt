@@ -2,6 +2,7 @@ pub mod AllChains
 pub mod Arenas
 pub mod Callers
 pub mod Chains
+pub mod Counts
 pub mod Made
 pub mod Memory
 pub mod Nodes

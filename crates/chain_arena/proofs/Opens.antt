@@ -13,6 +13,7 @@ use Rattle.chain_arena.specs.Chains.{IsMemberOf, IsOnce, IsTidy, IsLinked, AreLi
 use Rattle.chain_arena.specs.Nodes.{payload_of, next_of, previous_of, linked_in, AreAlone}
 use Rattle.chain_arena.specs.Arena.{arena, empty_arena}
 use Rattle.chain_arena.specs.Inside.{base_of, heads_of, held, payloads_of, AreMade, AreSorted, IsArena}
+use Rattle.chain_arena.proofs.Counts.{lying, none_lying}
 use Rattle.chain_arena.proofs.Made.{head_node, put, put_here, put_other, held_is, settled, sorted_settled, ring_below, next_in, made_hooked}
 use Rattle.chain_arena.proofs.Arenas.{shown}
 
@@ -173,21 +174,25 @@ module _ {X : Type 0} where
       in_use = λ k h i d l p. absurd (subst (IsMemberOf i) (begun_empty m n k h d) p);
     }
 
-    pub opened : n + m + 1 < 2 ^ 64 → IsArena (let b : Inside X = record { block = xs; nodes = n; heads = m } in b)
-    opened small = record {
-      made = settled xs n m (begun m n) made;
-      sorted = sorted_settled xs n m (begun m n) (held xs n m) begun_sorted (held_is xs n m (begun m n) made);
-      small = small;
-    }
-
-    pub opened_shows : shown xs n m ≡ empty_arena n m
-    opened_shows =
-        let ps : payloads_of xs n ≡ replicate n None =
+    no_payloads : payloads_of xs n ≡ replicate n None
+    no_payloads =
         same_lists (payloads_of xs n) (replicate n None) (length-map-range_with_len (payload_of xs) 0 n
         ∙ sym (length-replicate n None)) (λ i d lt.
         let within : i < n = subst (λ k. i < k) (length-map-range_with_len (payload_of xs) 0 n) lt in
         get_or-map-range_with_len (payload_of xs) 0 n i i d within (omega arith) ∙ empty i
-        ∙ sym (get_or-replicate n i None d within)) in
+        ∙ sym (get_or-replicate n i None d within))
+
+    pub opened : n + m + 1 < 2 ^ 64
+        → IsArena (let b : Inside X = record { block = xs; nodes = n; heads = m; used = 0 } in b)
+    opened small = record {
+      made = settled xs n m (begun m n) made;
+      sorted = sorted_settled xs n m (begun m n) (held xs n m) begun_sorted (held_is xs n m (begun m n) made);
+      small = small;
+      counted = sym (ap (λ ps. length (lying ps)) no_payloads ∙ ap length (none_lying n));
+    }
+
+    pub opened_shows : shown xs n m ≡ empty_arena n m
+    opened_shows =
         let b = held_is xs n m (begun m n) made link.Bucket in let t = held_is xs n m (begun m n) made link.Target in
         let f = held_is xs n m (begun m n) made link.First in let s = held_is xs n m (begun m n) made link.Second in
-        λ i. arena (ps i) m (b i) (t i) (f i) (s i)
+        λ i. arena (no_payloads i) m (b i) (t i) (f i) (s i)

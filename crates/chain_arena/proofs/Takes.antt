@@ -1,5 +1,5 @@
 -- What `take` and `give_back` do to an arena, and what holds of every arena.
-use Rattle.std.proofs.Common.{◌≡◌, ℕ, ◌+◌, ◌<◌, ◌≤◌, inl, inr, true, false, List, [], ◌∷◌, map, length, get_or, slice_set, Option, Some, None, refl, sym, ap, ◌∙◌, subst, arith}
+use Rattle.std.proofs.Common.{◌≡◌, ℕ, ◌+◌, ◌-◌, ◌<◌, ◌≤◌, inl, inr, true, false, List, [], ◌∷◌, map, length, get_or, slice_set, Option, Some, None, refl, sym, ap, ◌∙◌, subst, arith}
 use Rattle.std.proofs.lemmas.Bool.{cases_eq}
 use Rattle.std.proofs.lemmas.Option.{none-some}
 use Rattle.std.proofs.lemmas.List.{length-set, same_lists, get_or-set_same, get_or-set_other}
@@ -16,6 +16,7 @@ use Rattle.chain_arena.specs.Nodes.{payload_of, next_of, previous_of, linked_in,
 use Rattle.chain_arena.specs.Nodes as nodes
 use Rattle.chain_arena.specs.Arena.{Arena, arena, chains, IsFree, IsInUse, Stands, with_payload, IsTidyArena}
 use Rattle.chain_arena.specs.Inside.{held, payloads_of, AreMade, AreSorted, arena_of, IsArena}
+use Rattle.chain_arena.proofs.Counts.{lying, fewer_lying, one_taken, one_given}
 use Rattle.chain_arena.proofs.Chains.{first_in, in_push, in_without, in_still, get_or-without}
 use Rattle.chain_arena.proofs.Nodes.{payload-linked_in, payload-taken_out, payload-here, payload-elsewhere, length-taken_out, length-with_content}
 use Rattle.chain_arena.proofs.Made.{put, put_here, put_other, held_is, settled, sorted_settled, ring_below, next_in, after_is_in, before_is_in, made_hooked, made_unhooked, made_payload}
@@ -164,6 +165,13 @@ module _ {X : Type 0} where
       take_before = ring_below xs n m css is.made link.Free 0 (previous_of link.Free xs s) (omega arith)
           (before_is_in xs n m css is.made link.Free 0 s (omega arith) is_free_in)
 
+      pub fewer_used : a.used < n
+      fewer_used =
+          let fewer = fewer_lying (payloads_of xs n) s was_free in
+          let long = length-map-range_with_len (payload_of xs) 0 n in
+          let was = is.counted in
+          omega (arith, fewer, long, was)
+
       pub slot_in_block : s < length xs
       slot_in_block = omega (arith, is.made.long)
 
@@ -203,16 +211,18 @@ module _ {X : Type 0} where
               (sym (elsewhere i (other i e)) ∙ e);
         }
 
-        pub take_keeps : IsArena (let b : Inside X = record a { block = ws } in b)
+        pub take_shows : shown ws n m ≡ with_payload (arena_of a) s (Some value)
+        take_shows = paid xs ws n m s (Some value) slot here elsewhere (λ k d. held_is ws n m es made k
+            ∙ put_other link.Free (map (without s) (css link.Free)) css k d)
+
+        pub take_keeps : IsArena (let b : Inside X = record a { block = ws; used = a.used + 1 } in b)
         take_keeps = record {
           made = settled ws n m es made;
           sorted = sorted_settled ws n m es (held ws n m) sorted (held_is ws n m es made);
           small = is.small;
+          counted = ap (λ k. k + 1) is.counted ∙ sym (one_taken (payloads_of xs n) s value was_free)
+              ∙ ap (λ (A : Arena X). length (lying A.payloads)) (sym take_shows);
         }
-
-        pub take_shows : shown ws n m ≡ with_payload (arena_of a) s (Some value)
-        take_shows = paid xs ws n m s (Some value) slot here elsewhere (λ k d. held_is ws n m es made k
-            ∙ put_other link.Free (map (without s) (css link.Free)) css k d)
 
         pub take_apart : (c : Chain) → Not (Stands (shown ws n m) c s)
         take_apart c st = stands_used c s (stands_paid (arena_of a) c s s (Some value)
@@ -224,6 +234,9 @@ module _ {X : Type 0} where
         → Not (Stands (arena_of a) c s)) (value : X) where
       abbrev us : List (Node X)
       us = nodes.with_content s false value xs
+
+      pub some_used : 0 < a.used
+      some_used = let one = one_given (payloads_of xs n) s used.0 used.1 in let was = is.counted in omega (arith, one, was)
 
       slot_back : s < n
       slot_back = (payload_in xs n s (Some used.0) used.1).0
@@ -301,13 +314,18 @@ module _ {X : Type 0} where
           in_use = still_used;
         }
 
-        pub back_keeps : IsArena (let b : Inside X = record a { block = ys } in b)
+        pub back_shows : shown ys n m ≡ with_payload (arena_of a) s None
+        back_shows = paid xs ys n m s None slot_back none_here same_elsewhere (λ k d. held_is ys n m ds given k
+            ∙ put_other link.Free more css k d)
+
+        pub back_keeps : IsArena (let b : Inside X = record a { block = ys; used = a.used - 1 } in b)
         back_keeps = record {
           made = settled ys n m ds given;
           sorted = sorted_settled ys n m ds (held ys n m) given_sorted (held_is ys n m ds given);
           small = is.small;
+          counted =
+              let now = ap (λ (A : Arena X). length (lying A.payloads)) back_shows in
+              let one = one_given (payloads_of xs n) s used.0 used.1 in
+              let was = is.counted in
+              omega (arith, now, one, was);
         }
-
-        pub back_shows : shown ys n m ≡ with_payload (arena_of a) s None
-        back_shows = paid xs ys n m s None slot_back none_here same_elsewhere (λ k d. held_is ys n m ds given k
-            ∙ put_other link.Free more css k d)

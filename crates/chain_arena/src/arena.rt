@@ -1,5 +1,6 @@
 //! The arena: a block of nodes, seen as payloads and chains.
 ghost use Rattle.std.specs.Prelude.{◌≡◌, ◌+◌, ◌<◌, ◌≤◌, ℕ, length, slice_get, Some, None, IfOk, IfSome, IfNone};
+ghost use Rattle.std.specs.List.{filter_map};
 ghost use Rattle.chain_arena.specs.Arena.{empty_arena, chain_at, IsFree, IsInUse, Stands, hooked, unhooked};
 ghost use Rattle.chain_arena.specs.Arena.{with_payload, next_behind, IsTidyArena};
 ghost use Rattle.chain_arena.specs.Chains.{IsMemberOf};
@@ -103,6 +104,7 @@ pub struct ChainArena<T: Copy> {
     block: Block<Node<T>>,
     nodes: usize,
     heads: usize,
+    used: usize,
 }
 
 impl<T: Copy> Model for ChainArena<T> {
@@ -137,6 +139,7 @@ impl<T: Copy> ChainArena<T> {
             block,
             nodes: slots,
             heads: lists,
+            used: 0,
         })
     }
 
@@ -154,6 +157,7 @@ impl<T: Copy> ChainArena<T> {
         if s < self.nodes {
             take_out(&mut self.block, Link::Free, s);
             set_content(&mut self.block, s, true, value);
+            self.used += 1;
             Some(Slot { index: s })
         } else {
             None
@@ -171,6 +175,7 @@ impl<T: Copy> ChainArena<T> {
         let value = self.block.get(s.index).value;
         set_content(&mut self.block, s.index, false, value);
         link_in(&mut self.block, Link::Free, s.index, at);
+        self.used -= 1;
     }
 
     /// Puts a slot first in the chain of a head.
@@ -211,6 +216,14 @@ impl<T: Copy> ChainArena<T> {
         ensures { (h : ℕ) → IsMemberOf s (chain_at self.now c h) → result ≡ next_behind s (chain_at self.now c h) }
     {
         slot_at(self.block.get(s.index).next.get(c.link()), self.nodes)
+    }
+
+    /// How many slots are in use.
+    #[inline(always)]
+    pub fn used(&self) -> usize
+        ensures { result ≡ length (filter_map (λ o. o) self.now.payloads) }
+    {
+        self.used
     }
 
     /// What a slot was taken for.

@@ -1,6 +1,5 @@
 -- An arena after the slot of an entry was put into all its chains.
-use Rattle.std.proofs.Common.{◌≡◌, ℕ, zero, suc, ◌<◌, ◌⊎◌, inl, inr, Bool, true, false, ◌&&◌, ◌||◌, List, [], ◌∷◌, length, get_or, slice_get, slice_set, Option, Some, None, IfSome, refl, sym, ap, ◌∙◌, subst, arith}
-use Rattle.std.specs.List.{list_any}
+use Rattle.std.proofs.Common.{◌≡◌, ℕ, ◌<◌, ◌⊎◌, inl, inr, Bool, true, false, ◌&&◌, List, [], ◌∷◌, length, get_or, slice_get, slice_set, Option, Some, None, IfSome, refl, sym, ap, ◌∙◌, subst, arith}
 use Rattle.std.proofs.lemmas.Bool.{cases_eq, false≢true, eq-eqb, ne_eqb}
 use Rattle.std.proofs.lemmas.List.{get_or-set_same, get_or-set_other}
 use Rattle.std.proofs.lemmas.Option.{none-some, same_Some, slice_get_within}
@@ -11,9 +10,9 @@ use Rattle.chain_arena.specs.Arena.{Arena, IsFree, Stands, chains, chain_at, wit
 use Rattle.chain_arena.proofs.Callers.{chains_here, chains_there, chains_paid, heads_kept, payloads_kept, long_hooked, not_both}
 use Rattle.cloak_base.specs.declared.names.Frame.{Frame}
 use Rattle.shadow_fold.specs.declared.entry.Entry.{Entry}
-use Rattle.shadow_fold.specs.Entries.{is_for, IsWithin}
-use Rattle.shadow_fold.proofs.Keys.{eqb_equal, is_for-key}
-use Rattle.multi_shadow.specs.Placed.{ArePlaced, AreApart, LiesAt, live_in, bucket_of, number_of, head_of, is_head, entered, all_entered}
+use Rattle.shadow_fold.specs.Entries.{IsWithin}
+use Rattle.shadow_fold.proofs.Keys.{eqb_equal}
+use Rattle.multi_shadow.specs.Placed.{ArePlaced, LiesAt, bucket_of, number_of, head_of, is_head, entered, all_entered}
 use Rattle.multi_shadow.proofs.Removing.{slice_get-set_same, slice_get-set_other}
 
 abbrev Not : Type 0 → Type 0
@@ -241,50 +240,6 @@ now_placed A B s e placed free tidy heads paid within all = record { tidy = tidy
             | inr q ↦ placed.only c t h x l' o q.1
           ]
         ]
-
--- no live entry passes, so none that lies in a slot
-none_any : (p : Entry → Bool) (os : List (Option Entry)) (s : ℕ) (x : Entry) → list_any p (live_in os) ≡ false → slice_get os s ≡ Some (Some x) → p x ≡ false
-none_any p [] s x none is = absurd (none-some (Some x) is)
-none_any p (None ∷ os) zero x none is = absurd (none-some x (same_Some _ _ is))
-none_any p (None ∷ os) (suc s) x none is = none_any p os s x none is
-none_any p (Some y ∷ os) zero x none is = let same : y ≡ x = same_Some _ _ (same_Some _ _ is) in sym (ap p same) ∙ or_false_left (p y) (list_any p (live_in os)) none
-  where
-    or_false_left : (a b : Bool) → (a || b) ≡ false → a ≡ false
-    or_false_left true b e = e
-    or_false_left false b e = refl
-none_any p (Some y ∷ os) (suc s) x none is = none_any p os s x (or_false_right (p y) (list_any p (live_in os)) none) is
-  where
-    or_false_right : (a b : Bool) → (a || b) ≡ false → b ≡ false
-    or_false_right true b e = absurd (false≢true (sym e))
-    or_false_right false b e = e
-
-pub still_apart : (A B : Arena Entry) (s : ℕ) (e : Entry) → AreApart A → IsFree A s → B.payloads ≡ slice_set A.payloads s (Some e)
-    → list_any (is_for e.view e.page e.kind) (live_in A.payloads) ≡ false → AreApart B
-still_apart A B s e apart free paid none view page kind t u x y lx ly px py =
-    elim (at_A t x lx) [
-      | inl o ↦ elim (at_A u y ly) [
-        | inl q ↦ q.1 ∙ sym o.1
-        | inr q ↦ absurd (clash x y u q.1 o.1 px py)
-      ]
-      | inr o ↦ elim (at_A u y ly) [
-        | inl q ↦ absurd (clash y x t o.1 q.1 py px)
-        | inr q ↦ apart view page kind t u x y o.1 q.1 px py
-      ]
-    ]
-  where
-    at_A : (t : ℕ) (x : Entry) → LiesAt B t x → ((t ≡ s) × (x ≡ e)) ⊎ (Not (t ≡ s) × LiesAt A t x)
-    at_A t x lies = new_or_old A.payloads s t e x free (sym (ap (λ ps. slice_get ps t) paid) ∙ lies)
-
-    -- an old entry is not for the new one's view, page and kind
-    clash : (x y : Entry) (u : ℕ) → LiesAt A u y → x ≡ e → is_for view page kind x ≡ true → is_for view page kind y ≡ true → ⊥
-    clash x y u lies new px py =
-        let key = is_for-key view page kind e (ap (is_for view page kind) (sym new) ∙ px) in
-        false≢true (sym (none_any (is_for e.view e.page e.kind) A.payloads u y none lies)
-        ∙ (λ i. is_for (key.0 i) (key.1 i) (key.2 i) y) ∙ py)
-
--- fewer entries are apart too
-pub fewer_apart : (A B : Arena Entry) → AreApart A → ((s : ℕ) (e : Entry) → LiesAt B s e → LiesAt A s e) → AreApart B
-fewer_apart A B apart fewer view page kind s t e x le lx pe px = apart view page kind s t e x (fewer s e le) (fewer t x lx) pe px
 
 -- Step by step, as the slot goes into one kind of chains after another.
 

@@ -64,7 +64,7 @@ room_frames t = elim (leb_tells 1024 (length t.live)) [
   | inr h ↦ ap (λ b. (if b then emptied t else t).frames) h.0
 ]
 
-unknown_in_room : (v : ShadowView) (page : ℕ) (kind : Kind) (t : Table) → is_known v page kind t ≡ false → is_known v page kind (with_room t) ≡ false
+pub unknown_in_room : (v : ShadowView) (page : ℕ) (kind : Kind) (t : Table) → is_known v page kind t ≡ false → is_known v page kind (with_room t) ≡ false
 unfolding with_room emptied is_known
 unknown_in_room v page kind t u = elim (leb_tells 1024 (length t.live)) [
   | inl h ↦ ap (λ b. list_any (is_for v page kind) (if b then emptied t else t).live) h.0
@@ -95,15 +95,3 @@ none_left p q (e ∷ es) none = by_test (p e) (q e) refl (none_left p q es) none
 pub unknown_ending : (v : ShadowView) (page : ℕ) (kind : Kind) (ends : Entry → Bool) (t : Table) → is_known v page kind t ≡ false → is_known v page kind (ending ends t) ≡ false
 unfolding is_known ending
 unknown_ending v page kind ends t none = none_left (is_for v page kind) (λ e. not (ends e)) t.live none
-
-pub none_known : (v : ShadowView) (page : ℕ) (kind : Kind) (t : Table) → is_known v page kind (emptied t) ≡ false
-unfolding is_known emptied
-none_known v page kind t = refl
-
-pub none_frames : (t : Table) → (emptied t).frames ≡ t.frames
-unfolding emptied
-none_frames t = refl
-
-pub never_full : (t u : Table) → u ≡ emptied t → 1024 ≤ length u.live → ⊥
-unfolding emptied
-never_full t u is many = let none = ap (λ (t : Table). length t.live) is in absurd (omega (arith, many, none))

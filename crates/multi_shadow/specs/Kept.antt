@@ -1,6 +1,7 @@
 -- What holds of the fields of a table of shadow entries.
 use Rattle.std.specs.Prelude.{◌≡◌, ◌<◌, ◌≤◌, length}
 use Rattle.multi_shadow.specs.Placed.{ArePlaced, AreApart, IsPower}
+use Rattle.multi_shadow.specs.Recent.{AreOfKind, AreWithin, live_of}
 use Rattle.multi_shadow.specs.declared.shadows.Shadows.TheInside.{Inside}
 
 pub record AreKept (s : Inside) : Type 0 where
@@ -11,4 +12,7 @@ pub record AreKept (s : Inside) : Type 0 where
   pub power : IsPower s.heads
   pub enough : s.frames ≤ s.heads
   pub placed : ArePlaced s.arena
-  pub apart : AreApart s.arena
+  -- each recent entry stands in the place of its kind, and there is a head for each of its frames
+  pub of_kind : AreOfKind s.recent
+  pub recent : AreWithin s.heads s.recent
+  pub apart : AreApart (live_of s.recent s.arena)

@@ -1,6 +1,6 @@
 -- Live entries in the slots of an arena. The slot of an entry stands in a chain of each kind: by view, page and kind in
 -- that of its bucket, and in those of its target and of its table frames.
-use Rattle.std.specs.Prelude.{◌≡◌, ℕ, ◌+◌, ◌*◌, ◌%◌, ◌^◌, ◌<◌, ◌==◌, Bool, true, false, ◌&&◌, List, length, slice_get, slice_set, Option, Some, None}
+use Rattle.std.specs.Prelude.{◌≡◌, ℕ, ◌+◌, ◌*◌, ◌%◌, ◌^◌, ◌<◌, ◌≤◌, ◌==◌, Bool, true, false, ◌&&◌, List, length, count_by, slice_get, slice_set, Option, Some, None}
 use Rattle.std.specs.List.{filter_map}
 use Rattle.chain_arena.specs.declared.chain.Chain.{Chain}
 use Rattle.chain_arena.specs.declared.chain.Chain.TheVariants as chain
@@ -82,9 +82,8 @@ abbrev pub IsPut : Entry → Arena Entry → Arena Entry → Type 0
 IsPut e A B = (s : ℕ) × IsFree A s × (B.payloads ≡ slice_set A.payloads s (Some e))
 
 -- no two entries are of one view, page and kind
-abbrev pub AreApart : Arena Entry → Type 0
-AreApart A = (view : ShadowView) (page : ℕ) (kind : Kind) (s t : ℕ) (e x : Entry) → LiesAt A s e → LiesAt A t x
-    → is_for view page kind e ≡ true → is_for view page kind x ≡ true → x ≡ e
+abbrev pub AreApart : List Entry → Type 0
+AreApart es = (view : ShadowView) (page : ℕ) (kind : Kind) → count_by (is_for view page kind) es ≤ 1
 
 -- the slot is put first in the chain of this head, where there is one
 abbrev pub entered : Arena Entry → Chain → Option ℕ → ℕ → Arena Entry

@@ -77,12 +77,12 @@ fn is_frame(f: Frame, table: Option<Frame>) -> bool
     }
 }
 
-/// The entry is of this view, page and kind.
+/// The entry is of this view, page and kind. The page is what most entries differ in.
 #[tactic(auto, unfolding(shadow_fold::specs::Entries::is_for))]
 pub(crate) fn is_for(e: &Entry, v: &ShadowView, page: u32, kind: Kind) -> bool
     ensures { result ≡ spec.is_for v.now page kind e.now }
 {
-    is_same_view(&e.view, v) && (e.page == page && is_same_kind(e.kind, kind))
+    e.page == page && (is_same_view(&e.view, v) && is_same_kind(e.kind, kind))
 }
 
 /// The entry leads to this frame.

@@ -11,6 +11,7 @@
 
 mod entry;
 mod places;
+mod recent;
 mod shadows;
 
 pub use entry::is_table;

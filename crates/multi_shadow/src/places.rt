@@ -124,7 +124,9 @@ fn enter_all(arena: &mut ChainArena<Entry>, heads: u32, s: Slot, e: Entry)
     enter(arena, s, Chain::Second, number_of(e.pt0));
 }
 
-/// Puts an entry into a free slot and into its chains. False where all slots are in use.
+/// Puts an entry into a free slot and into its chains. False where all slots are in use. Apart, so that an entry that
+/// displaces none costs little.
+#[inline(never)]
 pub(crate) fn place(arena: &mut ChainArena<Entry>, heads: u32, e: Entry) -> bool
     requires placed { ArePlaced arena.old }
     requires heads { heads ≡ arena.old.heads }
@@ -180,7 +182,8 @@ fn remove_if(arena: &mut ChainArena<Entry>, s: Slot, wanted: bool)
 }
 
 /// Ends the entries in the chain of one head: those of a space, or all.
-pub(crate) fn prune(arena: &mut ChainArena<Entry>, c: Chain, head: u32, space: Option<SpaceId>)
+#[inline(never)]
+fn prune(arena: &mut ChainArena<Entry>, c: Chain, head: u32, space: Option<SpaceId>)
     requires placed { ArePlaced arena.old }
     requires within { head < arena.old.heads }
     ensures placed { ArePlaced arena.new }
@@ -195,7 +198,22 @@ pub(crate) fn prune(arena: &mut ChainArena<Entry>, c: Chain, head: u32, space: O
     }
 }
 
+/// The same, with little done where the chain is empty.
+#[inline(always)]
+fn prune_head(arena: &mut ChainArena<Entry>, c: Chain, head: u32, space: Option<SpaceId>)
+    requires placed { ArePlaced arena.old }
+    requires within { head < arena.old.heads }
+    ensures placed { ArePlaced arena.new }
+    ensures heads { arena.new.heads ≡ arena.old.heads }
+    ensures ends { EndsJust (is_hit arena.old.heads c head space) arena.old arena.new }
+{
+    if arena.first(c, head).is_some() {
+        prune(arena, c, head, space);
+    }
+}
+
 /// Ends the entries that hang on a frame, by one kind of chains.
+#[inline(always)]
 pub(crate) fn prune_frame(arena: &mut ChainArena<Entry>, heads: u32, c: Chain, f: Frame)
     requires placed { ArePlaced arena.old }
     requires heads { heads ≡ arena.old.heads }
@@ -204,7 +222,7 @@ pub(crate) fn prune_frame(arena: &mut ChainArena<Entry>, heads: u32, c: Chain, f
     ensures ends { EndsJust (hangs_on arena.old.heads c f.0) arena.old arena.new }
 {
     if f.0 < heads {
-        prune(arena, c, f.0, None);
+        prune_head(arena, c, f.0, None);
     }
 }
 
@@ -217,7 +235,7 @@ pub(crate) fn prune_all(arena: &mut ChainArena<Entry>, heads: u32, space: Option
     ensures ends { EndsJust (spec.is_wanted space) arena.old arena.new }
 {
     for head in 0..heads {
-        prune(arena, Chain::Bucket, head, space);
+        prune_head(arena, Chain::Bucket, head, space);
     }
 }
 
@@ -232,7 +250,7 @@ pub(crate) fn search(
     kind: Kind,
 ) -> Option<Entry>
     requires placed { ArePlaced arena.now }
-    requires apart { AreApart arena.now }
+    requires apart { AreApart (live_in arena.now.payloads) }
     requires heads { heads ≡ arena.now.heads }
     requires some { 0 < heads }
     requires power { IsPower heads }

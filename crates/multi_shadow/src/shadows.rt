@@ -6,14 +6,15 @@ ghost use Rattle.shadow_fold.specs.Following.{AreBirthCalls};
 ghost use Rattle.shadow_fold.specs.Table.{empty_table, is_known, looked, ending, emptied, with_room, with_live};
 
 use crate::entry::is_within;
-use crate::places::{place, prune_all, prune_frame, search};
+use crate::places::{prune_all, prune_frame, search};
+use crate::recent::{Recent, keep};
 use chain_arena::{Chain, ChainArena};
 use cloak_base::{Frame, Kind, Mode, NoMemory, SpaceId};
 use shadow_fold::{Entry, ShadowCounts, ShadowView};
 use std::alloc::Global;
 use std::marker::Model;
 
-/// How many entries may be live.
+/// How many entries may be live. The arena has a slot for each.
 const ROOM: u32 = 1024;
 
 /// What lies in a slot that is not in use.
@@ -38,16 +39,17 @@ pub struct Shadows {
     frames: u32,
     heads: u32,
     arena: ChainArena<Entry>,
+    recent: Recent,
     counts: ShadowCounts,
 }
 
 impl Model for Shadows {
     ghost use Rattle.shadow_fold.specs.Table.{Table};
-    ghost use Rattle.multi_shadow.specs.Placed.{live_in};
+    ghost use Rattle.multi_shadow.specs.Recent.{live_of};
 
     ghost Value = { Table };
 
-    ghost view = { λ s. record { frames = s.frames; live = live_in s.arena.payloads; counts = s.counts } };
+    ghost view = { λ s. record { frames = s.frames; live = live_of s.recent s.arena; counts = s.counts } };
 
     ghost use Rattle.multi_shadow.specs.Kept.{AreKept};
 
@@ -84,6 +86,7 @@ impl Shadows {
             frames,
             heads,
             arena,
+            recent: Recent::empty(),
             counts,
         })
     }
@@ -94,12 +97,23 @@ impl Shadows {
         ensures exact { result ≡ find (is_for v.now page kind) self.old.live }
         ensures counted { self.new ≡ looked v.now page kind self.old }
     {
+        let found = self.look(v, page, kind);
         self.counts.accesses = self.counts.accesses.saturating_add(1);
-        let found = search(&self.arena, self.heads, v, page, kind);
         if found.is_none() {
             self.counts.misses = self.counts.misses.saturating_add(1);
         }
         found
+    }
+
+    /// The same, with nothing counted: the recent entry, or one in the arena.
+    #[inline(always)]
+    fn look(&self, v: &ShadowView, page: u32, kind: Kind) -> Option<Entry>
+        ensures { result ≡ find (is_for v.now page kind) self.now.live }
+    {
+        match self.recent.find(v, page, kind) {
+            Some(e) => Some(e),
+            None => search(&self.arena, self.heads, v, page, kind),
+        }
     }
 
     /// Makes an entry live, unless one of its view, page and kind is, or one of its frames is none of the table's. Nothing
@@ -109,7 +123,7 @@ impl Shadows {
         ensures beyond { (IsWithin self.old.frames e → ⊥) → self.new ≡ self.old }
     {
         if is_within(self.frames, &e) {
-            let known = search(&self.arena, self.heads, &e.view, e.page, e.kind).is_some();
+            let known = self.look(&e.view, e.page, e.kind).is_some();
             if !known {
                 self.insert(e);
             }
@@ -123,36 +137,51 @@ impl Shadows {
         ensures live { IsPermutation (e ∷ (with_room self.old).live) self.new.live }
         ensures rest { self.new ≡ with_live self.new.live (with_room self.old) }
     {
-        if !self.put(e) {
+        self.make_room();
+        self.put(e);
+    }
+
+    fn is_full(&self) -> bool
+        ensures full { result ≡ true → 1024 ≤ length self.now.live }
+        ensures room { result ≡ false → length self.now.live < 1024 }
+    {
+        self.recent.count() + self.arena.used() >= ROOM as usize
+    }
+
+    /// Where 1024 are live, all of them end, and a flush is counted.
+    fn make_room(&mut self)
+        ensures { self.new ≡ with_room self.old }
+    {
+        if self.is_full() {
             self.flush();
-            let _ = self.put(e);
         }
     }
 
-    /// The entry becomes live where there is room.
-    fn put(&mut self, e: Entry) -> bool
+    /// The entry becomes live, for which there is room.
+    fn put(&mut self, e: Entry)
         requires unknown { is_known e.view e.page e.kind self.old ≡ false }
         requires within { IsWithin self.old.frames e }
-        ensures full { result ≡ false → 1024 ≤ length self.old.live }
-        ensures unchanged { result ≡ false → self.new ≡ self.old }
-        ensures room { result ≡ true → length self.old.live < 1024 }
-        ensures live { result ≡ true → IsPermutation (e ∷ self.old.live) self.new.live }
-        ensures rest { result ≡ true → self.new ≡ with_live self.new.live self.old }
+        requires room { length self.old.live < 1024 }
+        ensures live { IsPermutation (e ∷ self.old.live) self.new.live }
+        ensures rest { self.new ≡ with_live self.new.live self.old }
     {
-        place(&mut self.arena, self.heads, e)
+        keep(&mut self.recent, &mut self.arena, self.heads, e);
     }
 
     /// Ends the entries that lead to this frame.
     pub fn kill_target(&mut self, f: Frame)
         ensures { self.new ≡ ending (is_target f) self.old }
     {
+        self.recent.end_target(f);
         prune_frame(&mut self.arena, self.heads, Chain::Target, f);
     }
 
     /// Ends the entries of which this is a table frame.
+    #[inline(always)]
     pub fn kill_dependents(&mut self, f: Frame)
         ensures { self.new ≡ ending (is_table f) self.old }
     {
+        self.recent.end_dependents(f);
         prune_frame(&mut self.arena, self.heads, Chain::First, f);
         prune_frame(&mut self.arena, self.heads, Chain::Second, f);
     }
@@ -161,6 +190,7 @@ impl Shadows {
     pub fn kill_space(&mut self, s: SpaceId)
         ensures { self.new ≡ ending (is_of_space s) self.old }
     {
+        self.recent.end_space(s);
         prune_all(&mut self.arena, self.heads, Some(s));
     }
 
@@ -168,6 +198,7 @@ impl Shadows {
     pub fn flush(&mut self)
         ensures { self.new ≡ emptied self.old }
     {
+        self.recent = Recent::empty();
         prune_all(&mut self.arena, self.heads, None);
         self.counts.flushes = self.counts.flushes.saturating_add(1);
     }
@@ -176,6 +207,7 @@ impl Shadows {
     pub fn restart(&mut self)
         ensures { self.new ≡ empty_table self.old.frames }
     {
+        self.recent = Recent::empty();
         prune_all(&mut self.arena, self.heads, None);
         self.counts = ShadowCounts {
             accesses: 0,

@@ -7,7 +7,7 @@ use Rattle.multi_shadow.proofs.places.prune_all.Goals as goal
 
 pub loop-head-preserved : goal.loop-head-preserved
 loop-head-preserved c =
-    let inv = c.loop-head.invariant in let now = c.prune.ensures in let h = c.loop-head.head in let space = c.args.space in
+    let inv = c.loop-head.invariant in let now = c.prune_head.ensures in let h = c.loop-head.head in let space = c.args.space in
     record {
       placed = now.placed;
       heads = now.heads ∙ inv.heads;

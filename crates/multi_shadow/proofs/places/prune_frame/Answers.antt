@@ -6,7 +6,7 @@ use Rattle.multi_shadow.proofs.places.prune_frame.Goals as goal
 
 pub returns-then-f-heads-clause-ends : goal.returns-then-f-heads-clause-ends
 returns-then-f-heads-clause-ends c =
-    let now = c.prune.ensures.ends in record { long = now.long; ended = now.ended; kept = now.kept }
+    let now = c.prune_head.ensures.ends in record { long = now.long; ended = now.ended; kept = now.kept }
 
 -- no entry hangs on a head that there is not
 pub returns-else-f-heads-clause-ends : goal.returns-else-f-heads-clause-ends

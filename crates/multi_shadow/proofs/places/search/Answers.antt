@@ -43,7 +43,7 @@ returns-then-is_for c =
     let A = c.args.arena.now in let test = is_for c.args.v.now c.args.page c.args.kind in
     let passes = sym c.is_for.ensures ∙ c.if-is_for.true in
     sym (found test A.payloads c.in-Some.s c.payload-e.result c.payload-e.ensures passes
-    (λ t x l p. c.requires.apart c.args.v.now c.args.page c.args.kind c.in-Some.s t c.payload-e.result x c.payload-e.ensures l passes p))
+    (c.requires.apart c.args.v.now c.args.page c.args.kind))
 
 pub loop-at-smaller : goal.loop-at-smaller
 loop-at-smaller c =

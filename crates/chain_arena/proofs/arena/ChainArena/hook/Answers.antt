@@ -47,4 +47,5 @@ returns-clause-hooked g c =
 pub returns-clause-tidy : goal.returns-clause-tidy
 returns-clause-tidy g c =
     let a = c.self.inside in
-    every_tidy (record { block = c.link_in.new.block; nodes = a.nodes; heads = a.heads }) (invariant_of-self g c)
+    every_tidy (record { block = c.link_in.new.block; nodes = a.nodes; heads = a.heads; used = a.used })
+    (invariant_of-self g c)

@@ -49,4 +49,5 @@ returns-clause-tidy g c =
       block = c.loop-i.block;
       nodes = c.args.nodes;
       heads = c.args.heads;
+      used = 0;
     }) (invariant_of-result g c)

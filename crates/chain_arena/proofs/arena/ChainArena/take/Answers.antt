@@ -3,7 +3,7 @@ use Rattle.chain_arena.specs.declared.node.Link.TheVariants as link
 use Rattle.chain_arena.specs.Arena.{IsFree, IsTidyArena, with_payload}
 use Rattle.chain_arena.specs.Nodes as nodes
 use Rattle.chain_arena.proofs.Nodes.{read_next, length-taken_out}
-use Rattle.chain_arena.proofs.Takes.{every_tidy, all_taken, was_free, take_after, take_before, slot_in_block, take_keeps, take_shows, take_apart}
+use Rattle.chain_arena.proofs.Takes.{every_tidy, all_taken, was_free, fewer_used, take_after, take_before, slot_in_block, take_keeps, take_shows, take_apart}
 use Rattle.chain_arena.proofs.arena.ChainArena.take.Goals as goal
 
 pub overflow_add-at : goal.overflow_add-at
@@ -28,6 +28,12 @@ set_content-requires g c =
     let is_first = c.get-s.ensures ∙ read_next link.Free (a.nodes + a.heads) a.block c.get.result.now c.get.ensures in
     subst (λ k. s < k) (sym (ap length c.take_out.ensures ∙ length-taken_out link.Free s a.block))
     (slot_in_block a c.self.invariant s is_first c.if-s-self.true)
+
+pub overflow_add-self : goal.overflow_add-self
+overflow_add-self g c =
+    let a = c.self.inside in let s = c.get-s.result in let small = c.self.invariant.small in
+    let is_first = c.get-s.ensures ∙ read_next link.Free (a.nodes + a.heads) a.block c.get.result.now c.get.ensures in
+    let fewer = fewer_used a c.self.invariant s is_first c.if-s-self.true in omega (arith, fewer, small)
 
 pub invariant_of-self : goal.invariant_of-self
 invariant_of-self g c =
@@ -67,7 +73,8 @@ returns-else-s-self-clause-full g c =
 pub returns-then-s-self-clause-tidy : goal.returns-then-s-self-clause-tidy
 returns-then-s-self-clause-tidy g c =
     let a = c.self.inside in
-    every_tidy (record { block = c.set_content.new.block; nodes = a.nodes; heads = a.heads }) (invariant_of-self g c)
+    every_tidy (record { block = c.set_content.new.block; nodes = a.nodes; heads = a.heads; used = a.used + 1 })
+    (invariant_of-self g c)
 
 pub returns-else-s-self-clause-tidy : goal.returns-else-s-self-clause-tidy
 returns-else-s-self-clause-tidy g c = subst IsTidyArena c.self.view_is (every_tidy c.self.inside c.self.invariant)

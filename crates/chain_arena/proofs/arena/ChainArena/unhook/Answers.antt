@@ -35,4 +35,5 @@ returns-clause-unhooked g c =
 pub returns-clause-tidy : goal.returns-clause-tidy
 returns-clause-tidy g c =
     let a = c.self.inside in
-    every_tidy (record { block = c.take_out.new.block; nodes = a.nodes; heads = a.heads }) (invariant_of-self g c)
+    every_tidy (record { block = c.take_out.new.block; nodes = a.nodes; heads = a.heads; used = a.used })
+    (invariant_of-self g c)

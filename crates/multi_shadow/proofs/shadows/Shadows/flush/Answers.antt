@@ -1,14 +1,19 @@
-use Rattle.std.proofs.Common.{true, ap, ◌∙◌}
-use Rattle.shadow_fold.specs.Table.{ending, emptied}
-use Rattle.multi_shadow.proofs.Ending.{after_ending, filter_none, table_of}
-use Rattle.multi_shadow.specs.Placed.{live_in}
+use Rattle.std.proofs.Common.{ap, ◌∙◌}
+use Rattle.shadow_fold.specs.Table.{emptied}
+use Rattle.multi_shadow.proofs.Ending.{none_kept, none_live, table_of}
 use Rattle.multi_shadow.proofs.shadows.Shadows.flush.Goals as goal
 
+pub invariant_of-self : goal.invariant_of-self
+invariant_of-self c =
+    let now = c.prune_all.ensures in
+    none_kept c.self.inside c.empty-self-inside.result c.prune_all.new.arena _ c.self.invariant
+    c.empty-self-inside.ensures now.placed now.heads now.ends
+
 pub returns : goal.returns
-unfolding emptied ending
+unfolding emptied
 returns c =
-    let s = c.self.inside in let now = c.prune_all.ensures in
-    let none = ap (λ t. t.live) (after_ending s.frames (λ e. true) s.arena c.prune_all.new.arena s.counts now.ends.long now.ends.ended now.ends.kept)
-    ∙ filter_none (live_in s.arena.payloads) in
+    let s = c.self.inside in
+    let none = none_live c.empty-self-inside.result s.arena c.prune_all.new.arena c.empty-self-inside.ensures
+    c.prune_all.ensures.ends in
     (λ i. table_of s.frames (none i) (record (s.counts) { flushes = c.saturating_add-self-inside.ensures i }))
     ∙ ap emptied c.self.view_is

@@ -1,28 +1,28 @@
 use Rattle.std.proofs.Common.{sym, subst, refl, ◌∙◌}
 use Rattle.shadow_fold.specs.Following.{AreBirthCalls}
-use Rattle.multi_shadow.specs.Placed.{live_in}
 use Rattle.multi_shadow.proofs.Searches.{found_known}
-use Rattle.multi_shadow.proofs.Ending.{table_of}
 use Rattle.multi_shadow.proofs.shadows.Shadows.learn.Goals as goal
 
 pub insert-requires-clause-unknown : goal.insert-requires-clause-unknown
 insert-requires-clause-unknown c =
-    let s = c.self.inside in let e = c.args.e in
-    found_known e.view e.page e.kind (table_of s.frames (live_in s.arena.payloads) s.counts) c.args.self.now
-    c.search.result c.is_some-known.result c.self.view_is c.search.ensures c.is_some-known.ensures
+    let e = c.args.e in let t = c.args.self.now in
+    found_known e.view e.page e.kind t t c.look.result c.is_some-known.result refl c.look.ensures
+    c.is_some-known.ensures
     ∙ c.if-not-known.true
 
 pub returns-then-not-known-clause-born : goal.returns-then-not-known-clause-born
 returns-then-not-known-clause-born c within =
-    let s = c.self.inside in let e = c.args.e in let t = c.args.self.now in
-    let known = found_known e.view e.page e.kind (table_of s.frames (live_in s.arena.payloads) s.counts) t
-    c.search.result c.is_some-known.result c.self.view_is c.search.ensures c.is_some-known.ensures in
+    let e = c.args.e in let t = c.args.self.now in
+    let known =
+    found_known e.view e.page e.kind t t c.look.result c.is_some-known.result refl c.look.ensures
+    c.is_some-known.ensures in
     subst (λ b. AreBirthCalls b e t c.insert.new.self) (sym (known ∙ c.if-not-known.true))
     (c.insert.ensures.live, c.insert.ensures.rest)
 
 pub returns-else-not-known-clause-born : goal.returns-else-not-known-clause-born
 returns-else-not-known-clause-born c within =
-    let s = c.self.inside in let e = c.args.e in let t = c.args.self.now in
-    let known = found_known e.view e.page e.kind (table_of s.frames (live_in s.arena.payloads) s.counts) t
-    c.search.result c.is_some-known.result c.self.view_is c.search.ensures c.is_some-known.ensures in
+    let e = c.args.e in let t = c.args.self.now in
+    let known =
+    found_known e.view e.page e.kind t t c.look.result c.is_some-known.result refl c.look.ensures
+    c.is_some-known.ensures in
     subst (λ b. AreBirthCalls b e t t) (sym (known ∙ c.if-not-known.false)) refl

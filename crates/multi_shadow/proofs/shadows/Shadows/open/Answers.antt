@@ -1,5 +1,7 @@
-use Rattle.std.proofs.Common.{sym, ap}
-use Rattle.multi_shadow.proofs.Ending.{empty_long, empty_placed, empty_apart}
+use Rattle.std.proofs.Common.{sym, ap, subst, ◌∙◌}
+use Rattle.multi_shadow.specs.Placed.{AreApart}
+use Rattle.multi_shadow.specs.Recent.{AreOfKind, AreWithin, live_of}
+use Rattle.multi_shadow.proofs.Ending.{empty_live, empty_long, empty_placed, no_kind, no_within, none_apart}
 use Rattle.multi_shadow.proofs.Powers.{power_some}
 use Rattle.multi_shadow.proofs.shadows.Shadows.open.Goals as goal
 
@@ -13,5 +15,7 @@ invariant_of-result c =
       power = c.in_ok-heads.ensures.1;
       enough = c.in_ok-heads.ensures.0;
       placed = empty_placed 1024 h A is c.in_ok-arena.ensures.tidy;
-      apart = empty_apart 1024 h A is;
+      of_kind = subst AreOfKind (sym c.empty.ensures) no_kind;
+      recent = subst (AreWithin h) (sym c.empty.ensures) (no_within h);
+      apart = subst AreApart (sym (ap (λ r. live_of r A) c.empty.ensures ∙ empty_live 1024 h A is)) none_apart;
     }
