@@ -2,18 +2,18 @@ use Rattle.std.proofs.Common.{◌∙◌, ℕ, ap, sym}
 use Rattle.cloak_model.specs.HartStep.{raised}
 use Rattle.cloak_model.specs.Hart.{Hart}
 use Rattle.cloak_model.specs.HostCalls.{over}
-use Rattle.host_calls.proofs.WholeAccess.{fault_follows, word_follows}
+use Rattle.host_calls.proofs.WholeAccess.{fault_steps, word_steps}
 use Rattle.host_calls.proofs.plain_step.instruction_step.Goals as goal
 
-pub returns-in-Err-clause-follows : goal.returns-in-Err-clause-follows
-returns-in-Err-clause-follows g c =
+pub returns-in-Err : goal.returns-in-Err
+returns-in-Err g c =
     let same = ap (λ (h : Hart). h.pc) c.raise.view_is ∙ sym (ap (λ (h : Hart). h.pc) c.h.view_is) in
-    fault_follows g.M.Ram.stands_for _ _ c.args.h.now c.args.d.now c.h.inside.pc c.in-Err.cause _
+    fault_steps g.M.Ram _ _ c.args.h.now c.args.d.now c.h.inside.pc c.in-Err.cause _
     (ap (λ (h : Hart). h.pc) c.h.view_is)
     (ap (over c.args.d.now) (c.raise-in-Err.ensures ∙ ap (λ (va : ℕ). raised c.args.h.now c.in-Err.cause va) same))
-    c.in-Err.ensures.follows
+    c.in-Err.ensures
 
-pub returns-in-Ok-clause-follows : goal.returns-in-Ok-clause-follows
-returns-in-Ok-clause-follows g c =
-    word_follows g.M.Ram.stands_for _ _ _ c.args.h.now c.args.d.now c.h.inside.pc c.in-Ok.word _ _
-    (ap (λ (h : Hart). h.pc) c.h.view_is) c.decode.ensures.table c.in-Ok.ensures.follows c.decoded.ensures.follows
+pub returns-in-Ok : goal.returns-in-Ok
+returns-in-Ok g c =
+    word_steps g.M.Ram _ _ _ c.args.h.now c.args.d.now c.h.inside.pc c.in-Ok.word _ _
+    (ap (λ (h : Hart). h.pc) c.h.view_is) c.decode.ensures.table c.in-Ok.ensures c.decoded.ensures

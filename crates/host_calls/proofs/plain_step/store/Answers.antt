@@ -1,10 +1,10 @@
-use Rattle.host_calls.proofs.WholeAccess.{store_follows}
+use Rattle.host_calls.proofs.WholeAccess.{store_steps}
 use Rattle.host_calls.proofs.plain_step.store.Goals as goal
 
-pub returns-in-Err-clause-follows : goal.returns-in-Err-clause-follows
-returns-in-Err-clause-follows g c =
-    store_follows g.M.Ram.stands_for _ _ _ _ _ _ _ _ c.raise.ensures c.in-Err.ensures.follows
+pub returns-in-Err : goal.returns-in-Err
+returns-in-Err g c =
+    store_steps g.M.Ram _ _ _ _ _ _ _ _ c.raise.ensures c.in-Err.ensures
 
-pub returns-in-Ok-clause-follows : goal.returns-in-Ok-clause-follows
-returns-in-Ok-clause-follows g c =
-    store_follows g.M.Ram.stands_for _ _ _ _ _ _ _ _ c.go_on.ensures c.in-Ok.ensures.follows
+pub returns-in-Ok : goal.returns-in-Ok
+returns-in-Ok g c =
+    store_steps g.M.Ram _ _ _ _ _ _ _ _ c.go_on.ensures c.in-Ok.ensures
