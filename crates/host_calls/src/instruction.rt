@@ -18,7 +18,7 @@ pub fn go_on(h: &mut Hart) -> Kernel
 }
 
 /// Goes on at the next instruction with a register's word.
-pub fn write(h: &mut Hart, rd: u32, value: u32) -> Kernel
+pub fn go_on_with(h: &mut Hart, rd: u32, value: u32) -> Kernel
     requires { rd < 32 }
     ensures { record { hart = h.new; ending = result } ≡ spec.stays (spec.gone_on (spec.with_word h.old rd value)) }
 {
@@ -44,7 +44,7 @@ fn write_csr(h: &mut Hart, rd: u32, n: u32, was: u32, new: Option<u32>) -> Kerne
     if let Some(new) = new {
         h.csrs.write(n, new);
     }
-    write(h, rd, was)
+    go_on_with(h, rd, was)
 }
 
 #[tactic(auto, unfolding(cloak_model::specs::HartStep::csr_step, cloak_model::specs::HartStep::csr_found))]

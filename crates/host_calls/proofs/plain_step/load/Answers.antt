@@ -12,5 +12,5 @@ pub returns-in-Ok : goal.returns-in-Ok
 unfolding took
 returns-in-Ok g c =
     load_steps g.M.Ram _ _ _ _ _ _ _ (Ok c.in-Ok.value) _
-    (c.write.ensures ∙ ap (λ (v : ℕ). stays (gone_on (with_word c.args.h.now c.args.rd v))) c.extended.ensures)
+    (c.go_on_with.ensures ∙ ap (λ (v : ℕ). stays (gone_on (with_word c.args.h.now c.args.rd v))) c.extended.ensures)
     c.in-Ok.ensures
