@@ -1,5 +1,5 @@
 -- What placing and restoring do, over plain variables.
-use Rattle.std.proofs.Common.{◌≡◌, ◌≢◌, ◌<◌, ◌≤◌, ℕ, Bool, true, false, List, [], Option, None, Some, length, get_or}
+use Rattle.std.proofs.Common.{◌≡◌, ◌<◌, ◌≤◌, ℕ, Bool, true, false, List, [], Option, None, Some, length}
 use Rattle.std.proofs.Common.{slice_set, refl, ap, sym, ◌∙◌, subst, arith, is_some, unwrap_or}
 use Rattle.std.proofs.lemmas.List.{get_or-set_same, get_or-set_other, length-set, set-get_or, set_past, get_or_past}
 use Rattle.std.proofs.lemmas.List.{length-map}

@@ -15,7 +15,7 @@ use Rattle.frame_store.specs.Rights.{Holding}
 use Rattle.protect_meta.specs.declared.meta.Meta.{Meta}
 use Rattle.protect_meta.specs.Table.{meta_at}
 use Rattle.cloak_pager.specs.State.{PagerState, IsWholePager, page_of, owed_under, right_at, bytes_in, held_in, owed_at}
-use Rattle.cloak_pager.specs.Turns.{Turns, frame_numbered, ShowsNow, IsResealed, IsSealed, IsWiped, metas_with}
+use Rattle.cloak_pager.specs.Turns.{frame_numbered, ShowsNow, IsResealed, IsSealed, IsWiped, metas_with}
 use Rattle.cloak_pager.specs.Turns.{TouchTurns, touched_by, left_by}
 use Rattle.cloak_pager.specs.Relation.{StandsForMemory, FrameStands, PageStands, HoldsClean}
 use Rattle.cloak_pager.specs.AfterCall.{AfterCall, Moves, Meets, after_touch, shown_by, wiped_with}

@@ -12,7 +12,7 @@ use Rattle.aes_block.specs.Bytes.{IsBytes}
 use Rattle.cloak_base.specs.declared.names.Frame.{Frame}
 use Rattle.cloak_base.specs.declared.names.PageId.{PageId}
 use Rattle.cloak_model.specs.Effect.{IsWidth}
-use Rattle.cloak_model.specs.Memory.{value_in, with_value_in}
+use Rattle.cloak_model.specs.Memory.{value_in}
 use Rattle.cloak_model.specs.Cloaking.{CloakedMemory, owed_in, with_shown_frame}
 use Rattle.cloak_model.specs.PageMoves.{with_newest}
 use Rattle.frame_store.specs.Rights.{Holding}

@@ -4,7 +4,7 @@ use Rattle.cloak_pager.specs.State.{page_of, owed_under}
 use Rattle.cloak_pager.specs.Turns.{OfferTurns}
 use Rattle.cloak_pager.specs.declared.held.Held.TheVariants.{Outside, Clean, Changed}
 use Rattle.cloak_pager.specs.declared.offering.Offered.TheVariants.{Ready}
-use Rattle.cloak_pager.proofs.Keeping.{HasRight, right_now}
+use Rattle.cloak_pager.proofs.Keeping.{right_now}
 use Rattle.cloak_pager.proofs.Offers.{MayOffer, offer_by, shown_turns, clean_turns}
 use Rattle.cloak_pager.proofs.Turned.{taken_right}
 use Rattle.cloak_pager.proofs.Behind.{stays_same, turned_stays, offer_stays}
