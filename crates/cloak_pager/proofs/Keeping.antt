@@ -6,8 +6,9 @@ use Rattle.cloak_base.specs.declared.names.Frame.{Frame}
 use Rattle.cloak_base.specs.declared.names.PageId.{PageId}
 use Rattle.cloak_base.specs.Pages.{with_page}
 use Rattle.protect_meta.specs.declared.meta.Meta.{Meta}
-use Rattle.protect_meta.specs.Table.{Table, HasMetas, meta_at, domains_of}
-use Rattle.cloak_pager.specs.Homes.{HomeTable, HasHomes, home_at}
+use Rattle.protect_meta.specs.PageRow.{HasValues}
+use Rattle.protect_meta.specs.Table.{Table, meta_at, domains_of}
+use Rattle.cloak_pager.specs.Homes.{HomeTable, home_at}
 use Rattle.cloak_pager.specs.State.{PagerState, IsWholePager, IsWholeWithHomes, Names, AreNoted, page_of, right_at}
 use Rattle.cloak_pager.specs.State.{held_in}
 use Rattle.cloak_pager.specs.Turns.{Turns, MetasTurn, frame_numbered}
@@ -95,19 +96,19 @@ kept_still p p' homes frames metas k t long keeps = record {
 }
 
 -- metadata alone was written
-pub table_turned : (p : PagerState) (table' : Table) (metas : PageId → Option Meta) → HasMetas p.table table' metas →
+pub table_turned : (p : PagerState) (table' : Table) (metas : PageId → Option Meta) → HasValues p.table table' metas →
     MetasTurn p (record p { table = table' }) metas
 table_turned p table' metas now = record {
   frames_are = refl;
   rights_are = refl;
-  metas_are = now.metas_are;
+  metas_are = now.values_are;
   domains_stay = now.domains_stay;
   key_stays = refl;
   reads_stay = refl;
 }
 
 pub kept_table : {p : PagerState} {homes : HomeTable} {table' : Table} {metas : PageId → Option Meta} →
-    IsWholeWithHomes p homes → HasMetas p.table table' metas →
+    IsWholeWithHomes p homes → HasValues p.table table' metas →
     ((k : ℕ) (o : PageId) → held_in p k ≡ Some o → meta_at p.table o ≢ None → metas o ≢ None) →
     IsWholeWithHomes (record p { table = table' }) homes
 kept_table {p} {homes} {table'} {metas} k now keeps =
@@ -166,17 +167,17 @@ noted_still homes rights f h noted inside same k q held =
 -- and where the frame is noted for the page that it takes
 pub noted_new : (homes homes' : HomeTable) (rights : List Held) (f : ℕ) (h : Held) (q : PageId) →
     AreNoted homes rights → f < length rights →
-    HasHomes homes homes' (with_page (home_at homes) q (Some (frame_numbered f))) → page_of h ≡ Some q →
+    HasValues homes homes' (with_page (home_at homes) q (Some (frame_numbered f))) → page_of h ≡ Some q →
     ((k : ℕ) → page_of (get_or rights k Spent) ≢ Some q) → AreNoted homes' (slice_set rights f h)
 noted_new homes homes' rights f h q noted inside now is nowhere k o held =
     elim (right_put rights f h k o inside held) [
       | inl e ↦
           let one : o ≡ q = (let e' = e.1 in cc) in
-          rw (one, e.0) (now.homes_are q ∙ with_page-same (home_at homes) q (Some (frame_numbered f)))
+          rw (one, e.0) (now.values_are q ∙ with_page-same (home_at homes) q (Some (frame_numbered f)))
       | inr n ↦
           let P : PageId → Type 0 = λ x. page_of (get_or rights k Spent) ≡ Some x in
           let other : o ≢ q = λ e. nowhere k (subst P e n.1) in
-          now.homes_are o ∙ (with_page-other (home_at homes) q (Some (frame_numbered f)) o other ∙ noted k o n.1)
+          now.values_are o ∙ (with_page-other (home_at homes) q (Some (frame_numbered f)) o other ∙ noted k o n.1)
     ]
 
 -- a frame that holds no page is outside

@@ -12,11 +12,12 @@ use Rattle.cloak_base.specs.Pages.{zero_page, with_page}
 use Rattle.cloak_base.proofs.Pages.{same_page_tells}
 use Rattle.cloak_model.specs.Chain.{cbc}
 use Rattle.frame_store.specs.Rights.{Holding}
-use Rattle.page_states.specs.Opening.{IsPlain, OpensTo}
+use Rattle.page_states.specs.Opening.{OpensTo}
 use Rattle.protect_meta.specs.declared.meta.Meta.{Meta}
-use Rattle.protect_meta.specs.Table.{Table, HasMetas, meta_at}
+use Rattle.protect_meta.specs.PageRow.{HasValues}
+use Rattle.protect_meta.specs.Table.{Table, meta_at}
 use Rattle.protect_meta.specs.Pages.{IsIn}
-use Rattle.cloak_pager.specs.Homes.{HomeTable, HasHomes, home_at}
+use Rattle.cloak_pager.specs.Homes.{HomeTable, home_at}
 use Rattle.cloak_pager.specs.State.{PagerState, IsWholePager, IsWholeWithHomes, Names, AreNoted, page_of, right_at}
 use Rattle.cloak_pager.specs.State.{bytes_in, held_in}
 use Rattle.cloak_pager.specs.Turns.{Turns, frame_numbered, holding, IsResealed, IsSealed, IsWiped, IsPlaced, HoldsNow}
@@ -39,17 +40,17 @@ written frames frames' k f made is wrote =
     let F : ℕ → Type 0 = λ x. frames' ≡ slice_set frames x (made (get_or frames x [])) in subst F is wrote
 
 -- a table of which nothing was written
-pub same_metas : (t : Table) → HasMetas t t (meta_at t)
-same_metas t = record { metas_are = λ o. refl; domains_stay = refl }
+pub same_metas : (t : Table) → HasValues t t (meta_at t)
+same_metas t = record { values_are = λ o. refl; domains_stay = refl }
 
 pub turns_put : (p : PagerState) (frames' : List (List ℕ)) (f : ℕ) (spent h h' : Held) (bytes : List ℕ) (table' : Table)
     (metas : PageId → Option Meta) →
-    frames' ≡ slice_set p.frames f bytes → h ≡ h' → HasMetas p.table table' metas →
+    frames' ≡ slice_set p.frames f bytes → h ≡ h' → HasValues p.table table' metas →
     Turns p (put p frames' f spent h table') (slice_set p.frames f bytes) (slice_set p.rights f h') metas
 turns_put p frames' f spent h h' bytes table' metas wrote is now = record {
   frames_are = wrote;
   rights_are = set-set p.rights f spent h ∙ ap (λ (x : Held). slice_set p.rights f x) is;
-  metas_are = now.metas_are;
+  metas_are = now.values_are;
   domains_stay = now.domains_stay;
   key_stays = refl;
   reads_stay = refl;
@@ -89,7 +90,7 @@ of_held q P right page here o held =
 pub kept_outside : (p : PagerState) (homes : HomeTable) (frames' : List (List ℕ)) (f : ℕ) (spent : Held) (out : Frame)
     (bytes : List ℕ) (table' : Table) (metas : PageId → Option Meta) →
     IsWholeWithHomes p homes → f < length p.frames → out.0 ≡ f → frames' ≡ slice_set p.frames f bytes →
-    HasMetas p.table table' metas → ((o : PageId) → meta_at p.table o ≢ None → metas o ≢ None) →
+    HasValues p.table table' metas → ((o : PageId) → meta_at p.table o ≢ None → metas o ≢ None) →
     IsWholeWithHomes (put p frames' f spent (Outside out) table') homes
 kept_outside p homes frames' f spent out bytes table' metas k inside is wrote now keeps =
     let there : f < length p.rights = rw k.whole.count inside in
@@ -145,7 +146,7 @@ pub seal_kept : {p : PagerState} {homes : HomeTable} {frames' : List (List ℕ)}
     {out : Frame} (iv : List ℕ) (page : PageId) (t : Meta) (spent : Held) →
     IsWholeWithHomes p homes → HasRight p f (Changed r) →
     frames' ≡ slice_set p.frames r.frame.0 (cbc p.key iv (bytes_in p r.frame.0)) →
-    HasMetas p.table table' (with_page (meta_at p.table) page (Some t)) → out ≡ r.frame →
+    HasValues p.table table' (with_page (meta_at p.table) page (Some t)) → out ≡ r.frame →
     IsWholeWithHomes (put p frames' f spent (Outside out) table') homes
 seal_kept {p} {homes} {frames'} {f} {r} {table'} {out} iv page t spent k right wrote now is =
     let here : r.frame.0 ≡ f = (named_as right).0 in
@@ -158,7 +159,7 @@ pub seal_turns : {p : PagerState} {frames' : List (List ℕ)} {f : ℕ} {r : Hol
     {page : PageId} {out : Frame} (t : Meta) (spent : Held) →
     HasRight p f (Changed r) → frames' ≡ slice_set p.frames r.frame.0 (cbc p.key iv (bytes_in p r.frame.0)) →
     t.digest ≡ sha256 (cbc p.key iv (bytes_in p r.frame.0)) → t.iv ≡ iv → page ≡ r.page →
-    HasMetas p.table table' (with_page (meta_at p.table) page (Some t)) → out ≡ r.frame → (q : PageId) →
+    HasValues p.table table' (with_page (meta_at p.table) page (Some t)) → out ≡ r.frame → (q : PageId) →
     held_in p f ≡ Some q → IsSealed p (put p frames' f spent (Outside out) table') f q iv
 seal_turns {p} {frames'} {f} {r} {iv} {table'} {page} {out} t spent right wrote digest drawn of now is =
     let here : r.frame.0 ≡ f = (named_as right).0 in
@@ -167,7 +168,7 @@ seal_turns {p} {frames'} {f} {r} {iv} {table'} {page} {out} t spent right wrote 
     let meta : Meta = record { iv = iv; digest = sha256 c } in
     let sum : t.digest ≡ sha256 c = digest ∙ ap (λ (k : ℕ). sha256 (cbc p.key iv (bytes_in p k))) here in
     let told : t ≡ meta = λ i. record { iv = drawn i; digest = sum i } in
-    let M : PageId → Meta → Type 0 = λ x y. HasMetas p.table table' (with_page (meta_at p.table) x (Some y)) in
+    let M : PageId → Meta → Type 0 = λ x y. HasValues p.table table' (with_page (meta_at p.table) x (Some y)) in
     let metas : M r.page meta = subst (λ (x : PageId). M x meta) of (subst (λ (y : Meta). M page y) told now) in
     of_held r.page (λ q. IsSealed p p' f q iv) right refl
     (turns_put p frames' f spent (Outside out) (Outside (frame_numbered f)) c table' (metas_with p r.page iv c)
@@ -228,7 +229,7 @@ change_kept {p} {homes} {f} {r} {n} spent k right is =
 pub record TakesHome (p : PagerState) (homes homes' : HomeTable) (q : PageId) (f : ℕ) : Type 0 where
   pub page : IsIn p.table.domains q
   pub nowhere : (k : ℕ) → held_in p k ≢ Some q
-  pub noted : HasHomes homes homes' (with_page (home_at homes) q (Some (frame_numbered f)))
+  pub noted : HasValues homes homes' (with_page (home_at homes) q (Some (frame_numbered f)))
 
 -- with a right for this frame and page, and the frame noted for the page
 pub take_kept : (p : PagerState) (homes homes' : HomeTable) (frames' : List (List ℕ)) (f : ℕ) (spent h h' : Held)
@@ -324,7 +325,7 @@ put_back {p} {frames'} {f} {r} {same} spent right is =
 pub place_turns : {p : PagerState} {frames' : List (List ℕ)} {f : ℕ} {r : Frame} {digest c : List ℕ} {table' : Table}
     (q : PageId) (bytes iv : List ℕ) →
     HasRight p f (Outside r) → frames' ≡ slice_set p.frames r.0 c → c ≡ cbc p.key iv bytes → digest ≡ sha256 c →
-    HasMetas p.table table' (with_page (meta_at p.table) q (Some (record { iv = iv; digest = digest }))) →
+    HasValues p.table table' (with_page (meta_at p.table) q (Some (record { iv = iv; digest = digest }))) →
     IsPlaced p (record p { frames = frames'; table = table' }) q f bytes iv
 place_turns {p} {frames'} {f} {r} {digest} {c} {table'} q bytes iv right wrote sealed sum now =
     let here : r.0 ≡ f = named_as right in
@@ -334,7 +335,7 @@ place_turns {p} {frames'} {f} {r} {digest} {c} {table'} q bytes iv right wrote s
           wrote ∙ (ap (λ (x : ℕ). slice_set p.frames x c) here ∙ ap (λ (x : List ℕ). slice_set p.frames f x) sealed);
       rights_are = refl;
       metas_are = λ o.
-          now.metas_are o
+          now.values_are o
           ∙ ap (λ (x : List ℕ). with_page (meta_at p.table) q (Some (meta x)) o) (sum ∙ ap sha256 sealed);
       domains_stay = now.domains_stay;
       key_stays = refl;

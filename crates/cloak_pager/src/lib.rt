@@ -11,7 +11,6 @@
 #![tactic(auto)]
 
 mod held;
-mod homes;
 mod law;
 mod moves;
 mod offering;

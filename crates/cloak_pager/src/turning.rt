@@ -95,7 +95,7 @@ impl Pager {
                 match open_page(&mut self.frames, right, q, m, &self.key) {
                     Ok(opened) => {
                         self.rights[g.0 as usize] = Held::Clean(opened);
-                        self.homes.note(q, g);
+                        self.homes.set(q, g);
                         true
                     }
                     Err(same) => {
@@ -123,7 +123,7 @@ impl Pager {
         match mem::replace(&mut self.rights[g.0 as usize], Held::Spent) {
             Held::Outside(right) => {
                 self.rights[g.0 as usize] = Held::Changed(first_page(&mut self.frames, right, q));
-                self.homes.note(q, g);
+                self.homes.set(q, g);
             }
             _ => unreachable!(),
         }

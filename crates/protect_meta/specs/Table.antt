@@ -1,23 +1,16 @@
 -- A table of metadata, as a map from pages.
-use Rattle.std.specs.Prelude.{ℕ, ◌≡◌, List, Option}
+use Rattle.std.specs.Prelude.{ℕ, Option}
 use Rattle.cloak_base.specs.declared.names.PageId.{PageId}
 use Rattle.protect_meta.specs.declared.meta.Meta.{Meta}
-use Rattle.protect_meta.specs.Pages.{value_in_row}
+use Rattle.protect_meta.specs.PageRow.{PageRow, at_page}
 
--- how many domains there are, and the metadata of their pages in a row
-pub record Table : Type 0 where
-  pub domains : ℕ
-  pub metas : List (Option Meta)
+abbrev pub Table : Type 0
+Table = PageRow Meta
 
 -- the metadata of a page; none where it has none, and where there is no such page
-unfoldable pub meta_at : Table → PageId → Option Meta
-meta_at t p = value_in_row t.domains t.metas p
+abbrev pub meta_at : Table → PageId → Option Meta
+meta_at t = at_page t
 
 -- how many domains a table has room for
 abbrev pub domains_of : Table → ℕ
 domains_of t = t.domains
-
--- The table has this metadata now, and room for as many domains as before.
-pub record HasMetas (old new : Table) (metas : PageId → Option Meta) : Type 0 where
-  pub metas_are : (p : PageId) → meta_at new p ≡ metas p
-  pub domains_stay : domains_of new ≡ domains_of old

@@ -1,16 +1,16 @@
 //! What must be remembered of each cloaked page that was shown: the IV that it was sealed with, and the digest of the
-//! ciphertext.
+//! ciphertext. It is kept in a map from pages, which serves for whatever else is known of a page.
 //!
-//! The table has room for every page of every domain: 16 resources of 1024 pages each. Its memory is taken once at the
+//! A map has room for every page of every domain: 16 resources of 1024 pages each. Its memory is taken once at the
 //! opening, and a look-up costs the same whatever is set.
 //!
-//! The layer above may rely on this: to contracts the table is a finite map from pages, `meta_at`, and each call says
-//! what stands at every page afterwards. The table decides nothing: whether metadata is owed, old or right is no matter
-//! of this crate.
+//! The layer above may rely on this: to contracts a map is a finite map from pages, `at_page`, and each call says what
+//! stands at every page afterwards. It decides nothing: whether metadata is owed, old or right is no matter of this
+//! crate.
 #![tactic(auto)]
 
 mod meta;
-mod table;
+mod page_map;
 
-pub use meta::Meta;
-pub use table::MetaTable;
+pub use meta::{Meta, MetaTable};
+pub use page_map::PageMap;

@@ -1,7 +1,4 @@
-use Rattle.std.proofs.Common.{ℕ, Some, ◌≢◌}
-use Rattle.protect_meta.specs.Table.{domains_of}
 use Rattle.protect_meta.specs.Pages.{IsIn}
-use Rattle.cloak_pager.specs.State.{PagerState, held_in}
 use Rattle.cloak_pager.specs.declared.held.Held.TheVariants.{Outside}
 use Rattle.cloak_pager.proofs.Keeping.{right_seen}
 use Rattle.cloak_pager.proofs.Turned.{first_kept, first_turns}
@@ -18,7 +15,7 @@ invariant_of-self c =
       page = c.requires.page;
     } in
     first_kept c.replace.new.dest c.self.invariant right c.first_page.ensures.bytes c.first_page.ensures.right
-    (record { page = page; nowhere = rw (← c.self.view_is) at c.requires.nowhere; noted = c.note.ensures })
+    (record { page = page; nowhere = rw (← c.self.view_is) at c.requires.nowhere; noted = c.set.ensures })
 
 pub returns : goal.returns
 returns c =

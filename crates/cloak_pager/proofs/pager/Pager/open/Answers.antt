@@ -1,6 +1,4 @@
 use Rattle.std.proofs.Common.{refl}
-use Rattle.cloak_pager.specs.State.{PagerState}
-use Rattle.cloak_pager.specs.Turns.{IsNewPager}
 use Rattle.cloak_pager.proofs.Opening.{new_rights, opened_kept, opened_stands}
 use Rattle.cloak_pager.proofs.pager.Pager.open.Goals as goal
 
@@ -21,7 +19,7 @@ returns-clause-state c =
 pub invariant_of-result : goal.invariant_of-result
 invariant_of-result c =
     opened_kept c.args.frames c.args.domains c.args.key _ c.in_ok-homes.homes
-    (returns-clause-state c) c.requires.most c.in_ok-homes.ensures
+    (returns-clause-state c) c.requires.most c.in_ok-homes.ensures.domains
 
 pub returns-clause-model : goal.returns-clause-model
 returns-clause-model c =

@@ -21,7 +21,7 @@ invariant_of-self c =
     } in
     let shown : meta_at c.self.inside.table c.args.q ≡ Some c.args.m.now = rw (← c.self.view_is) at c.requires.shown in
     open_kept c.replace.new.dest c.self.invariant right shown c.in-Ok.ensures.bytes c.in-Ok.ensures.right
-    (record { page = page; nowhere = rw (← c.self.view_is) at c.requires.nowhere; noted = c.note.ensures })
+    (record { page = page; nowhere = rw (← c.self.view_is) at c.requires.nowhere; noted = c.set.ensures })
 
 pub invariant_of-self-in-Err : goal.invariant_of-self-in-Err
 invariant_of-self-in-Err c =

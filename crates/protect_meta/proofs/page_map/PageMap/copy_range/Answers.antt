@@ -1,12 +1,12 @@
 use Rattle.std.proofs.Common.{◌+◌, ◌-◌, ap, arith, refl}
-use Rattle.protect_meta.specs.Table.{Table, meta_at}
+use Rattle.protect_meta.specs.PageRow.{PageRow, at_page}
 use Rattle.protect_meta.proofs.Rows.{Span, value_after_copy}
-use Rattle.protect_meta.proofs.table.MetaTable.copy_range.Goals as goal
+use Rattle.protect_meta.proofs.page_map.PageMap.copy_range.Goals as goal
 
 pub returns : goal.returns
-unfolding meta_at
-returns c =
-    let e = ap (λ (t : Table). t.domains) c.self.view_is in
+unfolding at_page
+returns g c =
+    let e = ap (λ (t : PageRow _). t.domains) c.self.view_is in
     let source : Span c.args.domain c.args.from = record {
       first = c.page_index-first.result;
       count = 1024;
@@ -23,6 +23,6 @@ returns c =
     } in
     rw (← c.self.view_is)
     (record {
-      metas_are = value_after_copy _ source target _ _ (omega arith) c.copy_within.ensures.by_index;
+      values_are = value_after_copy _ source target _ _ (omega arith) c.copy_within.ensures.by_index;
       domains_stay = refl;
     })
