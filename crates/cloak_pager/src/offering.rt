@@ -19,6 +19,7 @@ pub enum Offered {
 }
 
 impl Pager {
+    ghost use Rattle.protect_meta.specs.Pages.{IsIn};
     ghost use Rattle.protect_meta.specs.Table.{meta_at, domains_of};
     ghost use Rattle.cloak_pager.specs.State.{right_at, held_in, owed_at, bytes_in, IsFresh};
     ghost use Rattle.cloak_pager.specs.Turns.{end_of_offer, shown_by_digest, OfferedTurns, ShownTurns, PlaceTurns};
@@ -29,9 +30,7 @@ impl Pager {
     /// Gives the page to the frame, for reading or for writing.
     pub fn offer(&mut self, q: PageId, g: Frame, write: bool) -> Offered
         requires inside { g.0 < length self.old.frames }
-        requires domain { q.domain < domains_of self.old.table }
-        requires resource { q.resource < 16 }
-        requires page { q.page < 1024 }
+        requires page { IsIn (domains_of self.old.table) q }
         requires room { (held_in self.old g.0 ≡ None) ⊎ (held_in self.old g.0 ≡ Some q) }
         requires alone { (k : ℕ) → held_in self.old k ≡ Some q → k ≡ g.0 }
         ensures exact_cause { result ≡
@@ -69,9 +68,7 @@ impl Pager {
     #[inline(never)]
     fn offer_shown(&mut self, q: PageId, g: Frame, write: bool, m: &Meta) -> Offered
         requires inside { g.0 < length self.old.frames }
-        requires domain { q.domain < domains_of self.old.table }
-        requires resource { q.resource < 16 }
-        requires page { q.page < 1024 }
+        requires page { IsIn (domains_of self.old.table) q }
         requires outside { held_in self.old g.0 ≡ None }
         requires nowhere { (k : ℕ) → held_in self.old k ≢ Some q }
         requires shown { meta_at self.old.table q ≡ Some m.now }
@@ -91,9 +88,7 @@ impl Pager {
     /// Seals a page of these bytes into the outside frame. False, and nothing is placed, where no draw is left.
     pub fn place(&mut self, q: PageId, f: Frame, bytes: &[u8; 4096], s: &mut Stream) -> bool
         requires inside { f.0 < length self.old.frames }
-        requires domain { q.domain < domains_of self.old.table }
-        requires resource { q.resource < 16 }
-        requires page { q.page < 1024 }
+        requires page { IsIn (domains_of self.old.table) q }
         requires outside { held_in self.old f.0 ≡ None }
         requires fresh { IsFresh self.old q }
         ensures exact_cause { result ≡ is_some (next_draw s.old) }
@@ -113,9 +108,7 @@ impl Pager {
 
     fn place_under(&mut self, q: PageId, f: Frame, bytes: &[u8; 4096], iv: &[u8; 16])
         requires inside { f.0 < length self.old.frames }
-        requires domain { q.domain < domains_of self.old.table }
-        requires resource { q.resource < 16 }
-        requires page { q.page < 1024 }
+        requires page { IsIn (domains_of self.old.table) q }
         requires outside { held_in self.old f.0 ≡ None }
         ensures { IsPlaced self.old self.new q f.0 bytes.now iv.now }
     {
@@ -133,9 +126,7 @@ impl Pager {
 
     /// Takes the metadata of a page that was sealed elsewhere under the same key.
     pub fn restore(&mut self, q: PageId, m: Meta)
-        requires domain { q.domain < domains_of self.old.table }
-        requires resource { q.resource < 16 }
-        requires page { q.page < 1024 }
+        requires page { IsIn (domains_of self.old.table) q }
         requires fresh { IsFresh self.old q }
         ensures state { IsRestored self.old self.new q m }
         ensures model { StandsRestored self.old self.new q m }

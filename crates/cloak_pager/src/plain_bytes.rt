@@ -9,6 +9,7 @@ use cloak_base::PageId;
 use cloak_model::{set_value_in, value_in};
 
 impl Pager {
+    ghost use Rattle.protect_meta.specs.Pages.{IsIn};
     ghost use Rattle.protect_meta.specs.Table.{domains_of};
     ghost use Rattle.cloak_pager.specs.State.{held_in, owed_at, bytes_in};
     ghost use Rattle.cloak_pager.specs.Turns.{HasBytes};
@@ -16,9 +17,7 @@ impl Pager {
 
     /// The `width` bytes at a place of the page as a number.
     pub fn read_plain(&self, q: PageId, at: u32, width: u32) -> u32
-        requires domain { q.domain < domains_of self.now.table }
-        requires resource { q.resource < 16 }
-        requires page { q.page < 1024 }
+        requires page { IsIn (domains_of self.now.table) q }
         requires held { (f : ℕ) × (held_in self.now f ≡ Some q) }
         requires width { IsWidth width }
         requires aligned { at % width ≡ 0 }
@@ -38,9 +37,7 @@ impl Pager {
 
     /// Stores the lowest `width` bytes of a value at a place of the page.
     pub fn write_plain(&mut self, q: PageId, at: u32, width: u32, v: u32)
-        requires domain { q.domain < domains_of self.old.table }
-        requires resource { q.resource < 16 }
-        requires page { q.page < 1024 }
+        requires page { IsIn (domains_of self.old.table) q }
         requires owed { (f : ℕ) × (owed_at self.old f ≡ Some q) }
         requires width { IsWidth width }
         requires aligned { at % width ≡ 0 }

@@ -12,6 +12,7 @@ use std::mem;
 
 // Each takes the right of one frame out, turns it, and puts the next one in its place.
 impl Pager {
+    ghost use Rattle.protect_meta.specs.Pages.{IsIn};
     ghost use Rattle.protect_meta.specs.Table.{meta_at, domains_of};
     ghost use Rattle.cloak_pager.specs.State.{right_at, held_in, owed_at, bytes_in};
     ghost use Rattle.page_states.specs.Opening.{OpensTo};
@@ -78,9 +79,7 @@ impl Pager {
     /// Opens the outside frame as page `q`, where its bytes have the digest of the metadata.
     pub(crate) fn open_frame(&mut self, q: PageId, g: Frame, m: &Meta) -> bool
         requires inside { g.0 < length self.old.frames }
-        requires domain { q.domain < domains_of self.old.table }
-        requires resource { q.resource < 16 }
-        requires page { q.page < 1024 }
+        requires page { IsIn (domains_of self.old.table) q }
         requires outside { held_in self.old g.0 ≡ None }
         requires nowhere { (k : ℕ) → held_in self.old k ≢ Some q }
         requires shown { meta_at self.old.table q ≡ Some m.now }
@@ -113,9 +112,7 @@ impl Pager {
     #[inline(never)]
     pub(crate) fn first_frame(&mut self, q: PageId, g: Frame)
         requires inside { g.0 < length self.old.frames }
-        requires domain { q.domain < domains_of self.old.table }
-        requires resource { q.resource < 16 }
-        requires page { q.page < 1024 }
+        requires page { IsIn (domains_of self.old.table) q }
         requires outside { held_in self.old g.0 ≡ None }
         requires nowhere { (k : ℕ) → held_in self.old k ≢ Some q }
         ensures { HoldsNow self.old self.new q g.0 true zero_page }

@@ -1,7 +1,7 @@
 ghost use Rattle.std.specs.Prelude.{◌≡◌, ◌*◌, ◌+◌, ◌<◌, ◌≤◌, IfOk};
 ghost use Rattle.cloak_base.specs.declared.names.PageId.{PageId};
 ghost use Rattle.cloak_base.specs.Pages.{with_page, with_resource, with_copied};
-ghost use Rattle.protect_meta.specs.Pages.{page_index};
+ghost use Rattle.protect_meta.specs.Pages.{IsIn, page_index};
 ghost use Rattle.protect_meta.specs.PageRow.{HasValues, at_page};
 
 use cloak_base::{NoMemory, PageId};
@@ -47,18 +47,14 @@ impl<T: Copy> PageMap<T> {
 
     #[inline]
     pub fn get(&self, q: PageId) -> Option<T>
-        requires domain { q.domain < self.now.domains }
-        requires resource { q.resource < 16 }
-        requires page { q.page < 1024 }
+        requires page { IsIn self.now.domains q }
         ensures { result ≡ at_page self.now q }
     {
         self.row[page_index(q.domain, q.resource, q.page)]
     }
 
     pub fn set(&mut self, q: PageId, value: T)
-        requires domain { q.domain < self.old.domains }
-        requires resource { q.resource < 16 }
-        requires page { q.page < 1024 }
+        requires page { IsIn self.old.domains q }
         ensures { HasValues self.old self.new (with_page (at_page self.old) q (Some value)) }
     {
         let at = page_index(q.domain, q.resource, q.page);

@@ -8,12 +8,7 @@ pub invariant_of-self : goal.invariant_of-self
 invariant_of-self c =
     let right = right_seen c.args.g.0 (Outside c.in-Outside.right) c.self.view_is c.self.invariant.whole
     c.requires.inside c.index_mut.ensures.value c.in-Outside.ensures.value in
-    let page : IsIn c.self.inside.table.domains c.args.q =
-    record {
-      domain = rw (← c.self.view_is) at c.requires.domain;
-      resource = c.requires.resource;
-      page = c.requires.page;
-    } in
+    let page : IsIn c.self.inside.table.domains c.args.q = rw (← c.self.view_is) at c.requires.page in
     first_kept c.replace.new.dest c.self.invariant right c.first_page.ensures.bytes c.first_page.ensures.right
     (record { page = page; nowhere = rw (← c.self.view_is) at c.requires.nowhere; noted = c.set.ensures })
 

@@ -16,7 +16,7 @@ returns-in-Some-clause-model c =
     c.requires.inside c.index.ensures c.in-Outside.is in
     let may : MayOffer c.args.self.now c.args.q c.args.g.0 = record {
       inside = c.requires.inside;
-      page = record { domain = c.requires.domain; resource = c.requires.resource; page = c.requires.page };
+      page = c.requires.page;
       room = c.requires.room;
       alone = c.requires.alone;
     } in
@@ -33,7 +33,7 @@ returns-in-None-clause-model c =
     c.requires.inside c.index.ensures c.in-Outside.is in
     let may : MayOffer c.args.self.now c.args.q c.args.g.0 = record {
       inside = c.requires.inside;
-      page = record { domain = c.requires.domain; resource = c.requires.resource; page = c.requires.page };
+      page = c.requires.page;
       room = c.requires.room;
       alone = c.requires.alone;
     } in
@@ -48,7 +48,7 @@ returns-then-write-clause-model c =
     c.index.ensures c.in-Clean.is in
     let may : MayOffer c.args.self.now c.args.q c.args.g.0 = record {
       inside = c.requires.inside;
-      page = record { domain = c.requires.domain; resource = c.requires.resource; page = c.requires.page };
+      page = c.requires.page;
       room = c.requires.room;
       alone = c.requires.alone;
     } in
@@ -65,7 +65,7 @@ returns-else-write-clause-model c =
     c.index.ensures c.in-Clean.is in
     let may : MayOffer c.args.self.now c.args.q c.args.g.0 = record {
       inside = c.requires.inside;
-      page = record { domain = c.requires.domain; resource = c.requires.resource; page = c.requires.page };
+      page = c.requires.page;
       room = c.requires.room;
       alone = c.requires.alone;
     } in
@@ -81,7 +81,7 @@ returns-in-Changed-clause-model c =
     c.requires.inside c.index.ensures c.in-Changed.is in
     let may : MayOffer c.args.self.now c.args.q c.args.g.0 = record {
       inside = c.requires.inside;
-      page = record { domain = c.requires.domain; resource = c.requires.resource; page = c.requires.page };
+      page = c.requires.page;
       room = c.requires.room;
       alone = c.requires.alone;
     } in

@@ -13,12 +13,7 @@ pub invariant_of-self : goal.invariant_of-self
 invariant_of-self c =
     let right = right_seen c.args.g.0 (Outside c.in-Outside.right) c.self.view_is c.self.invariant.whole
     c.requires.inside c.index_mut.ensures.value c.in-Outside.ensures.value in
-    let page : IsIn c.self.inside.table.domains c.args.q =
-    record {
-      domain = rw (← c.self.view_is) at c.requires.domain;
-      resource = c.requires.resource;
-      page = c.requires.page;
-    } in
+    let page : IsIn c.self.inside.table.domains c.args.q = rw (← c.self.view_is) at c.requires.page in
     let shown : meta_at c.self.inside.table c.args.q ≡ Some c.args.m.now = rw (← c.self.view_is) at c.requires.shown in
     open_kept c.replace.new.dest c.self.invariant right shown c.in-Ok.ensures.bytes c.in-Ok.ensures.right
     (record { page = page; nowhere = rw (← c.self.view_is) at c.requires.nowhere; noted = c.set.ensures })
