@@ -15,7 +15,7 @@ use Rattle.protect_meta.proofs.Rows.{chosen_true, chosen_false}
 use Rattle.cloak_pager.specs.State.{PagerState, owed_under, right_at, held_in, owed_at, IsNoneOwed, IsNoneHeld}
 use Rattle.cloak_pager.specs.Turns.{MetasTurn, CopiesPages, DropsPages}
 use Rattle.cloak_pager.specs.Relation.{StandsForMemory, FrameStands, PageStands, IsUnowed}
-use Rattle.cloak_pager.specs.AfterCall.{MeetsStill, after_copy_pages, after_drop_pages, wiped_copies}
+use Rattle.cloak_pager.specs.Asking.{FollowsCallStill, after_copy_pages, after_drop_pages, wiped_copies}
 use Rattle.cloak_pager.specs.declared.held.Held.{Held}
 use Rattle.cloak_pager.proofs.Pages.{IsBytes-zero_page}
 use Rattle.cloak_pager.proofs.Keeping.{rights_stay, whole_still}
@@ -79,13 +79,13 @@ stays_kept : (a b c : Bool) → b ≡ false → (a || (b && c)) ≡ a
 stays_kept true b c e = refl
 stays_kept false b c e = ap (λ (x : Bool). x && c) e
 
-pub meets_copy : (p p' : PagerState) (domain from to : ℕ) → CopiesPages p p' domain from to → IsNoneOwed p domain from →
-    IsNoneHeld p domain to → MeetsStill {A = Unit {0}} p p' tt (after_copy_pages domain from to)
+pub follows_copy : (p p' : PagerState) (domain from to : ℕ) → CopiesPages p p' domain from to → IsNoneOwed p domain from →
+    IsNoneHeld p domain to → FollowsCallStill {A = Unit {0}} p p' tt (after_copy_pages domain from to)
 unfolding copy_pages
-meets_copy p p' domain from to t shown away w m s =
+follows_copy p p' domain from to t shown away w m s =
     let metas : PageId → Option Meta = with_copied (meta_at p.table) domain from to in
     record {
-      answered = refl;
+      answer = refl;
       stands = stands_moved p p' w w' m m' metas s (record {
         turns = t;
         ram = refl;
@@ -153,13 +153,13 @@ meets_copy p p' domain from to t shown away w m s =
 
 -- Dropping.
 
-pub meets_drop : (p p' : PagerState) (domain resource : ℕ) → DropsPages p p' domain resource →
-    IsNoneHeld p domain resource → MeetsStill {A = Unit {0}} p p' tt (after_drop_pages domain resource)
+pub follows_drop : (p p' : PagerState) (domain resource : ℕ) → DropsPages p p' domain resource →
+    IsNoneHeld p domain resource → FollowsCallStill {A = Unit {0}} p p' tt (after_drop_pages domain resource)
 unfolding drop_pages
-meets_drop p p' domain resource t away w m s =
+follows_drop p p' domain resource t away w m s =
     let metas : PageId → Option Meta = with_resource (meta_at p.table) domain resource None in
     record {
-      answered = refl;
+      answer = refl;
       stands = stands_moved p p' w w m m' metas s (record {
         turns = t;
         ram = refl;

@@ -25,7 +25,7 @@ use Rattle.cloak_pager.specs.Turns.{holding, HoldsNow, OfferTurns, OfferedTurns,
 use Rattle.cloak_pager.specs.Turns.{ShownTurns}
 use Rattle.cloak_pager.proofs.Turned.{same_digest, other_digest}
 use Rattle.cloak_pager.specs.Relation.{StandsForMemory, FrameStands, PageStands, HoldsClean, IsRecorded, IsUnowed}
-use Rattle.cloak_pager.specs.AfterCall.{AfterCall, Moves, MeetsUnclashed, after_offer, answer_of}
+use Rattle.cloak_pager.specs.Asking.{ToldCall, FollowsCallFrom, FollowsCallUnclashed, after_offer, answer_of}
 use Rattle.cloak_pager.specs.declared.held.Held.{Held}
 use Rattle.cloak_pager.specs.declared.held.Held.TheVariants.{Outside, Clean, Changed, Spent}
 use Rattle.cloak_pager.specs.declared.offering.Offered.{Offered}
@@ -326,61 +326,61 @@ taken_clashed q g true m = refl
 taken_clashed q g false m = refl
 
 -- what is told of an offer, by what it came to
-abbrev pub after_offering : AfterOffer → (PageId → Bool) → AfterCall (List (ℕ × List ℕ) × Offer)
+abbrev pub after_offering : AfterOffer → (PageId → Bool) → ToldCall (List (ℕ × List ℕ) × Offer)
 after_offering o w = record { answer = (o.ciphers, o.answer); wiped = w; memory = o.memory }
 
-abbrev pub OfferMoves : PagerState → Offered → Random → (PageId → Bool) → AfterOffer → Type 0
-OfferMoves p' result left w o = Moves p' left (after_offering o w) (answer_of result)
+abbrev pub FollowsOffer : PagerState → Offered → Random → (PageId → Bool) → AfterOffer → Type 0
+FollowsOffer p' result left w o = FollowsCallFrom p' left (answer_of result) (after_offering o w)
 
 -- The frame shows what was recorded: the page is taken.
-pub accepted_moves : (p' : PagerState) (w : PageId → Bool) (m : CloakedMemory) (g : ℕ) (q : PageId) (write : Bool)
+pub accepted_follows : (p' : PagerState) (w : PageId → Bool) (m : CloakedMemory) (g : ℕ) (q : PageId) (write : Bool)
     (c : List ℕ) →
     owed_in m g ≡ None → IsUnowed m q → m.ledger.recorded q ≡ Some c → get_or m.ram g [] ≡ c →
-    StandsForMemory p' w (taken q g write m) → OfferMoves p' Ready m.ledger.stream w (offer q g write m)
-accepted_moves p' w m g q write c none free recorded sees stands =
+    StandsForMemory p' w (taken q g write m) → FollowsOffer p' Ready m.ledger.stream w (offer q g write m)
+accepted_follows p' w m g q write c none free recorded sees stands =
     let there : List ℕ = get_or m.ram g [] in
     let comes : offer q g write m
     ≡ record { memory = taken q g write (with_comparison there c m); ciphers = []; answer = Accepted } =
     offer_settled q g write m none (none_owing m q free)
     ∙ compared_equal q g write m (m.ledger.recorded q) c recorded (bytes_equal there c sees) in
-    let M : AfterOffer → Type 0 = λ o. OfferMoves p' Ready m.ledger.stream w o in
+    let M : AfterOffer → Type 0 = λ o. FollowsOffer p' Ready m.ledger.stream w o in
     subst M (sym comes) (record {
-      answered = refl;
+      answer = refl;
       stands = stands_taken_compared p' w m there c q g write stands;
       drawn = taken_stream q g write (with_comparison there c m);
     })
 
 -- The frame shows something else.
-pub refused_moves : (p : PagerState) (w : PageId → Bool) (m : CloakedMemory) (g : ℕ) (q : PageId) (write : Bool)
+pub refused_follows : (p : PagerState) (w : PageId → Bool) (m : CloakedMemory) (g : ℕ) (q : PageId) (write : Bool)
     (c : List ℕ) →
     owed_in m g ≡ None → IsUnowed m q → m.ledger.recorded q ≡ Some c → get_or m.ram g [] ≢ c → StandsForMemory p w m →
-    OfferMoves p Mismatch m.ledger.stream w (offer q g write m)
-refused_moves p w m g q write c none free recorded differs stands =
+    FollowsOffer p Mismatch m.ledger.stream w (offer q g write m)
+refused_follows p w m g q write c none free recorded differs stands =
     let there : List ℕ = get_or m.ram g [] in
     let other : bytes_eq there c ≡ false =
     false_from_ne_true (bytes_eq there c) (λ e. differs (equal_bytes there c e)) in
     let comes : offer q g write m ≡ record { memory = with_comparison there c m; ciphers = []; answer = Refused } =
     offer_settled q g write m none (none_owing m q free)
     ∙ compared_other q g write m (m.ledger.recorded q) c recorded other in
-    let M : AfterOffer → Type 0 = λ o. OfferMoves p Mismatch m.ledger.stream w o in
-    subst M (sym comes) (record { answered = refl; stands = stands_compared p w m there c stands; drawn = refl })
+    let M : AfterOffer → Type 0 = λ o. FollowsOffer p Mismatch m.ledger.stream w o in
+    subst M (sym comes) (record { answer = refl; stands = stands_compared p w m there c stands; drawn = refl })
 
 -- The page was never shown.
-pub fresh_moves : (p' : PagerState) (w : PageId → Bool) (m : CloakedMemory) (g : ℕ) (q : PageId) (write : Bool) →
+pub fresh_follows : (p' : PagerState) (w : PageId → Bool) (m : CloakedMemory) (g : ℕ) (q : PageId) (write : Bool) →
     owed_in m g ≡ None → IsUnowed m q → m.ledger.recorded q ≡ None → StandsForMemory p' w (with_owed g (Some q) m) →
-    OfferMoves p' Ready m.ledger.stream w (offer q g write m)
-fresh_moves p' w m g q write none free recorded stands =
+    FollowsOffer p' Ready m.ledger.stream w (offer q g write m)
+fresh_follows p' w m g q write none free recorded stands =
     let comes : offer q g write m ≡ record { memory = with_owed g (Some q) m; ciphers = []; answer = Accepted } =
     offer_settled q g write m none (none_owing m q free) ∙ compared_fresh q g write m (m.ledger.recorded q) recorded in
-    let M : AfterOffer → Type 0 = λ o. OfferMoves p' Ready m.ledger.stream w o in
-    subst M (sym comes) (record { answered = refl; stands = stands; drawn = refl })
+    let M : AfterOffer → Type 0 = λ o. FollowsOffer p' Ready m.ledger.stream w o in
+    subst M (sym comes) (record { answer = refl; stands = stands; drawn = refl })
 
 -- The frame is owed the page already.
-pub owed_moves : (p : PagerState) (w : PageId → Bool) (m : CloakedMemory) (g : ℕ) (q : PageId) (write : Bool) →
-    owed_in m g ≡ Some q → StandsForMemory p w m → OfferMoves p Ready m.ledger.stream w (offer q g write m)
-owed_moves p w m g q write owes stands =
-    let M : AfterOffer → Type 0 = λ o. OfferMoves p Ready m.ledger.stream w o in
-    subst M (sym (offer_at_once q g write m owes)) (record { answered = refl; stands = stands; drawn = refl })
+pub owed_follows : (p : PagerState) (w : PageId → Bool) (m : CloakedMemory) (g : ℕ) (q : PageId) (write : Bool) →
+    owed_in m g ≡ Some q → StandsForMemory p w m → FollowsOffer p Ready m.ledger.stream w (offer q g write m)
+owed_follows p w m g q write owes stands =
+    let M : AfterOffer → Type 0 = λ o. FollowsOffer p Ready m.ledger.stream w o in
+    subst M (sym (offer_at_once q g write m owes)) (record { answer = refl; stands = stands; drawn = refl })
 
 -- where equal digests were not of equal bytes, the offer set the mark
 pub equal_unclashed : (m : CloakedMemory) (g : ℕ) (q : PageId) (write : Bool) (c : List ℕ) → owed_in m g ≡ None →
@@ -408,15 +408,15 @@ pub record MayOffer (p : PagerState) (q : PageId) (g : ℕ) : Type 0 where
   pub alone : (k : ℕ) → held_in p k ≡ Some q → k ≡ g
 
 -- An offer does what the rules of cloaking tell of it.
-pub offer_meets : (p p' : PagerState) (q : PageId) (g : ℕ) (write : Bool) (result : Offered) → MayOffer p q g →
+pub offer_follows : (p p' : PagerState) (q : PageId) (g : ℕ) (write : Bool) (result : Offered) → MayOffer p q g →
     result ≡ end_of_offer (right_at p g) (meta_at p.table q) (bytes_in p g) →
     OfferedTurns result (right_at p g) (meta_at p.table q) write p p' q g →
-    MeetsUnclashed p p' (answer_of result) (after_offer q g write)
-offer_meets p p' q g write result may cause turns w m s unclashed =
+    FollowsCallUnclashed p p' (answer_of result) (after_offer q g write)
+offer_follows p p' q g write result may cause turns w m s unclashed =
     by_right (right_at p g) refl (meta_at p.table q) refl cause turns
   where
     Goal : Offered → Type 0
-    Goal r = OfferMoves p' r m.ledger.stream w (offer q g write m)
+    Goal r = FollowsOffer p' r m.ledger.stream w (offer q g write m)
 
     frame_at : (h : Held) → right_at p g ≡ h → FrameStands p w m g h
     frame_at h at = let F : Held → Type 0 = λ x. FrameStands p w m g x in subst F at (s.frames g may.inside)
@@ -471,14 +471,14 @@ offer_meets p p' q g write result may cause turns w m s unclashed =
               let stands = stands_opened p p' w m g q write t opened.0 s whole may.inside outside
               (nowhere outside) shown sees last opened.1 opened.2 in
               subst Goal (sym (is ∙ h.0))
-              (accepted_moves p' w m g q write recorded.bytes none free recorded.is equal stands)
+              (accepted_follows p' w m g q write recorded.bytes none free recorded.is equal stands)
           | inr h ↦
               let same : p' ≡ p = turned Mismatch (Outside r) (Some t) (is ∙ h.0) turns in
               let differs : get_or m.ram g [] ≢ recorded.bytes =
               λ e. h.1 (ap sha256 (sym sees ∙ e) ∙ recorded.digest) in
-              let P : PagerState → Type 0 = λ x. OfferMoves x Mismatch m.ledger.stream w (offer q g write m) in
+              let P : PagerState → Type 0 = λ x. FollowsOffer x Mismatch m.ledger.stream w (offer q g write m) in
               subst Goal (sym (is ∙ h.0))
-              (subst P (sym same) (refused_moves p w m g q write recorded.bytes none free recorded.is differs s))
+              (subst P (sym same) (refused_follows p w m g q write recorded.bytes none free recorded.is differs s))
         ]
 
     by_digest : (t : Meta) (bytes : List ℕ) (b : Bool) → bytes_eq (sha256 bytes) t.digest ≡ b →
@@ -518,7 +518,7 @@ offer_meets p p' q g write result may cause turns w m s unclashed =
         λ o e. absurd (let no : None ≡ Some o = sym outside ∙ e in cc) in
         let stands = stands_changed p p' w m g q zero_page s whole may.inside held may.alone free
         (λ kept. sym (page.1 kept free)) took in
-        subst Goal (sym cause) (fresh_moves p' w m g q write (owed_by (Outside r) at) free page.0 stands)
+        subst Goal (sym cause) (fresh_follows p' w m g q write (owed_by (Outside r) at) free page.0 stands)
     by_right (Clean r) at t shown cause turns =
         let of : r.page ≡ q = the_page r (ap page_of at) in
         let held : held_in p g ≡ Some q = ap page_of at ∙ ap (λ (x : PageId). Some x) of in
@@ -527,26 +527,26 @@ offer_meets p p' q g write result may cause turns w m s unclashed =
         let clean : HoldsClean p (w q) m g q = subst C of (frame_at (Clean r) at) in
         let stands = by_write write r t held free clean (turned Ready (Clean r) t cause turns) in
         subst Goal (sym cause)
-        (accepted_moves p' w m g q write (get_or m.ram g []) (owed_by (Clean r) at) free clean.shown refl stands)
+        (accepted_follows p' w m g q write (get_or m.ram g []) (owed_by (Clean r) at) free clean.shown refl stands)
     by_right (Changed r) at t shown cause turns =
         let of : r.page ≡ q = the_page r (ap page_of at) in
         let owes : owed_in m g ≡ Some q = owed_by (Changed r) at ∙ ap (λ (x : PageId). Some x) of in
         let same : p' ≡ p = turned Ready (Changed r) t cause turns in
-        let P : PagerState → Type 0 = λ x. OfferMoves x Ready m.ledger.stream w (offer q g write m) in
-        subst Goal (sym cause) (subst P (sym same) (owed_moves p w m g q write owes s))
+        let P : PagerState → Type 0 = λ x. FollowsOffer x Ready m.ledger.stream w (offer q g write m) in
+        subst Goal (sym cause) (subst P (sym same) (owed_follows p w m g q write owes s))
     by_right Spent at t shown cause turns = absurd (frame_at Spent at)
 
 -- the same, by what the frame holds and the metadata that the page has
 pub offer_by : (p p' : PagerState) (q : PageId) (g : ℕ) (write : Bool) (result : Offered) (h : Held) (t : Option Meta) →
     MayOffer p q g → HasRight p g h → meta_at p.table q ≡ t → result ≡ end_of_offer h t (bytes_in p g) →
-    OfferedTurns result h t write p p' q g → MeetsUnclashed p p' (answer_of result) (after_offer q g write)
+    OfferedTurns result h t write p p' q g → FollowsCallUnclashed p p' (answer_of result) (after_offer q g write)
 offer_by p p' q g write result h t may right shown cause turns =
     let T : Held → Option Meta → Type 0 = λ x y. (result ≡ end_of_offer x y (bytes_in p g))
     × OfferedTurns result x y write p p' q g in
     let by_meta : T h (meta_at p.table q) = subst (λ (y : Option Meta). T h y) (sym shown) (cause, turns) in
     let by_right : T (right_at p g) (meta_at p.table q) =
     subst (λ (x : Held). T x (meta_at p.table q)) (sym right.at) by_meta in
-    offer_meets p p' q g write result may by_right.0 by_right.1
+    offer_follows p p' q g write result may by_right.0 by_right.1
 
 pub shown_turns : (p p' : PagerState) (q : PageId) (g : ℕ) (write : Bool) (result : Offered) (r : Frame) (t : Meta) →
     ShownTurns result t write p p' q g → OfferedTurns result (Outside r) (Some t) write p p' q g

@@ -11,7 +11,7 @@ use Rattle.cloak_pager.specs.State.{PagerState, IsWholePager, IsWholeWithHomes, 
 use Rattle.cloak_pager.specs.State.{held_in, owed_at}
 use Rattle.cloak_pager.specs.Turns.{IsNewPager, frame_numbered}
 use Rattle.cloak_pager.specs.Relation.{FrameStands, PageStands}
-use Rattle.cloak_pager.specs.AfterCall.{none_wiped, StandsBlank}
+use Rattle.cloak_pager.specs.Asking.{none_wiped, StandsBlank}
 use Rattle.cloak_pager.proofs.Pages.{IsBytes-zero_page}
 use Rattle.cloak_pager.specs.declared.held.Held.{Held}
 use Rattle.cloak_pager.specs.declared.held.Held.TheVariants.{Outside, Spent}

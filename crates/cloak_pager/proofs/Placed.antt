@@ -17,7 +17,7 @@ use Rattle.protect_meta.specs.Table.{meta_at}
 use Rattle.cloak_pager.specs.State.{PagerState, IsWholePager, IsFresh, page_of, right_at, held_in}
 use Rattle.cloak_pager.specs.Turns.{metas_with, IsPlaced, IsRestored}
 use Rattle.cloak_pager.specs.Relation.{StandsForMemory, FrameStands}
-use Rattle.cloak_pager.specs.AfterCall.{AfterCall, Moves, Meets, after_place, with_restored, StandsRestored}
+use Rattle.cloak_pager.specs.Asking.{ToldCall, FollowsCallFrom, FollowsCall, after_place, with_restored, StandsRestored}
 use Rattle.cloak_pager.specs.declared.held.Held.{Held}
 use Rattle.cloak_pager.specs.declared.held.Held.TheVariants.{Outside, Spent}
 use Rattle.cloak_pager.proofs.Pages.{with_page-same, with_page-other}
@@ -137,25 +137,25 @@ unfolding place place_with
 place_none q f bytes m none = ap (λ (x : Option (List ℕ × Random)). place_with q f bytes x m) none
 
 -- what is told of placing, by what it came to
-abbrev pub after_placing : Option CloakedMemory → (PageId → Bool) → CloakedMemory → AfterCall Bool
+abbrev pub after_placing : Option CloakedMemory → (PageId → Bool) → CloakedMemory → ToldCall Bool
 after_placing o w m = record { answer = is_some o; wiped = w; memory = unwrap_or o m }
 
-pub placed_meets : (p p' : PagerState) (q : PageId) (f : ℕ) (bytes iv : List ℕ) (stream left : Random) →
+pub placed_follows : (p p' : PagerState) (q : PageId) (f : ℕ) (bytes iv : List ℕ) (stream left : Random) →
     f < length p.frames → held_in p f ≡ None → IsFresh p q → IsBytes 4096 bytes → next_draw stream ≡ Some (iv, left) →
-    IsPlaced p p' q f bytes iv → Meets p stream p' left true (after_place q f bytes)
-placed_meets p p' q f bytes iv stream left inside outside fresh is_page drawn turns w m s e =
+    IsPlaced p p' q f bytes iv → FollowsCall p stream p' left true (after_place q f bytes)
+placed_follows p p' q f bytes iv stream left inside outside fresh is_page drawn turns w m s e =
     let right = outside_right p s.whole f inside outside in
     let there : next_draw m.ledger.stream ≡ Some (iv, left) = rw e drawn in
-    let M : Option CloakedMemory → Type 0 = λ o. Moves p' left (after_placing o w m) true in
+    let M : Option CloakedMemory → Type 0 = λ o. FollowsCallFrom p' left true (after_placing o w m) in
     subst M (sym (place_draw q f bytes m (iv, left) there)) (record {
-      answered = refl;
+      answer = refl;
       stands = stands_placed p p' w m q f right.0 bytes (iv, left) s right.1 fresh is_page there turns;
       drawn = refl;
     })
 
-pub unplaced_meets : (p : PagerState) (q : PageId) (f : ℕ) (bytes : List ℕ) (stream left : Random) →
-    next_draw stream ≡ None → left ≡ stream → Meets p stream p left false (after_place q f bytes)
-unplaced_meets p q f bytes stream left none same w m s e =
+pub unplaced_follows : (p : PagerState) (q : PageId) (f : ℕ) (bytes : List ℕ) (stream left : Random) →
+    next_draw stream ≡ None → left ≡ stream → FollowsCall p stream p left false (after_place q f bytes)
+unplaced_follows p q f bytes stream left none same w m s e =
     let there : next_draw m.ledger.stream ≡ None = rw e none in
-    let M : Option CloakedMemory → Type 0 = λ o. Moves p left (after_placing o w m) false in
-    subst M (sym (place_none q f bytes m there)) (record { answered = refl; stands = s; drawn = e ∙ sym same })
+    let M : Option CloakedMemory → Type 0 = λ o. FollowsCallFrom p left false (after_placing o w m) in
+    subst M (sym (place_none q f bytes m there)) (record { answer = refl; stands = s; drawn = e ∙ sym same })

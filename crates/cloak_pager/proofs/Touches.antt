@@ -18,7 +18,7 @@ use Rattle.cloak_pager.specs.State.{PagerState, IsWholePager, page_of, owed_unde
 use Rattle.cloak_pager.specs.Turns.{frame_numbered, ShowsNow, IsResealed, IsSealed, IsWiped, metas_with}
 use Rattle.cloak_pager.specs.Turns.{TouchTurns, touched_by, left_by}
 use Rattle.cloak_pager.specs.Relation.{StandsForMemory, FrameStands, PageStands, HoldsClean}
-use Rattle.cloak_pager.specs.AfterCall.{AfterCall, Moves, Meets, after_touch, shown_by, wiped_with}
+use Rattle.cloak_pager.specs.Asking.{ToldCall, FollowsCallFrom, FollowsCall, after_touch, shown_by, wiped_with}
 use Rattle.cloak_pager.specs.declared.held.Held.{Held}
 use Rattle.cloak_pager.specs.declared.held.Held.TheVariants.{Outside, Clean, Changed, Spent}
 use Rattle.cloak_pager.specs.declared.touching.Touched.{Touched}
@@ -211,16 +211,16 @@ settle_miss f m q e none =
     ap (λ (x : Option PageId). settle_if f x m) e ∙ ap (λ (x : Option (List ℕ × Random)). settle_owed f q x m) none
 
 -- what there is after a touch, by the settling
-abbrev pub after_settling : AfterSettling → Option PageId → (PageId → Bool) → AfterCall (List (ℕ × List ℕ) × Bool)
+abbrev pub after_settling : AfterSettling → Option PageId → (PageId → Bool) → ToldCall (List (ℕ × List ℕ) × Bool)
 after_settling s owed w =
     record { answer = (s.ciphers, s.missed); wiped = wiped_with s.missed owed w; memory = s.memory }
 
 -- frame f, not changed, is settled already
-pub settled_moves : (p' : PagerState) (w : PageId → Bool) (m : CloakedMemory) (f : ℕ) (left : Random) →
-    StandsForMemory p' w m → owed_in m f ≡ None → m.ledger.stream ≡ left → Moves p' left (after_touch f w m) ([], false)
-settled_moves p' w m f left s none e =
-    let M : AfterSettling → Type 0 = λ x. Moves p' left (after_settling x (owed_in m f) w) ([], false) in
-    subst M (sym (settle_none f m none)) (record { answered = refl; stands = s; drawn = e })
+pub settled_follows : (p' : PagerState) (w : PageId → Bool) (m : CloakedMemory) (f : ℕ) (left : Random) →
+    StandsForMemory p' w m → owed_in m f ≡ None → m.ledger.stream ≡ left → FollowsCallFrom p' left ([], false) (after_touch f w m)
+settled_follows p' w m f left s none e =
+    let M : AfterSettling → Type 0 = λ x. FollowsCallFrom p' left ([], false) (after_settling x (owed_in m f) w) in
+    subst M (sym (settle_none f m none)) (record { answer = refl; stands = s; drawn = e })
 
 pub whole_outside : (p p' : PagerState) (f : ℕ) (bytes : List ℕ) (metas : PageId → Option Meta) → IsWholePager p →
     f < length p.frames → ShowsNow p p' f bytes metas → ((o : PageId) → meta_at p.table o ≢ None → metas o ≢ None) →
@@ -234,26 +234,26 @@ pub whole_resealed : (p p' : PagerState) (f : ℕ) (r : Holding) → IsWholePage
 whole_resealed p p' f r w inside at turns =
     whole_outside p p' f (cbc p.key turns.0.iv (bytes_in p f)) (meta_at p.table) w inside turns.2 (λ o n. n)
 
-pub touch_meets : (p p' : PagerState) (f : ℕ) (stream left : Random) (result : Touched) → f < length p.frames →
+pub touch_follows : (p p' : PagerState) (f : ℕ) (stream left : Random) (result : Touched) → f < length p.frames →
     result ≡ touched_by (right_at p f) (next_draw stream) → left ≡ left_by (right_at p f) (next_draw stream) stream →
-    TouchTurns (right_at p f) (next_draw stream) p p' f → Meets p stream p' left (shown_by result f p') (after_touch f)
-touch_meets p p' f stream left result inside cause drew turns w m s e =
+    TouchTurns (right_at p f) (next_draw stream) p p' f → FollowsCall p stream p' left (shown_by result f p') (after_touch f)
+touch_follows p p' f stream left result inside cause drew turns w m s e =
     by_right (right_at p f) refl (next_draw stream) refl cause drew turns
   where
     Goal : Touched → Type 0
-    Goal t = Moves p' left (after_touch f w m) (shown_by t f p')
+    Goal t = FollowsCallFrom p' left (shown_by t f p') (after_touch f w m)
 
     by_right : (h : Held) → right_at p f ≡ h → (d : Option (List ℕ × Random)) → next_draw stream ≡ d →
         result ≡ touched_by h d → left ≡ left_by h d stream → TouchTurns h d p p' f → Goal result
     by_right (Outside r) at d drawn cause drew turns =
         let S : PagerState → Type 0 = λ x. StandsForMemory x w m in
         let none : owed_in m f ≡ None = owed_by_right p w m s f ∙ ap owed_under at in
-        subst Goal (sym cause) (settled_moves p' w m f left (subst S (sym turns) s) none (e ∙ sym drew))
+        subst Goal (sym cause) (settled_follows p' w m f left (subst S (sym turns) s) none (e ∙ sym drew))
     by_right (Clean r) at d drawn cause drew turns =
         let whole : IsWholePager p' = whole_resealed p p' f r s.whole inside at turns in
         let none : owed_in m f ≡ None = owed_by_right p w m s f ∙ ap owed_under at in
         subst Goal (sym cause)
-        (settled_moves p' w m f left (stands_resealed p p' w m f r s whole inside at turns) none (e ∙ sym drew))
+        (settled_follows p' w m f left (stands_resealed p p' w m f r s whole inside at turns) none (e ∙ sym drew))
     by_right (Changed r) at (Some d) drawn cause drew turns =
         let owes : owed_in m f ≡ Some r.page = owed_by_right p w m s f ∙ ap owed_under at in
         let there : next_draw m.ledger.stream ≡ Some d = rw e drawn in
@@ -269,9 +269,9 @@ touch_meets p p' f stream left result inside cause drew turns w m s e =
         subst F at (s.frames f inside) (kept_by_draw p w m s r.page d there) in
         let shown : bytes_in p' f ≡ cbc m.ledger.key d.0 (m.plain r.page) =
         rw turns.frames_are (get_or-set_same p.frames f c [] inside ∙ rw (same, s.key) refl) in
-        let M : AfterSettling → Type 0 = λ x. Moves p' left (after_settling x (owed_in m f) w) (shown_by Sealed f p') in
+        let M : AfterSettling → Type 0 = λ x. FollowsCallFrom p' left (shown_by Sealed f p') (after_settling x (owed_in m f) w) in
         subst Goal (sym cause) (subst M (sym (settle_draw f m r.page d owes there)) (record {
-          answered = ap (λ (x : List ℕ). ((f, x) ∷ [], false)) shown;
+          answer = ap (λ (x : List ℕ). ((f, x) ∷ [], false)) shown;
           stands = stands;
           drawn = sym drew;
         }))
@@ -285,10 +285,10 @@ touch_meets p p' f stream left result inside cause drew turns w m s e =
         let shown : bytes_in p' f ≡ zero_page = rw turns.frames_are (get_or-set_same p.frames f zero_page [] inside) in
         let settled : AfterSettling =
         record { memory = wiped_memory m f; ciphers = (f, zero_page) ∷ []; missed = true } in
-        let M : AfterSettling → Type 0 = λ x. Moves p' left (after_settling x (owed_in m f) w) (shown_by Wiped f p') in
-        let O : Option PageId → Type 0 = λ x. Moves p' left (after_settling settled x w) (shown_by Wiped f p') in
+        let M : AfterSettling → Type 0 = λ x. FollowsCallFrom p' left (shown_by Wiped f p') (after_settling x (owed_in m f) w) in
+        let O : Option PageId → Type 0 = λ x. FollowsCallFrom p' left (shown_by Wiped f p') (after_settling settled x w) in
         subst Goal (sym cause) (subst M (sym (settle_miss f m r.page owes none)) (subst O (sym owes) (record {
-          answered = ap (λ (x : List ℕ). ((f, x) ∷ [], true)) shown;
+          answer = ap (λ (x : List ℕ). ((f, x) ∷ [], true)) shown;
           stands = stands;
           drawn = e ∙ sym drew;
         })))
@@ -298,7 +298,7 @@ touch_meets p p' f stream left result inside cause drew turns w m s e =
 pub touch_by : (p p' : PagerState) (f : ℕ) (stream left : Random) (result : Touched) (h : Held)
     (d : Option (List ℕ × Random)) →
     HasRight p f h → next_draw stream ≡ d → result ≡ touched_by h d → left ≡ left_by h d stream →
-    TouchTurns h d p p' f → Meets p stream p' left (shown_by result f p') (after_touch f)
+    TouchTurns h d p p' f → FollowsCall p stream p' left (shown_by result f p') (after_touch f)
 touch_by p p' f stream left result h d right drawn cause drew turns =
     let T : Held → Option (List ℕ × Random) → Type 0 = λ h d. (result ≡ touched_by h d) × (left ≡ left_by h d stream)
     × TouchTurns h d p p' f in
@@ -306,7 +306,7 @@ touch_by p p' f stream left result h d right drawn cause drew turns =
     subst (λ (x : Option (List ℕ × Random)). T h x) (sym drawn) (cause, drew, turns) in
     let by_right : T (right_at p f) (next_draw stream) =
     subst (λ (x : Held). T x (next_draw stream)) (sym right.at) by_draw in
-    touch_meets p p' f stream left result right.inside by_right.0 by_right.1 by_right.2
+    touch_follows p p' f stream left result right.inside by_right.0 by_right.1 by_right.2
 
 -- The arms of a touch.
 
@@ -327,14 +327,14 @@ pub clean_outside : (p p' : PagerState) (f : Frame) (r : Holding) → HasRight p
 clean_outside p p' f r right turns =
     outside_now p p' f (Clean r) (cbc p.key turns.0.iv (bytes_in p f.0)) (meta_at p.table) right turns.2
 
-pub quiet_meets : (p : PagerState) (f : ℕ) (r : Frame) (stream : Random) → HasRight p f (Outside r) →
-    Meets p stream p stream ([], false) (after_touch f)
-quiet_meets p f r stream right =
+pub quiet_follows : (p : PagerState) (f : ℕ) (r : Frame) (stream : Random) → HasRight p f (Outside r) →
+    FollowsCall p stream p stream ([], false) (after_touch f)
+quiet_follows p f r stream right =
     touch_by p p f stream stream Quiet (Outside r) (next_draw stream) right refl refl refl refl
 
-pub resealed_meets : (p p' : PagerState) (f : ℕ) (r : Holding) (stream : Random) → HasRight p f (Clean r) →
-    IsResealed p p' f r.page → Meets p stream p' stream ([], false) (after_touch f)
-resealed_meets p p' f r stream right turns =
+pub resealed_follows : (p p' : PagerState) (f : ℕ) (r : Holding) (stream : Random) → HasRight p f (Clean r) →
+    IsResealed p p' f r.page → FollowsCall p stream p' stream ([], false) (after_touch f)
+resealed_follows p p' f r stream right turns =
     touch_by p p' f stream stream Resealed (Clean r) (next_draw stream) right refl refl refl turns
 
 pub seal_state : (p p' : PagerState) (f : ℕ) (r : Holding) (iv : List ℕ) (stream left : Random) →
@@ -346,14 +346,14 @@ seal_state p p' f r iv stream left right drawn turns =
     subst (λ (d : Option (List ℕ × Random)). T (Changed r) d) (sym drawn) turns in
     subst (λ (h : Held). T h (next_draw stream)) (sym right.at) by_draw
 
-pub sealed_meets : (p p' : PagerState) (f : ℕ) (r : Holding) (iv : List ℕ) (stream left : Random) →
+pub sealed_follows : (p p' : PagerState) (f : ℕ) (r : Holding) (iv : List ℕ) (stream left : Random) →
     HasRight p f (Changed r) → next_draw stream ≡ Some (iv, left) → IsSealed p p' f r.page iv →
-    Meets p stream p' left ((f, bytes_in p' f) ∷ [], false) (after_touch f)
-sealed_meets p p' f r iv stream left right drawn turns =
+    FollowsCall p stream p' left ((f, bytes_in p' f) ∷ [], false) (after_touch f)
+sealed_follows p p' f r iv stream left right drawn turns =
     touch_by p p' f stream left Sealed (Changed r) (Some (iv, left)) right drawn refl refl turns
 
-pub wiped_meets : (p p' : PagerState) (f : ℕ) (r : Holding) (stream left : Random) → HasRight p f (Changed r) →
+pub wiped_follows : (p p' : PagerState) (f : ℕ) (r : Holding) (stream left : Random) → HasRight p f (Changed r) →
     next_draw stream ≡ None → left ≡ stream → IsWiped p p' f →
-    Meets p stream p' left ((f, bytes_in p' f) ∷ [], true) (after_touch f)
-wiped_meets p p' f r stream left right none same turns =
+    FollowsCall p stream p' left ((f, bytes_in p' f) ∷ [], true) (after_touch f)
+wiped_follows p p' f r stream left right none same turns =
     touch_by p p' f stream left Wiped (Changed r) None right none refl same turns

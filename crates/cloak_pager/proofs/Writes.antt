@@ -23,8 +23,8 @@ use Rattle.cloak_pager.specs.State.{PagerState, IsWholePager, IsWholeWithHomes, 
 use Rattle.cloak_pager.specs.State.{bytes_in, held_in, owed_at}
 use Rattle.cloak_pager.specs.Turns.{frame_numbered, HasBytes}
 use Rattle.cloak_pager.specs.Relation.{StandsForMemory, FrameStands, PageStands}
-use Rattle.cloak_pager.specs.AfterCall.{MeetsStill, PageWrite, with_write, after_write_plain, after_write_outside}
-use Rattle.cloak_pager.specs.AfterCall.{after_fill_outside, ReadsNewest}
+use Rattle.cloak_pager.specs.Asking.{FollowsCallStill, PageWrite, with_write, after_write_plain, after_write_outside}
+use Rattle.cloak_pager.specs.Asking.{after_fill_outside, ReadsNewest}
 use Rattle.cloak_pager.specs.declared.held.Held.{Held}
 use Rattle.cloak_pager.specs.declared.held.Held.TheVariants.{Outside, Clean, Changed, Spent}
 use Rattle.cloak_pager.proofs.Pages.{with_page-same, with_page-other}
@@ -96,10 +96,10 @@ stands_filled p p' f bytes whole t inside none w m s =
       drained = s.drained;
     })
 
-pub meets_fill : (p p' : PagerState) (f : ℕ) (bytes : List ℕ) → IsWholePager p → HasBytes p p' f bytes →
-    f < length p.frames → held_in p f ≡ None → MeetsStill {A = Unit {0}} p p' tt (after_fill_outside f bytes)
-meets_fill p p' f bytes whole t inside none w m s =
-    record { answered = refl; stands = stands_filled p p' f bytes whole t inside none w m s; drawn = refl }
+pub follows_fill : (p p' : PagerState) (f : ℕ) (bytes : List ℕ) → IsWholePager p → HasBytes p p' f bytes →
+    f < length p.frames → held_in p f ≡ None → FollowsCallStill {A = Unit {0}} p p' tt (after_fill_outside f bytes)
+follows_fill p p' f bytes whole t inside none w m s =
+    record { answer = refl; stands = stands_filled p p' f bytes whole t inside none w m s; drawn = refl }
 
 -- the bytes of an outside frame are those that the kernel sees
 pub outside_seen : (p : PagerState) (f : ℕ) → f < length p.frames → held_in p f ≡ None →
@@ -109,13 +109,13 @@ outside_seen p f inside none w m s =
     let F : Held → Type 0 = λ h. FrameStands p w m f h in
     subst F out.1.at (s.frames f inside)
 
-pub meets_write : (p p' : PagerState) (f : ℕ) (x : PageWrite) → IsWholePager p →
+pub follows_write : (p p' : PagerState) (f : ℕ) (x : PageWrite) → IsWholePager p →
     HasBytes p p' f (with_write x (bytes_in p f)) → f < length p.frames → held_in p f ≡ None →
-    MeetsStill {A = Unit {0}} p p' tt (after_write_outside f x)
-meets_write p p' f x whole t inside none w m s =
+    FollowsCallStill {A = Unit {0}} p p' tt (after_write_outside f x)
+follows_write p p' f x whole t inside none w m s =
     let S : List ℕ → Type 0 = λ bytes. StandsForMemory p' w (with_shown_frame f (with_write x bytes) m) in
     record {
-      answered = refl;
+      answer = refl;
       stands =
           subst S (outside_seen p f inside none w m s)
           (stands_filled p p' f (with_write x (bytes_in p f)) whole t inside none w m s);
@@ -326,12 +326,12 @@ stands_written p p' q f x whole t owes fits w m s =
       drained = s.drained;
     })
 
-pub meets_plain : (p p' : PagerState) (q : PageId) (x : PageWrite) → IsWholePager p →
+pub follows_plain : (p p' : PagerState) (q : PageId) (x : PageWrite) → IsWholePager p →
     ((f : ℕ) → owed_at p f ≡ Some q → HasBytes p p' f (with_write x (bytes_in p f))) →
     (f : ℕ) × (owed_at p f ≡ Some q) → IsWidth x.width → x.at % x.width ≡ 0 → x.at < 4096 →
-    MeetsStill {A = Unit {0}} p p' tt (after_write_plain q x)
-meets_plain p p' q x whole t owed wide even low w m s = record {
-  answered = refl;
+    FollowsCallStill {A = Unit {0}} p p' tt (after_write_plain q x)
+follows_plain p p' q x whole t owed wide even low w m s = record {
+  answer = refl;
   stands = stands_written p p' q owed.0 x whole (t owed.0 owed.1) owed.1 (fits_page x wide even low) w m s;
   drawn = refl;
 }

@@ -11,10 +11,10 @@ use Rattle.protect_meta.specs.declared.meta.Meta.{Meta}
 use Rattle.cloak_pager.specs.State.{PagerState}
 use Rattle.cloak_pager.specs.Turns.{IsReadOnce}
 use Rattle.cloak_pager.specs.Relation.{StandsForMemory}
-use Rattle.cloak_pager.specs.AfterCall.{AfterCall, CallRule, Meets, MeetsStill, MeetsUnclashed, after_touch, shown_by}
-use Rattle.cloak_pager.specs.AfterCall.{after_offer, answer_of, after_place, with_restored, StandsRestored}
-use Rattle.cloak_pager.specs.AfterCall.{ReadsNewest, SeesFrame, PageWrite, after_write_plain, after_write_outside}
-use Rattle.cloak_pager.specs.AfterCall.{after_fill_outside, after_copy_pages, after_drop_pages, after_close}
+use Rattle.cloak_pager.specs.Asking.{ToldCall, AskingCall, FollowsCall, FollowsCallStill, FollowsCallUnclashed, after_touch, shown_by}
+use Rattle.cloak_pager.specs.Asking.{after_offer, answer_of, after_place, with_restored, StandsRestored}
+use Rattle.cloak_pager.specs.Asking.{ReadsNewest, SeesFrame, PageWrite, after_write_plain, after_write_outside}
+use Rattle.cloak_pager.specs.Asking.{after_fill_outside, after_copy_pages, after_drop_pages, after_close}
 use Rattle.cloak_pager.specs.declared.touching.Touched.{Touched}
 use Rattle.cloak_pager.specs.declared.offering.Offered.{Offered}
 
@@ -56,17 +56,17 @@ pub record Step : Type 0 where
   pub pager : PagerState
   pub stream : Random
 
--- a call that takes no stream and answers nothing meets its rule, and the stream is as it was
-abbrev pub KeepsRule : PagerState → Random → PagerState → Random → CallRule (Unit {0}) → Type 0
-KeepsRule old stream new left rule = MeetsStill old new tt rule × (left ≡ stream)
+-- a call that takes no stream and answers nothing follows its rule, and the stream is as it was
+abbrev pub KeepsRule : PagerState → Random → PagerState → Random → AskingCall (Unit {0}) → Type 0
+KeepsRule old stream new left ask = FollowsCallStill old new tt ask × (left ≡ stream)
 
 -- The call did what its contract ensures of the rules of cloaking. The stream behind a call that takes none is the one
 -- before it. Who restores a page owes what was sealed elsewhere: its bytes, sealed under the pager's key.
 abbrev pub KeptBy : PagerState → Random → PagerState → Random → (call : Call) → AnswerTo call → Type 0
-KeptBy old stream new left (Touch f) answer = Meets old stream new left (shown_by answer f new) (after_touch f)
+KeptBy old stream new left (Touch f) answer = FollowsCall old stream new left (shown_by answer f new) (after_touch f)
 KeptBy old stream new left (Offer q g write) answer =
-    MeetsUnclashed old new (answer_of answer) (after_offer q g write) × (left ≡ stream)
-KeptBy old stream new left (Place q f bytes) answer = Meets old stream new left answer (after_place q f bytes)
+    FollowsCallUnclashed old new (answer_of answer) (after_offer q g write) × (left ≡ stream)
+KeptBy old stream new left (Place q f bytes) answer = FollowsCall old stream new left answer (after_place q f bytes)
 KeptBy old stream new left (Restore q t sealed plain) answer =
     StandsRestored old new q t × IsBytes 4096 plain × (sealed ≡ cbc old.key t.iv plain) × (sha256 sealed ≡ t.digest)
     × (left ≡ stream)
@@ -103,7 +103,7 @@ pub record AfterCalls : Type 0 where
   pub wiped : PageId → Bool
   pub memory : CloakedMemory
 
-abbrev pub without_answer : {A : Type 0} → AfterCall A → AfterCalls
+abbrev pub without_answer : {A : Type 0} → ToldCall A → AfterCalls
 without_answer t = record { wiped = t.wiped; memory = t.memory }
 
 -- what the rules make of these by a call
@@ -149,7 +149,7 @@ AllTold (s ∷ steps) wiped m =
 
 -- The calls answered as the rules tell, and the pager stands for what the rules make of the memory by these calls, with
 -- the stream that is left.
-pub record FollowsCalls (p : PagerState) (stream : Random) (steps : List Step) (wiped : PageId → Bool)
+pub record FollowsCallsFrom (p : PagerState) (stream : Random) (steps : List Step) (wiped : PageId → Bool)
     (m : CloakedMemory) (end : AfterCalls) : Type 0 where
   pub answers : AllTold steps wiped m
   pub stands : StandsForMemory (pager_after p steps) end.wiped end.memory
@@ -165,4 +165,4 @@ LawOfCalls =
     (p : PagerState) (stream : Random) (steps : List Step) (wiped : PageId → Bool) (m : CloakedMemory) →
     AllKept p stream steps → StandsForMemory p wiped m → m.ledger.stream ≡ stream →
     (after_calls (calls_of steps) wiped m).memory.ledger.clashed ≡ false →
-    FollowsCalls p stream steps wiped m (after_calls (calls_of steps) wiped m)
+    FollowsCallsFrom p stream steps wiped m (after_calls (calls_of steps) wiped m)

@@ -2,6 +2,6 @@ pub mod Homes
 pub mod State
 pub mod Turns
 pub mod Relation
-pub mod AfterCall
+pub mod Asking
 pub mod Lending
 pub mod Calls

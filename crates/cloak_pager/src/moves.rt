@@ -7,7 +7,7 @@ impl Pager {
     ghost use Rattle.protect_meta.specs.Table.{domains_of};
     ghost use Rattle.cloak_pager.specs.State.{IsNoneOwed, IsNoneHeld};
     ghost use Rattle.cloak_pager.specs.Turns.{CopiesPages, DropsPages};
-    ghost use Rattle.cloak_pager.specs.AfterCall.{MeetsStill, after_copy_pages, after_drop_pages};
+    ghost use Rattle.cloak_pager.specs.Asking.{FollowsCallStill, after_copy_pages, after_drop_pages};
 
     /// Each page of resource `to` becomes a copy of the page of `from`: what was last shown of the one opens as the
     /// other.
@@ -18,7 +18,7 @@ impl Pager {
         requires shown { IsNoneOwed self.old domain from }
         requires away { IsNoneHeld self.old domain to }
         ensures state { CopiesPages self.old self.new domain from to }
-        ensures model { MeetsStill self.old self.new tt (after_copy_pages domain from to) }
+        ensures model { FollowsCallStill self.old self.new tt (after_copy_pages domain from to) }
     {
         self.table.copy_range(domain, from, to);
     }
@@ -29,7 +29,7 @@ impl Pager {
         requires resource { resource < 16 }
         requires away { IsNoneHeld self.old domain resource }
         ensures state { DropsPages self.old self.new domain resource }
-        ensures model { MeetsStill self.old self.new tt (after_drop_pages domain resource) }
+        ensures model { FollowsCallStill self.old self.new tt (after_drop_pages domain resource) }
     {
         self.table.clear_range(domain, resource);
     }

@@ -24,8 +24,8 @@ impl Pager {
     ghost use Rattle.cloak_pager.specs.State.{right_at, held_in, owed_at, bytes_in, IsFresh};
     ghost use Rattle.cloak_pager.specs.Turns.{end_of_offer, shown_by_digest, OfferedTurns, ShownTurns, PlaceTurns};
     ghost use Rattle.cloak_pager.specs.Turns.{StaysBut, IsPlaced, IsRestored};
-    ghost use Rattle.cloak_pager.specs.AfterCall.{Meets, MeetsUnclashed, StandsRestored};
-    ghost use Rattle.cloak_pager.specs.AfterCall.{after_offer, answer_of, after_place};
+    ghost use Rattle.cloak_pager.specs.Asking.{FollowsCall, FollowsCallUnclashed, StandsRestored};
+    ghost use Rattle.cloak_pager.specs.Asking.{after_offer, answer_of, after_place};
 
     /// Gives the page to the frame, for reading or for writing.
     pub fn offer(&mut self, q: PageId, g: Frame, write: bool) -> Offered
@@ -40,7 +40,7 @@ impl Pager {
         ensures stays { StaysBut g.0 self.old self.new }
         ensures held { result ≡ Offered.Ready → held_in self.new g.0 ≡ Some q }
         ensures owed { result ≡ Offered.Ready → IsTrue write → owed_at self.new g.0 ≡ Some q }
-        ensures model { MeetsUnclashed self.old self.new (answer_of result) (after_offer q g.0 write) }
+        ensures model { FollowsCallUnclashed self.old self.new (answer_of result) (after_offer q g.0 write) }
     {
         match &self.rights[g.0 as usize] {
             Held::Outside(_) => {
@@ -95,7 +95,7 @@ impl Pager {
         ensures state { PlaceTurns (next_draw s.old) s.old self.old self.new s.new q f.0 bytes.now }
         ensures rights { self.new.rights ≡ self.old.rights }
         ensures stays { StaysBut f.0 self.old self.new }
-        ensures model { Meets self.old s.old self.new s.new result (after_place q f.0 bytes.now) }
+        ensures model { FollowsCall self.old s.old self.new s.new result (after_place q f.0 bytes.now) }
     {
         match s.draw() {
             Some(iv) => {

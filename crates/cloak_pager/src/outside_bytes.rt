@@ -12,7 +12,7 @@ impl Pager {
     ghost use Rattle.cloak_pager.specs.State.{held_in, bytes_in};
     ghost use Rattle.cloak_pager.specs.Turns.{HasBytes};
     ghost use Rattle.cloak_pager.specs.Lending.{CountsRead};
-    ghost use Rattle.cloak_pager.specs.AfterCall.{MeetsStill, SeesFrame, after_write_outside, after_fill_outside};
+    ghost use Rattle.cloak_pager.specs.Asking.{FollowsCallStill, SeesFrame, after_write_outside, after_fill_outside};
 
     /// The bytes that the kernel sees in the frame. Counts one read.
     pub fn read_outside(&mut self, f: Frame) -> &[u8; 4096]
@@ -39,7 +39,7 @@ impl Pager {
         requires aligned { at % width ≡ 0 }
         requires within { at < 4096 }
         ensures state { HasBytes self.old self.new f.0 (with_value_in (bytes_in self.old f.0) at width v) }
-        ensures model { MeetsStill self.old self.new tt
+        ensures model { FollowsCallStill self.old self.new tt
             (after_write_outside f.0 (record { at = at; width = width; value = v })) }
     {
         match &self.rights[f.0 as usize] {
@@ -58,7 +58,7 @@ impl Pager {
         requires inside { f.0 < length self.old.frames }
         requires outside { held_in self.old f.0 ≡ None }
         ensures state { HasBytes self.old self.new f.0 b.now }
-        ensures model { MeetsStill self.old self.new tt (after_fill_outside f.0 b.now) }
+        ensures model { FollowsCallStill self.old self.new tt (after_fill_outside f.0 b.now) }
     {
         match &self.rights[f.0 as usize] {
             Held::Outside(right) => *self.frames.outside_mut(right) = *b,

@@ -13,7 +13,7 @@ impl Pager {
     ghost use Rattle.protect_meta.specs.Table.{domains_of};
     ghost use Rattle.cloak_pager.specs.State.{held_in, owed_at, bytes_in};
     ghost use Rattle.cloak_pager.specs.Turns.{HasBytes};
-    ghost use Rattle.cloak_pager.specs.AfterCall.{MeetsStill, after_write_plain, ReadsNewest};
+    ghost use Rattle.cloak_pager.specs.Asking.{FollowsCallStill, after_write_plain, ReadsNewest};
 
     /// The `width` bytes at a place of the page as a number.
     pub fn read_plain(&self, q: PageId, at: u32, width: u32) -> u32
@@ -44,7 +44,7 @@ impl Pager {
         requires within { at < 4096 }
         ensures state { (f : ℕ) → owed_at self.old f ≡ Some q →
             HasBytes self.old self.new f (with_value_in (bytes_in self.old f) at width v) }
-        ensures model { MeetsStill self.old self.new tt
+        ensures model { FollowsCallStill self.old self.new tt
             (after_write_plain q (record { at = at; width = width; value = v })) }
     {
         match self.homes.get(q) {

@@ -22,7 +22,7 @@ pub enum Touched {
 impl Pager {
     ghost use Rattle.cloak_pager.specs.State.{right_at, owed_at};
     ghost use Rattle.cloak_pager.specs.Turns.{touched_by, left_by, TouchTurns, StaysBut, CloseTurns, IsClosed};
-    ghost use Rattle.cloak_pager.specs.AfterCall.{Meets, MeetsStill, after_touch, shown_by, after_close};
+    ghost use Rattle.cloak_pager.specs.Asking.{FollowsCall, FollowsCallStill, after_touch, shown_by, after_close};
 
     /// Makes the frame outside. Made where it is asked for, since most frames are outside already.
     #[inline(always)]
@@ -33,7 +33,7 @@ impl Pager {
         ensures drawn { s.new ≡ left_by (right_at self.old f.0) (next_draw s.old) s.old }
         ensures outside { right_at self.new f.0 ≡ Held.Outside f }
         ensures stays { StaysBut f.0 self.old self.new }
-        ensures model { Meets self.old s.old self.new s.new (shown_by result f.0 self.new) (after_touch f.0) }
+        ensures model { FollowsCall self.old s.old self.new s.new (shown_by result f.0 self.new) (after_touch f.0) }
     {
         match &self.rights[f.0 as usize] {
             Held::Outside(_) => Touched::Quiet,
@@ -74,7 +74,7 @@ impl Pager {
     pub fn close(&mut self)
         requires { (k : ℕ) → owed_at self.old k ≡ None }
         ensures state { IsClosed self.old self.new }
-        ensures model { MeetsStill self.old self.new tt after_close }
+        ensures model { FollowsCallStill self.old self.new tt after_close }
     {
         for i in 0..self.rights.len() {
             self.close_frame(Frame(i as u32));

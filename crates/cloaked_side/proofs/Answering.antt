@@ -37,7 +37,7 @@ use Rattle.cloak_model.specs.Ask.{known}
 use Rattle.cloak_model.specs.Asking.{Told}
 use Rattle.cloak_model.specs.Memory.{frame_of}
 use Rattle.cloak_model.specs.PageMoves.{with_newest}
-use Rattle.cloak_pager.specs.AfterCall.{ReadsNewest, MeetsStill, after_write_plain}
+use Rattle.cloak_pager.specs.Asking.{ReadsNewest, FollowsCallStill, after_write_plain}
 use Rattle.cloaked_side.specs.Seeing.{Sees, SeesCloak}
 use Rattle.cloaked_side.specs.declared.side.Side.{Side}
 
@@ -332,7 +332,7 @@ pub plain_stored : {E : Type 0} (gave : E → E → List Piece → Type 0) (firs
     (at width value : ℕ) (w : World) → Repaged old new → new.memory.now.shadows ≡ old.memory.now.shadows →
     new.memory.now.pager.rights ≡ old.memory.now.pager.rights →
     length new.memory.now.pager.frames ≡ length old.memory.now.pager.frames →
-    MeetsStill old.memory.now.pager new.memory.now.pager (tt {0})
+    FollowsCallStill old.memory.now.pager new.memory.now.pager (tt {0})
     (after_write_plain q (record { at = at; width = width; value = value })) →
     ((s : Fold) → Tracks old.memory.now s → Tracks new.memory.now s) →
     new.memory.now.pager.reads ≡ old.memory.now.pager.reads →

@@ -19,7 +19,7 @@ use Rattle.cloak_model.specs.AskPages.{replies, is_marked, settled_if_marked, cl
 use Rattle.cloak_model.specs.AskPages.{ask_forget}
 use Rattle.cloak_model.specs.Exchange.{Piece, Emits, item_pieces}
 use Rattle.cloak_pager.specs.State.{PagerState, IsWholePager, IsNoneOwed, IsNoneHeld, right_at, held_in, owed_at}
-use Rattle.cloak_pager.specs.AfterCall.{MeetsStill, after_copy_pages, after_drop_pages, wiped_copies}
+use Rattle.cloak_pager.specs.Asking.{FollowsCallStill, after_copy_pages, after_drop_pages, wiped_copies}
 use Rattle.cloak_pager.proofs.Stands.{owed_by_right, owed_held}
 use Rattle.cloak_pager.proofs.Touches.{settle_none}
 use Rattle.cloak_pager.proofs.Writes.{held_within}
@@ -252,7 +252,7 @@ none_copied b false d e f = ap (λ x. x || false) e
 pub sees_copied : {E : Type 0} (gave : E → E → List Piece → Type 0) (first old new : Side E) (domain from to : ℕ)
     (w : World) → Repaged old new →
     AgreesAlways old.memory.now new.memory.now →
-    MeetsStill old.memory.now.pager new.memory.now.pager (tt {0}) (after_copy_pages domain from to) →
+    FollowsCallStill old.memory.now.pager new.memory.now.pager (tt {0}) (after_copy_pages domain from to) →
     ((s : Fold) → Tracks old.memory.now s → Tracks new.memory.now s) →
     new.memory.now.pager.reads ≡ old.memory.now.pager.reads → new.memory.now.shadows ≡ old.memory.now.shadows →
     Sees gave first old w → FollowsFrom (λ side v. Sees gave first side v) new (tt {0}) (ask_copy domain from to w)
@@ -295,7 +295,7 @@ sees_copied gave first old new domain from to (Cloaked c) same still meets track
 pub sees_dropped : {E : Type 0} (gave : E → E → List Piece → Type 0) (first begun old new : Side E) (domain r : ℕ)
     (w : World) → Repaged old new →
     AgreesAlways old.memory.now new.memory.now →
-    MeetsStill old.memory.now.pager new.memory.now.pager (tt {0}) (after_drop_pages domain r) →
+    FollowsCallStill old.memory.now.pager new.memory.now.pager (tt {0}) (after_drop_pages domain r) →
     new.space ≡ begun.space →
     TracksBy begun.memory.now new.memory.now (touched_where (is_of domain r)) →
     new.memory.now.pager.reads ≡ old.memory.now.pager.reads → new.memory.now.shadows ≡ old.memory.now.shadows →

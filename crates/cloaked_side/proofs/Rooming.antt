@@ -24,7 +24,7 @@ use Rattle.cloak_pager.proofs.Writes.{held_within}
 use Rattle.cloak_pager.proofs.Offers.{unowed_nowhere, unowed_clean, none_owing, offer_settled, offer_at_once}
 use Rattle.cloak_model.specs.World.{cipher_items}
 use Rattle.cloak_model.specs.Exchange.{Piece, Emits, item_pieces}
-use Rattle.cloak_pager.specs.AfterCall.{MeetsUnclashed, after_offer}
+use Rattle.cloak_pager.specs.Asking.{FollowsCallUnclashed, after_offer}
 use Rattle.shadow_fold.specs.Keeping.{Agrees}
 use Rattle.shadow_law.specs.Agreeing.{present}
 use Rattle.cloaked_side.specs.Holding.{Holds}
@@ -338,7 +338,7 @@ rooms_spend gave e e' old new room q g m r spends write =
 pub offers_so : {E : Type 0} (gave : E → E → List Piece → Type 0) (e e' : E) (old new : Memory) (given : Ended)
     (answer : Offer) (q : PageId) (g : ℕ) (write : Bool) (m : CloakedMemory) →
     (r : Rooms gave e e' old true q g m) → (answer ≢ Missed) → offer_of given ≡ answer →
-    MeetsUnclashed old.pager new.pager ([], answer) (after_offer q g write) →
+    FollowsCallUnclashed old.pager new.pager ([], answer) (after_offer q g write) →
     new.stream ≡ old.stream → new.draws ≡ old.draws → new.missed ≡ old.missed →
     (answer ≡ (offer q g write r.memory).answer →
     Agrees (present (held_in new.pager) (offer q g write r.memory).memory) new.shadows) →
@@ -350,8 +350,8 @@ offers_so {E} gave e e' old new given answer q g write m r not_missed is moves s
     let whole : offer q g write m ≡ behind_ciphers r.ciphers o = r.offers write in
     let v = moves r.holds.wiped x r.holds.pager
     (sym (ap (λ (y : AfterOffer). y.memory.ledger.clashed) whole) ∙ clash) in
-    let none : o.ciphers ≡ [] = sym (ap (λ (y : List (ℕ × List ℕ) × Offer). y.0) v.answered) in
-    let ends : answer ≡ o.answer = ap (λ (y : List (ℕ × List ℕ) × Offer). y.1) v.answered in
+    let none : o.ciphers ≡ [] = sym (ap (λ (y : List (ℕ × List ℕ) × Offer). y.0) v.answer) in
+    let ends : answer ≡ o.answer = ap (λ (y : List (ℕ × List ℕ) × Offer). y.1) v.answer in
     let same = offer_same q g write x none (λ e''. not_missed (ends ∙ e'')) in
     subst (λ (y : AfterOffer). Offers gave e e' new given y) (sym whole) (record {
       answer = is ∙ ends;

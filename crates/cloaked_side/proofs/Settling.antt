@@ -10,7 +10,7 @@ use Rattle.cloak_model.specs.Exchange.{Piece, Emits, item_pieces}
 use Rattle.cloak_model.specs.World.{cipher_items}
 use Rattle.cloak_pager.specs.State.{PagerState, held_in}
 use Rattle.cloak_pager.specs.Relation.{StandsForMemory}
-use Rattle.cloak_pager.specs.AfterCall.{Meets, after_touch, wiped_with}
+use Rattle.cloak_pager.specs.Asking.{FollowsCall, after_touch, wiped_with}
 use Rattle.shadow_fold.specs.Keeping.{Agrees}
 use Rattle.shadow_law.specs.Agreeing.{present}
 use Rattle.cloaked_side.specs.Holding.{Holds, Settles}
@@ -56,7 +56,7 @@ unwiped false before owed w e none q = none e q
 -- A touch of this pager made this of it and of the stream, and showed this. What the memory has is that, read again.
 pub settled_so : {E : Type 0} (gave : E → E → List Piece → Type 0) (e e' : E) (old new : Memory) (p : PagerState)
     (left : Random) (f : ℕ) (shown : List (ℕ × List ℕ)) (missed : Bool) →
-    Meets old.pager old.stream p left (shown, missed) (after_touch f) →
+    FollowsCall old.pager old.stream p left (shown, missed) (after_touch f) →
     ((w : PageId → Bool) (m : CloakedMemory) → StandsForMemory p w m → StandsForMemory new.pager w m) →
     new.stream ≡ left → new.draws ≡ draws_by shown missed old.draws → new.missed ≡ missed_by missed old.missed →
     Emits gave e e' (item_pieces (cipher_items shown)) →
@@ -66,8 +66,8 @@ pub settled_so : {E : Type 0} (gave : E → E → List Piece → Type 0) (e e' :
 settled_so {E} gave e e' old new p left f shown missed meets again stream draws mark emits agrees room count m h =
     let s : AfterSettling = settle f m in
     let v = meets h.wiped m h.pager h.stream in
-    let cs : shown ≡ s.ciphers = ap (λ (x : List (ℕ × List ℕ) × Bool). x.0) v.answered in
-    let ms : missed ≡ s.missed = ap (λ (x : List (ℕ × List ℕ) × Bool). x.1) v.answered in
+    let cs : shown ≡ s.ciphers = ap (λ (x : List (ℕ × List ℕ) × Bool). x.0) v.answer in
+    let ms : missed ≡ s.missed = ap (λ (x : List (ℕ × List ℕ) × Bool). x.1) v.answer in
     let mark' : new.missed ≡ missed_by s.missed old.missed = mark ∙ ap (λ b. missed_by b old.missed) ms in
     record {
       holds = record {
@@ -75,7 +75,7 @@ settled_so {E} gave e e' old new p left f shown missed meets again stream draws 
         pager = again _ _ v.stands;
         whole = λ none. unwiped s.missed old.missed (owed_in m f) h.wiped (sym mark' ∙ none) h.whole;
         stream = v.drawn ∙ sym stream;
-        draws = draws ∙ ap (λ (x : List (ℕ × List ℕ) × Bool). draws_by x.0 x.1 old.draws) v.answered
+        draws = draws ∙ ap (λ (x : List (ℕ × List ℕ) × Bool). draws_by x.0 x.1 old.draws) v.answer
             ∙ ap (λ n. draws_by s.ciphers s.missed n) h.draws ∙ sym (counts f m).draws;
         missed = mark' ∙ ap (λ b. missed_by s.missed b) h.missed ∙ sym (counts f m).missed;
         agrees = agrees m h;
@@ -86,12 +86,12 @@ settled_so {E} gave e e' old new p left f shown missed meets again stream draws 
 
 -- It read what it showed.
 pub settled_spends : (old : Memory) (p : PagerState) (left : Random) (f : ℕ) (shown : List (ℕ × List ℕ)) (missed : Bool) (n : Spent) →
-    Meets old.pager old.stream p left (shown, missed) (after_touch f) → Spends 0 (length shown) (spent_in old) n →
+    FollowsCall old.pager old.stream p left (shown, missed) (after_touch f) → Spends 0 (length shown) (spent_in old) n →
     (m : CloakedMemory) → Holds old m → Spends 0 (length (settle f m).ciphers) (spent_in old) n
 settled_spends old p left f shown missed n meets spends m h =
     let v = meets h.wiped m h.pager h.stream in
     subst (λ (cs : List (ℕ × List ℕ)). Spends 0 (length cs) (spent_in old) n)
-    (ap (λ (x : List (ℕ × List ℕ) × Bool). x.0) v.answered) spends
+    (ap (λ (x : List (ℕ × List ℕ) × Bool). x.0) v.answer) spends
 
 -- whether a draw was missing in a settling, where none was before
 pub settle_missed : (f : ℕ) (m : CloakedMemory) → m.ledger.missed ≡ false →

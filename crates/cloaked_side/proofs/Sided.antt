@@ -15,7 +15,7 @@ use Rattle.cloak_model.specs.Exchange.{Piece, Emits, EmitsSome, item_pieces}
 use Rattle.cloak_base.specs.declared.names.PageId.{PageId}
 use Rattle.cloak_model.specs.Cloaking.{with_shown_frame}
 use Rattle.cloak_pager.specs.Relation.{StandsForMemory}
-use Rattle.cloak_pager.specs.AfterCall.{SeesFrame}
+use Rattle.cloak_pager.specs.Asking.{SeesFrame}
 use Rattle.cloak_pager.specs.Turns.{IsReadOnce, HasBytes, MetasTurn}
 use Rattle.cloak_pager.proofs.Calls.{stands_read}
 use Rattle.cloak_base.specs.declared.names.Frame.{Frame}

@@ -15,7 +15,7 @@ use Rattle.protect_meta.specs.Table.{meta_at}
 use Rattle.cloak_pager.specs.State.{PagerState, IsFresh, page_of, held_in}
 use Rattle.cloak_pager.specs.Turns.{PlaceTurns}
 use Rattle.cloak_pager.specs.Relation.{StandsForMemory}
-use Rattle.cloak_pager.specs.AfterCall.{Meets, after_place}
+use Rattle.cloak_pager.specs.Asking.{FollowsCall, after_place}
 use Rattle.cloak_pager.specs.declared.held.Held.{Held}
 use Rattle.cloak_pager.specs.declared.held.Held.TheVariants.{Spent}
 use Rattle.cloak_pager.proofs.Pages.{with_page-other}
@@ -130,7 +130,7 @@ placed_agrees held q f bytes m t agrees = agrees_with held q f bytes (vector_of 
 
 -- a page was placed in the memory's pager, or not
 pub page_placed : (old new : Memory) (given : Bool) (q : PageId) (f : ℕ) (there bytes : List ℕ) → there ≡ bytes →
-    Meets old.pager old.stream new.pager new.stream given (after_place q f there) → new.missed ≡ old.missed →
+    FollowsCall old.pager old.stream new.pager new.stream given (after_place q f there) → new.missed ≡ old.missed →
     new.draws ≡ draws_if given old.draws → new.pager.rights ≡ old.pager.rights →
     length new.pager.frames ≡ length old.pager.frames →
     (given ≡ true → new.shadows ≡ ending (is_table (frame f)) old.shadows) →
@@ -138,7 +138,7 @@ pub page_placed : (old new : Memory) (given : Bool) (q : PageId) (f : ℕ) (ther
 page_placed old new given q f there bytes same meets missed draws rights count ended m h =
     let v = meets h.wiped m h.pager h.stream in
     subst (λ (x : List ℕ). PlacesTo new given (place q f x m)) same
-    (places_by old new given h.wiped m (place q f there m) v.answered v.stands v.drawn (keeps_ledger q f there m)
+    (places_by old new given h.wiped m (place q f there m) v.answer v.stands v.drawn (keeps_ledger q f there m)
     (λ none. h.whole (sym missed ∙ none)) missed draws h.draws h.missed
     (λ is. subst (λ (u : Table). IfSome (place q f there m) (λ m'. Agrees (present (held_in new.pager) m') u)) (sym (ended is))
     (placed_agrees (held_in new.pager) q f there m old.shadows (agrees_rights old.pager new.pager m old.shadows rights h.agrees)))

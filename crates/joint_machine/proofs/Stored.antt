@@ -17,7 +17,7 @@ use Rattle.protect_meta.specs.Table.{meta_at}
 use Rattle.cloak_pager.specs.State.{PagerState, IsWholePager, page_of, owed_under, held_in}
 use Rattle.cloak_pager.specs.Turns.{IsNewPager, HasBytes}
 use Rattle.cloak_pager.specs.Relation.{StandsForMemory, FrameStands, PageStands}
-use Rattle.cloak_pager.specs.AfterCall.{none_wiped, StandsBlank}
+use Rattle.cloak_pager.specs.Asking.{none_wiped, StandsBlank}
 use Rattle.cloak_pager.specs.declared.held.Held.{Held}
 use Rattle.cloak_pager.specs.declared.held.Held.TheVariants.{Spent}
 use Rattle.shadow_fold.specs.Keeping.{Agrees}

@@ -24,7 +24,7 @@ loop-i-preserved c =
     }
 
 pub returns-clause-model : goal.returns-clause-model
-returns-clause-model c = λ w m s. record { answered = refl; stands = c.loop-i.invariant.stands w m s; drawn = refl }
+returns-clause-model c = λ w m s. record { answer = refl; stands = c.loop-i.invariant.stands w m s; drawn = refl }
 
 pub returns-clause-state : goal.returns-clause-state
 returns-clause-state c =

@@ -1,5 +1,5 @@
 use Rattle.std.proofs.Common.{refl}
-use Rattle.cloak_pager.proofs.Writes.{put_outside, whole_now, meets_fill}
+use Rattle.cloak_pager.proofs.Writes.{put_outside, whole_now, follows_fill}
 use Rattle.cloak_pager.proofs.pager.Pager.fill_outside.Goals as goal
 
 pub returns-clause-state : goal.returns-clause-state
@@ -9,5 +9,5 @@ returns-clause-state c =
 
 pub returns-clause-model : goal.returns-clause-model
 returns-clause-model c =
-    meets_fill _ _ _ _ (whole_now _ _ c.self.view_is c.self.invariant.whole)
+    follows_fill _ _ _ _ (whole_now _ _ c.self.view_is c.self.invariant.whole)
     (returns-clause-state c) c.requires.inside c.requires.outside

@@ -1,7 +1,7 @@
 use Rattle.std.proofs.Common.{refl, ◌<◌}
 use Rattle.std.proofs.lemmas.List.Elements.{All-from_get_or}
 use Rattle.aes_block.specs.Bytes.{IsBytes}
-use Rattle.cloak_pager.proofs.Placed.{placed_meets, unplaced_meets}
+use Rattle.cloak_pager.proofs.Placed.{placed_follows, unplaced_follows}
 use Rattle.cloak_pager.proofs.Behind.{stays_same, written_stays}
 use Rattle.cloak_pager.proofs.pager.Pager.place.Goals as goal
 
@@ -11,12 +11,12 @@ returns-in-Some-clause-model c =
       long = c.told-bytes;
       bytes = All-from_get_or (λ b. b < 256) c.args.bytes.now 0 (λ i h. c.fits-bytes i);
     } in
-    placed_meets _ c.place_under.new.self c.args.q c.args.f.0 c.args.bytes.now c.in-Some.iv c.args.s.now c.draw.new.self
+    placed_follows _ c.place_under.new.self c.args.q c.args.f.0 c.args.bytes.now c.in-Some.iv c.args.s.now c.draw.new.self
     c.requires.inside c.requires.outside c.requires.fresh is_page c.in-Some.ensures c.place_under.ensures
 
 pub returns-in-None-clause-model : goal.returns-in-None-clause-model
 returns-in-None-clause-model c =
-    unplaced_meets _ c.args.q c.args.f.0 c.args.bytes.now c.args.s.now c.draw.new.self c.in-None.ensures.0
+    unplaced_follows _ c.args.q c.args.f.0 c.args.bytes.now c.args.s.now c.draw.new.self c.in-None.ensures.0
     c.in-None.ensures.1
 
 pub returns-in-Some-clause-stays : goal.returns-in-Some-clause-stays

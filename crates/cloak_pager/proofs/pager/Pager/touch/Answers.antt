@@ -3,8 +3,8 @@ use Rattle.cloak_base.specs.declared.names.PageId.{PageId}
 use Rattle.cloak_pager.specs.Turns.{IsResealed, IsSealed}
 use Rattle.cloak_pager.specs.declared.held.Held.TheVariants.{Outside, Clean, Changed}
 use Rattle.cloak_pager.proofs.Keeping.{HasRight, right_now}
-use Rattle.cloak_pager.proofs.Touches.{of_page, clean_outside, outside_now, quiet_meets, resealed_meets, seal_state}
-use Rattle.cloak_pager.proofs.Touches.{sealed_meets, wiped_meets}
+use Rattle.cloak_pager.proofs.Touches.{of_page, clean_outside, outside_now, quiet_follows, resealed_follows, seal_state}
+use Rattle.cloak_pager.proofs.Touches.{sealed_follows, wiped_follows}
 use Rattle.cloak_pager.proofs.Behind.{stays_same, turned_stays}
 use Rattle.cloak_pager.proofs.pager.Pager.touch.Goals as goal
 
@@ -12,7 +12,7 @@ pub returns-in-Outside-clause-model : goal.returns-in-Outside-clause-model
 returns-in-Outside-clause-model c =
     let right : HasRight c.args.self.now c.args.f.0 (Outside c.in-Outside.field-0) =
     right_now c.args.f.0 _ c.self.view_is c.self.invariant.whole c.requires c.index.ensures c.in-Outside.is in
-    quiet_meets _ c.args.f.0 _ c.args.s.now right
+    quiet_follows _ c.args.f.0 _ c.args.s.now right
 
 pub returns-in-Clean-clause-outside : goal.returns-in-Clean-clause-outside
 returns-in-Clean-clause-outside c =
@@ -26,7 +26,7 @@ returns-in-Clean-clause-model c =
     let right : HasRight c.args.self.now c.args.f.0 (Clean c.in-Clean.field-0) =
     right_now c.args.f.0 _ c.self.view_is c.self.invariant.whole c.requires c.index.ensures c.in-Clean.is in
     let P : PageId → Type 0 = λ q. IsResealed c.args.self.now c.reseal_frame.new.self c.args.f.0 q in
-    resealed_meets _ _ c.args.f.0 _ c.args.s.now right (of_page _ P right refl c.reseal_frame.ensures)
+    resealed_follows _ _ c.args.f.0 _ c.args.s.now right (of_page _ P right refl c.reseal_frame.ensures)
 
 pub returns-in-Some-clause-state : goal.returns-in-Some-clause-state
 returns-in-Some-clause-state c =
@@ -48,14 +48,14 @@ returns-in-Some-clause-model c =
     let right : HasRight c.args.self.now c.args.f.0 (Changed c.in-Changed.field-0) =
     right_now c.args.f.0 _ c.self.view_is c.self.invariant.whole c.requires c.index.ensures c.in-Changed.is in
     let P : PageId → Type 0 = λ q. IsSealed c.args.self.now c.seal_frame.new.self c.args.f.0 q c.in-Some.iv in
-    sealed_meets _ _ c.args.f.0 _ c.in-Some.iv c.args.s.now c.draw.new.self right c.in-Some.ensures
+    sealed_follows _ _ c.args.f.0 _ c.in-Some.iv c.args.s.now c.draw.new.self right c.in-Some.ensures
     (of_page _ P right refl c.seal_frame.ensures)
 
 pub returns-in-None-clause-model : goal.returns-in-None-clause-model
 returns-in-None-clause-model c =
     let right : HasRight c.args.self.now c.args.f.0 (Changed c.in-Changed.field-0) =
     right_now c.args.f.0 _ c.self.view_is c.self.invariant.whole c.requires c.index.ensures c.in-Changed.is in
-    wiped_meets _ _ c.args.f.0 _ c.args.s.now c.draw.new.self right c.in-None.ensures.0 c.in-None.ensures.1
+    wiped_follows _ _ c.args.f.0 _ c.args.s.now c.draw.new.self right c.in-None.ensures.0 c.in-None.ensures.1
     c.wipe_frame.ensures
 
 pub returns-in-Outside-clause-stays : goal.returns-in-Outside-clause-stays

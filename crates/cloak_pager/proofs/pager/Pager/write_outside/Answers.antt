@@ -1,6 +1,6 @@
 use Rattle.std.proofs.Common.{◌∙◌, ap, sym}
-use Rattle.cloak_pager.specs.AfterCall.{PageWrite, with_write}
-use Rattle.cloak_pager.proofs.Writes.{put_outside, whole_now, meets_write}
+use Rattle.cloak_pager.specs.Asking.{PageWrite, with_write}
+use Rattle.cloak_pager.proofs.Writes.{put_outside, whole_now, follows_write}
 use Rattle.cloak_pager.proofs.pager.Pager.write_outside.Goals as goal
 
 pub returns-clause-state : goal.returns-clause-state
@@ -12,5 +12,5 @@ returns-clause-state c =
 pub returns-clause-model : goal.returns-clause-model
 returns-clause-model c =
     let x : PageWrite = record { at = c.args.at; width = c.args.width; value = c.args.v } in
-    meets_write _ _ _ x (whole_now _ _ c.self.view_is c.self.invariant.whole)
+    follows_write _ _ _ x (whole_now _ _ c.self.view_is c.self.invariant.whole)
     (returns-clause-state c) c.requires.inside c.requires.outside

@@ -1,7 +1,7 @@
 use Rattle.std.proofs.Common.{◌∙◌, sym}
-use Rattle.cloak_pager.specs.AfterCall.{PageWrite, with_write}
+use Rattle.cloak_pager.specs.Asking.{PageWrite, with_write}
 use Rattle.cloak_pager.proofs.Stands.{owed_held}
-use Rattle.cloak_pager.proofs.Writes.{owing, owing_seen, noted_there, put_plain, whole_now, meets_plain, right_there}
+use Rattle.cloak_pager.proofs.Writes.{owing, owing_seen, noted_there, put_plain, whole_now, follows_plain, right_there}
 use Rattle.cloak_pager.proofs.Writes.{frame_there}
 use Rattle.cloak_pager.proofs.pager.Pager.write_plain.Goals as goal
 
@@ -41,5 +41,5 @@ returns-clause-state c =
 pub returns-clause-model : goal.returns-clause-model
 returns-clause-model c =
     let x : PageWrite = record { at = c.args.at; width = c.args.width; value = c.args.v } in
-    meets_plain _ _ c.args.q x (whole_now _ _ c.self.view_is c.self.invariant.whole)
+    follows_plain _ _ c.args.q x (whole_now _ _ c.self.view_is c.self.invariant.whole)
     (returns-clause-state c) c.requires.owed c.requires.width c.requires.aligned c.requires.within

@@ -4,7 +4,7 @@ use Rattle.cloak_pager.specs.State.{held_in}
 use Rattle.cloaked_side.proofs.Tracking.{write_tracks}
 use Rattle.cloaked_side.proofs.Translating.{held_by_rights}
 use Rattle.cloak_model.specs.Memory.{frame_of}
-use Rattle.cloak_pager.specs.AfterCall.{MeetsStill, after_write_outside}
+use Rattle.cloak_pager.specs.Asking.{FollowsCallStill, after_write_outside}
 use Rattle.cloaked_side.proofs.Sided.{stored_after, still_written, within_repaged, written_size, written_count}
 use Rattle.cloaked_side.proofs.Holders.{no_more_rights}
 use Rattle.cloaked_side.proofs.side.Side.write_settled.Goals as goal
@@ -13,10 +13,10 @@ pub returns-clause-told : goal.returns-clause-told
 returns-clause-told g c first w sees =
     let pa = c.args.pa in
     let side = c.args.self.now in
-    let at_frame = subst (λ (f : ℕ). MeetsStill side.memory.now.pager c.write_outside.new.self (tt {0})
+    let at_frame = subst (λ (f : ℕ). FollowsCallStill side.memory.now.pager c.write_outside.new.self (tt {0})
     (after_write_outside f (record { at = c.place_of.result; width = c.args.width; value = c.args.v })))
     c.frame_of-f.ensures c.write_outside.ensures.model in
-    let meets = subst (λ (at : ℕ). MeetsStill side.memory.now.pager c.write_outside.new.self (tt {0})
+    let meets = subst (λ (at : ℕ). FollowsCallStill side.memory.now.pager c.write_outside.new.self (tt {0})
     (after_write_outside (frame_of pa) (record { at = at; width = c.args.width; value = c.args.v })))
     c.place_of.ensures.value at_frame in
     stored_after g.E.Emit.gave first side _ pa c.args.width c.args.v w

@@ -6,7 +6,7 @@ use Rattle.shadow_fold.specs.Reads.{Spends}
 use Rattle.cloaked_side.specs.Holding.{Settles}
 use Rattle.cloaked_side.specs.Tracking.{TracksBy, spent_in}
 use Rattle.cloaked_side.proofs.Spending.{maps_killed}
-use Rattle.cloak_pager.specs.AfterCall.{SeesFrame}
+use Rattle.cloak_pager.specs.Asking.{SeesFrame}
 use Rattle.cloaked_side.proofs.Sided.{walking_read, word_told, within_of, within_repaged, read_size, no_more_read}
 use Rattle.cloaked_side.proofs.side.SideWords.word.Goals as goal
 

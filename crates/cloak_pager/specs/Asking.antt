@@ -1,4 +1,5 @@
--- What the rules of cloaking tell of each call, and when a call of the pager meets it.
+-- What the rules of cloaking tell of each call, and when a call of the pager follows it: questions of a memory, in the
+-- words of those of a world (`cloak_model`, `specs/Asking`).
 use Rattle.std.specs.Prelude.{ℕ, ◌≡◌, Bool, true, false, ◌&&◌, ◌||◌, List, [], ◌∷◌, Option, Some, None, is_some}
 use Rattle.std.specs.Prelude.{replicate, slice_index_or, unwrap_or}
 use Rattle.sha2.specs.Sha256.{sha256}
@@ -19,39 +20,39 @@ use Rattle.cloak_pager.specs.declared.touching.Touched.TheVariants.{Quiet, Resea
 use Rattle.cloak_pager.specs.declared.offering.Offered.{Offered}
 use Rattle.cloak_pager.specs.declared.offering.Offered.TheVariants.{Ready, Mismatch}
 
--- what there is after a call: its answer, the pages whose newest bytes are lost, and the memory
-pub record AfterCall (A : Type 0) : Type 0 where
+-- an answer, and what there is after it: the pages whose newest bytes are lost, and the memory
+pub record ToldCall (A : Type 0) : Type 0 where
   pub answer : A
   pub wiped : PageId → Bool
   pub memory : CloakedMemory
 
 -- what the rules tell of a call, by the pages whose newest bytes are lost and the memory before it
-abbrev pub CallRule : Type 0 → Type 0
-CallRule A = (PageId → Bool) → CloakedMemory → AfterCall A
+abbrev pub AskingCall : Type 0 → Type 0
+AskingCall A = (PageId → Bool) → CloakedMemory → ToldCall A
 
 -- A call that left the pager so, and this of the stream, and gave this answer did what the rules tell.
-pub record Moves {A : Type 0} (new : PagerState) (left : Random) (after : AfterCall A) (given : A) : Type 0 where
-  pub answered : given ≡ after.answer
-  pub stands : StandsForMemory new after.wiped after.memory
-  pub drawn : after.memory.ledger.stream ≡ left
+pub record FollowsCallFrom {A : Type 0} (new : PagerState) (left : Random) (given : A) (told : ToldCall A) : Type 0 where
+  pub answer : given ≡ told.answer
+  pub stands : StandsForMemory new told.wiped told.memory
+  pub drawn : told.memory.ledger.stream ≡ left
 
--- the call does what its rule tells, for every memory that the pager stood for and whose stream it was handed
-abbrev pub Meets : {A : Type 0} → PagerState → Random → PagerState → Random → A → CallRule A → Type 0
-Meets {A} old stream new left given rule =
+-- the call does what the rules tell, for every memory that the pager stood for and whose stream it was handed
+abbrev pub FollowsCall : {A : Type 0} → PagerState → Random → PagerState → Random → A → AskingCall A → Type 0
+FollowsCall {A} old stream new left given ask =
     (wiped : PageId → Bool) (m : CloakedMemory) → StandsForMemory old wiped m →
-    m.ledger.stream ≡ stream → Moves new left (rule wiped m) given
+    m.ledger.stream ≡ stream → FollowsCallFrom new left given (ask wiped m)
 
 -- the same of a call that takes no stream
-abbrev pub MeetsStill : {A : Type 0} → PagerState → PagerState → A → CallRule A → Type 0
-MeetsStill {A} old new given rule =
+abbrev pub FollowsCallStill : {A : Type 0} → PagerState → PagerState → A → AskingCall A → Type 0
+FollowsCallStill {A} old new given ask =
     (wiped : PageId → Bool) (m : CloakedMemory) → StandsForMemory old wiped m →
-    Moves new m.ledger.stream (rule wiped m) given
+    FollowsCallFrom new m.ledger.stream given (ask wiped m)
 
 -- the same where no two different pages with one digest were compared
-abbrev pub MeetsUnclashed : {A : Type 0} → PagerState → PagerState → A → CallRule A → Type 0
-MeetsUnclashed {A} old new given rule =
+abbrev pub FollowsCallUnclashed : {A : Type 0} → PagerState → PagerState → A → AskingCall A → Type 0
+FollowsCallUnclashed {A} old new given ask =
     (wiped : PageId → Bool) (m : CloakedMemory) → StandsForMemory old wiped m →
-    (rule wiped m).memory.ledger.clashed ≡ false → Moves new m.ledger.stream (rule wiped m) given
+    (ask wiped m).memory.ledger.clashed ≡ false → FollowsCallFrom new m.ledger.stream given (ask wiped m)
 
 -- Touching.
 
@@ -62,7 +63,7 @@ wiped_with true None wiped = wiped
 wiped_with true (Some q) wiped = with_page wiped q true
 
 -- what the kernel is shown new, and whether a draw was missing
-abbrev pub after_touch : ℕ → CallRule (List (ℕ × List ℕ) × Bool)
+abbrev pub after_touch : ℕ → AskingCall (List (ℕ × List ℕ) × Bool)
 after_touch f wiped m =
     let s = settle f m in
     record { answer = (s.ciphers, s.missed); wiped = wiped_with s.missed (owed_in m f) wiped; memory = s.memory }
@@ -77,7 +78,7 @@ shown_by Wiped f p = ((f, bytes_in p f) ∷ [], true)
 -- Offering.
 
 -- what the kernel is shown on the way, and the answer
-abbrev pub after_offer : PageId → ℕ → Bool → CallRule (List (ℕ × List ℕ) × Offer)
+abbrev pub after_offer : PageId → ℕ → Bool → AskingCall (List (ℕ × List ℕ) × Offer)
 after_offer q g write wiped m =
     let o = offer q g write m in record { answer = (o.ciphers, o.answer); wiped = wiped; memory = o.memory }
 
@@ -89,7 +90,7 @@ answer_of Mismatch = ([], Refused)
 -- Placing and restoring.
 
 -- whether the page was placed; where no draw was left nothing changes
-abbrev pub after_place : PageId → ℕ → List ℕ → CallRule Bool
+abbrev pub after_place : PageId → ℕ → List ℕ → AskingCall Bool
 after_place q f bytes wiped m =
     let o = place q f bytes m in record { answer = is_some o; wiped = wiped; memory = unwrap_or o m }
 
@@ -130,15 +131,15 @@ pub record PageWrite : Type 0 where
 abbrev pub with_write : PageWrite → List ℕ → List ℕ
 with_write x page = with_value_in page x.at x.width x.value
 
-abbrev pub after_write_plain : PageId → PageWrite → CallRule (Unit {0})
+abbrev pub after_write_plain : PageId → PageWrite → AskingCall (Unit {0})
 after_write_plain q x wiped m =
     record { answer = tt; wiped = wiped; memory = with_newest q (with_write x (m.plain q)) m }
 
-abbrev pub after_write_outside : ℕ → PageWrite → CallRule (Unit {0})
+abbrev pub after_write_outside : ℕ → PageWrite → AskingCall (Unit {0})
 after_write_outside f x wiped m =
     record { answer = tt; wiped = wiped; memory = with_shown_frame f (with_write x (slice_index_or m.ram f [])) m }
 
-abbrev pub after_fill_outside : ℕ → List ℕ → CallRule (Unit {0})
+abbrev pub after_fill_outside : ℕ → List ℕ → AskingCall (Unit {0})
 after_fill_outside f bytes wiped m = record { answer = tt; wiped = wiped; memory = with_shown_frame f bytes m }
 
 -- Moving pages.
@@ -147,16 +148,16 @@ after_fill_outside f bytes wiped m = record { answer = tt; wiped = wiped; memory
 abbrev pub wiped_copies : ℕ → ℕ → ℕ → (PageId → Bool) → PageId → Bool
 wiped_copies domain from to wiped o = wiped o || (is_of domain to o && wiped (page_in from o))
 
-abbrev pub after_copy_pages : ℕ → ℕ → ℕ → CallRule (Unit {0})
+abbrev pub after_copy_pages : ℕ → ℕ → ℕ → AskingCall (Unit {0})
 after_copy_pages domain from to wiped m =
     record { answer = tt; wiped = wiped_copies domain from to wiped; memory = copy_pages domain from to m }
 
-abbrev pub after_drop_pages : ℕ → ℕ → CallRule (Unit {0})
+abbrev pub after_drop_pages : ℕ → ℕ → AskingCall (Unit {0})
 after_drop_pages domain resource wiped m =
     record { answer = tt; wiped = wiped; memory = drop_pages domain resource m }
 
 -- Closing changes no memory.
-abbrev pub after_close : CallRule (Unit {0})
+abbrev pub after_close : AskingCall (Unit {0})
 after_close wiped m = record { answer = tt; wiped = wiped; memory = m }
 
 -- Opening.
