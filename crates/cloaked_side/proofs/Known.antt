@@ -1,5 +1,5 @@
 -- Where an access leads by a known translation, and how translations become known.
-use Rattle.std.proofs.Common.{◌≡◌, ◌∙◌, ◌⊎◌, ◌+◌, ◌/◌, ◌%◌, ◌<◌, ◌≤◌, ℕ, Bool, true, false, cond, List, [], ◌∷◌, length, ◌||◌, ◌&&◌, ◌≢◌, Option, Some, None, is_some, Result, Ok, Err, refl, sym, ap, subst, arith, nat_le, inl, inr, find}
+use Rattle.std.proofs.Common.{◌≡◌, ◌∙◌, ◌⊎◌, ◌+◌, ◌/◌, ◌%◌, ◌<◌, ◌≤◌, ℕ, Bool, true, false, cond, List, [], ◌∷◌, length, ◌||◌, ◌&&◌, Option, Some, None, is_some, Result, Ok, Err, refl, sym, ap, subst, arith, nat_le, inl, inr, find}
 use Rattle.std.specs.List.{list_any}
 use Rattle.std.proofs.lemmas.Bool.{false≢true}
 use Rattle.std.specs.Prelude.{◌++◌, IfOk, IfSome}
@@ -61,7 +61,7 @@ use Rattle.cloak_model.specs.World.{ram_of}
 use Rattle.cloaked_side.proofs.Sided.{count_of, sees_also, sees_noted}
 use Rattle.cloaked_side.proofs.Spending.{due_events, paid_is, maps_born, maps_looked, maps_on, maps_still, since_then, spends_missed, spends_more, spends_still, spends_then}
 use Rattle.shadow_fold.specs.Reads.{Spends, reads_due}
-use Rattle.shadow_fold.proofs.Keys.{and_true, is_for-key}
+use Rattle.shadow_fold.proofs.Keys.{is_for-key}
 use Rattle.shadow_fold.proofs.Agreeing.{found}
 use Rattle.shadow_law.proofs.Hits.{hit_is_led}
 use Rattle.cloak_pager.specs.State.{held_in}

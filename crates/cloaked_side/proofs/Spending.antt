@@ -1,10 +1,10 @@
 -- How often frames are read, and by which events entries come about.
-use Rattle.std.proofs.Common.{zero, suc, ◌≡◌, ◌≢◌, ◌∙◌, ◌+◌, ◌*◌, ◌-◌, ◌^◌, ◌<◌, ◌≤◌, ◌/◌, ℕ, Bool, true, false, cond, List, [], ◌∷◌, ◌++◌, length, map, Option, Some, None, is_some, refl, sym, ap, subst, arith, inl, inr}
+use Rattle.std.proofs.Common.{zero, suc, ◌≡◌, ◌∙◌, ◌+◌, ◌-◌, ◌^◌, ◌<◌, ◌≤◌, ℕ, Bool, true, false, cond, List, [], ◌∷◌, ◌++◌, length, Option, Some, None, refl, sym, ap, subst, arith, inl, inr}
 use Rattle.std.specs.Prelude.{min}
 use Rattle.std.proofs.Math.Nat.{min-le_left, min-eq_left, min-eq_right}
 use Rattle.cloak_model.specs.declared.access.Access.{Access}
 use Rattle.cloak_model.specs.declared.access.Walked.{Walked}
-use Rattle.std.specs.List.{All, count_by, sum_by}
+use Rattle.std.specs.List.{All, count_by}
 use Rattle.std.proofs.lemmas.Bool.{cases_lt}
 use Rattle.std.proofs.lemmas.List.Sums.{sum_by-append}
 use Rattle.cloak_base.specs.Random.{Random}
@@ -17,19 +17,19 @@ use Rattle.cloak_model.specs.declared.item.Item.TheVariants.{Cipher}
 use Rattle.cloak_model.specs.Events.{Event, Look, Touch, Offer, Born, Read, Write, Drop, Space}
 use Rattle.cloak_model.specs.Record.{is_cipher}
 use Rattle.cloak_model.specs.World.{cipher_items}
-use Rattle.cloak_pager.specs.State.{PagerState, bytes_in}
-use Rattle.cloak_pager.specs.Turns.{Turns, IsReadOnce, TouchTurns, OfferTurns, OfferedTurns}
+use Rattle.cloak_pager.specs.State.{PagerState}
+use Rattle.cloak_pager.specs.Turns.{IsReadOnce, TouchTurns, OfferTurns, OfferedTurns}
 use Rattle.cloak_pager.specs.declared.held.Held.{Held}
 use Rattle.cloak_pager.specs.declared.held.Held.TheVariants.{Outside, Clean, Changed, Spent as Gone}
 use Rattle.cloak_pager.specs.declared.offering.Offered.{Offered}
 use Rattle.cloak_pager.specs.declared.offering.Offered.TheVariants.{Ready, Mismatch}
 use Rattle.protect_meta.specs.declared.meta.Meta.{Meta}
 use Rattle.shadow_fold.specs.Agreement.{IsMapped}
-use Rattle.shadow_fold.specs.Births.{Makes, MakeAll}
+use Rattle.shadow_fold.specs.Births.{MakeAll}
 use Rattle.shadow_fold.specs.Following.{killed_if, AreBirthCalls}
 use Rattle.shadow_fold.specs.Fold.{entry_in}
-use Rattle.shadow_fold.specs.Reads.{Asked, Spent, Spends, is_read, reads_due}
-use Rattle.shadow_fold.specs.Table.{Table, is_known, looked, one_more, ending, killed}
+use Rattle.shadow_fold.specs.Reads.{Spent, Spends, is_read, reads_due}
+use Rattle.shadow_fold.specs.Table.{Table, looked, one_more, ending, killed}
 use Rattle.shadow_fold.specs.Entries.{is_target, is_table}
 use Rattle.shadow_fold.specs.declared.entry.Entry.{Entry}
 use Rattle.shadow_fold.specs.declared.entry.ShadowView.{ShadowView}
@@ -37,7 +37,7 @@ use Rattle.shadow_fold.proofs.Agreeing.{keeps_ending}
 use Rattle.shadow_law.proofs.Misses.{keeps_birth}
 use Rattle.cloaked_side.specs.declared.memory.Memory.{Memory}
 use Rattle.cloaked_side.specs.Seeing.{paid, touched_since}
-use Rattle.cloaked_side.specs.Tracking.{AreMapped, MapsBy, MapsStill, spent_in}
+use Rattle.cloaked_side.specs.Tracking.{MapsBy, MapsStill, spent_in}
 
 -- Reads.
 

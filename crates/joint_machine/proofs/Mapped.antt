@@ -1,5 +1,5 @@
 -- The pages of entries lie where their spaces have them, through a step of a hart.
-use Rattle.std.proofs.Common.{arith, get_or, inl, inr, nat_eq, ◌≡◌, ◌∙◌, ◌*◌, ◌/◌, ℕ, Bool, true, false, ◌&&◌, ◌||◌, cond, [], ◌∷◌, List, Option, Some, None, refl, ap, sym, subst}
+use Rattle.std.proofs.Common.{arith, get_or, inl, inr, nat_eq, ◌≡◌, ◌∙◌, ◌*◌, ◌/◌, ℕ, Bool, true, false, ◌&&◌, ◌||◌, [], ◌∷◌, List, Option, Some, None, refl, ap, sym, subst}
 use Rattle.std.proofs.lemmas.Bool.{eq-eqb}
 use Rattle.std.proofs.lemmas.Bool.Decides.{eqb_tells}
 use Rattle.std.specs.List.{All, list_any}
@@ -18,10 +18,8 @@ use Rattle.cloaked_side.specs.declared.memory.Memory.{Memory}
 use Rattle.hypercalls.specs.declared.domain.Domain.{Domain}
 use Rattle.hypercalls.specs.Standing.{StandsFor}
 use Rattle.shadow_fold.specs.Agreement.{HasInSpace, IsMapped}
-use Rattle.shadow_fold.specs.Births.{MakeAll}
 use Rattle.shadow_fold.specs.Entries.{is_of_space, sees_space}
 use Rattle.shadow_fold.specs.Events as events
-use Rattle.shadow_fold.specs.Reads.{Asked}
 use Rattle.shadow_fold.specs.declared.entry.Entry.{Entry}
 use Rattle.shadow_fold.specs.declared.entry.ShadowView.{ShadowView}
 use Rattle.shadow_fold.specs.declared.entry.ShadowView.TheVariants.{Outside, Inside}

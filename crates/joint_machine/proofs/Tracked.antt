@@ -1,5 +1,5 @@
 -- What a step of a hart does to memory, by what its parts do.
-use Rattle.std.proofs.Common.{◌≡◌, ◌∙◌, ◌+◌, arith, map, ℕ, Bool, true, false, [], ◌∷◌, ◌++◌, List, Option, Some, None, refl, ap, sym, subst}
+use Rattle.std.proofs.Common.{◌≡◌, ◌∙◌, ◌+◌, arith, map, ℕ, Bool, true, false, [], ◌∷◌, List, Option, Some, None, refl, ap, sym, subst}
 use Rattle.std.specs.List.{All}
 use Rattle.std.specs.Prelude.{option_map, slice_get}
 use Rattle.std.proofs.lemmas.List.{append-nil}

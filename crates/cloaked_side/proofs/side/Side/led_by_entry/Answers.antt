@@ -1,4 +1,4 @@
-use Rattle.std.proofs.Common.{rules, ◌%◌, arith, true, false, refl, inl, inr, Some, Ok, Err, ap, sym, ◌∙◌}
+use Rattle.std.proofs.Common.{rules, true, false, refl, inl, inr, Err, ap}
 use Rattle.cloaked_side.proofs.Known.{entry_follows, entry_so, looks_missed}
 use Rattle.cloaked_side.proofs.side.Side.led_by_entry.Goals as goal
 
