@@ -226,11 +226,20 @@ impl<T: Copy> ChainArena<T> {
         self.used
     }
 
+    /// What a slot was taken for, where it lies.
+    #[inline(always)]
+    pub fn payload_ref(&self, s: Slot) -> &T
+        requires in_use { IsInUse self.now s }
+        ensures { slice_get self.now.payloads s ≡ Some (Some result.now) }
+    {
+        &self.block.get(s.index).value
+    }
+
     /// What a slot was taken for.
     pub fn payload(&self, s: Slot) -> T
         requires in_use { IsInUse self.now s }
         ensures { slice_get self.now.payloads s ≡ Some (Some result) }
     {
-        self.block.get(s.index).value
+        *self.payload_ref(s)
     }
 }

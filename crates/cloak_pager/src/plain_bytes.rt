@@ -16,6 +16,7 @@ impl Pager {
     ghost use Rattle.cloak_pager.specs.Asking.{FollowsCallStill, after_write_plain, ReadsNewest};
 
     /// The `width` bytes at a place of the page as a number.
+    #[inline(always)]
     pub fn read_plain(&self, q: PageId, at: u32, width: u32) -> u32
         requires page { IsIn (domains_of self.now.table) q }
         requires held { (f : ℕ) × (held_in self.now f ≡ Some q) }
@@ -36,6 +37,7 @@ impl Pager {
     }
 
     /// Stores the lowest `width` bytes of a value at a place of the page.
+    #[inline(always)]
     pub fn write_plain(&mut self, q: PageId, at: u32, width: u32, v: u32)
         requires page { IsIn (domains_of self.old.table) q }
         requires owed { (f : ℕ) × (owed_at self.old f ≡ Some q) }

@@ -1,5 +1,5 @@
 //! Where an access leads: by a translation that is known, or else by a walk, which makes one known.
-ghost use Rattle.std.specs.Prelude.{◌≡◌, ◌≢◌, ◌/◌, ◌%◌, ℕ, [], ◌∷◌, true, false, IsTrue, IfOk, IfSome, Option, None, Some, Ok};
+ghost use Rattle.std.specs.Prelude.{◌≡◌, ◌≢◌, ◌<◌, ◌^◌, ◌/◌, ◌%◌, ℕ, [], ◌∷◌, true, false, IsTrue, IfOk, IfSome, Option, None, Some, Ok};
 ghost use Rattle.shadow_fold.specs.Agreement.{satp_in, access_in};
 
 use crate::memory::frame_of;
@@ -17,7 +17,8 @@ const RAM_START: u64 = 0x8000_0000;
 pub(crate) struct Led {
     /// The address in RAM.
     pub pa: u32,
-    /// The walk that led there through outside tables, where no translation was known and paging is on.
+    /// The walk that led there through outside tables, where this access is to make its translation known: none was known and
+    /// paging is on, or the one that was known is of another page.
     pub walked: Option<Walked>,
 }
 
@@ -81,10 +82,24 @@ fn entry_of(
     }
 }
 
+/// Where an entry of another page leads, with its walk. Apart, so that no walk is made room for where there is none.
+#[cold]
+#[inline(never)]
+fn handed_on(pa: u64, pt1: Option<Frame>, pt0: Option<Frame>) -> Led
+    requires { pa < 2 ^ 32 }
+    ensures { result ≡ record { pa = pa; walked = Some (record { pa = pa; pt1 = pt1; pt0 = pt0 }) } }
+{
+    Led {
+        pa: pa as u32,
+        walked: Some(Walked { pa, pt1, pt0 }),
+    }
+}
+
 impl<'m, 'e, E: Emit> Side<'m, 'e, E> {
     ghost use Rattle.cloak_model.specs.declared.access.Access.{Access as AnyAccess};
     ghost use Rattle.cloak_model.specs.declared.access.Walked.{Walked as AnyWalk};
     ghost use Rattle.cloak_base.specs.declared.names.PageId.{PageId as AnyPage};
+    ghost use Rattle.shadow_fold.specs.declared.entry.Entry.{Entry as AnyEntry};
     ghost use Rattle.cloak_model.specs.Ask.{known, opened};
     ghost use Rattle.cloak_model.specs.Events.{Look, Born};
     ghost use Rattle.cloak_model.specs.Walk.{has_paging};
@@ -134,14 +149,7 @@ impl<'m, 'e, E: Emit> Side<'m, 'e, E> {
                 walked: None,
             }));
         }
-        Some(Ok(Led {
-            pa: pa as u32,
-            walked: Some(Walked {
-                pa,
-                pt1: e.pt1,
-                pt0: e.pt0,
-            }),
-        }))
+        Some(Ok(handed_on(pa, e.pt1, e.pt0)))
     }
 
     /// Where an access leads by a walk, or the cause of its fault, behind a look that missed. The walk reads at most the two
@@ -226,6 +234,7 @@ impl<'m, 'e, E: Emit> Side<'m, 'e, E> {
     }
 
     /// Makes a translation known.
+    #[inline(always)]
     fn learn(&mut self, e: Entry)
         ensures sees { (first : _) (w : World) (satp : ℕ) (a : AnyAccess) (walked : AnyWalk) (cloaked : Option AnyPage) →
             Sees E.gave first self.old w → IsEntryOf w (held_in self.old.memory.now.pager) e →
@@ -251,13 +260,37 @@ impl<'m, 'e, E: Emit> Side<'m, 'e, E> {
     {
         let f = frame_of(led.pa);
         self.settle(f);
-        if let Some(walked) = &led.walked {
-            self.learn(entry_of(view, va, kind, f, walked, None));
+        if let Some(walked) = led.walked {
+            self.learn_walk(view, va, kind, f, &walked);
         }
+    }
+
+    /// Makes known the translation of a walk to a frame that is not cloaked. Apart, as `learn_walked_page` is.
+    #[inline(never)]
+    fn learn_walk(&mut self, view: &ShadowView, va: u32, kind: Kind, f: Frame, walked: &Walked)
+        ensures sees { (first : _) (w : World) (satp : ℕ) (a : AnyAccess) →
+            let e : AnyEntry = record {
+              view = view.now;
+              page = va / 4096;
+              kind = kind;
+              frame = f;
+              pt1 = walked.now.pt1;
+              pt0 = walked.now.pt0;
+              cloaked = None;
+            } in
+            Sees E.gave first self.old w → IsEntryOf w (held_in self.old.memory.now.pager) e →
+            entry_in self.old.space satp a walked.now None ≡ e →
+            Sees E.gave first self.new (noted (Born satp a walked.now None ∷ []) w) }
+        ensures keeps { Keeps (StaysWithin E.gave) self.old self.new }
+        ensures same_pager { self.new.memory.now.pager ≡ self.old.memory.now.pager }
+        ensures same_missed { self.new.memory.now.missed ≡ self.old.memory.now.missed }
+    {
+        self.learn(entry_of(view, va, kind, f, walked, None));
     }
 
     /// Makes known the translation that led to a cloaked page, which its frame holds now. One through its own frame is
     /// not kept.
+    #[inline(always)]
     pub(crate) fn learn_page(
         &mut self,
         q: PageId,
@@ -266,6 +299,26 @@ impl<'m, 'e, E: Emit> Side<'m, 'e, E> {
         kind: Kind,
         led: &Led,
     )
+        requires inside { IsTrue (is_in_frames (frames_of self.old.memory.now) led.now.pa) }
+        ensures sees { (first : _) (w : World) → Sees E.gave first self.old w → IsViewIn self.old.space view.now →
+            IsReachedSo self.old.memory.now w view.now va kind q led.now →
+            Sees E.gave first self.new (known (satp_in view.now) (access_in view.now va kind) (Some q) w) }
+        ensures keeps { Keeps (StaysWithin E.gave) self.old self.new }
+        ensures same_pager { self.new.memory.now.pager ≡ self.old.memory.now.pager }
+        ensures same_missed { self.new.memory.now.missed ≡ self.old.memory.now.missed }
+    {
+        match led.walked {
+            Some(_) => {
+                let led = *led;
+                self.learn_walked_page(q, view, va, kind, &led);
+            }
+            None => {}
+        }
+    }
+
+    /// The same. Apart, so that a hit makes no room for an entry.
+    #[inline(never)]
+    fn learn_walked_page(&mut self, q: PageId, view: &ShadowView, va: u32, kind: Kind, led: &Led)
         requires inside { IsTrue (is_in_frames (frames_of self.old.memory.now) led.now.pa) }
         ensures sees { (first : _) (w : World) → Sees E.gave first self.old w → IsViewIn self.old.space view.now →
             IsReachedSo self.old.memory.now w view.now va kind q led.now →

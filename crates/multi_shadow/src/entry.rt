@@ -5,6 +5,7 @@ ghost use Rattle.shadow_fold.specs.Entries as spec;
 use cloak_base::{Frame, Kind, Mode, SpaceId};
 use shadow_fold::{Entry, ShadowView};
 
+#[inline(always)]
 fn is_same_mode(a: Mode, b: Mode) -> bool
     ensures { result ≡ spec.same_mode a b }
 {
@@ -15,6 +16,7 @@ fn is_same_mode(a: Mode, b: Mode) -> bool
     }
 }
 
+#[inline(always)]
 fn is_same_kind(a: Kind, b: Kind) -> bool
     ensures { result ≡ spec.same_kind a b }
 {
@@ -26,12 +28,14 @@ fn is_same_kind(a: Kind, b: Kind) -> bool
     }
 }
 
+#[inline(always)]
 fn is_same_space(a: SpaceId, b: SpaceId) -> bool
     ensures { result ≡ same_space a b }
 {
     a.domain == b.domain && a.number == b.number
 }
 
+#[inline(always)]
 fn is_same_view(a: &ShadowView, b: &ShadowView) -> bool
     ensures { result ≡ spec.same_view a.now b.now }
 {
@@ -79,6 +83,7 @@ fn is_frame(f: Frame, table: Option<Frame>) -> bool
 
 /// The entry is of this view, page and kind. The page is what most entries differ in.
 #[tactic(auto, unfolding(shadow_fold::specs::Entries::is_for))]
+#[inline(always)]
 pub(crate) fn is_for(e: &Entry, v: &ShadowView, page: u32, kind: Kind) -> bool
     ensures { result ≡ spec.is_for v.now page kind e.now }
 {
@@ -112,6 +117,7 @@ pub(crate) fn is_of_space(s: SpaceId, e: &Entry) -> bool
     }
 }
 
+#[inline(always)]
 fn is_below(frames: u32, table: Option<Frame>) -> bool
     ensures below { result ≡ true → IfSome table (λ f. f.0 < frames) }
     ensures beyond { result ≡ false → IfSome table (λ f. f.0 < frames) → ⊥ }
@@ -123,6 +129,7 @@ fn is_below(frames: u32, table: Option<Frame>) -> bool
 }
 
 /// The entry's frames are among the first of so many.
+#[inline(always)]
 pub(crate) fn is_within(frames: u32, e: &Entry) -> bool
     ensures within { result ≡ true → spec.IsWithin frames e.now }
     ensures beyond { result ≡ false → spec.IsWithin frames e.now → ⊥ }

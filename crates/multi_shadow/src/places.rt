@@ -1,6 +1,6 @@
 //! Live entries in an arena: each stands in the chains of what it hangs on, so that whatever ends entries finds them by
 //! one chain.
-ghost use Rattle.std.specs.Prelude.{◌≡◌, ◌<◌, ◌%◌, ℕ, length, slice_get, slice_set, find, Some, None, IfSome, true, false};
+ghost use Rattle.std.specs.Prelude.{◌≡◌, ◌<◌, ◌%◌, ℕ, length, slice_get, slice_set, find, Some, None, IfSome, option_map, true, false};
 ghost use Rattle.chain_arena.specs.declared.chain.Chain.{Chain};
 ghost use Rattle.chain_arena.specs.Arena.{IsFree, IsInUse, Stands, chains, chain_at, unhooked, IsTidyArena};
 ghost use Rattle.multi_shadow.specs.Placed as spec;
@@ -239,31 +239,51 @@ pub(crate) fn prune_all(arena: &mut ChainArena<Entry>, heads: u32, space: Option
     }
 }
 
-/// The entry of a view, page and kind, by the chain of its bucket. Made where it is asked for, so that no entry is copied of
-/// which one field is wanted.
-#[inline(always)]
-pub(crate) fn search(
-    arena: &ChainArena<Entry>,
-    heads: u32,
+/// The entry of a view, page and kind, in the chain of its bucket.
+#[inline(never)]
+fn search_chain<'a>(
+    arena: &'a ChainArena<Entry>,
+    bucket: u32,
     v: &ShadowView,
     page: u32,
     kind: Kind,
-) -> Option<Entry>
+) -> Option<&'a Entry>
     requires placed { ArePlaced arena.now }
     requires apart { AreApart (live_in arena.now.payloads) }
-    requires heads { heads ≡ arena.now.heads }
-    requires some { 0 < heads }
-    requires power { IsPower heads }
-    ensures { result ≡ find (entries.is_for v.now page kind) (live_in arena.now.payloads) }
+    requires within { bucket < arena.now.heads }
+    requires bucket { bucket ≡ spec.bucket_of arena.now.heads v.now page kind }
+    ensures { option_map (λ e. e.now) result ≡ find (entries.is_for v.now page kind) (live_in arena.now.payloads) }
 {
-    let bucket = bucket_of(heads, v, page, kind);
     let mut at = arena.first(Chain::Bucket, bucket);
     while let Some(s) = at {
-        let e = arena.payload(s);
-        if is_for(&e, v, page, kind) {
+        let e = arena.payload_ref(s);
+        if is_for(e, v, page, kind) {
             return Some(e);
         }
         at = arena.next(s, Chain::Bucket);
     }
     None
+}
+
+/// The entry of a view, page and kind, with little done where the chain of its bucket is empty.
+#[inline(always)]
+pub(crate) fn search<'a>(
+    arena: &'a ChainArena<Entry>,
+    heads: u32,
+    v: &ShadowView,
+    page: u32,
+    kind: Kind,
+) -> Option<&'a Entry>
+    requires placed { ArePlaced arena.now }
+    requires apart { AreApart (live_in arena.now.payloads) }
+    requires heads { heads ≡ arena.now.heads }
+    requires some { 0 < heads }
+    requires power { IsPower heads }
+    ensures { option_map (λ e. e.now) result ≡ find (entries.is_for v.now page kind) (live_in arena.now.payloads) }
+{
+    let bucket = bucket_of(heads, v, page, kind);
+    match arena.first(Chain::Bucket, bucket) {
+        Some(_) => search_chain(arena, bucket, v, page, kind),
+        None => None,
+    }
 }

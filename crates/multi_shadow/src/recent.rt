@@ -1,6 +1,6 @@
 //! The entry that was learnt last, of each kind of access. It stands in a place of its own, and not in the arena.
 //! Where most looks miss, it ends before the next one of its kind comes, so that no chain is changed for it.
-ghost use Rattle.std.specs.Prelude.{◌≡◌, ◌∷◌, ◌<◌, [], find, length};
+ghost use Rattle.std.specs.Prelude.{◌≡◌, ◌∷◌, ◌<◌, [], find, length, option_map};
 ghost use Rattle.std.specs.List.Sorted.{IsPermutation};
 ghost use Rattle.multi_shadow.specs.Placed.{ArePlaced, IsPower, live_in};
 ghost use Rattle.multi_shadow.specs.Recent as spec;
@@ -22,6 +22,7 @@ pub(crate) struct Recent {
     store: Option<Entry>,
 }
 
+#[inline(always)]
 fn count_in(place: &Option<Entry>) -> usize
     ensures { result ≡ length (live_in (place.now ∷ [])) }
 {
@@ -79,6 +80,7 @@ impl Recent {
     }
 
     /// How many entries there are.
+    #[inline(always)]
     pub(crate) fn count(&self) -> usize
         ensures { result ≡ length (recent_entries self.now) }
     {
@@ -99,14 +101,14 @@ impl Recent {
 
     /// The entry of a view, page and kind, in the place of its kind.
     #[inline(always)]
-    pub(crate) fn find(&self, v: &ShadowView, page: u32, kind: Kind) -> Option<Entry>
+    pub(crate) fn find<'a>(&'a self, v: &ShadowView, page: u32, kind: Kind) -> Option<&'a Entry>
         requires { AreOfKind self.now }
-        ensures { result ≡ find (entries.is_for v.now page kind) (recent_entries self.now) }
+        ensures { option_map (λ e. e.now) result ≡ find (entries.is_for v.now page kind) (recent_entries self.now) }
     {
         match self.place_of(kind) {
             Some(e) => {
                 if is_for(e, v, page, kind) {
-                    Some(*e)
+                    Some(e)
                 } else {
                     None
                 }
@@ -116,6 +118,7 @@ impl Recent {
     }
 
     /// The entry takes the place of its kind.
+    #[inline(always)]
     fn put(&mut self, e: Entry)
         ensures { self.new ≡ spec.with_place e.kind e self.old }
     {
@@ -157,6 +160,7 @@ impl Recent {
 }
 
 /// Puts what stands in the place of a kind into the arena too.
+#[inline(always)]
 fn displace(recent: &Recent, arena: &mut ChainArena<Entry>, heads: u32, kind: Kind)
     requires recent { AreWithin heads recent.now }
     requires placed { ArePlaced arena.old }
@@ -176,6 +180,7 @@ fn displace(recent: &Recent, arena: &mut ChainArena<Entry>, heads: u32, kind: Ki
 }
 
 /// Puts an entry in the place of its kind. What stood there goes into the arena.
+#[inline(always)]
 pub(crate) fn keep(recent: &mut Recent, arena: &mut ChainArena<Entry>, heads: u32, e: Entry)
     requires of_kind { AreOfKind recent.old }
     requires recent { AreWithin heads recent.old }

@@ -1,4 +1,4 @@
-ghost use Rattle.std.specs.Prelude.{◌≡◌, ◌∷◌, ◌<◌, ◌≤◌, true, false, length, find, IfOk};
+ghost use Rattle.std.specs.Prelude.{◌≡◌, ◌∷◌, ◌<◌, ◌≤◌, true, false, length, find, option_map, IfOk};
 ghost use Rattle.std.specs.List.Sorted.{IsPermutation};
 ghost use Rattle.shadow_fold.specs.Entries.{is_for, is_target, is_table, is_of_space, IsWithin};
 ghost use Rattle.multi_shadow.specs.Placed.{IsPower};
@@ -97,18 +97,20 @@ impl Shadows {
         ensures exact { result ≡ find (is_for v.now page kind) self.old.live }
         ensures counted { self.new ≡ looked v.now page kind self.old }
     {
-        let found = self.look(v, page, kind);
         self.counts.accesses = self.counts.accesses.saturating_add(1);
-        if found.is_none() {
-            self.counts.misses = self.counts.misses.saturating_add(1);
+        match self.look(v, page, kind) {
+            Some(e) => Some(*e),
+            None => {
+                self.counts.misses = self.counts.misses.saturating_add(1);
+                None
+            }
         }
-        found
     }
 
     /// The same, with nothing counted: the recent entry, or one in the arena.
     #[inline(always)]
-    fn look(&self, v: &ShadowView, page: u32, kind: Kind) -> Option<Entry>
-        ensures { result ≡ find (is_for v.now page kind) self.now.live }
+    fn look<'a>(&'a self, v: &ShadowView, page: u32, kind: Kind) -> Option<&'a Entry>
+        ensures { option_map (λ e. e.now) result ≡ find (is_for v.now page kind) self.now.live }
     {
         match self.recent.find(v, page, kind) {
             Some(e) => Some(e),
@@ -118,6 +120,7 @@ impl Shadows {
 
     /// Makes an entry live, unless one of its view, page and kind is, or one of its frames is none of the table's. Nothing
     /// is counted as an access.
+    #[inline(always)]
     pub fn learn(&mut self, e: Entry)
         ensures born { IsWithin self.old.frames e → AreBirthCalls (is_known e.view e.page e.kind self.old) e self.old self.new }
         ensures beyond { (IsWithin self.old.frames e → ⊥) → self.new ≡ self.old }
@@ -131,6 +134,7 @@ impl Shadows {
     }
 
     /// The entry becomes live. Where 1024 are live, all of them end first, and a flush is counted.
+    #[inline(always)]
     pub(crate) fn insert(&mut self, e: Entry)
         requires unknown { is_known e.view e.page e.kind self.old ≡ false }
         requires within { IsWithin self.old.frames e }
@@ -141,6 +145,7 @@ impl Shadows {
         self.put(e);
     }
 
+    #[inline(always)]
     fn is_full(&self) -> bool
         ensures full { result ≡ true → 1024 ≤ length self.now.live }
         ensures room { result ≡ false → length self.now.live < 1024 }
@@ -149,6 +154,7 @@ impl Shadows {
     }
 
     /// Where 1024 are live, all of them end, and a flush is counted.
+    #[inline(always)]
     fn make_room(&mut self)
         ensures { self.new ≡ with_room self.old }
     {
@@ -158,6 +164,7 @@ impl Shadows {
     }
 
     /// The entry becomes live, for which there is room.
+    #[inline(always)]
     fn put(&mut self, e: Entry)
         requires unknown { is_known e.view e.page e.kind self.old ≡ false }
         requires within { IsWithin self.old.frames e }
@@ -195,6 +202,8 @@ impl Shadows {
     }
 
     /// Ends all entries, and counts it.
+    #[cold]
+    #[inline(never)]
     pub fn flush(&mut self)
         ensures { self.new ≡ emptied self.old }
     {

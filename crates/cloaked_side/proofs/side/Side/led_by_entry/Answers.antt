@@ -29,4 +29,4 @@ returns-then-eq-clause-leads g c first w sees viewed =
 pub returns-clause-leads : goal.returns-clause-leads
 returns-clause-leads g c first w sees viewed =
     entry_so g.E.Emit.gave first c.args.self.now c.find.new.self w c.args.view.now c.args.va c.args.kind c.in_ok-e.e c.args.cloaked _ sees viewed c.find.ensures.counted
-    (search rules) (search rules) (search rules) (inl refl)
+    (search rules) (search rules) (search rules) (inl (ap (λ led. led.walked) c.handed_on.ensures))

@@ -1,4 +1,4 @@
-use Rattle.std.proofs.Common.{◌≡◌, sym, ap, subst, ℕ, Option, None}
+use Rattle.std.proofs.Common.{◌≡◌, refl, sym, subst, ℕ, Option, None}
 use Rattle.std.specs.Prelude.{IfSome}
 use Rattle.cloak_base.specs.declared.names.SpaceId.{SpaceId}
 use Rattle.cloak_model.specs.declared.access.Walked.{Walked}
@@ -6,7 +6,6 @@ use Rattle.cloak_model.specs.World.{settled}
 use Rattle.cloak_model.specs.Memory.{frame_of}
 use Rattle.cloak_pager.specs.State.{held_in}
 use Rattle.shadow_fold.specs.Agreement.{satp_in, access_in}
-use Rattle.shadow_fold.specs.Fold.{is_own_table}
 use Rattle.shadow_law.specs.Agreeing.{AreOutside}
 use Rattle.cloaked_side.specs.Leading.{IsEntryOf, IsViewIn, IsWalkOf}
 use Rattle.cloaked_side.specs.Seeing.{Sees}
@@ -29,12 +28,11 @@ returns-in-Some-clause-sees g c first w sees viewed so =
     let by = subst (λ (o : Option Walked). IfSome o (λ x. IsWalkOf w view c.args.va c.args.kind x × (x.pa ≡ pa))) c.in-Some.is so.by in
     let out = subst (λ (o : Option Walked). IfSome o (AreOutside (held_in old.memory.now.pager))) c.in-Some.is so.outside in
     let entry = led_entry gave first old mid view c.args.va c.args.kind led walked w sees c.in-Some.is so.by so.outside kept.no_more none c.settle.ensures.same_count in
-    born_known gave first c.learn.new.self view c.args.va c.args.kind walked None (settled (frame_of pa) w)
+    born_known gave first c.learn_walk.new.self view c.args.va c.args.kind walked None (settled (frame_of pa) w)
     (settled_is gave first old view c.args.va c.args.kind walked (frame_of pa) w sees out by.0)
-    (c.learn.ensures.sees first (settled (frame_of pa) w) (satp_in view) (access_in view c.args.va c.args.kind) walked None seen
-    (subst (λ e. IsEntryOf (settled (frame_of pa) w) (held_in mid.memory.now.pager) e) (entry_is _ _ _ c.frame_of-f.result pa walked None _ c.frame_of-f.ensures c.entry_of.ensures) entry)
-    (entry_same mid.space view c.args.va c.args.kind walked None c.frame_of-f.result pa _ (subst (λ (o : Option SpaceId). IsViewIn o view) (sym kept.stays.space) viewed) by.1 c.frame_of-f.ensures c.entry_of.ensures)
-    (ap is_own_table c.entry_of.ensures))
+    (c.learn_walk.ensures.sees first (settled (frame_of pa) w) (satp_in view) (access_in view c.args.va c.args.kind) seen
+    (subst (λ e. IsEntryOf (settled (frame_of pa) w) (held_in mid.memory.now.pager) e) (entry_is _ _ _ c.frame_of-f.result pa walked None _ c.frame_of-f.ensures refl) entry)
+    (entry_same mid.space view c.args.va c.args.kind walked None c.frame_of-f.result pa _ (subst (λ (o : Option SpaceId). IsViewIn o view) (sym kept.stays.space) viewed) by.1 c.frame_of-f.ensures refl))
 
 pub returns-in_default-clause-sees : goal.returns-in_default-clause-sees
 returns-in_default-clause-sees g c first w sees viewed so =

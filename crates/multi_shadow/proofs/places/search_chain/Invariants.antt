@@ -5,7 +5,7 @@ use Rattle.chain_arena.specs.Chains.{IsMemberOf}
 use Rattle.shadow_fold.specs.declared.entry.Entry.{Entry}
 use Rattle.shadow_fold.specs.Entries.{is_for}
 use Rattle.multi_shadow.specs.Placed.{LiesAt}
-use Rattle.multi_shadow.proofs.places.search.Given as goal
+use Rattle.multi_shadow.proofs.places.search_chain.Given as goal
 
 abbrev pub invariant-loop-at : goal.invariant-loop-at
 invariant-loop-at l = record {

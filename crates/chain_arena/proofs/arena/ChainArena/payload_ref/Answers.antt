@@ -3,7 +3,7 @@ use Rattle.std.proofs.lemmas.Option.{cond_some}
 use Rattle.chain_arena.specs.Arena.{IsInUse}
 use Rattle.chain_arena.proofs.Nodes.{read_payload}
 use Rattle.chain_arena.proofs.Arenas.{carried, in_block, payload_in}
-use Rattle.chain_arena.proofs.arena.ChainArena.payload.Goals as goal
+use Rattle.chain_arena.proofs.arena.ChainArena.payload_ref.Goals as goal
 
 pub get-requires : goal.get-requires
 get-requires g c =
