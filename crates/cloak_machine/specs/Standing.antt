@@ -15,6 +15,7 @@ use Rattle.joint_machine.specs.Standing.{StandsForJoint}
 use Rattle.space_law.specs.Mapping.{mapped_in}
 use Rattle.joint_machine.specs.declared.opened.OpenFault.{OpenFault}
 use Rattle.joint_machine.specs.declared.opened.OpenFault.TheVariants as fault
+use Rattle.joint_machine.specs.declared.placings.Placing.{Placing}
 use Rattle.kernel_report.specs.Console.{ConsoleShows}
 use Rattle.cloak_machine.specs.Ending.{end_report, end_short_report, line_in, short_report}
 use Rattle.cloak_machine.specs.Turns.{IsAt}
@@ -24,6 +25,10 @@ use Rattle.cloak_machine.specs.declared.machine.Machine.{Machine}
 -- the steps that a machine made
 abbrev pub steps_made : Machine → ℕ
 steps_made machine = machine.steps
+
+-- where the programs are placed whose pages it shows as its run begins
+abbrev pub placings_of : Machine → List Placing
+placings_of machine = machine.placings.items
 
 -- each program completed at most this many loads
 abbrev pub HaveFewLoads : ℕ → List Domain → Type 0

@@ -1,4 +1,4 @@
-ghost use Rattle.std.specs.Prelude.{◌≡◌, ◌+◌, ◌<◌, ◌≤◌, ◌^◌, ◌++◌, ℕ, List, Ok, All, IfOk, false, if◌then◌else◌, length};
+ghost use Rattle.std.specs.Prelude.{◌≡◌, ◌+◌, ◌<◌, ◌≤◌, ◌^◌, ◌++◌, ℕ, List, Ok, All, IfOk, false, if◌then◌else◌, length, map};
 ghost use Rattle.cloak_base.specs.Random.{Random};
 ghost use Rattle.cloak_model.specs.declared.image.Bundle.{Bundle};
 ghost use Rattle.cloak_model.specs.Bundle.{IsInGrammar};
@@ -6,16 +6,18 @@ ghost use Rattle.cloak_model.specs.Exchange.{Emits, EmitsSome, shown_each};
 ghost use Rattle.cloak_model.specs.Joint.{Moment, joint_step};
 ghost use Rattle.cloak_model.specs.Opening.{Opened, opening};
 ghost use Rattle.cloak_model.specs.Run.{closing, first_moment, most_steps};
+ghost use Rattle.joint_machine.specs.Placings.{placing};
 ghost use Rattle.joint_machine.specs.Standing.{AllOutside, LendsPager, harts_of, shown_byte};
 ghost use Rattle.kernel_report.specs.Console.{ConsoleShows};
 
 use crate::domains::DomainLines;
 use crate::end::{End, kernel_lines_of};
 use crate::schedule::Schedule;
+use arrayvec::ArrayVec;
 use cloak_base::Stop;
-use cloak_model::{Emit, Item, KernelImage, Program};
+use cloak_model::{Emit, Item, KernelImage, Program, Sequence};
 use cloak_pager::Pager;
-use joint_machine::{Joint, JointParts, OpenFault};
+use joint_machine::{Joint, JointParts, OpenFault, Placing, placings_of};
 use kernel_report::Console;
 use multi_shadow::ShadowCounts;
 use outside_io::Stream;
@@ -30,6 +32,8 @@ pub struct Machine {
     console: Console,
     /// The marker of the last step. It is kept, since an item has room for a page, and to build one clears it.
     marker: Item,
+    /// Where the programs are placed, which is asked for once, by the opening.
+    placings: ArrayVec<Placing, 4>,
     ghost turns: { All (λ h. h < harts_of joint) schedule.turns.items },
     ghost counted: { console.count ≤ steps },
     ghost outside: { steps ≡ 0 → AllOutside joint },
@@ -68,25 +72,28 @@ fn stop_of(missed: bool, stop: Stop) -> Stop
 
 impl Machine {
     ghost use Rattle.cloak_machine.specs.Standing.{FinishesAs, MakesTurn, Opens, ShowsOpening};
-    ghost use Rattle.cloak_machine.specs.Standing.{StandsForMoment, steps_made};
+    ghost use Rattle.cloak_machine.specs.Standing.{StandsForMoment, placings_of, steps_made};
     ghost use Rattle.cloak_machine.specs.Counting.{Counts, spent_by};
     ghost use Rattle.shadow_fold.specs.Events.{after_step, asked_in};
     ghost use Rattle.shadow_fold.specs.Fold.{Fold, fresh_fold};
     ghost use Rattle.shadow_fold.specs.Reads.{Spends, reads_due};
 
     /// The machine of a guest image, before its first step. Its key is the first draw of the stream, and each page of
-    /// a program takes the next one. The memory of the kernel's image is taken over or given back.
+    /// a program takes the next one. The memory of the image is taken over or given back: the bytes of a program as its
+    /// pages are placed.
     pub fn open(
         alloc: Global,
         kernel: KernelImage,
-        programs: &[Program],
+        programs: Sequence<Program>,
         s: Stream,
     ) -> Result<Machine, OpenFault>
-        requires { IsInGrammar (record { kernel = kernel; programs = programs.now }) }
-        ensures opens { Opens (record { kernel = kernel; programs = programs.now }) s result }
+        requires { IsInGrammar (record { kernel = kernel; programs = programs }) }
+        ensures opens { Opens (record { kernel = kernel; programs = programs }) s result }
+        ensures placings { IfOk result (λ machine. placings_of machine ≡ map placing programs) }
         ensures no_step { IfOk result (λ machine. steps_made machine ≡ 0) }
     {
         let schedule = Schedule::open(alloc, kernel.schedule.as_slice())?;
+        let placings = placings_of(programs.as_slice());
         let joint = match Joint::open(alloc, kernel, programs, s) {
             Ok(joint) => joint,
             Err(fault) => return Err(fault),
@@ -97,19 +104,22 @@ impl Machine {
             steps: 0,
             console: Console::new(),
             marker: Item::Step { number: 0 },
+            placings,
         })
     }
 
-    /// Emits what the kernel is shown as the run begins: each frame that holds a page of a program. Is called with the
-    /// programs of the guest image. Nothing is shown once a step was made.
-    pub fn opening<E: Emit>(&mut self, programs: &[Program], e: &mut E)
+    /// Emits what the kernel is shown as the run begins: each frame that holds a page of a program. Nothing is shown once
+    /// a step was made.
+    pub fn opening<E: Emit>(&mut self, e: &mut E)
         ensures steps { steps_made self.new ≡ steps_made self.old }
+        ensures placings { placings_of self.new ≡ placings_of self.old }
         ensures emits_some { EmitsSome E.gave e.old e.new }
-        ensures shows { (b : Bundle) (s : Random) (o : Opened) → opening b s ≡ Ok o → b.programs ≡ programs.now →
-            StandsForMoment self.old (first_moment b o.joint) → ShowsOpening E.gave e.old e.new self.new b o }
+        ensures shows { (b : Bundle) (s : Random) (o : Opened) → opening b s ≡ Ok o →
+            placings_of self.old ≡ map placing b.programs → StandsForMoment self.old (first_moment b o.joint) →
+            ShowsOpening E.gave e.old e.new self.new b o }
     {
         if self.steps == 0 {
-            self.joint.show_opening(programs, e);
+            self.joint.show_opening(self.placings.as_slice(), e);
         }
     }
 
@@ -117,6 +127,7 @@ impl Machine {
     /// Is called before the first step.
     pub fn count_accesses(&mut self)
         ensures steps { steps_made self.new ≡ steps_made self.old }
+        ensures placings { placings_of self.new ≡ placings_of self.old }
         ensures stands { (m : Moment) → StandsForMoment self.old m → StandsForMoment self.new m }
         ensures counts { steps_made self.old ≡ 0 → (m : Moment) → StandsForMoment self.old m →
             Counts self.new (fresh_fold (length m.joint.memory.ram)) }

@@ -4,7 +4,7 @@ ghost use Rattle.cloak_model.specs.Bundle.{IsInGrammar, IsProgramIn};
 
 use cloak_base::{NoMemory, Start};
 use cloak_model::{Bundle, Emit, Item, KernelImage, Program, Sequence};
-use joint_machine::Joint;
+use joint_machine::{Joint, placings_of};
 use outside_io::Stream;
 use std::alloc::Global;
 use std::test::Fail;
@@ -79,10 +79,11 @@ fn shows_each_frame_once(rt: HostRuntime) -> Result<(), Fail> {
         others: 0,
     };
     let Bundle { kernel, programs } = image(rt.alloc())?;
-    let opened = Joint::open(rt.alloc(), kernel, programs.as_slice(), Stream::numbered(0));
+    let placings = placings_of(programs.as_slice());
+    let opened = Joint::open(rt.alloc(), kernel, programs, Stream::numbered(0));
     assert!(rt; opened.is_ok());
     if let Ok(mut joint) = opened {
-        joint.show_opening(programs.as_slice(), &mut e);
+        joint.show_opening(placings.as_slice(), &mut e);
         assert_eq!(rt; (e.frames, e.others), (789, 0));
         joint.close(&mut e);
         assert_eq!(rt; (e.frames, e.others), (789, 0));

@@ -29,7 +29,7 @@ fn open_image(alloc: Global, number: u64) -> Result<Machine, NoMemory>
     ensures no_step { IfOk result (λ machine. steps_made machine ≡ 0) }
 {
     let Bundle { kernel, programs } = generate(alloc, number)?;
-    match Machine::open(alloc, kernel, programs.as_slice(), Stream::numbered(number)) {
+    match Machine::open(alloc, kernel, programs, Stream::numbered(number)) {
         Ok(machine) => Ok(machine),
         Err(OpenFault::NoMemory) => Err(NoMemory),
         Err(OpenFault::NoKey) => unreachable!(),

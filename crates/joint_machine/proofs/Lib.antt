@@ -1,3 +1,4 @@
+pub mod Backwards
 pub mod Stored
 pub mod Placed
 pub mod Started

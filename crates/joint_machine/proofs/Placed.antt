@@ -1,7 +1,6 @@
 -- The pages of programs as a run begins, over plain variables.
-use Rattle.std.proofs.Common.{◌≡◌, ◌≢◌, ◌<◌, ◌≤◌, ◌+◌, ◌-◌, ◌^◌, ℕ, zero, suc, Bool, true, false, List, [], ◌∷◌, length, drop, slice_index_or, Option, None, Some, is_some, unwrap_or, min, refl, ap, sym, ◌∙◌, subst, arith, add-one, inl, inr}
+use Rattle.std.proofs.Common.{◌≡◌, ◌≢◌, ◌≤◌, ◌+◌, ◌-◌, ◌^◌, ℕ, zero, suc, Bool, true, false, List, [], ◌∷◌, length, slice_index_or, Option, None, Some, is_some, unwrap_or, min, refl, ap, sym, ◌∙◌, subst, arith, add-one, inl, inr}
 use Rattle.std.specs.Prelude.{option_and_then, IfSome}
-use Rattle.std.proofs.lemmas.List.{at_drop_more, at_drop_all}
 use Rattle.std.proofs.lemmas.Bool.{cases_lt}
 use Rattle.cloak_base.specs.declared.names.PageId.{PageId}
 use Rattle.cloak_base.specs.declared.names.SpaceId.{SpaceId}
@@ -129,20 +128,19 @@ unfolding place
 placed_agrees held q f bytes m t agrees = agrees_with held q f bytes (vector_of m.ledger q) m t agrees
 
 -- a page was placed in the memory's pager, or not
-pub page_placed : (old new : Memory) (given : Bool) (q : PageId) (f : ℕ) (there bytes : List ℕ) → there ≡ bytes →
-    FollowsCall old.pager old.stream new.pager new.stream given (after_place q f there) → new.missed ≡ old.missed →
+pub page_placed : (old new : Memory) (given : Bool) (q : PageId) (f : ℕ) (bytes : List ℕ) →
+    FollowsCall old.pager old.stream new.pager new.stream given (after_place q f bytes) → new.missed ≡ old.missed →
     new.draws ≡ draws_if given old.draws → new.pager.rights ≡ old.pager.rights →
     length new.pager.frames ≡ length old.pager.frames →
     (given ≡ true → new.shadows ≡ ending (is_table (frame f)) old.shadows) →
     (m : CloakedMemory) → Holds old m → PlacesTo new given (place q f bytes m)
-page_placed old new given q f there bytes same meets missed draws rights count ended m h =
+page_placed old new given q f bytes meets missed draws rights count ended m h =
     let v = meets h.wiped m h.pager h.stream in
-    subst (λ (x : List ℕ). PlacesTo new given (place q f x m)) same
-    (places_by old new given h.wiped m (place q f there m) v.answer v.stands v.drawn (keeps_ledger q f there m)
+    places_by old new given h.wiped m (place q f bytes m) v.answer v.stands v.drawn (keeps_ledger q f bytes m)
     (λ none. h.whole (sym missed ∙ none)) missed draws h.draws h.missed
-    (λ is. subst (λ (u : Table). IfSome (place q f there m) (λ m'. Agrees (present (held_in new.pager) m') u)) (sym (ended is))
-    (placed_agrees (held_in new.pager) q f there m old.shadows (agrees_rights old.pager new.pager m old.shadows rights h.agrees)))
-    (λ is. ap (λ (u : Table). u.frames) (ended is) ∙ ending_frames (is_table (frame f)) old.shadows ∙ h.room ∙ sym count))
+    (λ is. subst (λ (u : Table). IfSome (place q f bytes m) (λ m'. Agrees (present (held_in new.pager) m') u)) (sym (ended is))
+    (placed_agrees (held_in new.pager) q f bytes m old.shadows (agrees_rights old.pager new.pager m old.shadows rights h.agrees)))
+    (λ is. ap (λ (u : Table). u.frames) (ended is) ∙ ending_frames (is_table (frame f)) old.shadows ∙ h.room ∙ sym count)
 
 -- Pages one after another.
 
@@ -152,14 +150,16 @@ then_places : (old new : Memory) (given : Bool) (next : CloakedMemory → Option
 then_places old new given next None so_far more = absurd so_far
 then_places old new given next (Some x) so_far more = more x so_far
 
-pub pages_next : (old new : Memory) (given : Bool) (d i : ℕ) (p : Program) (m : CloakedMemory) →
-    PlacesTo old true (place_pages d p i m) →
-    ((x : CloakedMemory) → Holds old x →
-    PlacesTo new given (place (first_page d i) (p.place + i) (program_page p.bytes i) x)) →
+pub pages_next : (old new : Memory) (given : Bool) (d i : ℕ) (p : Program) (page : List ℕ) (m : CloakedMemory) →
+    page ≡ program_page p.bytes i → PlacesTo old true (place_pages d p i m) →
+    ((x : CloakedMemory) → Holds old x → PlacesTo new given (place (first_page d i) (p.place + i) page x)) →
     PlacesTo new given (place_pages d p (i + 1) m)
-pages_next old new given d i p m so_far more =
+pages_next old new given d i p page m is so_far more =
+    let next = place (first_page d i) (p.place + i) (program_page p.bytes i) in
     subst (λ (n : ℕ). PlacesTo new given (place_pages d p n m)) (sym (add-one i))
-    (then_places old new given (place (first_page d i) (p.place + i) (program_page p.bytes i)) (place_pages d p i m) so_far more)
+    (then_places old new given next (place_pages d p i m) so_far
+    (λ x held. subst (λ (bytes : List ℕ). PlacesTo new given (place (first_page d i) (p.place + i) bytes x)) is
+    (more x held)))
 
 missed_on : (new : Memory) (next : CloakedMemory → Option CloakedMemory) (o : Option CloakedMemory) →
     PlacesTo new false o → PlacesTo new false (option_and_then next o)
@@ -182,57 +182,47 @@ pages_missed new d p m (suc n) i before missed = elim (cases_lt i (suc n)) [
 
 -- Programs one after another.
 
--- of these programs the first i are placed: what is left is placed in this memory
-pub record PlacesFrom (memory : Memory) (i : ℕ) (programs : List Program) (m : CloakedMemory) : Type 0 where
+-- of these programs the rest, of which the first has this number, is left to be placed in this memory
+pub record PlacesFrom (memory : Memory) (i : ℕ) (rest programs : List Program) (m : CloakedMemory) : Type 0 where
   pub so_far : CloakedMemory
   pub holds : Holds memory so_far
-  pub rest : place_programs i (drop i programs) so_far ≡ place_programs 0 programs m
+  pub left : place_programs i rest so_far ≡ place_programs 0 programs m
 
-pub programs_none : (memory : Memory) (programs : List Program) (m : CloakedMemory) → Holds memory m →
-    PlacesFrom memory 0 programs m
-programs_none memory programs m holds = record { so_far = m; holds = holds; rest = refl }
+pub programs_none : (memory : Memory) (rest programs : List Program) (m : CloakedMemory) → rest ≡ programs →
+    Holds memory m → PlacesFrom memory 0 rest programs m
+programs_none memory rest programs m same holds = record {
+  so_far = m;
+  holds = holds;
+  left = ap (λ (ps : List Program). place_programs 0 ps m) same;
+}
 
--- the next program, and what is left behind it
-rest_is : (i : ℕ) (p : Program) (programs : List Program) (m : CloakedMemory) → i < length programs →
-    p ≡ slice_index_or programs i p →
-    place_programs i (drop i programs) m
-    ≡ option_and_then (place_programs (i + 1) (drop (i + 1) programs)) (place_pages i p p.start.pages m)
-rest_is i p programs m more read =
-    at_drop_more (λ (rest : List Program). place_programs i rest m) programs i p more
-    ∙ ap (λ (x : Program). option_and_then (place_programs (i + 1) (drop (i + 1) programs)) (place_pages i x x.start.pages m))
-    (sym read)
+next_is : (new : Memory) (i : ℕ) (rest programs : List Program) (m : CloakedMemory) (o : Option CloakedMemory) →
+    option_and_then (place_programs (i + 1) rest) o ≡ place_programs 0 programs m →
+    PlacesTo new true o → PlacesFrom new (i + 1) rest programs m
+next_is new i rest programs m None left places = absurd places
+next_is new i rest programs m (Some x) left places = record { so_far = x; holds = places; left = left }
 
-next_is : (new : Memory) (i : ℕ) (programs : List Program) (m : CloakedMemory) (o : Option CloakedMemory) →
-    option_and_then (place_programs (i + 1) (drop (i + 1) programs)) o ≡ place_programs 0 programs m →
-    PlacesTo new true o → PlacesFrom new (i + 1) programs m
-next_is new i programs m None rest places = absurd places
-next_is new i programs m (Some x) rest places = record { so_far = x; holds = places; rest = rest }
-
-pub programs_next : (old new : Memory) (i : ℕ) (p : Program) (programs : List Program) (m : CloakedMemory) →
-    PlacesFrom old i programs m → i < length programs → p ≡ slice_index_or programs i p →
+pub programs_next : (old new : Memory) (i : ℕ) (p : Program) (rest programs : List Program) (m : CloakedMemory) →
+    PlacesFrom old i (p ∷ rest) programs m →
     ((x : CloakedMemory) → Holds old x → PlacesTo new true (place_pages i p p.start.pages x)) →
-    PlacesFrom new (i + 1) programs m
-programs_next old new i p programs m from more read places =
-    next_is new i programs m (place_pages i p p.start.pages from.so_far)
-    (sym (rest_is i p programs from.so_far more read) ∙ from.rest)
-    (places from.so_far from.holds)
+    PlacesFrom new (i + 1) rest programs m
+programs_next old new i p rest programs m from places =
+    next_is new i rest programs m (place_pages i p p.start.pages from.so_far) from.left (places from.so_far from.holds)
 
-pub programs_missed : (old new : Memory) (i : ℕ) (p : Program) (programs : List Program) (m : CloakedMemory) →
-    PlacesFrom old i programs m → i < length programs → p ≡ slice_index_or programs i p →
+pub programs_missed : (old new : Memory) (i : ℕ) (p : Program) (rest programs : List Program) (m : CloakedMemory) →
+    PlacesFrom old i (p ∷ rest) programs m →
     ((x : CloakedMemory) → Holds old x → PlacesTo new false (place_pages i p p.start.pages x)) →
     PlacesTo new false (place_programs 0 programs m)
-programs_missed old new i p programs m from more read places =
-    subst (λ (o : Option CloakedMemory). PlacesTo new false o)
-    (sym (rest_is i p programs from.so_far more read) ∙ from.rest)
-    (missed_on new (place_programs (i + 1) (drop (i + 1) programs)) (place_pages i p p.start.pages from.so_far)
+programs_missed old new i p rest programs m from places =
+    subst (λ (o : Option CloakedMemory). PlacesTo new false o) from.left
+    (missed_on new (place_programs (i + 1) rest) (place_pages i p p.start.pages from.so_far)
     (places from.so_far from.holds))
 
-pub programs_all : (memory : Memory) (i : ℕ) (programs : List Program) (m : CloakedMemory) →
-    PlacesFrom memory i programs m → length programs ≤ i → PlacesTo memory true (place_programs 0 programs m)
-programs_all memory i programs m from end =
-    subst (λ (o : Option CloakedMemory). PlacesTo memory true o)
-    (sym (at_drop_all (λ (rest : List Program). place_programs i rest from.so_far) programs i end) ∙ from.rest)
-    from.holds
+pub programs_all : (memory : Memory) (i : ℕ) (rest programs : List Program) (m : CloakedMemory) →
+    PlacesFrom memory i rest programs m → length rest ≡ 0 → PlacesTo memory true (place_programs 0 programs m)
+programs_all memory i [] programs m from end =
+    subst (λ (o : Option CloakedMemory). PlacesTo memory true o) from.left from.holds
+programs_all memory i (p ∷ rest) programs m from end = absurd (omega (arith, end))
 
 -- Roots.
 

@@ -1,5 +1,5 @@
 -- What is shown as a run begins, over plain variables.
-use Rattle.std.proofs.Common.{◌≡◌, ◌+◌, ℕ, Bool, true, false, cond, List, [], ◌∷◌, ◌++◌, slice_index_or, refl, ap, sym, ◌∙◌, subst, add-one, Result, Ok, Err, Option, None, Some}
+use Rattle.std.proofs.Common.{◌≡◌, ◌+◌, ℕ, Bool, true, false, cond, ◌&&◌, nat_le, nat_lt, if◌then◌else◌, length, List, [], ◌∷◌, ◌++◌, slice_index_or, refl, ap, sym, ◌∙◌, subst, add-one, Result, Ok, Err, Option, None, Some}
 use Rattle.std.specs.Prelude.{map, filter}
 use Rattle.std.proofs.lemmas.List.{map-append, ext_get_or}
 use Rattle.std.proofs.lemmas.List.Elements.{filter-append}
@@ -22,51 +22,53 @@ use Rattle.cloaked_side.specs.Holding.{Holds, frames_of}
 use Rattle.cloaked_side.specs.declared.memory.Memory.{Memory}
 use Rattle.cloaked_side.proofs.Emitting.{emits_none, emits_items}
 use Rattle.cloaked_side.proofs.Sided.{still_read as still}
+use Rattle.joint_machine.specs.Placings.{covers, placing}
 use Rattle.joint_machine.specs.Starting.{IsReadOnly, frame_item, placed_among}
+use Rattle.joint_machine.specs.declared.placings.Placing.{Placing}
 
 -- One frame.
 
-pub placed_one : (programs : List Program) (frames : List (List ℕ)) (f : ℕ) → is_placed programs f ≡ true →
-    placed_among programs frames (f ∷ []) ≡ frame_item frames f ∷ []
-placed_one programs frames f there = ap (λ (b : Bool). map (frame_item frames) (cond b (f ∷ []) [])) there
+pub placed_one : (placings : List Placing) (frames : List (List ℕ)) (f : ℕ) → covers placings f ≡ true →
+    placed_among placings frames (f ∷ []) ≡ frame_item frames f ∷ []
+placed_one placings frames f there = ap (λ (b : Bool). map (frame_item frames) (cond b (f ∷ []) [])) there
 
-pub placed_not : (programs : List Program) (frames : List (List ℕ)) (f : ℕ) → is_placed programs f ≡ false →
-    placed_among programs frames (f ∷ []) ≡ []
-placed_not programs frames f away = ap (λ (b : Bool). map (frame_item frames) (cond b (f ∷ []) [])) away
+pub placed_not : (placings : List Placing) (frames : List (List ℕ)) (f : ℕ) → covers placings f ≡ false →
+    placed_among placings frames (f ∷ []) ≡ []
+placed_not placings frames f away = ap (λ (b : Bool). map (frame_item frames) (cond b (f ∷ []) [])) away
 
-pub emits_placed : {E : Type 0} (gave : E → E → List Piece → Type 0) (e e' : E) (programs : List Program)
-    (frames : List (List ℕ)) (f : ℕ) → is_placed programs f ≡ true →
+pub emits_placed : {E : Type 0} (gave : E → E → List Piece → Type 0) (e e' : E) (placings : List Placing)
+    (frames : List (List ℕ)) (f : ℕ) → covers placings f ≡ true →
     Emits gave e e' (item_pieces (frame_item frames f ∷ [])) →
-    Emits gave e e' (item_pieces (placed_among programs frames (f ∷ [])))
-emits_placed gave e e' programs frames f there emits =
-    subst (λ (items : List Item). Emits gave e e' (item_pieces items)) (sym (placed_one programs frames f there)) emits
+    Emits gave e e' (item_pieces (placed_among placings frames (f ∷ [])))
+emits_placed gave e e' placings frames f there emits =
+    subst (λ (items : List Item). Emits gave e e' (item_pieces items)) (sym (placed_one placings frames f there)) emits
 
-pub emits_not_placed : {E : Type 0} (gave : E → E → List Piece → Type 0) (e : E) (programs : List Program)
-    (frames : List (List ℕ)) (f : ℕ) → is_placed programs f ≡ false →
-    Emits gave e e (item_pieces (placed_among programs frames (f ∷ [])))
-emits_not_placed gave e programs frames f away =
-    subst (λ (items : List Item). Emits gave e e (item_pieces items)) (sym (placed_not programs frames f away))
+pub emits_not_placed : {E : Type 0} (gave : E → E → List Piece → Type 0) (e : E) (placings : List Placing)
+    (frames : List (List ℕ)) (f : ℕ) → covers placings f ≡ false →
+    Emits gave e e (item_pieces (placed_among placings frames (f ∷ [])))
+emits_not_placed gave e placings frames f away =
+    subst (λ (items : List Item). Emits gave e e (item_pieces items)) (sym (placed_not placings frames f away))
     (emits_none gave e)
 
 -- Frames one after another.
 
-pub placed_more : (programs : List Program) (frames : List (List ℕ)) (n : ℕ) →
-    placed_among programs frames (numbers_below (n + 1))
-    ≡ placed_among programs frames (numbers_below n) ++ placed_among programs frames (n ∷ [])
-placed_more programs frames n =
-    ap (λ (k : ℕ). placed_among programs frames (numbers_below k)) (add-one n)
-    ∙ (ap (map (frame_item frames)) (filter-append (is_placed programs) (numbers_below n) (n ∷ []))
-    ∙ map-append (frame_item frames) (filter (is_placed programs) (numbers_below n)) (filter (is_placed programs) (n ∷ [])))
+pub placed_more : (placings : List Placing) (frames : List (List ℕ)) (n : ℕ) →
+    placed_among placings frames (numbers_below (n + 1))
+    ≡ placed_among placings frames (numbers_below n) ++ placed_among placings frames (n ∷ [])
+placed_more placings frames n =
+    ap (λ (k : ℕ). placed_among placings frames (numbers_below k)) (add-one n)
+    ∙ (ap (map (frame_item frames)) (filter-append (covers placings) (numbers_below n) (n ∷ []))
+    ∙ map-append (frame_item frames) (filter (covers placings) (numbers_below n)) (filter (covers placings) (n ∷ [])))
 
-pub emits_more : {E : Type 0} (gave : E → E → List Piece → Type 0) (e f h : E) (programs : List Program)
+pub emits_more : {E : Type 0} (gave : E → E → List Piece → Type 0) (e f h : E) (placings : List Placing)
     (frames frames' : List (List ℕ)) (n : ℕ) → frames' ≡ frames →
-    Emits gave e f (item_pieces (placed_among programs frames (numbers_below n))) →
-    Emits gave f h (item_pieces (placed_among programs frames' (n ∷ []))) →
-    Emits gave e h (item_pieces (placed_among programs frames (numbers_below (n + 1))))
-emits_more gave e f h programs frames frames' n same first second =
-    subst (λ (items : List Item). Emits gave e h (item_pieces items)) (sym (placed_more programs frames n))
-    (emits_items (placed_among programs frames (numbers_below n)) (placed_among programs frames (n ∷ [])) first
-    (subst (λ (x : List (List ℕ)). Emits gave f h (item_pieces (placed_among programs x (n ∷ [])))) same second))
+    Emits gave e f (item_pieces (placed_among placings frames (numbers_below n))) →
+    Emits gave f h (item_pieces (placed_among placings frames' (n ∷ []))) →
+    Emits gave e h (item_pieces (placed_among placings frames (numbers_below (n + 1))))
+emits_more gave e f h placings frames frames' n same first second =
+    subst (λ (items : List Item). Emits gave e h (item_pieces items)) (sym (placed_more placings frames n))
+    (emits_items (placed_among placings frames (numbers_below n)) (placed_among placings frames (n ∷ [])) first
+    (subst (λ (x : List (List ℕ)). Emits gave f h (item_pieces (placed_among placings x (n ∷ [])))) same second))
 
 -- Reads.
 
@@ -141,16 +143,29 @@ pub opening_shows : (b : Bundle) (s : Random) (o : Opened) → opening b s ≡ O
     o.items ≡ opening_items b.programs o.joint.memory.ram
 opening_shows b s o opens = subst (λ (r : Result Opened Lack). ShowsMemory b r) opens (shows_by b (next_draw s))
 
+-- of programs that are placed so
+covers_placed : (programs : List Program) (f : ℕ) → covers (map placing programs) f ≡ is_placed programs f
+covers_placed [] f = refl
+covers_placed (p ∷ programs) f =
+    ap (λ (b : Bool). if nat_le p.place f && nat_lt f (p.place + p.start.pages) then true else b)
+    (covers_placed programs f)
+
+placed_shown : (programs : List Program) (ram : List (List ℕ)) →
+    placed_among (map placing programs) ram (numbers_below (length ram)) ≡ opening_items programs ram
+placed_shown programs ram =
+    ap (λ (p : ℕ → Bool). map (frame_item ram) (filter p (numbers_below (length ram))))
+    (λ i f. covers_placed programs f i)
+
 -- the frames of a memory in which nothing is held are those that its opening shows
-pub opening_emits : {E : Type 0} (gave : E → E → List Piece → Type 0) (e e' : E) (memory : Memory) (programs : List Program)
-    (b : Bundle) (s : Random) (o : Opened) → opening b s ≡ Ok o → b.programs ≡ programs → Holds memory o.joint.memory →
-    ((k : ℕ) → held_in memory.pager k ≡ None) →
-    Emits gave e e' (item_pieces (placed_among programs memory.pager.frames (numbers_below (frames_of memory)))) →
+pub opening_emits : {E : Type 0} (gave : E → E → List Piece → Type 0) (e e' : E) (memory : Memory)
+    (placings : List Placing) (b : Bundle) (s : Random) (o : Opened) → opening b s ≡ Ok o → placings ≡ map placing b.programs →
+    Holds memory o.joint.memory → ((k : ℕ) → held_in memory.pager k ≡ None) →
+    Emits gave e e' (item_pieces (placed_among placings memory.pager.frames (numbers_below (frames_of memory)))) →
     Emits gave e e' (item_pieces o.items)
-opening_emits {E} gave e e' memory programs b s o opens same holds none emits =
-    let is : o.items ≡ placed_among programs memory.pager.frames (numbers_below (frames_of memory)) =
-    opening_shows b s o opens
-    ∙ (ap (λ (ps : List Program). opening_items ps o.joint.memory.ram) same
-    ∙ ap (λ (ram : List (List ℕ)). opening_items programs ram)
-    (sym (frames_shown memory.pager holds.wiped o.joint.memory holds.pager none))) in
-    subst (λ (items : List Item). Emits gave e e' (item_pieces items)) (sym is) emits
+opening_emits {E} gave e e' memory placings b s o opens same holds none emits =
+    let shown = frames_shown memory.pager holds.wiped o.joint.memory holds.pager none in
+    let is : placed_among placings memory.pager.frames (numbers_below (frames_of memory)) ≡ o.items =
+    ap (λ (ps : List Placing). placed_among ps memory.pager.frames (numbers_below (frames_of memory))) same
+    ∙ (ap (λ (ram : List (List ℕ)). placed_among (map placing b.programs) ram (numbers_below (length ram))) shown
+    ∙ (placed_shown b.programs o.joint.memory.ram ∙ sym (opening_shows b s o opens))) in
+    subst (λ (items : List Item). Emits gave e e' (item_pieces items)) is emits

@@ -25,6 +25,7 @@ use Rattle.shadow_fold.specs.Table.{Table, empty_table}
 use Rattle.shadow_law.specs.Agreeing.{present}
 use Rattle.cloaked_side.specs.Holding.{Holds}
 use Rattle.joint_machine.specs.Starting.{ArePages, HasFrames, IsReady}
+use Rattle.joint_machine.proofs.Backwards.{back_next}
 
 -- One byte.
 
@@ -207,9 +208,6 @@ loads_more old p p' s rest segments so_far high fits has =
 pub record LoadsBack (n : ℕ) (old p : PagerState) (back segments : List Segment) : Type 0 where
   pub fits : All (IsSegmentIn n) (reverse back)
   pub loads : LoadsFrom old p (reverse back) segments
-
-back_next : (back others : List Segment) (s : Segment) → back ≡ others ++ s ∷ [] → reverse back ≡ s ∷ reverse others
-back_next back others s e = ap reverse e ∙ reverse-append others (s ∷ [])
 
 new_count : (n domains : ℕ) (key : List ℕ) (old : PagerState) → IsNewPager n domains key old → length old.frames ≡ n
 new_count n domains key old new = ap (λ (x : List (List ℕ)). length x) new.zeros ∙ length-replicate n zero_page

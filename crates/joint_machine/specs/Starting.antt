@@ -1,16 +1,16 @@
 -- How far a machine is as it opens.
 use Rattle.std.specs.Prelude.{ℕ, ◌≡◌, ◌<◌, ◌≤◌, Bool, true, false, List, [], Option, Some, None, All, length, map, filter, slice_index_or}
 use Rattle.cloak_base.specs.declared.names.PageId.{PageId}
-use Rattle.cloak_model.specs.declared.image.Program.{Program}
 use Rattle.cloak_model.specs.declared.item.Item.{Item}
 use Rattle.cloak_model.specs.declared.item.Item.TheVariants.{Cipher}
 use Rattle.cloak_model.specs.Cloaking.{CloakedMemory}
-use Rattle.cloak_model.specs.Opening.{is_placed}
 use Rattle.protect_meta.specs.Table.{meta_at}
 use Rattle.cloak_pager.specs.State.{PagerState, held_in}
 use Rattle.cloak_pager.specs.Turns.{Turns}
 use Rattle.cloaked_side.specs.Holding.{Holds, domains_in}
 use Rattle.cloaked_side.specs.declared.memory.Memory.{Memory}
+use Rattle.joint_machine.specs.Placings.{covers}
+use Rattle.joint_machine.specs.declared.placings.Placing.{Placing}
 
 -- RAM.
 
@@ -44,8 +44,8 @@ abbrev pub frame_item : List (List ℕ) → ℕ → Item
 frame_item frames f = Cipher f (slice_index_or frames f [])
 
 -- the items of those of these frames in which a page is placed
-abbrev pub placed_among : List Program → List (List ℕ) → List ℕ → List Item
-placed_among programs frames numbers = map (frame_item frames) (filter (is_placed programs) numbers)
+abbrev pub placed_among : List Placing → List (List ℕ) → List ℕ → List Item
+placed_among placings frames numbers = map (frame_item frames) (filter (covers placings) numbers)
 
 -- Only reads were made, and counted: they have no part in what a memory stands for.
 pub record IsReadOnly (old new : Memory) : Type 0 where

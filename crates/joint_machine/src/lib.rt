@@ -20,6 +20,7 @@ mod opened;
 mod opening;
 mod outside;
 mod placing;
+mod placings;
 mod reading;
 mod resuming;
 mod starting;
@@ -28,5 +29,6 @@ mod turned;
 
 pub use joint::Joint;
 pub use opened::OpenFault;
+pub use placings::{Placing, placings_of};
 pub use reading::JointParts;
 pub use turned::Turned;

@@ -1,62 +1,51 @@
 //! The opening of a joint run.
-ghost use Rattle.std.specs.Prelude.{◌≡◌, ◌<◌, ℕ, [], ◌∷◌, Ok, IfOk};
+ghost use Rattle.std.specs.Prelude.{◌≡◌, ◌<◌, ℕ, [], ◌∷◌, Ok, IfOk, map};
 ghost use Rattle.cloak_base.specs.Random.{Random};
 ghost use Rattle.cloak_model.specs.declared.image.Bundle.{Bundle};
 ghost use Rattle.cloak_model.specs.Bundle.{IsInGrammar};
 ghost use Rattle.cloak_model.specs.Exchange.{EmitsSome, Emits, item_pieces};
-ghost use Rattle.cloak_model.specs.Opening as spec;
 ghost use Rattle.cloak_model.specs.Opening.{Opened, numbers_below, opening};
 ghost use Rattle.cloak_pager.specs.State.{held_in};
 ghost use Rattle.cloaked_side.specs.Holding.{frames_of};
+ghost use Rattle.joint_machine.specs.Placings.{placing};
 ghost use Rattle.joint_machine.specs.Starting.{IsReadOnly, placed_among};
 
 use crate::joint::Joint;
 use crate::loading::load;
 use crate::opened::OpenFault;
 use crate::placing::place_programs;
+use crate::placings::{Placing, is_covered};
 use crate::starting::{start_domains, start_harts};
 use cloak_base::Frame;
-use cloak_model::{Emit, KernelImage, Program};
+use cloak_model::{Emit, KernelImage, Program, Sequence};
 use cloaked_side::{KeptItems, Memory};
 use outside_io::Stream;
 use std::alloc::Global;
 use thread_context::Roots;
 
-/// A page of one of the programs is placed in the frame.
-fn is_placed(programs: &[Program], f: u32) -> bool
-    ensures { result ≡ spec.is_placed programs.now f }
-{
-    for p in programs {
-        if p.place <= f && f - p.place < p.start.pages {
-            return true;
-        }
-    }
-    false
-}
-
 /// Emits a frame where a page of a program is placed in it.
-fn show_frame<E: Emit>(memory: &mut Memory, programs: &[Program], f: Frame, e: &mut E)
+fn show_frame<E: Emit>(memory: &mut Memory, placings: &[Placing], f: Frame, e: &mut E)
     requires inside { f.0 < frames_of memory.old }
     requires outside { held_in memory.old.pager f.0 ≡ None }
     ensures read { IsReadOnly memory.old memory.new }
     ensures emits { Emits E.gave e.old e.new
-        (item_pieces (placed_among programs.now memory.old.pager.frames (f.0 ∷ []))) }
+        (item_pieces (placed_among placings.now memory.old.pager.frames (f.0 ∷ []))) }
 {
-    if is_placed(programs, f.0) {
+    if is_covered(placings, f.0) {
         e.cipher(f.0, memory.pager.read_outside(f));
     }
 }
 
 /// Emits each frame in which a page of a program is placed, by rising number.
-fn show_placed<E: Emit>(memory: &mut Memory, programs: &[Program], e: &mut E)
+fn show_placed<E: Emit>(memory: &mut Memory, placings: &[Placing], e: &mut E)
     requires outside { (k : ℕ) → held_in memory.old.pager k ≡ None }
     ensures read { IsReadOnly memory.old memory.new }
     ensures emits { Emits E.gave e.old e.new (item_pieces
-        (placed_among programs.now memory.old.pager.frames (numbers_below (frames_of memory.old)))) }
+        (placed_among placings.now memory.old.pager.frames (numbers_below (frames_of memory.old)))) }
 {
     let count = memory.pager.count();
     for f in 0..count {
-        show_frame(memory, programs, Frame(f), e);
+        show_frame(memory, placings, Frame(f), e);
     }
 }
 
@@ -64,16 +53,16 @@ impl Joint {
     ghost use Rattle.joint_machine.specs.Standing.{harts_of, AllOutside, OpensAs, ShowsAs, StandsForJoint};
 
     /// The joint machine of a guest image as its run begins. Its key is the first draw of the stream, and each page of
-    /// a program takes the next one. The disk takes over the memory of the image's disk, and the rest of the kernel's image is
-    /// given back.
+    /// a program takes the next one. The disk takes over the memory of the image's disk. The rest of the kernel's image
+    /// and the bytes of the programs are given back as they are stored.
     pub fn open(
         alloc: Global,
         kernel: KernelImage,
-        programs: &[Program],
+        programs: Sequence<Program>,
         s: Stream,
     ) -> Result<Joint, OpenFault>
-        requires { IsInGrammar (record { kernel = kernel; programs = programs.now }) }
-        ensures opens { OpensAs (record { kernel = kernel; programs = programs.now }) s result }
+        requires { IsInGrammar (record { kernel = kernel; programs = programs }) }
+        ensures opens { OpensAs (record { kernel = kernel; programs = programs }) s result }
         ensures harts { IfOk result (λ joint. harts_of joint ≡ kernel.harts) }
         ensures outside { IfOk result (λ joint. AllOutside joint) }
         ensures empty { IfOk result (λ joint. joint.memory.shadows.live ≡ []) }
@@ -83,8 +72,14 @@ impl Joint {
             return Err(OpenFault::NoKey);
         };
         let harts = start_harts(alloc, kernel.entry, kernel.harts)?;
-        let (mut memory, disk) = load(alloc, kernel, programs.len() as u32, key, stream)?;
-        let domains = start_domains(alloc, programs)?;
+        let (mut memory, disk) = load(
+            alloc,
+            kernel,
+            programs.as_slice().len() as u32,
+            key,
+            stream,
+        )?;
+        let domains = start_domains(alloc, programs.as_slice())?;
         if !place_programs(&mut memory, programs) {
             return Err(OpenFault::NoRandom);
         }
@@ -98,16 +93,18 @@ impl Joint {
         })
     }
 
-    /// Emits what the kernel is shown as the run begins: each frame that holds a page of a program.
-    pub fn show_opening<E: Emit>(&mut self, programs: &[Program], e: &mut E)
+    /// Emits what the kernel is shown as the run begins: each frame that holds a page of a program, where the programs
+    /// are placed so.
+    pub fn show_opening<E: Emit>(&mut self, placings: &[Placing], e: &mut E)
         requires outside { AllOutside self.old }
         ensures outside { AllOutside self.new }
         ensures harts { harts_of self.new ≡ harts_of self.old }
         ensures emits_some { EmitsSome E.gave e.old e.new }
         ensures shadows { self.new.memory.shadows ≡ self.old.memory.shadows }
-        ensures shows { (b : Bundle) (s : Random) (o : Opened) → opening b s ≡ Ok o → b.programs ≡ programs.now →
-            StandsForJoint self.old o.joint → ShowsAs E.gave e.old e.new self.new o }
+        ensures shows { (b : Bundle) (s : Random) (o : Opened) → opening b s ≡ Ok o →
+            placings.now ≡ map placing b.programs → StandsForJoint self.old o.joint →
+            ShowsAs E.gave e.old e.new self.new o }
     {
-        show_placed(&mut self.memory, programs, e);
+        show_placed(&mut self.memory, placings, e);
     }
 }

@@ -3,6 +3,7 @@ use Rattle.std.proofs.Common.{◌≡◌, ◌<◌, ◌≤◌, ◌-◌, ◌^◌, �
 use Rattle.std.proofs.Common.{inr, Option, Some, Result, Ok}
 use Rattle.cloak_base.specs.declared.causes.Stop.{Stop}
 use Rattle.cloak_base.specs.declared.causes.Stop.TheVariants as stop
+use Rattle.cloak_machine.specs.declared.machine.Machine.{Machine}
 use Rattle.outside_io.specs.Told.{Tells, Grows, Rose, SameFiles, OtherFiles}
 use Rattle.outside_io.proofs.ToldFacts.{Tells_after, Rose-after}
 use Rattle.command_words.specs.Command as spec
@@ -20,7 +21,6 @@ use Rattle.cloak_model.specs.DomainAlone.{domain_alone}
 use Rattle.cloak_model.specs.KernelAlone.{kernel_alone}
 use Rattle.run_command.proofs.FrontFacts.{kernel_front_fits, domain_front_fits}
 use Rattle.record_law.proofs.Judged.{one_record, not_both}
-use Rattle.run_command.specs.declared.prepare.Prepared.{Prepared}
 use Rattle.program_parts.specs.declared.refusal.Refusal.{Refusal}
 use Rattle.program_parts.specs.declared.refusal.Refusal.TheVariants as refusal
 use Rattle.program_parts.specs.declared.status.Status.{Status}
@@ -217,9 +217,9 @@ failed_above (shown bytes) before after low_writing low_faults fault = (fault.0,
 
 -- what the words ask for where a machine was prepared
 pub asks_run : {asked : spec.Asked} {held : List ℕ → Option (List ℕ)} {record_name : List ℕ} {steps : ℕ}
-    {ready : Prepared} (prepared : IsPrepared asked held (Some record_name) steps ready) →
+    {machine : Machine} (prepared : IsPrepared asked held (Some record_name) steps machine) →
     AsksRun asked held record_name (run_of prepared.bundle steps prepared.opened)
-asks_run {asked} {held} {record_name} {steps} {ready} prepared = record {
+asks_run {asked} {held} {record_name} {steps} {machine} prepared = record {
   steps = steps;
   bundle = prepared.bundle;
   stream = prepared.stream;
@@ -265,10 +265,10 @@ reads_back b stream budget r grammar bytes all few runs =
     }
 
 pub lawful_run : {asked : spec.Asked} {held : List ℕ → Option (List ℕ)} {record_name : List ℕ} {steps : ℕ}
-    {ready : Prepared} (prepared : IsPrepared asked held (Some record_name) steps ready) →
+    {machine : Machine} (prepared : IsPrepared asked held (Some record_name) steps machine) →
     IsLawful (asks_run prepared).bundle (asks_run prepared).stream (run_of prepared.bundle steps prepared.opened)
 unfolding asks_run
-lawful_run {asked} {held} {record_name} {steps} {ready} prepared =
+lawful_run {asked} {held} {record_name} {steps} {machine} prepared =
     let r : Run = run_of prepared.bundle steps prepared.opened in
     let runs = (asks_run prepared).joint in
     record {

@@ -1,18 +1,20 @@
 //! The command `run`.
-ghost use Rattle.std.specs.Prelude.{◌≡◌, ◌<◌, ◌-◌, ◌^◌, [], Ok};
+ghost use Rattle.std.specs.Prelude.{◌≡◌, ◌<◌, ◌-◌, ◌^◌, [], Ok, map};
 ghost use Rattle.cloak_base.specs.Random.{Random};
 ghost use Rattle.cloak_model.specs.declared.image.Bundle.{Bundle};
 ghost use Rattle.cloak_model.specs.Opening.{Opened, opening};
 ghost use Rattle.cloak_model.specs.Run.{first_moment, run_of};
-ghost use Rattle.cloak_machine.specs.Standing.{StandsForMoment, steps_made};
+ghost use Rattle.cloak_machine.specs.Standing.{StandsForMoment, placings_of, steps_made};
 ghost use Rattle.command_words.specs.Request.{asked_of_run};
+ghost use Rattle.joint_machine.specs.Placings.{placing};
 ghost use Rattle.program_parts.specs.Outside.{outside};
 ghost use Rattle.run_command.specs.Answering.{KeepsFiles, RunAnswers};
 ghost use Rattle.run_command.specs.Recording.{Records};
 
 use crate::outlet::Outlet;
-use crate::prepare::{Prepared, prepare_run};
+use crate::prepare::prepare_run;
 use crate::run::write_run;
+use cloak_machine::Machine;
 use command_words::RunRequest;
 use exchange_log::LONGEST;
 use outside_io::{Shelf, Sink};
@@ -21,14 +23,14 @@ use std::alloc::Global;
 
 /// Begins the record of a run and makes it.
 fn record_run<S: Shelf, O: Sink>(
-    prepared: Prepared,
+    machine: Machine,
     run: &RunRequest<'_>,
     shelf: &mut S,
     out: &mut O,
 ) -> Status
-    requires { steps_made prepared.machine ≡ 0 }
-    ensures { (b : Bundle) (stream : Random) (o : Opened) → opening b stream ≡ Ok o → b.programs ≡ prepared.programs →
-        StandsForMoment prepared.machine (first_moment b o.joint) →
+    requires { steps_made machine ≡ 0 }
+    ensures { (b : Bundle) (stream : Random) (o : Opened) → opening b stream ≡ Ok o →
+        placings_of machine ≡ map placing b.programs → StandsForMoment machine (first_moment b o.joint) →
         Records run.now.record_name.now
         (outside S.held S.reading_faults S.writing_faults O.taken O.faults shelf.old out.old)
         (outside S.held S.reading_faults S.writing_faults O.taken O.faults shelf.new out.new)
@@ -44,8 +46,7 @@ fn record_run<S: Shelf, O: Sink>(
         failed: false,
         piece: [0; LONGEST],
     };
-    let Prepared { machine, programs } = prepared;
-    let status = write_run(machine, programs.as_slice(), run.steps, &mut outlet);
+    let status = write_run(machine, run.steps, &mut outlet);
     if outlet.failed {
         return Status::WriteFault;
     }
@@ -69,7 +70,7 @@ pub fn run_command<S: Shelf, O: Sink>(
     ensures kept { KeepsFiles (asked_of_run run.now) result (S.held shelf.old) (S.held shelf.new) }
 {
     match prepare_run(alloc, run.bundle, &run.randomness, shelf) {
-        Ok(prepared) => record_run(prepared, run, shelf, out),
+        Ok(machine) => record_run(machine, run, shelf, out),
         Err(refusal) => refuse(out, &refusal),
     }
 }

@@ -13,6 +13,6 @@ mod run;
 mod unheard;
 
 pub use command::run_command;
-pub use prepare::{Prepared, prepare_run};
+pub use prepare::prepare_run;
 pub use run::stop_status;
 pub use unheard::Unheard;

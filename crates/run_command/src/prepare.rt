@@ -13,7 +13,7 @@ ghost use Rattle.cloak_model.specs.Run.{most_steps};
 ghost use Rattle.item_law.specs.Writing.{AreBytes};
 
 use cloak_machine::{Machine, OpenFault};
-use cloak_model::{Bundle, Program, Segment, Sequence};
+use cloak_model::{Bundle, Program, Segment};
 use command_words::Randomness;
 use outside_io::{Shelf, Stream};
 use program_parts::{Refusal, read_bundle, read_front};
@@ -21,14 +21,6 @@ use std::alloc::Global;
 
 /// The most bytes of a file that a run takes for its randomness.
 const LONGEST_STREAM: u64 = 16_777_216;
-
-/// A run that can begin.
-#[derive(Drop)]
-pub struct Prepared {
-    pub machine: Machine,
-    /// The programs of the image, whose pages the kernel is shown first.
-    pub programs: Sequence<Program>,
-}
 
 /// Bytes are below 256. It does nothing: its contract is what the type says.
 fn are_bytes(bytes: &[u8])
@@ -75,20 +67,20 @@ fn open_stream<S: Shelf>(
     }
 }
 
-/// Prepares the run of the bundle of this name, whatever its steps are and whether it has a record.
+/// The machine of the run of the bundle of this name, whatever its steps are and whether it has a record.
 pub fn prepare_run<S: Shelf>(
     alloc: Global,
     bundle_name: &str,
     randomness: &Randomness<'_>,
     shelf: &mut S,
-) -> Result<Prepared, Refusal>
+) -> Result<Machine, Refusal>
     requires settled { S.is_settled shelf.old }
     requires reading { S.reading_faults shelf.old < 2 ^ 64 - 1 }
     ensures prepares { (record_name : Option (List ℕ)) (steps : ℕ) → steps ≤ most_steps →
         Prepares (asked_run bundle_name.now record_name steps (randomness_of randomness.now))
         (files S.held S.reading_faults S.writing_faults shelf.old)
         (files S.held S.reading_faults S.writing_faults shelf.new) record_name steps result }
-    ensures fresh { IfOk result (λ prepared. steps_made prepared.machine ≡ 0) }
+    ensures fresh { IfOk result (λ machine. steps_made machine ≡ 0) }
 {
     let bundle = match read_bundle(alloc, shelf, bundle_name) {
         Ok(bundle) => bundle,
@@ -102,8 +94,8 @@ pub fn prepare_run<S: Shelf>(
     are_bytes(bundle.kernel.disk.as_slice());
     programs_are_bytes(bundle.programs.as_slice());
     let Bundle { kernel, programs } = bundle;
-    match Machine::open(alloc, kernel, programs.as_slice(), stream) {
-        Ok(machine) => Ok(Prepared { machine, programs }),
+    match Machine::open(alloc, kernel, programs, stream) {
+        Ok(machine) => Ok(machine),
         Err(OpenFault::NoKey) => Err(Refusal::NoKey),
         Err(OpenFault::NoRandom) => Err(Refusal::NoPageDraw),
         Err(OpenFault::NoMemory) => Err(Refusal::NoMemory),

@@ -1,5 +1,5 @@
 //! A run from its first step to its report.
-ghost use Rattle.std.specs.Prelude.{◌≡◌, ◌≤◌, [], Some, false};
+ghost use Rattle.std.specs.Prelude.{◌≡◌, ◌≤◌, [], Some, false, map};
 ghost use Rattle.cloak_base.specs.Random.{Random};
 ghost use Rattle.cloak_model.specs.declared.image.Bundle.{Bundle};
 ghost use Rattle.cloak_model.specs.Run.{most_steps};
@@ -7,7 +7,8 @@ ghost use Rattle.cloak_model.specs.Exchange.{Emits, EmitsSome};
 ghost use Rattle.cloak_model.specs.Joint.{Moment};
 ghost use Rattle.cloak_model.specs.Opening.{Opened, opening};
 ghost use Rattle.cloak_model.specs.Run.{cause_of, closing, first_moment, joint_after, run_of, turns_from};
-ghost use Rattle.cloak_machine.specs.Standing.{StandsForMoment, steps_made};
+ghost use Rattle.cloak_machine.specs.Standing.{StandsForMoment, placings_of, steps_made};
+ghost use Rattle.joint_machine.specs.Placings.{placing};
 ghost use Rattle.run_command.specs.Outlet.{Gave};
 ghost use Rattle.run_command.specs.Running.{EndsRun, IsStatusOfStop, NoClash, NoClashYet, RunsSteps, WritesRun};
 ghost use Rattle.run_command.specs.Running.{status_of};
@@ -15,7 +16,6 @@ ghost use Rattle.run_command.specs.Running.{status_of};
 use crate::outlet::Outlet;
 use cloak_base::Stop;
 use cloak_machine::Machine;
-use cloak_model::Program;
 use outside_io::{Shelf, Sink};
 use program_parts::Status;
 
@@ -82,10 +82,9 @@ fn write_end<S: Shelf, O: Sink>(
     stop_status(&end.stop)
 }
 
-/// Makes a run of an image with these programs, whose record is begun, and writes it.
+/// Makes a run whose record is begun, and writes it.
 pub fn write_run<S: Shelf, O: Sink>(
     machine: Machine,
-    programs: &[Program],
     steps: u32,
     outlet: &mut Outlet<'_, '_, '_, S, O>,
 ) -> Status
@@ -96,14 +95,15 @@ pub fn write_run<S: Shelf, O: Sink>(
     ensures emits_some { EmitsSome (Gave S.held S.reading_faults S.writing_faults O.taken O.faults)
         outlet.old outlet.new }
     ensures some_stop { outlet.new.failed ≡ false → IsStatusOfStop result }
-    ensures runs { (b : Bundle) (stream : Random) (o : Opened) → opening b stream ≡ Ok o → b.programs ≡ programs.now →
-        StandsForMoment machine (first_moment b o.joint) → NoClash (run_of b steps o) →
+    ensures runs { (b : Bundle) (stream : Random) (o : Opened) → opening b stream ≡ Ok o →
+        placings_of machine ≡ map placing b.programs → StandsForMoment machine (first_moment b o.joint) →
+        NoClash (run_of b steps o) →
         WritesRun (Gave S.held S.reading_faults S.writing_faults O.taken O.faults) outlet.new.failed
         outlet.old outlet.new result (run_of b steps o) }
 {
     let mut machine = machine;
     outlet.append(b"CLOAKREC");
-    machine.opening(programs, outlet);
+    machine.opening(outlet);
     let stopped = run_steps(&mut machine, steps, outlet);
     if outlet.failed {
         return Status::WriteFault;

@@ -6,6 +6,7 @@ use Rattle.cloak_model.specs.declared.image.Bundle.{Bundle}
 use Rattle.cloak_model.specs.Opening.{Opened}
 use Rattle.cloak_model.specs.Run.{run_of}
 use Rattle.command_words.specs.Command as spec
+use Rattle.cloak_machine.specs.declared.machine.Machine.{Machine}
 use Rattle.outside_io.specs.Told.{Grows, GrowsByFront}
 use Rattle.program_parts.specs.declared.refusal.Refusal.{Refusal}
 use Rattle.program_parts.specs.declared.refusal.Refusal.TheVariants as refusal
@@ -17,7 +18,6 @@ use Rattle.program_parts.specs.Refusal.{status_of_refusal}
 use Rattle.program_parts.specs.Refusing.{Refuses}
 use Rattle.program_parts.proofs.FaultFacts.{raised}
 use Rattle.run_command.proofs.EndFacts.{fixed_front}
-use Rattle.run_command.specs.declared.prepare.Prepared.{Prepared}
 use Rattle.run_command.specs.Preparing.{IsPrepared}
 use Rattle.run_command.specs.Running.{IsStatusOfStop, NoClash, status_of}
 use Rattle.stats_command.specs.declared.counting.Counted.{Counted}
@@ -104,9 +104,9 @@ answers_some_stop {S} {O} asked before after given some has =
     (subst (λ (s : Status). HasStats asked s before after) some.1 has))
 
 -- what the words ask for where a machine was prepared
-asks_stats : {asked : spec.Asked} {held : List ℕ → _} {steps : ℕ} {ready : Prepared} →
-    IsPrepared asked held None steps ready → AsksStats asked held
-asks_stats {asked} {held} {steps} {ready} prepared = record {
+asks_stats : {asked : spec.Asked} {held : List ℕ → _} {steps : ℕ} {machine : Machine} →
+    IsPrepared asked held None steps machine → AsksStats asked held
+asks_stats {asked} {held} {steps} {machine} prepared = record {
   steps = steps;
   bundle = prepared.bundle;
   stream = prepared.stream;
@@ -115,13 +115,13 @@ asks_stats {asked} {held} {steps} {ready} prepared = record {
   opens = prepared.opens;
 }
 
-pub answers_shown : {S O : Type 0} {asked : spec.Asked} {steps : ℕ} {ready : Prepared} (before after : Outside S O)
-    (given : Status) (prepared : IsPrepared asked before.files.held None steps ready) →
+pub answers_shown : {S O : Type 0} {asked : spec.Asked} {steps : ℕ} {machine : Machine} (before after : Outside S O)
+    (given : Status) (prepared : IsPrepared asked before.files.held None steps machine) →
     OnlyRead before.files after.files →
     ShowsStats prepared.bundle steps prepared.opened before.output after.output given →
     StatsAnswers asked before after given
 unfolding asks_stats
-answers_shown {S} {O} {asked} {steps} {ready} before after given prepared reads (inl shows) =
+answers_shown {S} {O} {asked} {steps} {machine} before after given prepared reads (inl shows) =
     answers_some_stop asked before after given shows.some_stop (record {
       asks = asks_stats prepared;
       status = shows.status;
@@ -130,7 +130,7 @@ answers_shown {S} {O} {asked} {steps} {ready} before after given prepared reads 
       files = reads;
       faults = shows.faults;
     })
-answers_shown {S} {O} {asked} {steps} {ready} before after given prepared reads (inr front) =
+answers_shown {S} {O} {asked} {steps} {machine} before after given prepared reads (inr front) =
     subst (λ (s : Status). StatsAnswers asked before after s) (sym front.write_fault) (inr (record {
       asks = asks_stats prepared;
       lines = front.lines;

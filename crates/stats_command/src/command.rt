@@ -17,7 +17,7 @@ use cloak_machine::Machine;
 use command_words::StatsRequest;
 use outside_io::{Shelf, Sink};
 use program_parts::{Status, refuse};
-use run_command::{Prepared, prepare_run, stop_status};
+use run_command::{prepare_run, stop_status};
 use std::alloc::Global;
 
 /// Makes the run of a machine that made no step yet, and shows why it ended, and its counts.
@@ -53,10 +53,7 @@ pub fn stats_command<S: Shelf, O: Sink>(
     ensures kept { SameFiles (S.held shelf.old) (S.held shelf.new) }
 {
     match prepare_run(alloc, stats.bundle, &stats.randomness, shelf) {
-        Ok(prepared) => {
-            let Prepared { machine, .. } = prepared;
-            count_and_show(machine, stats.steps, out)
-        }
+        Ok(machine) => count_and_show(machine, stats.steps, out),
         Err(refusal) => refuse(out, &refusal),
     }
 }

@@ -8,5 +8,5 @@ abbrev pub invariant-loop-f : goal.invariant-loop-f
 invariant-loop-f g l = record {
   read : IsReadOnly l.fn.memory l.memory;
   emits : Emits g.E.Emit.gave l.fn.e l.e
-      (item_pieces (placed_among l.programs l.fn.memory.pager.frames (numbers_below l.f)));
+      (item_pieces (placed_among l.placings l.fn.memory.pager.frames (numbers_below l.f)));
 }

@@ -4,23 +4,23 @@ use Rattle.joint_machine.proofs.Placed.{first_page, ready_next, page_placed}
 use Rattle.joint_machine.proofs.placing.place_page.Goals as goal
 
 pub overflow_add-f : goal.overflow_add-f
-overflow_add-f c = omega (arith, c.requires.program.place, c.requires.page, c.whole.ensures.few)
+overflow_add-f c = omega (arith, c.requires.frame, c.whole.ensures.few)
 
 pub returns-then-not-place-clause-places : goal.returns-then-not-place-clause-places
 returns-then-not-place-clause-places c m holds =
-    page_placed c.args.memory.now (record c.args.memory.now { pager = c.place.new.self; stream = c.place.new.s }) false (first_page c.args.domain c.args.page) _ c.page_bytes.result.now _
-    c.page_bytes.ensures c.if-not-place.ensures.model refl refl c.place.ensures.rights c.place.ensures.stays.count
-    (λ (is : false ≡ true). cc) m holds
+    page_placed c.args.memory.now (record c.args.memory.now { pager = c.place.new.self; stream = c.place.new.s }) false
+    (first_page c.args.domain c.args.page) _ c.args.bytes.now c.if-not-place.ensures.model refl refl c.place.ensures.rights
+    c.place.ensures.stays.count (λ (is : false ≡ true). cc) m holds
 
 pub returns-clause-ready : goal.returns-clause-ready
 returns-clause-ready c =
     ready_next _ c.args.memory.now.stream c.place.new.s c.args.memory.now.pager c.place.new.self c.args.domain
-    c.args.page _ c.page_bytes.result.now c.place.ensures.state c.place.ensures.rights c.requires.ready
+    c.args.page _ c.args.bytes.now c.place.ensures.state c.place.ensures.rights c.requires.ready
 
 pub returns-clause-places : goal.returns-clause-places
 returns-clause-places c m holds =
-    page_placed c.args.memory.now _ true (first_page c.args.domain c.args.page) _ c.page_bytes.result.now _
-    c.page_bytes.ensures c.if-not-place.ensures.model refl c.saturating_add-memory.ensures c.place.ensures.rights
+    page_placed c.args.memory.now _ true (first_page c.args.domain c.args.page) _ c.args.bytes.now
+    c.if-not-place.ensures.model refl c.saturating_add-memory.ensures c.place.ensures.rights
     c.place.ensures.stays.count (λ is. c.kill_dependents.ensures) m holds
 
 pub returns-clause-empty : goal.returns-clause-empty

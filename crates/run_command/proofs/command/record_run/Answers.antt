@@ -23,7 +23,7 @@ returns-then-is_err g c = λ b stream o opens same stands.
 pub returns-then-outlet : goal.returns-then-outlet
 returns-then-outlet g c = λ b stream o opens same stands.
     let well = sym c.is_err.ensures.value ∙ c.if-is_err.false in
-    let due = c.write_run-status.ensures.runs b stream o opens (same ∙ sym c.as_slice.ensures) stands in
+    let due = c.write_run-status.ensures.runs b stream o opens same stands in
     recorded_front _ _ _ _ (gave_all c.write_run-status.ensures.emits_some.1)
     (λ none. gave_all (due none).emits) refl c.if-outlet.true
     (c.shelf-1.given.1 (sym c.write_run-status.ensures.same_shelf))
@@ -34,7 +34,7 @@ returns-then-outlet g c = λ b stream o opens same stands.
 pub returns : goal.returns
 returns g c = λ b stream o opens same stands.
     let well = sym c.is_err.ensures.value ∙ c.if-is_err.false in
-    let due = c.write_run-status.ensures.runs b stream o opens (same ∙ sym c.as_slice.ensures) stands in
+    let due = c.write_run-status.ensures.runs b stream o opens same stands in
     recorded_all _ _ _ _ _ (gave_all c.write_run-status.ensures.emits_some.1)
     (λ none. gave_all (due none).emits) refl c.if-outlet.false
     (c.shelf-1.given.1 (sym c.write_run-status.ensures.same_shelf))

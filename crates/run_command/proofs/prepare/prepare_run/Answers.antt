@@ -1,8 +1,7 @@
-use Rattle.std.proofs.Common.{◌≡◌, ◌∙◌, List, Ok, refl, subst}
+use Rattle.std.proofs.Common.{◌≡◌, ◌∙◌, Ok, refl, subst}
 use Rattle.std.specs.List.{AllByRecursion}
 use Rattle.cloak_model.specs.declared.image.Program.{Program}
 use Rattle.cloak_model.specs.declared.image.Segment.{Segment}
-use Rattle.cloak_model.specs.Opening.{opening}
 use Rattle.command_words.specs.Request.{randomness_of}
 use Rattle.item_law.specs.Writing.{AreBytes}
 use Rattle.run_command.proofs.PrepareFacts.{run_named, stream_before}
@@ -44,12 +43,9 @@ returns-in-Ok-open-clause-prepares g c = λ record_name steps few.
           source = stream_before _ _ _ _ b.files s.stream.1;
         };
         opened = o.opened;
-        opens = subst (λ (programs : List Program). opening (record {
-          kernel = c.in-Ok.bundle.kernel;
-          programs = programs;
-        }) c.in-Ok-open_stream.stream ≡ Ok o.opened) c.as_slice-4.ensures o.opens;
+        opens = o.opens;
         stands = o.stands;
-        programs = refl;
+        placings = c.in-Ok-open.ensures.placings;
         few_steps = few;
         image_bytes = record {
           segments = subst (AllByRecursion (λ (x : Segment). AreBytes x.bytes)) c.as_slice.ensures

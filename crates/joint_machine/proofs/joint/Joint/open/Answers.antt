@@ -1,6 +1,9 @@
-use Rattle.std.proofs.Common.{◌∙◌, ◌≡◌, ◌≤◌, ap, length, rules}
+use Rattle.std.proofs.Common.{◌∙◌, ◌≡◌, ◌≤◌, All, List, ap, length, rules, subst, sym}
 use Rattle.cloak_model.specs.declared.image.Bundle.{Bundle}
-use Rattle.cloak_model.specs.Opening.{started_memory}
+use Rattle.cloak_model.specs.declared.image.Program.{Program}
+use Rattle.cloak_model.specs.Bundle.{IsProgramIn}
+use Rattle.cloak_model.specs.Opening.{started_domains, started_memory}
+use Rattle.joint_machine.specs.Standing.{AreDomains}
 use Rattle.joint_machine.proofs.Opens.{no_key, no_page_draw, opens_joint, free_unused, length-started_harts}
 use Rattle.joint_machine.proofs.joint.Joint.open.Goals as goal
 
@@ -8,11 +11,13 @@ pub returns-in_default-clause-opens : goal.returns-in_default-clause-opens
 returns-in_default-clause-opens c = no_key _ _ c.in_default.ensures.0
 
 pub start_domains-requires-clause-fit : goal.start_domains-requires-clause-fit
-start_domains-requires-clause-fit c = (c.args.kernel.frames, c.requires.programs)
+start_domains-requires-clause-fit c =
+    let frames = c.args.kernel.frames in
+    (frames, subst (All (IsProgramIn frames)) (sym c.as_slice-2.ensures) c.requires.programs)
 
 pub returns-then-not-place_programs-clause-opens : goal.returns-then-not-place_programs-clause-opens
 returns-then-not-place_programs-clause-opens c =
-    let b : Bundle = record { kernel = c.args.kernel; programs = c.args.programs.now } in
+    let b : Bundle = record { kernel = c.args.kernel; programs = c.args.programs } in
     let m = started_memory b.kernel c.in-Some.key c.draw.new.self in
     no_page_draw b c.args.s c.draw.new.self c.in-Some.key c.place_programs.new.memory c.in-Some.ensures
     (c.if-not-place_programs.ensures.places m c.in_ok-memory.ensures.holds)
@@ -31,12 +36,13 @@ invariant_of-result c = record {
 
 pub returns-clause-opens : goal.returns-clause-opens
 returns-clause-opens c =
-    let b : Bundle = record { kernel = c.args.kernel; programs = c.args.programs.now } in
+    let b : Bundle = record { kernel = c.args.kernel; programs = c.args.programs } in
     let m = started_memory b.kernel c.in-Some.key c.draw.new.self in
     opens_joint _ b c.args.s c.draw.new.self c.in-Some.key c.in-Some.ensures (record {
       harts = c.in_ok-harts.ensures;
       disk = c.in_ok-memory.ensures.disk;
-      domains = c.in_ok-domains.ensures.stand;
+      domains = subst (λ (ps : List Program). AreDomains c.in_ok-domains.domains.items (started_domains 0 ps))
+          c.as_slice-2.ensures c.in_ok-domains.ensures.stand;
       roots = c.open.ensures;
       memory = c.if-not-place_programs.ensures.places m c.in_ok-memory.ensures.holds;
     })
