@@ -146,6 +146,7 @@ impl Machine {
     /// Makes the next step of the schedule, and answers why it stopped the run, if it did. Frames are read no more often
     /// than its questions and what the kernel is shown call for, and twice for each look that misses, for the words of page
     /// tables.
+    #[inline(always)]
     pub fn step<E: Emit>(&mut self, e: &mut E) -> Option<Stop>
         requires { steps_made self.old < most_steps }
         ensures steps { steps_made self.new ≡ steps_made self.old + 1 }

@@ -10,6 +10,7 @@ use Rattle.cloak_model.specs.Cloaking.{CloakedMemory}
 use Rattle.cloak_model.specs.Contexts.{Context, context_at}
 use Rattle.cloak_model.specs.Resources.{Resources, page_at}
 use Rattle.cloak_model.specs.DomainState as program
+use Rattle.cloak_model.specs.declared.inside.Went.{Went}
 use Rattle.cloak_model.specs.DomainStep.{DomainStepped}
 use Rattle.cloak_model.specs.Exchange.{Piece, Emits, item_pieces}
 use Rattle.cloak_model.specs.Joint.{pages_for}
@@ -46,11 +47,11 @@ violation_world gave first now (Alone handed) sees = absurd sees
 violation_world gave first now (Cloaked c) sees = sees.violation
 
 -- the step over a side, of the memory and the emitter that it gave back
-pub steps_told : {E : Type 0} (gave : E → E → List Piece → Type 0) (first now : Side E) (domain : Domain) (given : Stepped) (told : Told DomainStepped) (memory : Memory) (e : E) →
-    memory ≡ now.memory.now → e ≡ now.emitter.now → given.violation ≡ now.violation →
-    StepsTo (λ side w. SeesInside gave first side w) now domain given.went told → StepsDomain gave first.emitter.now e memory domain given told
-steps_told gave first now domain given told memory e same_memory same_emitter same_violation steps = record {
-  went = steps.went;
+pub steps_told : {E : Type 0} (gave : E → E → List Piece → Type 0) (first now : Side E) (domain : Domain) (given : Stepped) (went : Went) (told : Told DomainStepped) (memory : Memory) (e : E) →
+    memory ≡ now.memory.now → e ≡ now.emitter.now → given.violation ≡ now.violation → given.went ≡ went →
+    StepsTo (λ side w. SeesInside gave first side w) now domain went told → StepsDomain gave first.emitter.now e memory domain given told
+steps_told gave first now domain given went told memory e same_memory same_emitter same_violation same_went steps = record {
+  went = same_went ∙ steps.went;
   violation = same_violation ∙ violation_world gave first now told.world steps.world_stands.0;
   emits = subst (λ x. Emits gave first.emitter.now x (item_pieces (items_of told.world))) (sym same_emitter) (emits_world gave first now told.world steps.world_stands.0);
   holds = subst (λ x. HoldsWorld x told.world) (sym same_memory) (holds_world gave first now told.world steps.world_stands.0);

@@ -24,6 +24,17 @@ pub struct Stepped {
     pub violation: Option<Violation>,
 }
 
+/// The same. Where the context stays, one word of it is moved, and not the room of what a leave shows.
+#[inline(always)]
+fn moved(went: Went) -> Went
+    ensures { result ≡ went }
+{
+    match went {
+        Went::Stay => Went::Stay,
+        other => other,
+    }
+}
+
 /// Makes one step of the context of a slot, which runs in this space on a hart that sees memory so.
 pub fn step_domain<E: Emit>(
     domain: &mut Domain,
@@ -70,5 +81,8 @@ pub fn step_domain<E: Emit>(
     } = side;
     let _ = &*memory;
     let _ = &*emitter;
-    Stepped { went, violation }
+    Stepped {
+        went: moved(went),
+        violation,
+    }
 }

@@ -26,6 +26,7 @@ impl Joint {
     ghost use Rattle.joint_machine.specs.Turning.{EndsTurn};
 
     /// Makes the next step of a hart, by the context that it runs.
+    #[inline(always)]
     fn step<E: Emit>(&mut self, number: usize, e: &mut E) -> Ended
         requires { number < harts_of self.old }
         ensures harts { harts_of self.new ≡ harts_of self.old }
@@ -49,6 +50,7 @@ impl Joint {
     /// Makes the next step of a hart. What it shows and answers is emitted as it comes about, but for the console's
     /// byte, which is answered. A hart that was left inside by a refused resume may run a context that is not there: it
     /// counts its timer, and makes no step of one.
+    #[inline(always)]
     pub fn turn<E: Emit>(&mut self, number: usize, e: &mut E) -> Turned
         requires { number < harts_of self.old }
         ensures harts { harts_of self.new ≡ harts_of self.old }
