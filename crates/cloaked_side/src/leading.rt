@@ -261,31 +261,47 @@ impl<'m, 'e, E: Emit> Side<'m, 'e, E> {
         let f = frame_of(led.pa);
         self.settle(f);
         if let Some(walked) = led.walked {
-            self.learn_walk(view, va, kind, f, &walked);
+            self.learn_walk(view, va, kind, f, walked.pt1, walked.pt0);
         }
     }
 
     /// Makes known the translation of a walk to a frame that is not cloaked. Apart, as `learn_walked_page` is.
     #[inline(never)]
-    fn learn_walk(&mut self, view: &ShadowView, va: u32, kind: Kind, f: Frame, walked: &Walked)
-        ensures sees { (first : _) (w : World) (satp : ℕ) (a : AnyAccess) →
+    fn learn_walk(
+        &mut self,
+        view: &ShadowView,
+        va: u32,
+        kind: Kind,
+        f: Frame,
+        pt1: Option<Frame>,
+        pt0: Option<Frame>,
+    )
+        ensures sees { (first : _) (w : World) (satp : ℕ) (a : AnyAccess) (walked : AnyWalk) →
             let e : AnyEntry = record {
               view = view.now;
               page = va / 4096;
               kind = kind;
               frame = f;
-              pt1 = walked.now.pt1;
-              pt0 = walked.now.pt0;
+              pt1 = pt1;
+              pt0 = pt0;
               cloaked = None;
             } in
             Sees E.gave first self.old w → IsEntryOf w (held_in self.old.memory.now.pager) e →
-            entry_in self.old.space satp a walked.now None ≡ e →
-            Sees E.gave first self.new (noted (Born satp a walked.now None ∷ []) w) }
+            entry_in self.old.space satp a walked None ≡ e →
+            Sees E.gave first self.new (noted (Born satp a walked None ∷ []) w) }
         ensures keeps { Keeps (StaysWithin E.gave) self.old self.new }
         ensures same_pager { self.new.memory.now.pager ≡ self.old.memory.now.pager }
         ensures same_missed { self.new.memory.now.missed ≡ self.old.memory.now.missed }
     {
-        self.learn(entry_of(view, va, kind, f, walked, None));
+        self.learn(Entry {
+            view: *view,
+            page: va / 4096,
+            kind,
+            frame: f,
+            pt1,
+            pt0,
+            cloaked: None,
+        });
     }
 
     /// Makes known the translation that led to a cloaked page, which its frame holds now. One through its own frame is

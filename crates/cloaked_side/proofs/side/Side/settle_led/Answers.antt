@@ -30,7 +30,7 @@ returns-in-Some-clause-sees g c first w sees viewed so =
     let entry = led_entry gave first old mid view c.args.va c.args.kind led walked w sees c.in-Some.is so.by so.outside kept.no_more none c.settle.ensures.same_count in
     born_known gave first c.learn_walk.new.self view c.args.va c.args.kind walked None (settled (frame_of pa) w)
     (settled_is gave first old view c.args.va c.args.kind walked (frame_of pa) w sees out by.0)
-    (c.learn_walk.ensures.sees first (settled (frame_of pa) w) (satp_in view) (access_in view c.args.va c.args.kind) seen
+    (c.learn_walk.ensures.sees first (settled (frame_of pa) w) (satp_in view) (access_in view c.args.va c.args.kind) walked seen
     (subst (λ e. IsEntryOf (settled (frame_of pa) w) (held_in mid.memory.now.pager) e) (entry_is _ _ _ c.frame_of-f.result pa walked None _ c.frame_of-f.ensures refl) entry)
     (entry_same mid.space view c.args.va c.args.kind walked None c.frame_of-f.result pa _ (subst (λ (o : Option SpaceId). IsViewIn o view) (sym kept.stays.space) viewed) by.1 c.frame_of-f.ensures refl))
 
