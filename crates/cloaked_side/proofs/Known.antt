@@ -248,6 +248,11 @@ unknown_missed : (view : ShadowView) (page : ℕ) (kind : Kind) (t : Table) → 
 unfolding is_known
 unknown_missed view page kind t is = none_found (is_for view page kind) t.live is
 
+pub missed_unknown : (view : ShadowView) (page : ℕ) (kind : Kind) (t u : Table) → None ≡ find (is_for view page kind) t.live → u ≡ looked view page kind t
+    → is_known view page kind u ≡ false
+missed_unknown view page kind t u none same =
+    ap (λ (x : Table). is_known view page kind x) same ∙ looked_known view view page page kind kind t ∙ unknown_missed view page kind t none
+
 -- one that misses
 pub looks_missed : {E : Type 0} (gave : E → E → List Piece → Type 0) (first old : Side E) (t : Table) (view : ShadowView) (va : ℕ)
     (kind : Kind) (w : World) → Sees gave first old w → IsViewIn old.space view → t ≡ looked view (va / 4096) kind old.memory.now.shadows
@@ -729,7 +734,7 @@ pub walk_so : {E : Type 0} (gave : E → E → List Piece → Type 0) (first old
     (cloaked : Option PageId) (walked : Walked) (pa : ℕ) (w : World) → let w1 = noted (Look (satp_in view) (access_in view va kind) ∷ []) w in
     SeesWalking gave first old w1 → FollowsFrom (SeesWalking gave first) mid (Ok walked) (ask_walk (satp_in view) (access_in view va kind) w1)
     → is_in_frames (frames_of mid.memory.now) walked.pa ≡ true → walked.pa ≡ pa
-    → IsLedSo mid.memory.now (asked_led view va kind w).world view va kind cloaked (record { pa = pa; walked = Some walked })
+    → IsLedSo mid.memory.now (asked_led view va kind w).world view va kind cloaked (record { pa = pa; walked = Some walked; missed = true })
 unfolding ask_led
 walk_so gave first old mid view va kind cloaked walked pa w sees told inside at =
     let w1 = noted (Look (satp_in view) (access_in view va kind) ∷ []) w in

@@ -10,6 +10,7 @@ pub mod Cleared
 pub mod Serving
 pub mod Telling
 pub mod Known
+pub mod Losing
 pub mod Tracking
 pub mod Spending
 pub mod Tabled

@@ -1,5 +1,6 @@
 -- What a side stands for.
-use Rattle.std.specs.Prelude.{ℕ, ◌≡◌, ◌≢◌, ◌<◌, ◌+◌, ◌^◌, zero, suc, nat_lt, false, Option, Some, None, List, [], ◌∷◌, if◌then◌else◌}
+use Rattle.std.specs.Prelude.{ℕ, ◌≡◌, ◌≢◌, ◌<◌, ◌+◌, ◌^◌, zero, suc, nat_lt, true, false, Option, Some, None, List, [], ◌∷◌, if◌then◌else◌}
+use Rattle.cloak_base.specs.declared.names.Kind.{Kind}
 use Rattle.cloak_base.specs.declared.names.PageId.{PageId}
 use Rattle.cloak_base.specs.declared.names.SpaceId.{SpaceId}
 use Rattle.cloak_pager.specs.State.{held_in, owed_at, IsNoneOwed, IsNoneHeld}
@@ -9,6 +10,8 @@ use Rattle.cloak_model.specs.Exchange.{Piece, Emits, EmitsSome, item_pieces}
 use Rattle.cloak_model.specs.Events.{Event, Look, Touch, Offer, Born, Read, Write, Drop, Space}
 use Rattle.shadow_fold.specs.Fold.{after_events}
 use Rattle.shadow_fold.specs.Reads.{Asked, Spends, reads_due}
+use Rattle.shadow_fold.specs.Table.{Table, is_known}
+use Rattle.shadow_fold.specs.declared.entry.ShadowView.{ShadowView}
 use Rattle.cloaked_side.specs.Tracking.{TracksBy, MapsBy, spent_in}
 use Rattle.cloaked_side.specs.Holding.{Holds, SameSize, HoldsNoMore, domains_in}
 use Rattle.cloaked_side.specs.declared.side.Side.{Side}
@@ -125,6 +128,16 @@ pub record Stays {E : Type 0} (gave : E → E → List Piece → Type 0) (first 
 pub record StaysWithin {E : Type 0} (gave : E → E → List Piece → Type 0) (first now : Side E) : Type 0 where
   pub stays : Stays gave first now
   pub no_more : HoldsNoMore first.memory.now.pager now.memory.now.pager
+
+-- no translation is known that was not
+abbrev pub LosesOnly : Table → Table → Type 0
+LosesOnly old new = (view : ShadowView) (page : ℕ) (kind : Kind) →
+    is_known view page kind new ≡ true → is_known view page kind old ≡ true
+
+-- What stays of it in the middle of a walk: besides, no translation becomes known.
+pub record StaysWalking {E : Type 0} (gave : E → E → List Piece → Type 0) (first now : Side E) : Type 0 where
+  pub within : StaysWithin gave first now
+  pub loses : LosesOnly first.memory.now.shadows now.memory.now.shadows
 
 -- The number of the domain that a side serves. Where the memory has no such domain, it is the number of none.
 abbrev pub served : {E : Type 0} → Side E → ℕ

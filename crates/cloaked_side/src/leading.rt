@@ -20,6 +20,8 @@ pub(crate) struct Led {
     /// The walk that led there through outside tables, where this access is to make its translation known: none was known and
     /// paging is on, or the one that was known is of another page.
     pub walked: Option<Walked>,
+    /// The look missed, so that no translation is known.
+    pub missed: bool,
 }
 
 fn satp_of(view: &ShadowView) -> u32
@@ -87,11 +89,12 @@ fn entry_of(
 #[inline(never)]
 fn handed_on(pa: u64, pt1: Option<Frame>, pt0: Option<Frame>) -> Led
     requires { pa < 2 ^ 32 }
-    ensures { result ≡ record { pa = pa; walked = Some (record { pa = pa; pt1 = pt1; pt0 = pt0 }) } }
+    ensures { result ≡ record { pa = pa; walked = Some (record { pa = pa; pt1 = pt1; pt0 = pt0 }); missed = false } }
 {
     Led {
         pa: pa as u32,
         walked: Some(Walked { pa, pt1, pt0 }),
+        missed: false,
     }
 }
 
@@ -112,6 +115,7 @@ impl<'m, 'e, E: Emit> Side<'m, 'e, E> {
     ghost use Rattle.cloaked_side.specs.Leading.{place_in, IsLedSo, IsEntryOf, IsReachedSo, IsViewIn, asked_led};
     ghost use Rattle.cloaked_side.specs.Seeing.{Sees, SeesWalking, StaysWithin};
     ghost use Rattle.shadow_fold.specs.Fold.{entry_in, is_own_table};
+    ghost use Rattle.shadow_fold.specs.Table.{is_known};
 
     /// Where an access leads by a translation that is known, or the cause of its fault. Where that is of another page, or of
     /// none, its walk is handed on, so that this access makes its own known. None where no translation is known: the look
@@ -130,6 +134,8 @@ impl<'m, 'e, E: Emit> Side<'m, 'e, E> {
         ensures missed { result ≡ None → (first : _) (w : World) → Sees E.gave first self.old w →
             IsViewIn self.old.space view.now →
             SeesWalking E.gave first self.new (noted (Look (satp_in view.now) (access_in view.now va kind) ∷ []) w) }
+        ensures unknown { result ≡ None → is_known view.now (va / 4096) kind self.new.memory.now.shadows ≡ false }
+        ensures learnt { IfSome result (λ to. IfOk to (λ led. led.missed ≡ false)) }
         ensures keeps { Keeps (StaysWithin E.gave) self.old self.new }
         ensures inside { IfSome result (λ to. IfOk to (λ led. IsTrue (is_in_frames (frames_of self.old.memory.now) led.pa))) }
         ensures offset { IfSome result (λ to. IfOk to (λ led. led.pa % 4096 ≡ va % 4096)) }
@@ -147,6 +153,7 @@ impl<'m, 'e, E: Emit> Side<'m, 'e, E> {
             return Some(Ok(Led {
                 pa: pa as u32,
                 walked: None,
+                missed: false,
             }));
         }
         Some(Ok(handed_on(pa, e.pt1, e.pt0)))
@@ -157,6 +164,7 @@ impl<'m, 'e, E: Emit> Side<'m, 'e, E> {
     #[inline(never)]
     #[tactic(auto, using(cloak_model::proofs::Later::laters), unfolding(cloak_model::specs::Ask::ask_translate, cloak_model::specs::Ask::ask_inside))]
     fn led_by_walk(&mut self, view: &ShadowView, va: u32, kind: Kind) -> Result<Led, u32>
+        requires unknown { is_known view.now (va / 4096) kind self.old.memory.now.shadows ≡ false }
         ensures follows { (first : _) (w : World) →
             SeesWalking E.gave first self.old (noted (Look (satp_in view.now) (access_in view.now va kind) ∷ []) w) →
             is_clashed (asked_led view.now va kind w).world ≡ false →
@@ -165,6 +173,7 @@ impl<'m, 'e, E: Emit> Side<'m, 'e, E> {
         ensures inside { IfOk result (λ led. IsTrue (is_in_frames (frames_of self.old.memory.now) led.pa)) }
         ensures offset { IfOk result (λ led. led.pa % 4096 ≡ va % 4096) }
         ensures same_count { frames_of self.new.memory.now ≡ frames_of self.old.memory.now }
+        ensures unknown { is_known view.now (va / 4096) kind self.new.memory.now.shadows ≡ false }
         ensures leads { IfOk result (λ led. (first : _) (w : World) (cloaked : Option AnyPage) →
             SeesWalking E.gave first self.old (noted (Look (satp_in view.now) (access_in view.now va kind) ∷ []) w) →
             let told = asked_led view.now va kind w in is_clashed told.world ≡ false →
@@ -178,6 +187,7 @@ impl<'m, 'e, E: Emit> Side<'m, 'e, E> {
         Ok(Led {
             pa: walked.pa as u32,
             walked: Some(walked),
+            missed: true,
         })
     }
 
@@ -192,11 +202,13 @@ impl<'m, 'e, E: Emit> Side<'m, 'e, E> {
         ensures inside { IfOk result (λ led. IsTrue (is_in_frames (frames_of self.old.memory.now) led.pa)) }
         ensures offset { IfOk result (λ led. led.pa % 4096 ≡ va % 4096) }
         ensures walked { IfOk result (λ led. led.walked ≡ None) }
+        ensures learnt { IfOk result (λ led. led.missed ≡ false) }
     {
         if self.memory.is_inside(va as u64) {
             Ok(Led {
                 pa: va,
                 walked: None,
+                missed: false,
             })
         } else {
             Err(access_fault(kind))
@@ -220,6 +232,8 @@ impl<'m, 'e, E: Emit> Side<'m, 'e, E> {
         ensures inside { IfOk result (λ led. IsTrue (is_in_frames (frames_of self.old.memory.now) led.pa)) }
         ensures offset { IfOk result (λ led. led.pa % 4096 ≡ va % 4096) }
         ensures same_count { frames_of self.new.memory.now ≡ frames_of self.old.memory.now }
+        ensures missed { IfOk result (λ led. led.missed ≡ true →
+            is_known view.now (va / 4096) kind self.new.memory.now.shadows ≡ false) }
         ensures leads { IfOk result (λ led. (first : _) (w : World) → Sees E.gave first self.old w →
             IsViewIn self.old.space view.now → let told = asked_led view.now va kind w in is_clashed told.world ≡ false →
             IsLedSo self.new.memory.now told.world view.now va kind cloaked led) }
@@ -247,10 +261,27 @@ impl<'m, 'e, E: Emit> Side<'m, 'e, E> {
         self.memory.shadows.learn(e);
     }
 
+    /// Makes a translation known of which a look has missed.
+    #[inline(always)]
+    fn learn_missed(&mut self, e: Entry)
+        requires unknown { is_known e.view e.page e.kind self.old.memory.now.shadows ≡ false }
+        ensures sees { (first : _) (w : World) (satp : ℕ) (a : AnyAccess) (walked : AnyWalk) (cloaked : Option AnyPage) →
+            Sees E.gave first self.old w → IsEntryOf w (held_in self.old.memory.now.pager) e →
+            entry_in self.old.space satp a walked cloaked ≡ e → is_own_table e ≡ false →
+            Sees E.gave first self.new (noted (Born satp a walked cloaked ∷ []) w) }
+        ensures keeps { Keeps (StaysWithin E.gave) self.old self.new }
+        ensures same_pager { self.new.memory.now.pager ≡ self.old.memory.now.pager }
+        ensures same_missed { self.new.memory.now.missed ≡ self.old.memory.now.missed }
+    {
+        self.memory.shadows.learn_missed(e);
+    }
+
     /// Settles the frame to which an access was led that is not cloaked. Its translation is known then.
     #[inline(always)]
     pub(crate) fn settle_led(&mut self, view: &ShadowView, va: u32, kind: Kind, led: &Led)
         requires inside { IsTrue (is_in_frames (frames_of self.old.memory.now) led.now.pa) }
+        requires missed { led.now.missed ≡ true →
+            is_known view.now (va / 4096) kind self.old.memory.now.shadows ≡ false }
         ensures sees { (first : _) (w : World) → Sees E.gave first self.old w → IsViewIn self.old.space view.now →
             IsLedSo self.old.memory.now w view.now va kind None led.now →
             Sees E.gave first self.new (opened (satp_in view.now) (access_in view.now va kind) led.now.pa w) }
@@ -261,7 +292,7 @@ impl<'m, 'e, E: Emit> Side<'m, 'e, E> {
         let f = frame_of(led.pa);
         self.settle(f);
         if let Some(walked) = led.walked {
-            self.learn_walk(view, va, kind, f, walked.pt1, walked.pt0);
+            self.learn_walk(view, va, kind, f, walked.pt1, walked.pt0, led.missed);
         }
     }
 
@@ -275,7 +306,10 @@ impl<'m, 'e, E: Emit> Side<'m, 'e, E> {
         f: Frame,
         pt1: Option<Frame>,
         pt0: Option<Frame>,
+        missed: bool,
     )
+        requires unknown { missed ≡ true →
+            is_known view.now (va / 4096) kind self.old.memory.now.shadows ≡ false }
         ensures sees { (first : _) (w : World) (satp : ℕ) (a : AnyAccess) (walked : AnyWalk) →
             let e : AnyEntry = record {
               view = view.now;
@@ -293,7 +327,7 @@ impl<'m, 'e, E: Emit> Side<'m, 'e, E> {
         ensures same_pager { self.new.memory.now.pager ≡ self.old.memory.now.pager }
         ensures same_missed { self.new.memory.now.missed ≡ self.old.memory.now.missed }
     {
-        self.learn(Entry {
+        let e = Entry {
             view: *view,
             page: va / 4096,
             kind,
@@ -301,7 +335,12 @@ impl<'m, 'e, E: Emit> Side<'m, 'e, E> {
             pt1,
             pt0,
             cloaked: None,
-        });
+        };
+        if missed {
+            self.learn_missed(e);
+        } else {
+            self.learn(e);
+        }
     }
 
     /// Makes known the translation that led to a cloaked page, which its frame holds now. One through its own frame is

@@ -3,7 +3,7 @@ ghost use Rattle.std.specs.Prelude.{◌≡◌, ◌<◌, ◌≤◌, ◌%◌, IsTr
 use crate::kept_items::KeptItems;
 use crate::memory::{Memory, frame_of, place_of};
 use cloak_base::{Frame, SpaceId, Violation};
-use cloak_model::{Access, Emit, View, value_in, word_in};
+use cloak_model::{Access, Emit, View, value_in};
 use host_calls::Ram;
 use multi_shadow::ShadowView;
 use sv32_walk::Words;
@@ -98,11 +98,11 @@ impl<'m, 'e, E: Emit> Side<'m, 'e, E> {
 }
 
 impl<'m, 'e, E: Emit> Words for Side<'m, 'e, E> {
-    ghost use Rattle.cloaked_side.specs.Seeing.{SeesWalking, StaysWithin};
+    ghost use Rattle.cloaked_side.specs.Seeing.{SeesWalking, StaysWalking};
 
     ghost stands_for = { λ first side w. SeesWalking E.gave first side w };
 
-    ghost kept = { λ first side. StaysWithin E.gave first side };
+    ghost kept = { λ first side. StaysWalking E.gave first side };
 
     #[tactic(auto, unfolding(cloak_model::specs::Ask::ask_word))]
     fn word(&mut self, pa: u64) -> Option<u32> {
@@ -112,7 +112,7 @@ impl<'m, 'e, E: Emit> Words for Side<'m, 'e, E> {
         let pa = pa as u32;
         let f = frame_of(pa);
         self.settle(f);
-        Some(word_in(self.memory.pager.read_outside(f), place_of(pa)))
+        Some(value_in(self.memory.pager.read_outside(f), place_of(pa), 4))
     }
 }
 

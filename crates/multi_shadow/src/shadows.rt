@@ -133,6 +133,19 @@ impl Shadows {
         }
     }
 
+    /// Makes an entry live of which a look has missed, and which was not learnt since, unless one of its frames is none of the
+    /// table's. Nothing is counted as an access, and nothing is looked for.
+    #[inline(always)]
+    pub fn learn_missed(&mut self, e: Entry)
+        requires unknown { is_known e.view e.page e.kind self.old ≡ false }
+        ensures born { IsWithin self.old.frames e → AreBirthCalls false e self.old self.new }
+        ensures beyond { (IsWithin self.old.frames e → ⊥) → self.new ≡ self.old }
+    {
+        if is_within(self.frames, &e) {
+            self.insert(e);
+        }
+    }
+
     /// The entry becomes live. Where 1024 are live, all of them end first, and a flush is counted.
     #[inline(always)]
     pub(crate) fn insert(&mut self, e: Entry)

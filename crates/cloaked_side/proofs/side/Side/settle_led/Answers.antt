@@ -1,15 +1,17 @@
-use Rattle.std.proofs.Common.{◌≡◌, refl, sym, subst, ℕ, Option, None}
+use Rattle.std.proofs.Common.{◌≡◌, ◌/◌, ◌∙◌, refl, ap, sym, subst, ℕ, Option, None}
 use Rattle.std.specs.Prelude.{IfSome}
 use Rattle.cloak_base.specs.declared.names.SpaceId.{SpaceId}
 use Rattle.cloak_model.specs.declared.access.Walked.{Walked}
 use Rattle.cloak_model.specs.World.{settled}
 use Rattle.cloak_model.specs.Memory.{frame_of}
 use Rattle.cloak_pager.specs.State.{held_in}
+use Rattle.shadow_fold.specs.Table.{is_known}
 use Rattle.shadow_fold.specs.Agreement.{satp_in, access_in}
 use Rattle.shadow_law.specs.Agreeing.{AreOutside}
 use Rattle.cloaked_side.specs.Leading.{IsEntryOf, IsViewIn, IsWalkOf}
 use Rattle.cloaked_side.specs.Seeing.{Sees}
 use Rattle.cloaked_side.proofs.Known.{born_known, entry_is, entry_same, led_entry, opened_live, settled_is}
+use Rattle.cloaked_side.proofs.Losing.{loses_killed, unknown_still}
 use Rattle.cloaked_side.proofs.Sided.{within_of}
 use Rattle.cloaked_side.proofs.side.Side.settle_led.Goals as goal
 
@@ -43,3 +45,12 @@ returns-in_default-clause-sees g c first w sees viewed so =
     let seen = subst (λ (f : ℕ). Sees gave first mid (settled f w)) c.frame_of-f.ensures (c.settle.ensures.sees first w sees) in
     opened_live gave first old mid c.args.view.now c.args.va c.args.kind c.args.led.now c.frame_of-f.result.0 w c.frame_of-f.ensures seen
     (subst (λ (o : Option SpaceId). IsViewIn o c.args.view.now) (sym kept.stays.space) viewed) (c.in_default.is) so.live c.settle.ensures.counting c.settle.ensures.ends
+
+pub learn_walk-requires : goal.learn_walk-requires
+learn_walk-requires g c = record {
+  unknown = λ missed. unknown_still c.args.self.now.memory.now.shadows c.settle.new.self.memory.now.shadows c.args.view.now (c.args.va / 4096)
+      c.args.kind
+      (λ view page kind known. loses_killed _ _ c.args.self.now.memory.now.shadows view page kind
+      (sym (ap (is_known view page kind) c.settle.ensures.ends) ∙ known))
+      (c.requires.missed missed);
+}

@@ -1,10 +1,12 @@
-use Rattle.std.proofs.Common.{rules, ◌∙◌, refl, ap, subst, ℕ, Some, length}
+use Rattle.std.proofs.Common.{rules, ◌∙◌, refl, sym, ap, subst, ℕ, Some, length}
 use Rattle.cloak_model.specs.Cloaking.{settle}
 use Rattle.cloak_model.specs.Memory.{frame_of, place_of, value_in}
 use Rattle.shadow_fold.specs.Fold.{frame, touched}
 use Rattle.shadow_fold.specs.Reads.{Spends}
 use Rattle.cloaked_side.specs.Holding.{Settles}
 use Rattle.cloaked_side.specs.Tracking.{TracksBy, spent_in}
+use Rattle.shadow_fold.specs.Table.{is_known}
+use Rattle.cloaked_side.proofs.Losing.{loses_killed}
 use Rattle.cloaked_side.proofs.Spending.{maps_killed}
 use Rattle.cloak_pager.specs.Asking.{SeesFrame}
 use Rattle.cloaked_side.proofs.Sided.{walking_read, word_told, within_of, within_repaged, read_size, no_more_read}
@@ -31,9 +33,12 @@ returns-clause-follows g c first w sees unclashed =
     (record { stream = refl; draws = refl; missed = refl; emitter = refl; violation = refl; view = refl; space = refl }) refl refl
     (subst (λ (n : ℕ). SeesFrame side.memory.now.pager n bytes) at c.read_outside.ensures.model)
     c.read_outside.follows.holds-at-none
-    (ap (λ n. Some n) (c.word_in.ensures ∙ ap (λ n. value_in bytes n 4) c.place_of.ensures.value)) sees)
+    (ap (λ n. Some n) (c.value_in.ensures ∙ ap (λ n. value_in bytes n 4) c.place_of.ensures.value)) sees)
 
 pub returns-clause-keeps : goal.returns-clause-keeps
-returns-clause-keeps g c first stays =
-    within_repaged g.E.Emit.gave first c.settle.new.self _ (c.settle.ensures.keeps first stays) refl refl
-    (read_size _ _ c.read_outside.follows.holds-at-none) refl refl refl (no_more_read _ _ c.read_outside.follows.holds-at-none)
+returns-clause-keeps g c first stays = record {
+  within = within_repaged g.E.Emit.gave first c.settle.new.self _ (c.settle.ensures.keeps first stays.within) refl refl
+      (read_size _ _ c.read_outside.follows.holds-at-none) refl refl refl (no_more_read _ _ c.read_outside.follows.holds-at-none);
+  loses = λ view page kind known. stays.loses view page kind
+      (loses_killed _ _ c.args.self.now.memory.now.shadows view page kind (sym (ap (is_known view page kind) c.settle.ensures.ends) ∙ known));
+}

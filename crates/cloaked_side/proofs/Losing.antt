@@ -1,0 +1,56 @@
+-- A table whose entries end: what was not known is not known.
+use Rattle.std.proofs.Common.{◌≡◌, ℕ, Bool, true, false, ◌||◌, not, cond, List, [], ◌∷◌, filter, refl, sym, ◌∙◌}
+use Rattle.std.specs.List.{list_any}
+use Rattle.std.proofs.lemmas.Bool.{false≢true}
+use Rattle.cloak_base.specs.declared.names.Frame.{Frame}
+use Rattle.cloak_base.specs.declared.names.Kind.{Kind}
+use Rattle.cloak_model.specs.Asking.{Keeps}
+use Rattle.cloak_model.specs.Exchange.{Piece}
+use Rattle.shadow_fold.specs.Entries.{is_for, is_table, is_target}
+use Rattle.shadow_fold.specs.Following.{killed_if}
+use Rattle.shadow_fold.specs.Table.{Table, is_known, ending}
+use Rattle.shadow_fold.specs.declared.entry.Entry.{Entry}
+use Rattle.shadow_fold.specs.declared.entry.ShadowView.{ShadowView}
+use Rattle.cloaked_side.specs.Seeing.{LosesOnly, StaysWalking}
+use Rattle.cloaked_side.specs.declared.side.Side.{Side}
+use Rattle.cloaked_side.proofs.Sided.{within_self}
+
+or_right : (c d : Bool) → d ≡ true → (c || d) ≡ true
+or_right true d is = refl
+or_right false d is = is
+
+or_more : (c d e : Bool) → (d ≡ true → e ≡ true) → (c || d) ≡ true → (c || e) ≡ true
+or_more true d e more is = refl
+or_more false d e more is = more is
+
+kept_any : {A : Type 0} (p : A → Bool) (x : A) (xs : List A) (b : Bool) → list_any p (cond b (x ∷ xs) xs) ≡ true
+    → (p x || list_any p xs) ≡ true
+kept_any p x xs true some = some
+kept_any p x xs false some = or_right (p x) (list_any p xs) some
+
+-- what passes among those that are left passes among all
+any_left : {A : Type 0} (p q : A → Bool) (xs : List A) → list_any p (filter q xs) ≡ true → list_any p xs ≡ true
+any_left p q [] some = some
+any_left p q (x ∷ xs) some =
+    or_more (p x) (list_any p (filter q xs)) (list_any p xs) (any_left p q xs) (kept_any p x (filter q xs) (q x) some)
+
+loses_ending : (ends : Entry → Bool) (t : Table) → LosesOnly t (ending ends t)
+unfolding is_known ending
+loses_ending ends t view page kind known = any_left (is_for view page kind) (λ e. not (ends e)) t.live known
+
+pub loses_killed : (b : Bool) (f : Frame) (t : Table) → LosesOnly t (killed_if b f t)
+loses_killed true f t view page kind known =
+    loses_ending (is_target f) t view page kind (loses_ending (is_table f) (ending (is_target f) t) view page kind known)
+loses_killed false f t view page kind known = known
+
+pub unknown_still : (old new : Table) (view : ShadowView) (page : ℕ) (kind : Kind) → LosesOnly old new
+    → is_known view page kind old ≡ false → is_known view page kind new ≡ false
+unknown_still old new view page kind loses unknown = by (is_known view page kind new) refl
+  where
+    by : (b : Bool) → is_known view page kind new ≡ b → b ≡ false
+    by true known = absurd (false≢true (sym unknown ∙ loses view page kind known))
+    by false known = refl
+
+pub walking_of : {E : Type 0} (gave : E → E → List Piece → Type 0) (old new : Side E) → Keeps (StaysWalking gave) old new
+    → StaysWalking gave old new
+walking_of gave old new keeps = keeps old (record { within = within_self gave old; loses = λ view page kind known. known })
