@@ -10,9 +10,13 @@
 mod command;
 #[cfg(test)]
 mod image_tests;
+#[cfg(test)]
+mod images;
 mod program;
 #[cfg(test)]
 mod program_tests;
+#[cfg(test)]
+mod reports;
 #[cfg(test)]
 mod tests;
 mod words;

@@ -1,36 +1,13 @@
 //! Runs of a guest image with one program, of one page in frame 8.
 
+use crate::images::image;
 use crate::program::sentence;
+use crate::reports::{EMPTY, Outcome, report};
 use crate::tests::{Left, called};
 use crate::words::Words;
 use program_parts::Status;
 use std::alloc::Global;
 use std::test::*;
-
-/// Adds words to a file.
-fn add_words(file: &mut Vec<u8>, words: &[u32]) -> Result<(), Fail> {
-    for word in words {
-        file.extend_from_slice(&u32::to_le_bytes(*word))?;
-    }
-    Ok(())
-}
-
-/// An image of 64 frames whose harts take this schedule, with the code of its kernel and of its program.
-fn image(alloc: Global, schedule: &[u8], kernel: &[u32], program: &[u32]) -> Result<Vec<u8>, Fail> {
-    let harts = schedule.len().min(4) as u32;
-    let size = kernel.len().min(1024) as u32 * 4;
-    let mut file = Vec::from_slice(alloc, b"CLOAKBND")?;
-    add_words(&mut file, &[1, 64, harts, harts, 0x8000_0000, 1, 0, 1])?;
-    file.extend_from_slice(schedule)?;
-    add_words(&mut file, &[0x8000_0000, size])?;
-    add_words(&mut file, kernel)?;
-    add_words(&mut file, &[1, 8, 0x8000_8000, 0x8000_8000, 0x8000_8100])?;
-    add_words(&mut file, program)?;
-    for _ in program.len()..1024 {
-        add_words(&mut file, &[0])?;
-    }
-    Ok(file)
-}
 
 /// The run of an image for 100 steps under a stream of so many bytes: 0, 1, 2 and so on.
 fn ran(alloc: Global, bundle: &[u8], bytes: u8) -> Result<Left, Fail> {
@@ -38,117 +15,94 @@ fn ran(alloc: Global, bundle: &[u8], bytes: u8) -> Result<Left, Fail> {
     for byte in 0..bytes {
         stream.push(byte)?;
     }
-    called(
-        alloc,
-        "run a.b a.r --steps 100 --stream other",
-        bundle,
-        stream.as_slice(),
-        (0, 0),
-    )
+    let line = "run a.b a.r --steps 100 --stream other";
+    called(alloc, line, bundle, stream.as_slice(), (0, 0))
 }
 
-/// Sets the trap's vector to the handler behind it, and resumes context 0: `auipc x6,0`; `addi x6,x6,20`;
-/// `csrrw x0,0x105,x6`; `lui x17,0x4F560`; `ecall`. The handler halts: `addi x17,x0,4`; `ecall`.
-const HALTS: &[u32] = &[
-    0x0000_0317,
-    0x0143_0313,
-    0x1053_1073,
-    0x4f56_08b7,
-    0x0000_0073,
-    0x0040_0893,
-    0x0000_0073,
-];
+/// Sets the trap's vector to the handler behind it, and resumes context 0.
+const START: &str = "la x6, handler\ncsrrw x0, 0x105, x6\nlui x17, 0x4F560\necall\nhandler:";
 
-/// The handler flips a bit of frame 8 and resumes: `auipc x6,8`; `lw x7,0(x6)`; `xori x7,x7,1`; `sw x7,0(x6)`;
-/// `lui x17,0x4F560`; `ecall`.
-const FLIPS: &[u32] = &[
-    0x0000_0317,
-    0x0143_0313,
-    0x1053_1073,
-    0x4f56_08b7,
-    0x0000_0073,
-    0x0000_8317,
-    0x0003_2383,
-    0x0013_c393,
-    0x0073_2023,
-    0x4f56_08b7,
-    0x0000_0073,
-];
+const HALTS: &str = "addi x17, x0, 4\necall";
 
-/// The handler writes 0x00400000 to satp and resumes: `lui x6,0x400`; `csrrw x0,0x180,x6`; `lui x17,0x4F560`; `ecall`.
-const MAPS_ELSEWHERE: &[u32] = &[
-    0x0000_0317,
-    0x0143_0313,
-    0x1053_1073,
-    0x4f56_08b7,
-    0x0000_0073,
-    0x0040_0337,
-    0x1803_1073,
-    0x4f56_08b7,
-    0x0000_0073,
-];
-
-/// The handler resumes what left: `lui x17,0x4F560`; `ecall`.
-const RESUMES_AGAIN: &[u32] = &[
-    0x0000_0317,
-    0x0143_0313,
-    0x1053_1073,
-    0x4f56_08b7,
-    0x0000_0073,
-    0x4f56_08b7,
-    0x0000_0073,
-];
-
-/// Resumes context 3: `addi x5,x0,3`; `lui x17,0x4F560`; `ecall`.
-const RESUMES_CONTEXT_3: &[u32] = &[0x0030_0293, 0x4f56_08b7, 0x0000_0073];
-
-/// Stores 7, loads it, and calls number 9: `addi x10,x0,7`; `sw x10,0(x2)`; `lw x11,0(x2)`; `addi x16,x0,9`;
-/// `lui x17,0x4F560`; `addi x17,x17,8`; `ecall`.
-const CALLS: &[u32] = &[
-    0x0070_0513,
-    0x00a1_2023,
-    0x0001_2583,
-    0x0090_0813,
-    0x4f56_08b7,
-    0x0088_8893,
-    0x0000_0073,
-];
-
-/// Ends its context: `lui x17,0x4F560`; `addi x17,x17,7`; `ecall`.
-const EXITS: &[u32] = &[0x4f56_08b7, 0x0078_8893, 0x0000_0073];
-
-const CALLED: &str = "
-stop halt 7
-steps 14
-draws 2
-console 0 e3b0c44298fc1c149afbf4c8996fb92427ae41e4649b934ca495991b7852b855
-ram 2da50ffcd931d216d4839fe1c98ec2c33929a52a7ef3ed3e96ca928ca971d80a
-disk e3b0c44298fc1c149afbf4c8996fb92427ae41e4649b934ca495991b7852b855
-hart 0 S pc 8000001c inside - timer 0
-regs 00000000 00000000 00000000 00000000 00000000 00000000 00000000 00000000 00000000 00000007 00000007 00000000 00000000 00000000 00000000 00000000 00000004 00000000 00000000 00000000 00000000 00000000 00000000 00000000 00000000 00000000 00000000 00000000 00000000 00000000 00000000
-csrs 00000000 00000000 80000014 00000000 00001000 00000008 00000000 00000000 00000000
-domain 0 state 57f402f27d52d0ab34baac3ab1c5a3062548b040812cf8c40e61e161f4c6d610 loads 1 3bc4fec69186869eae2e7a3fbd93442330a26866e505d5eae0d9342ad904819c
+/// Flips a bit of frame 8 and resumes.
+const FLIPS: &str = "
+    auipc x6, 8
+    lw x7, 0(x6)
+    xori x7, x7, 1
+    sw x7, 0(x6)
+    lui x17, 0x4F560
+    ecall
 ";
 
-/// The status, the first lines behind the console's, and the length of the record of runs by the bytes of their stream.
-static ENDS: [(u8, Status, &str, usize); 6] = [
-    (48, Status::Done, CALLED, 8355),
-    (255, Status::Done, CALLED, 8355),
+/// Writes 0x00400000 to satp and resumes.
+const REMAPS: &str = "lui x6, 0x400\ncsrrw x0, 0x180, x6\nlui x17, 0x4F560\necall";
+
+/// Resumes what left.
+const RESUMES_AGAIN: &str = "lui x17, 0x4F560\necall";
+
+const RESUMES_CONTEXT_3: &str = "addi x5, x0, 3\nlui x17, 0x4F560\necall";
+
+/// Stores 7, loads it, and calls number 9.
+const CALLS: &str = "
+    addi x10, x0, 7
+    sw x10, 0(x2)
+    lw x11, 0(x2)
+    addi x16, x0, 9
+    lui x17, 0x4F560
+    addi x17, x17, 8
+    ecall
+";
+
+/// Ends its context.
+const EXITS: &str = "lui x17, 0x4F560\naddi x17, x17, 7\necall";
+
+const CALLED: Outcome = Outcome {
+    ends: ("halt 7", 14, 2),
+    console: ("", EMPTY),
+    ram: "2da50ffcd931d216d4839fe1c98ec2c33929a52a7ef3ed3e96ca928ca971d80a",
+    disk: EMPTY,
+    harts: &[(
+        "S pc 8000001c inside -",
+        &[
+            (10, 7),
+            (11, 7),
+            (17, 4),
+            (0x105, 0x8000_0014),
+            (0x141, 0x1000),
+            (0x142, 8),
+        ],
+    )],
+};
+
+/// The line of the program in that report.
+const CALLED_LINE: &str =
+    "domain 0 state 57f402f27d52d0ab34baac3ab1c5a3062548b040812cf8c40e61e161f4c6d610 \
+    loads 1 3bc4fec69186869eae2e7a3fbd93442330a26866e505d5eae0d9342ad904819c\n";
+
+/// The status, the first lines behind the console's where these are not the whole report, and the length of the record
+/// of runs by the bytes of their stream.
+static ENDS: [(u8, Status, Option<&str>, usize); 6] = [
+    (48, Status::Done, None, 8355),
+    (255, Status::Done, None, 8355),
     (
         47,
         Status::NoRandom,
-        "\nstop norandom\nsteps 14\ndraws 1\n",
+        Some("\nstop norandom\nsteps 14\ndraws 1\n"),
         8355,
     ),
-    (31, Status::NoRandom, "random: opening\n", 0),
-    (16, Status::NoRandom, "random: opening\n", 0),
-    (15, Status::NoRandom, "random: no key\n", 0),
+    (31, Status::NoRandom, Some("random: opening\n"), 0),
+    (16, Status::NoRandom, Some("random: opening\n"), 0),
+    (15, Status::NoRandom, Some("random: no key\n"), 0),
 ];
 
 #[test]
 fn streams_that_end(rt: HostRuntime) -> Result<(), Fail> {
-    let bundle = image(rt.alloc(), &[0], HALTS, CALLS)?;
+    let kernel = format!(in rt.alloc(); "{START}\n{HALTS}")?;
+    let bundle = image(rt.alloc(), &[0], &[kernel.as_str()], 0, CALLS)?;
+    let mut shown = report(rt.alloc(), CALLED)?;
+    shown.push_str(CALLED_LINE)?;
     for (bytes, status, begins, record) in ENDS {
+        let begins = begins.unwrap_or(shown.as_str());
         let left = ran(rt.alloc(), bundle.as_slice(), bytes)?;
         assert_eq!(rt; left.status, status, "{bytes} bytes");
         assert!(rt;
@@ -160,40 +114,30 @@ fn streams_that_end(rt: HostRuntime) -> Result<(), Fail> {
     Ok(())
 }
 
-/// The first lines behind the console's of runs that stop with a violation.
-static VIOLATIONS: [(&[u8], &[u32], &[u32], &str); 5] = [
+/// Turns, the two parts of a kernel, programs, and what the line `stop` says behind `violation`, with lines behind it.
+static VIOLATIONS: [(&[u8], &str, &str, &str, &str); 5] = [
     (
         &[0],
+        START,
         FLIPS,
         CALLS,
-        "\nstop violation page domain 0 resource 0 page 0 frame 8\nsteps 19\ndraws 2\n",
+        "page domain 0 resource 0 page 0 frame 8\nsteps 19\ndraws 2",
     ),
-    (
-        &[0],
-        MAPS_ELSEWHERE,
-        CALLS,
-        "\nstop violation mapping 0 root 00400000\n",
-    ),
-    (&[0], RESUMES_AGAIN, EXITS, "\nstop violation context 0\n"),
-    (
-        &[0],
-        RESUMES_CONTEXT_3,
-        CALLS,
-        "\nstop violation context 3\n",
-    ),
-    (&[0, 1], HALTS, CALLS, "\nstop violation context 0\n"),
+    (&[0], START, REMAPS, CALLS, "mapping 0 root 00400000"),
+    (&[0], START, RESUMES_AGAIN, EXITS, "context 0"),
+    (&[0], "", RESUMES_CONTEXT_3, CALLS, "context 3"),
+    (&[0, 1], START, HALTS, CALLS, "context 0"),
 ];
 
 #[test]
 fn violations(rt: HostRuntime) -> Result<(), Fail> {
-    for (schedule, kernel, program, begins) in VIOLATIONS {
-        let bundle = image(rt.alloc(), schedule, kernel, program)?;
+    for (turns, start, handler, program, said) in VIOLATIONS {
+        let kernel = format!(in rt.alloc(); "{start}\n{handler}")?;
+        let bundle = image(rt.alloc(), turns, &[kernel.as_str()], 0, program)?;
         let left = ran(rt.alloc(), bundle.as_slice(), 255)?;
-        assert_eq!(rt; left.status, Status::Violation, "{begins}");
-        assert!(rt;
-            left.sink.taken().starts_with(begins.as_bytes()),
-            "{begins}"
-        );
+        let begins = format!(in rt.alloc(); "\nstop violation {said}\n")?;
+        assert_eq!(rt; left.status, Status::Violation, "{said}");
+        assert!(rt; left.sink.taken().starts_with(begins.as_bytes()), "{said}");
     }
     Ok(())
 }

@@ -1,6 +1,8 @@
 //! Calls of the program over files in memory.
 
+use crate::images::image;
 use crate::program::run_program;
+use crate::reports::{EMPTY, Outcome, report};
 use crate::words::Words;
 use outside_io::{MemoryShelf, MemorySink};
 use program_parts::Status;
@@ -8,81 +10,43 @@ use std::alloc::Global;
 use std::process::Abort;
 use std::test::*;
 
-/// One hart and 64 frames; the code is `addi x10,x0,65`, `ecall`, `addi x17,x0,4`, `ecall`.
-const SMALLEST: [u8; 65] = [
-    0x43, 0x4c, 0x4f, 0x41, 0x4b, 0x42, 0x4e, 0x44, 1, 0, 0, 0, 0x40, 0, 0, 0, 1, 0, 0, 0, 1, 0, 0,
-    0, 0, 0, 0, 0x80, 1, 0, 0, 0, 0, 0, 0, 0, 0, 0, 0, 0, 0, 0, 0, 0, 0x80, 0x10, 0, 0, 0, 0x13,
-    0x05, 0x10, 0x04, 0x73, 0, 0, 0, 0x93, 0x08, 0x40, 0, 0x73, 0, 0, 0,
-];
+/// Shows a byte, and halts.
+const SMALLEST: &str = "addi x10, x0, 65\necall\naddi x17, x0, 4\necall";
 
-/// The same image with an EBREAK in the place of its first word.
-const BREAKS: [u8; 65] = [
-    0x43, 0x4c, 0x4f, 0x41, 0x4b, 0x42, 0x4e, 0x44, 1, 0, 0, 0, 0x40, 0, 0, 0, 1, 0, 0, 0, 1, 0, 0,
-    0, 0, 0, 0, 0x80, 1, 0, 0, 0, 0, 0, 0, 0, 0, 0, 0, 0, 0, 0, 0, 0, 0x80, 0x10, 0, 0, 0, 0x73, 0,
-    0x10, 0, 0x73, 0, 0, 0, 0x93, 0x08, 0x40, 0, 0x73, 0, 0, 0,
-];
+/// The same code with an EBREAK in the place of its first word.
+const BREAKS: &str = "ebreak\necall\naddi x17, x0, 4\necall";
 
-/// The record of the whole run of the first image.
+/// The whole run of the first image.
+const WHOLE_LINE: &str = "run a.b a.r --steps 10 --number 0";
+
+/// Its record.
 const RECORD: [u8; 34] = [
     0x43, 0x4c, 0x4f, 0x41, 0x4b, 0x52, 0x45, 0x43, 0x10, 1, 0, 0, 0, 0x10, 2, 0, 0, 0, 0x10, 3, 0,
     0, 0, 0x10, 4, 0, 0, 0, 0x11, 4, 0, 0, 0, 0x12,
 ];
 
-const WHOLE_RUN: &str = "A
-stop halt 0
-steps 4
-draws 0
-console 1 559aead08264d5795d3909718cdd05abd49572e84fe55590eef31a88a08fdffd
-ram ca2dd2baf1cc979718fa70ae0b1595bc4c0db431191181299b87c3b5b1a0f786
-disk e3b0c44298fc1c149afbf4c8996fb92427ae41e4649b934ca495991b7852b855
-hart 0 S pc 80000010 inside - timer 0
-regs 00000000 00000000 00000000 00000000 00000000 00000000 00000000 00000000 00000000 00000000 00000000 00000000 00000000 00000000 00000000 00000000 00000004 00000000 00000000 00000000 00000000 00000000 00000000 00000000 00000000 00000000 00000000 00000000 00000000 00000000 00000000
-csrs 00000000 00000000 00000000 00000000 00000000 00000000 00000000 00000000 00000000
-";
+/// The digest of the first image's RAM, in which nothing is stored.
+const SMALLEST_RAM: &str = "ca2dd2baf1cc979718fa70ae0b1595bc4c0db431191181299b87c3b5b1a0f786";
+
+/// That of the second one's.
+const BREAKS_RAM: &str = "9dd6c08f0a5cfe84df9c4317edfdecba18be7790d03bcb2f6c6ef6fbd4002f40";
+
+const WHOLE_RUN: Outcome = Outcome {
+    ends: ("halt 0", 4, 0),
+    console: (
+        "A",
+        "559aead08264d5795d3909718cdd05abd49572e84fe55590eef31a88a08fdffd",
+    ),
+    ram: SMALLEST_RAM,
+    disk: EMPTY,
+    harts: &[("S pc 80000010 inside -", &[(17, 4)])],
+};
 
 /// The counts of that run: each step fetches, and all from one page.
 const COUNTS: &str = "stop halt 0
 accesses 4
 misses 1
 flushes 0
-";
-
-const NO_STEP: &str = "
-stop budget
-steps 0
-draws 0
-console 0 e3b0c44298fc1c149afbf4c8996fb92427ae41e4649b934ca495991b7852b855
-ram ca2dd2baf1cc979718fa70ae0b1595bc4c0db431191181299b87c3b5b1a0f786
-disk e3b0c44298fc1c149afbf4c8996fb92427ae41e4649b934ca495991b7852b855
-hart 0 S pc 80000000 inside - timer 0
-regs 00000000 00000000 00000000 00000000 00000000 00000000 00000000 00000000 00000000 00000000 00000000 00000000 00000000 00000000 00000000 00000000 00000000 00000000 00000000 00000000 00000000 00000000 00000000 00000000 00000000 00000000 00000000 00000000 00000000 00000000 00000000
-csrs 00000000 00000000 00000000 00000000 00000000 00000000 00000000 00000000 00000000
-";
-
-/// One step of an EBREAK with all control and status registers 0: a breakpoint, whose trap goes to 0.
-const BREAKPOINT: &str = "
-stop budget
-steps 1
-draws 0
-console 0 e3b0c44298fc1c149afbf4c8996fb92427ae41e4649b934ca495991b7852b855
-ram 9dd6c08f0a5cfe84df9c4317edfdecba18be7790d03bcb2f6c6ef6fbd4002f40
-disk e3b0c44298fc1c149afbf4c8996fb92427ae41e4649b934ca495991b7852b855
-hart 0 S pc 00000000 inside - timer 0
-regs 00000000 00000000 00000000 00000000 00000000 00000000 00000000 00000000 00000000 00000000 00000000 00000000 00000000 00000000 00000000 00000000 00000000 00000000 00000000 00000000 00000000 00000000 00000000 00000000 00000000 00000000 00000000 00000000 00000000 00000000 00000000
-csrs 00000100 00000000 00000000 00000000 80000000 00000003 00000000 00000000 00000000
-";
-
-/// The step after it: address 0 is no RAM, so its fetch is a fault.
-const FETCH_FAULT: &str = "
-stop budget
-steps 2
-draws 0
-console 0 e3b0c44298fc1c149afbf4c8996fb92427ae41e4649b934ca495991b7852b855
-ram 9dd6c08f0a5cfe84df9c4317edfdecba18be7790d03bcb2f6c6ef6fbd4002f40
-disk e3b0c44298fc1c149afbf4c8996fb92427ae41e4649b934ca495991b7852b855
-hart 0 S pc 00000000 inside - timer 0
-regs 00000000 00000000 00000000 00000000 00000000 00000000 00000000 00000000 00000000 00000000 00000000 00000000 00000000 00000000 00000000 00000000 00000000 00000000 00000000 00000000 00000000 00000000 00000000 00000000 00000000 00000000 00000000 00000000 00000000 00000000 00000000
-csrs 00000100 00000000 00000000 00000000 00000000 00000001 00000000 00000000 00000000
 ";
 
 /// What a call answered and left.
@@ -135,54 +99,75 @@ fn comes_to(
     Ok(())
 }
 
-/// Words of runs, their images, what they show, and their records.
-static RUNS: [(&str, &[u8], &str, &[u8]); 6] = [
-    (
-        "run a.b a.r --steps 10 --number 0",
-        &SMALLEST,
-        WHOLE_RUN,
-        &RECORD,
-    ),
-    ("stats a.b --steps 10 --number 0", &SMALLEST, COUNTS, b""),
+/// Words of runs, the code of their images, what they come to, and their records.
+static RUNS: [(&str, &str, Outcome, &[u8]); 5] = [
+    (WHOLE_LINE, SMALLEST, WHOLE_RUN, &RECORD),
     (
         "run a.b a.r --number 7 --steps 4",
-        &SMALLEST,
+        SMALLEST,
         WHOLE_RUN,
         &RECORD,
     ),
     (
         "run a.b a.r --steps 0 --number 0",
-        &SMALLEST,
-        NO_STEP,
+        SMALLEST,
+        Outcome {
+            ends: ("budget", 0, 0),
+            console: ("", EMPTY),
+            ram: SMALLEST_RAM,
+            disk: EMPTY,
+            harts: &[("S pc 80000000 inside -", &[])],
+        },
         b"CLOAKREC\x11\0\0\0\0\x12",
     ),
     (
+        // A breakpoint with all control and status registers 0, whose trap goes to 0.
         "run a.b a.r --steps 1 --number 0",
-        &BREAKS,
-        BREAKPOINT,
+        BREAKS,
+        Outcome {
+            ends: ("budget", 1, 0),
+            console: ("", EMPTY),
+            ram: BREAKS_RAM,
+            disk: EMPTY,
+            harts: &[(
+                "S pc 00000000 inside -",
+                &[(0x100, 0x100), (0x141, 0x8000_0000), (0x142, 3)],
+            )],
+        },
         b"CLOAKREC\x10\x01\0\0\0\x11\x01\0\0\0\x12",
     ),
     (
+        // Address 0 is no RAM, so its fetch is a fault.
         "run a.b a.r --steps 2 --number 0",
-        &BREAKS,
-        FETCH_FAULT,
+        BREAKS,
+        Outcome {
+            ends: ("budget", 2, 0),
+            console: ("", EMPTY),
+            ram: BREAKS_RAM,
+            disk: EMPTY,
+            harts: &[("S pc 00000000 inside -", &[(0x100, 0x100), (0x142, 1)])],
+        },
         b"CLOAKREC\x10\x01\0\0\0\x10\x02\0\0\0\x11\x02\0\0\0\x12",
     ),
 ];
 
 #[test]
 fn whole_runs(rt: HostRuntime) -> Result<(), Fail> {
-    for (line, bundle, output, record) in RUNS {
-        comes_to(
-            &rt,
-            rt.alloc(),
-            line,
-            bundle,
-            (0, 0),
-            (Status::Done, output, record),
-        )?;
+    for (line, code, said, record) in RUNS {
+        let bundle = image(rt.alloc(), &[0], &[code], 0, "")?;
+        let shown = report(rt.alloc(), said)?;
+        let want = (Status::Done, shown.as_str(), record);
+        comes_to(&rt, rt.alloc(), line, bundle.as_slice(), (0, 0), want)?;
     }
     Ok(())
+}
+
+#[test]
+fn counts_of_a_run(rt: HostRuntime) -> Result<(), Fail> {
+    let bundle = image(rt.alloc(), &[0], &[SMALLEST], 0, "")?;
+    let line = "stats a.b --steps 10 --number 0";
+    let want = (Status::Done, COUNTS, b"".as_slice());
+    comes_to(&rt, rt.alloc(), line, bundle.as_slice(), (0, 0), want)
 }
 
 static REFUSED: [(&str, Status, &str); 20] = [
@@ -246,24 +231,19 @@ static REFUSED: [(&str, Status, &str); 20] = [
 
 #[test]
 fn refused_words(rt: HostRuntime) -> Result<(), Fail> {
+    let bundle = image(rt.alloc(), &[0], &[SMALLEST], 0, "")?;
     for (line, status, output) in REFUSED {
-        comes_to(
-            &rt,
-            rt.alloc(),
-            line,
-            &SMALLEST,
-            (0, 0),
-            (status, output, b""),
-        )?;
+        let want = (status, output, b"".as_slice());
+        comes_to(&rt, rt.alloc(), line, bundle.as_slice(), (0, 0), want)?;
     }
     Ok(())
 }
 
 /// A file with one of its bytes in the place of another, or with fewer or more of them.
-fn damaged(alloc: Global, length: u64, at: usize, byte: u8) -> Result<Vec<u8>, Fail> {
+fn damaged(alloc: Global, whole: &[u8], length: u64, at: usize, byte: u8) -> Result<Vec<u8>, Fail> {
     let mut file = Vec::new(alloc);
     for i in 0..length.min(100) as usize {
-        let kept = SMALLEST.get(i).copied().unwrap_or(0);
+        let kept = whole.get(i).copied().unwrap_or(0);
         file.push(if i == at { byte } else { kept })?;
     }
     Ok(file)
@@ -283,51 +263,47 @@ static DAMAGED: [(u64, usize, u8, &str); 8] = [
 
 #[test]
 fn damaged_files(rt: HostRuntime) -> Result<(), Fail> {
+    let whole = image(rt.alloc(), &[0], &[SMALLEST], 0, "")?;
     for (length, at, byte, line) in DAMAGED {
-        let file = damaged(rt.alloc(), length, at, byte)?;
-        let words = "run a.b a.r --steps 10 --number 0";
-        comes_to(
-            &rt,
-            rt.alloc(),
-            words,
-            file.as_slice(),
-            (0, 0),
-            (Status::BadBundle, line, b""),
-        )?;
+        let file = damaged(rt.alloc(), whole.as_slice(), length, at, byte)?;
+        let want = (Status::BadBundle, line, b"".as_slice());
+        comes_to(&rt, rt.alloc(), WHOLE_LINE, file.as_slice(), (0, 0), want)?;
     }
     Ok(())
 }
 
 /// Runs of the smallest image whose Nth call on the files or the output fails: the status, the output and
 /// how much of the record stands. Call 1 asks for the size, 2 reads, 3 begins the record, 4 appends its
-/// first bytes, 5 to 8 the steps, 9 and 10 its end, 11 writes it out, and 12 writes out what is left.
-static FAILING: [(u64, u64, Status, &str, usize); 11] = [
-    (1, 0, Status::ReadFault, "read fault\n", 0),
-    (2, 0, Status::ReadFault, "read fault\n", 0),
-    (3, 0, Status::WriteFault, "", 0),
-    (4, 0, Status::WriteFault, "", 0),
-    (6, 0, Status::WriteFault, "", 13),
-    (10, 0, Status::WriteFault, "A", 33),
-    (11, 0, Status::WriteFault, "A", 34),
-    (12, 0, Status::WriteFault, WHOLE_RUN, 34),
-    (0, 1, Status::WriteFault, "", 18),
-    (0, 2, Status::WriteFault, "A", 34),
-    (0, 3, Status::WriteFault, "A\n", 34),
+/// first bytes, 5 to 8 the steps, 9 and 10 its end, 11 writes it out, and 12 what is left when all is shown.
+static FAILING: [(u64, u64, Status, Option<&str>, usize); 11] = [
+    (1, 0, Status::ReadFault, Some("read fault\n"), 0),
+    (2, 0, Status::ReadFault, Some("read fault\n"), 0),
+    (3, 0, Status::WriteFault, Some(""), 0),
+    (4, 0, Status::WriteFault, Some(""), 0),
+    (6, 0, Status::WriteFault, Some(""), 13),
+    (10, 0, Status::WriteFault, Some("A"), 33),
+    (11, 0, Status::WriteFault, Some("A"), 34),
+    (12, 0, Status::WriteFault, None, 34),
+    (0, 1, Status::WriteFault, Some(""), 18),
+    (0, 2, Status::WriteFault, Some("A"), 34),
+    (0, 3, Status::WriteFault, Some("A\n"), 34),
 ];
 
 #[test]
 fn failing_calls(rt: HostRuntime) -> Result<(), Fail> {
+    let bundle = image(rt.alloc(), &[0], &[SMALLEST], 0, "")?;
+    let shown = report(rt.alloc(), WHOLE_RUN)?;
     for (file_call, output_call, status, output, record) in FAILING {
-        let words = "run a.b a.r --steps 10 --number 0";
         let failing = (file_call, output_call);
         let record = RECORD.get(..record).unwrap_or(&RECORD);
+        let want = (status, output.unwrap_or(shown.as_str()), record);
         comes_to(
             &rt,
             rt.alloc(),
-            words,
-            &SMALLEST,
+            WHOLE_LINE,
+            bundle.as_slice(),
             failing,
-            (status, output, record),
+            want,
         )?;
     }
     Ok(())
@@ -345,8 +321,15 @@ static FAILING_VIEWS: [(u64, &str); 4] = [(1, ""), (2, ""), (3, "\n"), (4, "\n")
 
 #[test]
 fn failing_calls_of_view(rt: HostRuntime) -> Result<(), Fail> {
+    let bundle = image(rt.alloc(), &[0], &[SMALLEST], 0, "")?;
     for (call, before) in FAILING_VIEWS {
-        let left = called(rt.alloc(), "view a.b other", &SMALLEST, &RECORD, (call, 0))?;
+        let left = called(
+            rt.alloc(),
+            "view a.b other",
+            bundle.as_slice(),
+            &RECORD,
+            (call, 0),
+        )?;
         assert_eq!(rt; left.status, Status::ReadFault, "{call}");
         assert_eq!(rt;
             shown_behind(left.sink.taken(), before),

@@ -1,7 +1,8 @@
 //! A program of one page over the items of a run, of which the report's line is known.
-ghost use Rattle.std.specs.Prelude.{◌≡◌, IfOk};
+ghost use Rattle.std.specs.Prelude.{◌≡◌, ◌≤◌, length, IfOk};
 ghost use Rattle.cloak_model.specs.Bundle.{IsKernelImage, IsProgramIn};
 
+use crate::code::code_of;
 use alone_views::DomainAlone;
 use cloak_base::{NoMemory, Start};
 use cloak_model::{Item, KernelImage, Program, Sequence};
@@ -9,23 +10,29 @@ use outside_io::MemorySink;
 use std::alloc::Global;
 use std::test::*;
 
-/// Stores 7, loads it, and calls number 9: `addi x10,x0,7`; `sw x10,0(x2)`; `lw x11,0(x2)`; `addi x16,x0,9`;
-/// `lui x17,0x4F560`; `addi x17,x17,8`; `ecall`.
-static CODE: [u8; 28] = [
-    0x13, 0x05, 0x70, 0x00, 0x23, 0x20, 0xa1, 0x00, 0x83, 0x25, 0x01, 0x00, 0x13, 0x08, 0x90, 0x00,
-    0xb7, 0x08, 0x56, 0x4f, 0x93, 0x88, 0x88, 0x00, 0x73, 0x00, 0x00, 0x00,
-];
+/// Stores 7, loads it, and calls number 9.
+const CODE: &str = "
+    addi x10, x0, 7
+    sw x10, 0(x2)
+    lw x11, 0(x2)
+    addi x16, x0, 9
+    lui x17, 0x4F560
+    addi x17, x17, 8
+    ecall
+";
 
 /// The line of the program in the report of a joint run that halts in step 14.
 const LINE: &str =
-    "domain 0 state 57f402f27d52d0ab34baac3ab1c5a3062548b040812cf8c40e61e161f4c6d610 loads 1 3bc4fec69186869eae2e7a3fbd93442330a26866e505d5eae0d9342ad904819c\n";
+    "domain 0 state 57f402f27d52d0ab34baac3ab1c5a3062548b040812cf8c40e61e161f4c6d610 \
+    loads 1 3bc4fec69186869eae2e7a3fbd93442330a26866e505d5eae0d9342ad904819c\n";
 
-/// The program.
-fn program(alloc: Global) -> Result<Program, NoMemory>
+/// The program with this code.
+fn program(alloc: Global, code: &[u8]) -> Result<Program, NoMemory>
+    requires { length code.now ≤ 4096 }
     ensures { IfOk result (λ p. IsProgramIn 64 p) }
 {
     let mut bytes = Vec::from_slice(alloc, &[0; 4096])?;
-    bytes[..28].copy_from_slice(&CODE);
+    bytes[..code.len()].copy_from_slice(code);
     Ok(Program {
         place: 8,
         start: Start {
@@ -78,7 +85,9 @@ fn take_step(machine: &mut DomainAlone, number: u32) -> bool {
 #[test]
 fn reports_the_line_of_the_run(rt: HostRuntime) -> Result<(), Fail> {
     let k = kernel(rt.alloc())?;
-    let p = program(rt.alloc())?;
+    let code = code_of(rt.alloc(), CODE)?;
+    assert!(rt; code.len() <= 4096);
+    let p = program(rt.alloc(), code.as_slice())?;
     let mut machine = DomainAlone::open(rt.alloc(), &k, 0, &p)?;
     for number in 1..15 {
         assert!(rt; take_step(&mut machine, number), "step {number}");
