@@ -102,13 +102,13 @@ fn streams_that_end(rt: HostRuntime) -> Result<(), Fail> {
     let mut shown = report(rt.alloc(), CALLED)?;
     shown.push_str(CALLED_LINE)?;
     for (bytes, status, begins, record) in ENDS {
-        let begins = begins.unwrap_or(shown.as_str());
+        let begins = match begins {
+            Some(text) => text.as_bytes(),
+            None => shown.as_bytes(),
+        };
         let left = ran(rt.alloc(), bundle.as_slice(), bytes)?;
         assert_eq!(rt; left.status, status, "{bytes} bytes");
-        assert!(rt;
-            left.sink.taken().starts_with(begins.as_bytes()),
-            "{bytes} bytes"
-        );
+        assert!(rt; left.sink.taken().starts_with(begins), "{bytes} bytes");
         assert_eq!(rt; left.shelf.bytes("a.r").len(), record, "{bytes} bytes");
     }
     Ok(())
