@@ -2,7 +2,7 @@
 use Rattle.std.proofs.Common.{◌≡◌, ◌-◌, ◌%◌, ℕ, Bool, true, false, List, length, slice_index, if◌then◌else◌, refl, sym, ◌∙◌, ap, subst}
 use Rattle.cloak_model.specs.Asking.{Told, Follows}
 use Rattle.cloak_model.specs.Hart.{Hart}
-use Rattle.cloak_model.specs.HostCalls.{After}
+use Rattle.cloak_model.specs.HostCalls.{SteppedKernel}
 use Rattle.cloak_model.specs.KernelAlone as model
 use Rattle.cloak_model.specs.KernelAlone.{kernel_hart, kernel_unfit, plain_step, take_kernel_step, kernel_step_begun, after_plain_step, has_halted}
 use Rattle.cloak_model.specs.KernelStep.{kernel_step}
@@ -19,7 +19,7 @@ use Rattle.alone_views.specs.declared.kernel_ram.FlatRam.{FlatRam}
 use Rattle.alone_views.specs.KernelWorld.{IsWorld}
 
 -- what a step told, of this hart, disk and ending, and these frames
-abbrev pub told_of : Hart → List ℕ → Kernel → List (List ℕ) → Told After
+abbrev pub told_of : Hart → List ℕ → Kernel → List (List ℕ) → Told SteppedKernel
 told_of h disk k ram = record { answer = record { hart = h; disk = disk; ending = k }; world = Flat ram }
 
 told_as : {A : Type 0} (told : Told A) (a : A) (w : World) → told.answer ≡ a → told.world ≡ w →
@@ -28,7 +28,7 @@ told_as told a w e f i = record { answer = e i; world = f i }
 
 later_kernel_step : (h : Hart) (disk : List ℕ) (w : World) → IsLater w (kernel_step h disk w).world
 later_kernel_step h disk w =
-    subst (λ (t : Told After). IsLater w t.world) (sym (same_step h disk w)) (later_step_in_parts h disk w)
+    subst (λ (t : Told SteppedKernel). IsLater w t.world) (sym (same_step h disk w)) (later_step_in_parts h disk w)
 
 -- the step over frames without cloaked pages
 pub step_over_ram : (old new : FlatRam) (h h' : Hart) (disk disk' : List ℕ) (k : Kernel) →
@@ -50,7 +50,7 @@ pub stepped_plainly : (s : model.KernelAlone) (number : ℕ) (h h' : Hart) (disk
     }
 unfolding plain_step
 stepped_plainly s number h h' disk k ram halts is made halted =
-    ap (λ (told : Told After). let t : model.KernelAlone = record s {
+    ap (λ (told : Told SteppedKernel). let t : model.KernelAlone = record s {
       kernel = after_plain_step s.kernel number told;
       place = model.Between;
       halted = has_halted told.answer.ending;

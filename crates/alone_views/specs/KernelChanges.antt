@@ -2,7 +2,7 @@
 use Rattle.std.specs.Prelude.{ℕ, ◌≡◌, ◌%◌, ◌==◌, ◌&&◌, Bool, IsTrue, List, length}
 use Rattle.cloak_model.specs.Effect.{IsWidth}
 use Rattle.cloak_model.specs.KernelAlone as model
-use Rattle.cloak_model.specs.Memory.{is_in_frames}
+use Rattle.cloak_base.specs.Constants.{is_in_frames}
 use Rattle.alone_views.specs.KernelStanding.{state_with, turns_of}
 use Rattle.alone_views.specs.declared.kernel.KernelAlone.{KernelAlone}
 

@@ -8,44 +8,22 @@ ghost use Rattle.cloak_model.specs.Ask as ask;
 ghost use Rattle.cloak_model.specs.Asking.{Follows};
 ghost use Rattle.cloak_model.specs.Bundle.{IsSegmentIn};
 ghost use Rattle.cloak_model.specs.Effect.{IsWidth};
-ghost use Rattle.cloak_model.specs.Memory as memory;
-ghost use Rattle.cloak_model.specs.Memory.{is_in_frames, with_bytes, with_value_at, zero_ram};
+ghost use Rattle.cloak_base.specs.Constants.{ram_start, ram_end, is_in_frames};
+ghost use Rattle.cloak_model.specs.Memory.{with_bytes, with_value_at, zero_ram};
 ghost use Rattle.cloak_model.specs.Opening.{with_segments};
 
-use cloak_base::{Frame, NoMemory};
+use cloak_base::{Frame, NoMemory, RAM_START, frame_of, is_in_frames, place_of};
 use cloak_model::{Access, Segment, access_fault, set_value_in, value_in, word_in};
 use host_calls::Ram;
 use sha2::{Digest, Sha256};
 use std::alloc::Global;
 use sv32_walk::{Words, walk};
 
-/// Where RAM begins.
-const RAM_START: u32 = 0x8000_0000;
-
 /// RAM without cloaked pages: its frames as the kernel sees them.
 #[derive(Drop)]
 pub struct FlatRam {
     pub frames: Vec<[u8; 4096]>,
     ghost few: { length frames.items ≤ 4096 },
-}
-
-/// The frame of an address in RAM.
-#[inline]
-fn frame_of(pa: u32) -> usize
-    requires { 0x80000000 ≤ pa }
-    ensures { result ≡ memory.frame_of pa }
-{
-    ((pa - RAM_START) / 4096) as usize
-}
-
-/// The place of an address in its frame.
-#[inline]
-fn place_of(pa: u32) -> usize
-    requires { 0x80000000 ≤ pa }
-    ensures value { result ≡ memory.place_of pa }
-    ensures inside { result < 4096 }
-{
-    ((pa - RAM_START) % 4096) as usize
 }
 
 impl FlatRam {
@@ -56,7 +34,7 @@ impl FlatRam {
     pub fn is_inside(&self, pa: u64) -> bool
         ensures { result ≡ is_in_frames (length self.now.frames.items) pa }
     {
-        pa >= RAM_START as u64 && (pa - RAM_START as u64) / 4096 < self.frames.len() as u64
+        is_in_frames(self.frames.len() as u32, pa)
     }
 
     /// There is a frame of this number.
@@ -103,7 +81,7 @@ impl FlatRam {
         ensures { (satp : ℕ) (access : Access) →
             Follows IsWorld self.now self.now result (ask.ask_value satp access pa width) }
     {
-        value_in(&self.frames[frame_of(pa)], place_of(pa), width)
+        value_in(&self.frames[frame_of(pa).0 as usize], place_of(pa), width)
     }
 
     /// Stores the lowest 1, 2 or 4 bytes of a word at an address.
@@ -117,7 +95,12 @@ impl FlatRam {
         ensures follows { (satp : ℕ) (access : Access) →
             Follows IsWorld self.old self.new tt (ask.ask_store satp access pa width value) }
     {
-        set_value_in(&mut self.frames[frame_of(pa)], place_of(pa), width, value)
+        set_value_in(
+            &mut self.frames[frame_of(pa).0 as usize],
+            place_of(pa),
+            width,
+            value,
+        )
     }
 
     /// Replaces the bytes of a frame.
@@ -154,7 +137,7 @@ impl Words for FlatRam {
             return None;
         }
         let pa = pa as u32;
-        Some(word_in(&self.frames[frame_of(pa)], place_of(pa)))
+        Some(word_in(&self.frames[frame_of(pa).0 as usize], place_of(pa)))
     }
 }
 
@@ -208,8 +191,8 @@ fn zeros() -> [u8; 4096]
 
 /// Stores bytes from an address on.
 fn store_bytes(frames: &mut [[u8; 4096]], address: u32, bytes: &[u8])
-    requires from_start { 0x80000000 ≤ address }
-    requires to_end { address + length bytes.now ≤ 0x80000000 + 4096 * length frames.old }
+    requires from_start { ram_start ≤ address }
+    requires to_end { address + length bytes.now ≤ ram_end (length frames.old) }
     requires few { length frames.old ≤ 4096 }
     ensures { frames.new ≡ with_bytes frames.old address bytes.now }
 {

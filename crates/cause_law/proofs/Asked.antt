@@ -16,7 +16,7 @@ use Rattle.cloak_model.specs.Asking.{Told, Asking}
 use Rattle.cloak_model.specs.Cloaking.{Offer, Ready, Mismatch, Missed, offer}
 use Rattle.cloak_model.specs.Events.{Event}
 use Rattle.cloak_model.specs.Fork.{ask_copies, ask_forgets}
-use Rattle.cloak_model.specs.Memory.{frame_of}
+use Rattle.cloak_base.specs.Constants.{frame_of}
 use Rattle.cloak_model.specs.PageMoves.{copy_pages, drop_pages}
 use Rattle.cloak_model.specs.Walk.{FirstWord, Ends, GoesOn, Walk, first_entry, walk}
 use Rattle.cloak_model.specs.World.{World, Cloak, Flat, Cloaked, Alone, Handed, noted, settled, cipher_items, is_missed}

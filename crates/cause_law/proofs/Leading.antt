@@ -11,7 +11,8 @@ use Rattle.cloak_model.specs.AskPages.{ask_inside_address}
 use Rattle.cloak_model.specs.Asking.{Told}
 use Rattle.cloak_model.specs.Cloaking.{CloakedMemory, owed_in, settle}
 use Rattle.cloak_model.specs.Events.{Look}
-use Rattle.cloak_model.specs.Memory.{frame_of, place_of, is_in_frames, is_in_ram, value_in, value_at}
+use Rattle.cloak_base.specs.Constants.{frame_of, place_of, is_in_frames}
+use Rattle.cloak_model.specs.Memory.{is_in_ram, value_in, value_at}
 use Rattle.cloak_model.specs.Walk.{Walk, FirstWord, Ends, GoesOn, has_paging, without_paging, first_entry, first_word, second_word, word_in_ram, walk_after, walk}
 use Rattle.cloak_model.specs.World.{World, Cloak, Flat, Cloaked, Alone, settled}
 use Rattle.cause_law.proofs.Kept.{IsKept, Extends, Extends-refl, Extends-trans, extends_settled, kept_settled}

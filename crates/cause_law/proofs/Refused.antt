@@ -7,7 +7,7 @@ use Rattle.cloak_model.specs.declared.answer.Answer.{Answer}
 use Rattle.cloak_model.specs.AskPages.{replies, if_drawn, is_store, offer_events, offered_by, ask_offer, reached, reach_by_table, ask_reach}
 use Rattle.cloak_model.specs.Asking.{Told}
 use Rattle.cloak_model.specs.Cloaking.{CloakedMemory, Offer, Mismatch, offer}
-use Rattle.cloak_model.specs.Memory.{frame_of}
+use Rattle.cloak_base.specs.Constants.{frame_of}
 use Rattle.cloak_model.specs.World.{Cloak, Cloaked, cipher_items}
 use Rattle.cause_law.specs.Causes.{QuestionIsRefused, PageIsRefused}
 use Rattle.cause_law.proofs.Compared.{drawn_so, offer_refuses}

@@ -22,10 +22,10 @@ use Rattle.cloak_model.specs.Csr.{satp_of, interrupt_due}
 use Rattle.cloak_model.specs.DomainState.{Domain}
 use Rattle.cloak_model.specs.DomainStep.{step_if, domain_step, interrupt}
 use Rattle.cloak_model.specs.Hart.{Hart, started}
-use Rattle.cloak_model.specs.HostCalls.{After}
+use Rattle.cloak_model.specs.HostCalls.{SteppedKernel}
 use Rattle.cloak_model.specs.Joint.{Moment, Turn, next_hart, hart_in, cloak_of, cloak_outside, memory_of, after_kernel_step, outside_ended, after_outside, outside_step, domain_ended, with_domain, after_domain_step, pages_for, interrupt_ended, after_interrupt, by_interrupt, inside_step, turn_of, joint_step}
 use Rattle.cloak_model.specs.KernelStep.{ticked}
-use Rattle.cloak_model.specs.Memory.{frame_of}
+use Rattle.cloak_base.specs.Constants.{frame_of}
 use Rattle.cloak_model.specs.Parts.{Joint}
 use Rattle.cloak_model.specs.Resuming.{resume}
 use Rattle.cloak_model.specs.Touched.{touched}
@@ -213,7 +213,7 @@ unfolding settle_touched
 touched_kept h disk m kept = while_kept (λ ram. touched h ram disk) (length m.ledger.owed) m kept
 
 -- the machine behind the plain step of a hart outside
-abbrev pub told_outside : Moment → Told After
+abbrev pub told_outside : Moment → Told SteppedKernel
 told_outside m = settled_step (hart_of_step m) m.joint.disk (cloak_outside m.joint.memory (hart_of_step m))
 
 abbrev pub joint_outside : Moment → Joint

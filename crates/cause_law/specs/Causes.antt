@@ -23,7 +23,7 @@ use Rattle.cloak_model.specs.Csr.{satp_of, sum_of, mxr_of}
 use Rattle.cloak_model.specs.Hart.{Hart}
 use Rattle.cloak_model.specs.Joint.{Moment, Turn, next_hart, hart_in, cloak_outside, joint_step}
 use Rattle.cloak_model.specs.KernelStep.{ticked}
-use Rattle.cloak_model.specs.Memory.{frame_of}
+use Rattle.cloak_base.specs.Constants.{frame_of}
 use Rattle.cloak_model.specs.Parts.{Joint}
 use Rattle.cloak_model.specs.Run.{Run, joint_run, joint_after}
 use Rattle.cloak_model.specs.Walk.{Walk, walk}

@@ -18,7 +18,8 @@ use Rattle.cloak_model.specs.Effect.{effect}
 use Rattle.cloak_model.specs.Hart.{Hart}
 use Rattle.cloak_model.specs.Joint.{Moment, next_hart, hart_in, cloak_of, pages_for}
 use Rattle.cloak_model.specs.KernelStep.{ticked}
-use Rattle.cloak_model.specs.Memory.{frame_of, value_in}
+use Rattle.cloak_base.specs.Constants.{frame_of}
+use Rattle.cloak_model.specs.Memory.{value_in}
 use Rattle.cloak_model.specs.World.{World, Cloak, Cloaked, plain_of}
 
 -- The step of a context.

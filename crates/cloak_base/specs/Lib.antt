@@ -1,3 +1,4 @@
 pub mod Registers
 pub mod Random
 pub mod Pages
+pub mod Constants

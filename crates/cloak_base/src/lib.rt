@@ -3,13 +3,17 @@
 //! it leaves a context, the registers of a hart, and the value of a random stream with its next draw.
 //!
 //! Nothing here decides anything. The numbers are those of the bundle and the report; a physical
-//! address is `0x80000000 + 4096 * frame + offset`.
+//! address is `RAM_START + 4096 * frame + offset`.
 #![tactic(auto)]
 
 mod causes;
+mod constants;
 mod names;
 mod registers;
 
 pub use causes::{Failed, NoMemory, Shown, Stop, Violation};
+pub use constants::{
+    LARGEST_BUNDLE, RAM_START, TRAMPOLINE, frame_of, is_in_frames, place_of, ram_end,
+};
 pub use names::{CtxId, Frame, HartId, Kind, Mode, PageId, SpaceId, Start};
 pub use registers::Regs;

@@ -26,7 +26,7 @@ use Rattle.cloak_model.specs.DomainState.{Control, Domain}
 use Rattle.cloak_model.specs.DomainStep.{DomainStepped, domain_step, step_if, phase_step, instruction_ended}
 use Rattle.cloak_model.specs.DomainStep.{copy_ended}
 use Rattle.cloak_model.specs.Hart.{Hart}
-use Rattle.cloak_model.specs.HostCalls.{After}
+use Rattle.cloak_model.specs.HostCalls.{SteppedKernel}
 use Rattle.cloak_model.specs.Joint.{Turn, hart_in, turn_of, outside_step, after_outside, outside_ended, inside_step}
 use Rattle.cloak_model.specs.Joint.{by_interrupt, after_interrupt, interrupt_ended, after_domain_step, domain_ended}
 use Rattle.cloak_model.specs.KernelStep.{ticked}
@@ -112,7 +112,7 @@ goes_ended j number items (Resume ctx answer) =
     let r = resumes j number (satp_of (hart_in j number).csrs) ctx answer in
     record { console = r.console ∙ sym (append-nil j.console); loads = r.loads }
 
-goes_outside : (j : Joint) (number : ℕ) (told : Told After) → Goes j (after_outside j number told)
+goes_outside : (j : Joint) (number : ℕ) (told : Told SteppedKernel) → Goes j (after_outside j number told)
 unfolding after_outside
 goes_outside j number told =
     let goes = goes_ended _ number _ told.answer.ending in record { console = goes.console; loads = goes.loads }

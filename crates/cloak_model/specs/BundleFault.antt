@@ -2,7 +2,7 @@
 -- offset, its length and the rule of its value.
 use Rattle.std.specs.Prelude.{ℕ, ◌+◌, ◌*◌, ◌%◌, ◌^◌, ◌==◌, ◌&&◌, Bool, List, [], ◌∷◌, ◌++◌, length, take, slice_index, codes, Option, Some, None, nat_lt, nat_le, if◌then◌else◌}
 use Rattle.std.specs.Str.{bytes_eq}
-use Rattle.cloak_model.specs.Bundle.{largest_bundle}
+use Rattle.cloak_base.specs.Constants.{ram_start, ram_end, largest_bundle}
 use Rattle.cloak_model.specs.Fields as grammar
 use Rattle.cloak_model.specs.Fields.{first_of, first_in, number, parts, after_parts}
 use Rattle.cloak_model.specs.declared.fault.BundleFault.{BundleFault}
@@ -33,7 +33,7 @@ abbrev pub pages : ℕ → ℕ → List BundleField
 pages n at = parts (λ at. any_at at 4096 ∷ []) after_page n at
 
 abbrev pub lies_in_ram : ℕ → ℕ → ℕ → Bool
-lies_in_ram frames address size = nat_le 0x80000000 address && nat_le (address + size) (0x80000000 + 4096 * frames)
+lies_in_ram frames address size = nat_le ram_start address && nat_le (address + size) (ram_end frames)
 
 abbrev pub is_base_of : ℕ → ℕ → Bool
 is_base_of pages base = (base % 4096 == 0) && nat_le (base + 4096 * pages) (2 ^ 32)

@@ -7,7 +7,7 @@
 
 ghost use Rattle.std.specs.Prelude.{◌≡◌};
 ghost use Rattle.cloak_model.specs.Files as spec;
-ghost use Rattle.resource_map.specs.Told.{SameSpaces};
+ghost use Rattle.resource_map.specs.Owning.{SameSpaces};
 
 use cloak_model::{MapFault, Owner};
 use resource_map::Resources;

@@ -35,7 +35,7 @@ use Rattle.shadow_fold.specs.Fold.{Fold, after_events}
 use Rattle.cloak_base.specs.declared.names.SpaceId.{SpaceId}
 use Rattle.cloak_model.specs.Ask.{known}
 use Rattle.cloak_model.specs.Asking.{Told}
-use Rattle.cloak_model.specs.Memory.{frame_of}
+use Rattle.cloak_base.specs.Constants.{frame_of}
 use Rattle.cloak_model.specs.PageMoves.{with_newest}
 use Rattle.cloak_pager.specs.Asking.{ReadsNewest, FollowsCallStill, after_write_plain}
 use Rattle.cloaked_side.specs.Seeing.{Sees, SeesCloak}

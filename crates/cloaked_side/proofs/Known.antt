@@ -48,7 +48,8 @@ use Rattle.cloak_base.specs.declared.names.Mode.TheVariants.{U}
 use Rattle.cloak_model.specs.Ask.{shown_word, ask_word, ask_second, ask_after, ask_walk, ask_inside, ask_translate, ask_led, opened, ask_value, ask_store, shown_value, stored_value, loaded_at, ask_load, stored_to, ask_store_at, ask_first}
 use Rattle.cloak_model.specs.Asking.{Told, FollowsFrom, answered}
 use Rattle.cloak_model.specs.Exchange.{Piece}
-use Rattle.cloak_model.specs.Memory.{is_in_ram, frame_of, is_in_frames}
+use Rattle.cloak_base.specs.Constants.{frame_of, is_in_frames}
+use Rattle.cloak_model.specs.Memory.{is_in_ram}
 use Rattle.cloak_model.specs.Walk.{Walk, FirstWord, Ends, GoesOn, first_word, walk, has_paging, without_paging, first_entry, access_fault}
 use Rattle.cloak_model.specs.World.{World, Cloak, Flat, Cloaked, Alone}
 use Rattle.shadow_fold.specs.Agreement.{Present, EntryAgrees, satp_in, access_in, start_of}

@@ -8,7 +8,8 @@ use Rattle.cloak_model.specs.declared.item.Item.{Item}
 use Rattle.cloak_model.specs.Events.{Event, Read, Touch, Write}
 use Rattle.cloak_model.specs.World.{World, Cloak, Flat, Cloaked, Alone, cipher_items, noted, settled, settled_in, ram_of, stored_at, written}
 use Rattle.cloak_model.specs.World.{filled_frame}
-use Rattle.cloak_model.specs.Memory.{frame_of, place_of, with_value_in, is_in_ram, is_in_frames}
+use Rattle.cloak_base.specs.Constants.{frame_of, place_of, is_in_frames}
+use Rattle.cloak_model.specs.Memory.{with_value_in, is_in_ram}
 use Rattle.cloak_model.specs.Asking.{FollowsFrom, Keeps, answered}
 use Rattle.cloak_model.specs.Ask.{ask_word, shown_word}
 use Rattle.cloak_model.specs.Exchange.{Piece, Emits, EmitsSome, item_pieces}

@@ -10,7 +10,8 @@ use Rattle.cloak_model.specs.declared.access.Walked.{Walked}
 use Rattle.cloak_model.specs.Ask.{ask_word, ask_second, ask_after, ask_first, ask_walk}
 use Rattle.cloak_model.specs.Asking.{Told, answered}
 use Rattle.cloak_model.specs.Events.{Touch}
-use Rattle.cloak_model.specs.Memory.{frame_of, is_in_ram, value_at}
+use Rattle.cloak_base.specs.Constants.{frame_of}
+use Rattle.cloak_model.specs.Memory.{is_in_ram, value_at}
 use Rattle.cloak_model.specs.Walk.{Walk, FirstWord, Ends, GoesOn, has_paging, without_paging, first_entry, first_word, second_word}
 use Rattle.cloak_model.specs.World.{World, Cloak, Cloaked, settled_in}
 use Rattle.shadow_fold.specs.Fold.{Fold, after_events, after_event, touched}

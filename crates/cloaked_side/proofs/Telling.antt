@@ -5,7 +5,7 @@ use Rattle.cloak_model.specs.declared.view.View.{View}
 use Rattle.cloak_model.specs.World.{World, Cloak, Flat, Cloaked, Alone, is_clashed, unnoted}
 use Rattle.cloak_model.specs.Asking.{Told, FollowsFrom}
 use Rattle.cloak_model.specs.Hart.{Hart}
-use Rattle.cloak_model.specs.HostCalls.{After}
+use Rattle.cloak_model.specs.HostCalls.{SteppedKernel}
 use Rattle.cloak_model.specs.KernelStep.{kernel_step}
 use Rattle.cloak_model.specs.Ahead.{settled_step}
 use Rattle.settling_ahead.proofs.Laws.{settles_ahead, unclashed_ahead}
@@ -108,7 +108,7 @@ tells_whole gave e e' memory given a (Cloaked c) tells =
     record { answer = tells.answer; emits = tells.emits; holds = tells.holds }
 
 -- what followed of the plain step, told as the step that settles ahead
-pub tells_ahead : {E : Type 0} (gave : E → E → List Piece → Type 0) (first now : Side E) (after : After) (h : Hart)
+pub tells_ahead : {E : Type 0} (gave : E → E → List Piece → Type 0) (first now : Side E) (after : SteppedKernel) (h : Hart)
     (disk : List ℕ) (c : Cloak) (memory : Memory) (e : E) →
     memory ≡ now.memory.now → e ≡ now.emitter.now → c.memory.ledger.clashed ≡ false →
     (is_clashed (kernel_step h disk (Cloaked c)).world ≡ false →
@@ -119,7 +119,7 @@ tells_ahead gave first now after h disk c memory e same_memory same_emitter uncl
     let ahead = settled_step h disk c in
     let told = tells_from gave first now after step memory e same_memory same_emitter (follows (unclashed_ahead h disk c unclashed)) in
     tells_whole gave first.emitter.now e memory after ahead.answer ahead.world
-    (subst (λ (t : Told After). TellsSide gave first.emitter.now e memory after t) (settles_ahead h disk c)
+    (subst (λ (t : Told SteppedKernel). TellsSide gave first.emitter.now e memory after t) (settles_ahead h disk c)
     (tells_quiet gave first.emitter.now e memory after step.answer step.world told))
 
 -- What was so of a memory or an emitter behind a reference is so of the one that was given back.

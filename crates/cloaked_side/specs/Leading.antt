@@ -6,7 +6,8 @@ use Rattle.cloak_model.specs.declared.access.Walked.{Walked}
 use Rattle.cloak_base.specs.declared.names.SpaceId.{SpaceId}
 use Rattle.cloak_model.specs.Ask.{ask_led}
 use Rattle.cloak_model.specs.Asking.{Asking}
-use Rattle.cloak_model.specs.Memory.{frame_of, is_in_ram}
+use Rattle.cloak_base.specs.Constants.{frame_of}
+use Rattle.cloak_model.specs.Memory.{is_in_ram}
 use Rattle.cloak_pager.specs.State.{held_in}
 use Rattle.shadow_fold.specs.Fold.{view_in}
 use Rattle.shadow_fold.specs.Table.{is_known}

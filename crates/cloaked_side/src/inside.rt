@@ -38,7 +38,7 @@ impl<'m, 'e, E: Emit> Side<'m, 'e, E> {
     ghost use Rattle.cloak_model.specs.declared.item.Item.TheVariants as item;
     ghost use Rattle.cloak_model.specs.World.{World, is_clashed, written};
     ghost use Rattle.cloak_model.specs.Asking.{Follows, FollowsFrom, Keeps};
-    ghost use Rattle.cloak_model.specs.Memory.{is_in_frames, frame_of};
+    ghost use Rattle.cloak_base.specs.Constants.{is_in_frames, frame_of};
     ghost use Rattle.cloak_model.specs.AskPages.{replies, if_drawn, get_at, got, put_at, stored_inside, ask_offer, reached};
     ghost use Rattle.cloak_model.specs.AskPages.{reach_by_table, get_by_table, put_by_table};
     ghost use Rattle.cloak_pager.specs.State.{held_in, owed_at};
@@ -285,7 +285,7 @@ impl<'m, 'e, E: Emit> Side<'m, 'e, E> {
         ensures readable { result ≡ Answer.Ok → CanRead self.new q }
         ensures writable { result ≡ Answer.Ok → kind ≡ Kind.Store → CanWrite self.new q }
     {
-        let g = memory::frame_of(led.pa);
+        let g = cloak_base::frame_of(led.pa);
         match self.memory.offer(q, g, is_store(kind), self.emitter) {
             Offer::Ready => {
                 self.learn_page(q, view, va, kind, led);

@@ -2,15 +2,11 @@
 ghost use Rattle.std.specs.Prelude.{◌≡◌, ◌≢◌, ◌<◌, ◌^◌, ◌/◌, ◌%◌, ℕ, [], ◌∷◌, true, false, IsTrue, IfOk, IfSome, Option, None, Some, Ok};
 ghost use Rattle.shadow_fold.specs.Agreement.{satp_in, access_in};
 
-use crate::memory::frame_of;
 use crate::side::Side;
-use cloak_base::{Frame, Kind, Mode, PageId, SpaceId};
+use cloak_base::{Frame, Kind, Mode, PageId, RAM_START, SpaceId, frame_of};
 use cloak_model::{Access, Emit, Walked, access_fault, has_bit};
 use multi_shadow::{Entry, ShadowView, is_table};
 use sv32_walk::walk;
-
-/// Where RAM begins.
-const RAM_START: u64 = 0x8000_0000;
 
 /// Where an access leads.
 #[derive(Clone, Copy)]
@@ -107,8 +103,7 @@ impl<'m, 'e, E: Emit> Side<'m, 'e, E> {
     ghost use Rattle.cloak_model.specs.Events.{Look, Born};
     ghost use Rattle.cloak_model.specs.Walk.{has_paging};
     ghost use Rattle.cloak_model.specs.Asking.{FollowsFrom, Keeps};
-    ghost use Rattle.cloak_model.specs.Memory.{is_in_frames};
-    ghost use Rattle.cloak_model.specs.Memory as model;
+    ghost use Rattle.cloak_base.specs.Constants.{frame_of, is_in_frames};
     ghost use Rattle.cloak_model.specs.World.{World, is_clashed, noted};
     ghost use Rattle.cloak_pager.specs.State.{held_in};
     ghost use Rattle.cloaked_side.specs.Holding.{frames_of};
@@ -145,7 +140,7 @@ impl<'m, 'e, E: Emit> Side<'m, 'e, E> {
             IsLedSo self.new.memory.now (asked_led view.now va kind w).world view.now va kind cloaked led)) }
     {
         let e = self.memory.shadows.find(view, va / 4096, kind)?;
-        let pa = RAM_START + 4096 * e.frame.0 as u64 + (va % 4096) as u64;
+        let pa = RAM_START as u64 + 4096 * e.frame.0 as u64 + (va % 4096) as u64;
         if !self.memory.is_inside(pa) {
             return Some(Err(access_fault(kind)));
         }
@@ -287,7 +282,7 @@ impl<'m, 'e, E: Emit> Side<'m, 'e, E> {
             Sees E.gave first self.new (opened (satp_in view.now) (access_in view.now va kind) led.now.pa w) }
         ensures keeps { Keeps (StaysWithin E.gave) self.old self.new }
         ensures same_count { frames_of self.new.memory.now ≡ frames_of self.old.memory.now }
-        ensures outside { held_in self.new.memory.now.pager (model.frame_of led.now.pa) ≡ None }
+        ensures outside { held_in self.new.memory.now.pager (frame_of led.now.pa) ≡ None }
     {
         let f = frame_of(led.pa);
         self.settle(f);

@@ -1,37 +1,14 @@
 ghost use Rattle.std.specs.Prelude.{◌≡◌, ◌≢◌, ◌^◌, IsTrue, ◌⊎◌, ℕ, Bool, true, false, not, ◌<◌, ◌≤◌, [], ◌∷◌, Option, is_some, length};
-ghost use Rattle.cloak_model.specs.Memory as memory;
-ghost use Rattle.cloak_model.specs.Memory.{is_in_frames};
+ghost use Rattle.cloak_base.specs.Constants.{ram_start, is_in_frames};
 ghost use Rattle.cloak_model.specs.declared.item.Item.TheVariants.{Cipher};
 ghost use Rattle.shadow_fold.specs.Entries.{is_of_space};
 ghost use Rattle.shadow_fold.specs.Table.{empty_table, ending, killed};
 
-use cloak_base::{Frame, PageId, SpaceId};
+use cloak_base::{Frame, PageId, SpaceId, is_in_frames};
 use cloak_model::Emit;
 use cloak_pager::{Offered, Pager, Touched};
 use multi_shadow::Shadows;
 use outside_io::Stream;
-
-/// Where RAM begins.
-const RAM_START: u32 = 0x8000_0000;
-
-/// The frame of an address in RAM.
-#[inline]
-pub fn frame_of(pa: u32) -> Frame
-    requires { 0x80000000 ≤ pa }
-    ensures { result.0 ≡ memory.frame_of pa }
-{
-    Frame((pa - RAM_START) / 4096)
-}
-
-/// The place of an address in its frame.
-#[inline]
-pub fn place_of(pa: u32) -> usize
-    requires { 0x80000000 ≤ pa }
-    ensures value { result ≡ memory.place_of pa }
-    ensures inside { result < 4096 }
-{
-    ((pa - RAM_START) % 4096) as usize
-}
 
 /// How an offer ended.
 #[derive(Clone, Copy)]
@@ -240,9 +217,9 @@ impl Memory {
     pub fn is_inside(&self, pa: u64) -> bool
         ensures value { result ≡ is_in_frames (frames_of self.now) pa }
         ensures low { IsTrue result → pa < 2 ^ 32 }
-        ensures high { IsTrue result → 0x80000000 ≤ pa }
+        ensures high { IsTrue result → ram_start ≤ pa }
     {
-        pa >= RAM_START as u64 && (pa - RAM_START as u64) / 4096 < self.pager.count() as u64
+        is_in_frames(self.pager.count(), pa)
     }
 
     /// Emits what the kernel is shown of an outside frame.

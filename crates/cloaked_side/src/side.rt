@@ -1,8 +1,8 @@
 ghost use Rattle.std.specs.Prelude.{◌≡◌, ◌<◌, ◌≤◌, ◌%◌, IsTrue, length, is_some};
 
 use crate::kept_items::KeptItems;
-use crate::memory::{Memory, frame_of, place_of};
-use cloak_base::{Frame, SpaceId, Violation};
+use crate::memory::Memory;
+use cloak_base::{Frame, SpaceId, Violation, frame_of, place_of};
 use cloak_model::{Access, Emit, View, value_in};
 use host_calls::Ram;
 use multi_shadow::ShadowView;
@@ -36,8 +36,7 @@ impl<'m, 'e, E: Emit> Side<'m, 'e, E> {
     ghost use Rattle.shadow_fold.specs.Following.{killed_if};
     ghost use Rattle.cloak_model.specs.Ask.{shown_value, stored_value};
     ghost use Rattle.cloak_model.specs.Effect.{IsWidth};
-    ghost use Rattle.cloak_model.specs.Memory as model;
-    ghost use Rattle.cloak_model.specs.Memory.{is_in_frames};
+    ghost use Rattle.cloak_base.specs.Constants.{frame_of, is_in_frames};
 
     /// Settles a frame.
     #[inline(always)]
@@ -64,7 +63,7 @@ impl<'m, 'e, E: Emit> Side<'m, 'e, E> {
     /// The value at an address in an outside frame.
     pub(crate) fn read_settled(&mut self, pa: u32, width: u32) -> u32
         requires inside { IsTrue (is_in_frames (frames_of self.old.memory.now) pa) }
-        requires outside { held_in self.old.memory.now.pager (model.frame_of pa) ≡ None }
+        requires outside { held_in self.old.memory.now.pager (frame_of pa) ≡ None }
         requires width { IsWidth width }
         requires aligned { pa % width ≡ 0 }
         ensures told { FollowsAlways E.gave self.old self.new result (shown_value pa width) }
@@ -81,7 +80,7 @@ impl<'m, 'e, E: Emit> Side<'m, 'e, E> {
     /// Stores the lowest bytes of a word at an address in an outside frame. Translations through the frame end.
     pub(crate) fn write_settled(&mut self, pa: u32, width: u32, v: u32)
         requires inside { IsTrue (is_in_frames (frames_of self.old.memory.now) pa) }
-        requires outside { held_in self.old.memory.now.pager (model.frame_of pa) ≡ None }
+        requires outside { held_in self.old.memory.now.pager (frame_of pa) ≡ None }
         requires width { IsWidth width }
         requires aligned { pa % width ≡ 0 }
         ensures told { FollowsAlways E.gave self.old self.new tt (stored_value pa width v) }

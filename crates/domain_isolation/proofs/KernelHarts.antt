@@ -13,14 +13,14 @@ use Rattle.cloak_model.specs.declared.outcome.Kernel.TheVariants.{Stay, Put, Hal
 use Rattle.cloak_model.specs.declared.outcome.Effect.{Effect}
 use Rattle.cloak_model.specs.declared.outcome.Effect.TheVariants as does
 use Rattle.cloak_model.specs.Csr.{csr_read, satp_of, interrupt_due, with_pending}
-use Rattle.cloak_model.specs.Memory.{frame_of}
+use Rattle.cloak_base.specs.Constants.{frame_of}
 use Rattle.cloak_model.specs.Effect.{effect}
 use Rattle.cloak_model.specs.Hart.{Hart}
 use Rattle.cloak_model.specs.World.{World}
 use Rattle.cloak_model.specs.Asking.{Asking, then_ask}
 use Rattle.cloak_model.specs.Ask.{ask_load, ask_store_at, ask_count, ask_fill, ask_frame}
-use Rattle.cloak_model.specs.HartStep.{Made, with_word, gone_on, stays, raised, csr_written, csr_found, csr_step, returned, idle, system}
-use Rattle.cloak_model.specs.HostCalls.{After, is_transfer, block_at, with_block, ends, host_answers, put_call, timer_call, halt_call, read_block, write_block, read_call, write_call, host_call, resumed, ecall_in, ecall}
+use Rattle.cloak_model.specs.HartStep.{SteppedHart, with_word, gone_on, stays, raised, csr_written, csr_found, csr_step, returned, idle, system}
+use Rattle.cloak_model.specs.HostCalls.{SteppedKernel, is_transfer, block_at, with_block, ends, host_answers, put_call, timer_call, halt_call, read_block, write_block, read_call, write_call, host_call, resumed, ecall_in, ecall}
 use Rattle.cloak_model.specs.KernelStep.{access, extended, is_ecall, or_trap, carried_out, executed, instruction_step, ticked, kernel_step}
 
 abbrev pub inside_after : Kernel → Option ℕ → Option ℕ
@@ -29,18 +29,18 @@ inside_after (Put byte) was = was
 inside_after (Halt value) was = was
 inside_after (Resume ctx answer) was = Some ctx
 
-abbrev MadeSo : Option ℕ → Made → Type 0
+abbrev MadeSo : Option ℕ → SteppedHart → Type 0
 MadeSo was m = m.hart.inside ≡ inside_after m.ending was
 
 -- whatever the world is
-abbrev StepsSo : Option ℕ → Asking After → Type 0
+abbrev StepsSo : Option ℕ → Asking SteppedKernel → Type 0
 StepsSo was ask = (w : World) → (ask w).answer.hart.inside ≡ inside_after (ask w).answer.ending was
 
 either_so : {A : Type 0} (P : A → Type 0) (test : Bool) (x y : A) → P x → P y → P (cond test x y)
 either_so P true x y first second = first
 either_so P false x y first second = second
 
-steps_either : (was : Option ℕ) (test : Bool) (x y : Asking After) → StepsSo was x → StepsSo was y → (w : World) →
+steps_either : (was : Option ℕ) (test : Bool) (x y : Asking SteppedKernel) → StepsSo was x → StepsSo was y → (w : World) →
     (cond test (x w) (y w)).answer.hart.inside ≡ inside_after (cond test (x w) (y w)).answer.ending was
 steps_either was true x y first second w = first w
 steps_either was false x y first second w = second w
@@ -50,7 +50,7 @@ unfolding raised
 raised_so h cause value = refl
 
 or_trap_so : {A : Type 0} (was : Option ℕ) (h : Hart) (disk : List ℕ) (va : ℕ) (to : Result A ℕ)
-    (next : A → Asking After) → h.inside ≡ was → ((found : A) → StepsSo was (next found)) →
+    (next : A → Asking SteppedKernel) → h.inside ≡ was → ((found : A) → StepsSo was (next found)) →
     StepsSo was (or_trap h disk va to next)
 or_trap_so was h disk va (Err cause) next is rest w =
     subst (λ (x : Option ℕ). MadeSo x (raised h cause va)) is (raised_so h cause va)
@@ -123,11 +123,11 @@ host_call_so : (h : Hart) (disk : List ℕ) → StepsSo h.inside (host_call h di
 unfolding host_call put_call timer_call halt_call
 host_call_so h disk w =
     let n = register h.regs 17 in
-    let any : Asking After = ends disk (host_answers h (2 ^ 32 - 1)) in
-    let fourth : Asking After = λ v. cond (n == 4) (ends disk (halt_call h) v) (any v) in
-    let third : Asking After = λ v. cond (n == 3) (write_call h disk v) (fourth v) in
-    let second : Asking After = λ v. cond (n == 2) (read_call h disk v) (third v) in
-    let first : Asking After = λ v. cond (n == 1) (ends disk (timer_call h) v) (second v) in
+    let any : Asking SteppedKernel = ends disk (host_answers h (2 ^ 32 - 1)) in
+    let fourth : Asking SteppedKernel = λ v. cond (n == 4) (ends disk (halt_call h) v) (any v) in
+    let third : Asking SteppedKernel = λ v. cond (n == 3) (write_call h disk v) (fourth v) in
+    let second : Asking SteppedKernel = λ v. cond (n == 2) (read_call h disk v) (third v) in
+    let first : Asking SteppedKernel = λ v. cond (n == 1) (ends disk (timer_call h) v) (second v) in
     steps_either h.inside (n == 0) (ends disk (put_call h)) first (λ v. refl)
     (steps_either h.inside (n == 1) (ends disk (timer_call h)) second (λ v. refl)
     (steps_either h.inside (n == 2) (read_call h disk) third (read_so h disk)
@@ -153,15 +153,15 @@ carried_out_so h disk word i (does.Jump rd link target) w = refl
 carried_out_so h disk word i (does.Go target) w = refl
 carried_out_so h disk word i (does.Load rd va width is_signed) w =
     let found = ask_load (satp_of h.csrs) (access h Load va) width w in
-    let next : ℕ → Asking After = λ value.
+    let next : ℕ → Asking SteppedKernel = λ value.
     ends disk (stays (gone_on (with_word h rd (extended is_signed width value)))) in
     or_trap_so h.inside h disk va found.answer next refl (λ value v. refl) found.world
 carried_out_so h disk word i (does.Store va width value) w =
     let found = ask_store_at (satp_of h.csrs) (access h Store va) width value w in
-    let next : Unit {0} → Asking After = λ done. ends disk (stays (gone_on h)) in
+    let next : Unit {0} → Asking SteppedKernel = λ done. ends disk (stays (gone_on h)) in
     or_trap_so h.inside h disk va found.answer next refl (λ done v. refl) found.world
 carried_out_so h disk word i does.System w =
-    either_so (λ (ask : Asking After). (ask w).answer.hart.inside ≡ inside_after (ask w).answer.ending h.inside)
+    either_so (λ (ask : Asking SteppedKernel). (ask w).answer.hart.inside ≡ inside_after (ask w).answer.ending h.inside)
     (is_ecall i) (ecall h disk) (ends disk (system h word i))
     (ecall_so h disk w) (system_so h word i)
 carried_out_so h disk word i does.Nothing w = refl
@@ -175,7 +175,7 @@ instruction_so : (h : Hart) (disk : List ℕ) → StepsSo h.inside (instruction_
 unfolding instruction_step
 instruction_so h disk w =
     let found = ask_load (satp_of h.csrs) (access h Fetch h.pc) 4 w in
-    let next : ℕ → Asking After = λ word. executed h disk word (instruction word) in
+    let next : ℕ → Asking SteppedKernel = λ word. executed h disk word (instruction word) in
     or_trap_so h.inside h disk h.pc found.answer next refl (λ word. executed_so h disk word (instruction word))
     found.world
 
@@ -194,6 +194,6 @@ kernel_step_inside h disk w =
     let h' = ticked h in
     let a = (kernel_step h disk w).answer in
     subst (λ (was : Option ℕ). a.hart.inside ≡ inside_after a.ending was) (ticked_inside h)
-    (either_so (λ (ask : Asking After). (ask w).answer.hart.inside ≡ inside_after (ask w).answer.ending h'.inside)
+    (either_so (λ (ask : Asking SteppedKernel). (ask w).answer.hart.inside ≡ inside_after (ask w).answer.ending h'.inside)
     (interrupt_due h'.mode h'.csrs) (ends disk (raised h' 0x80000005 0)) (instruction_step h' disk)
     (raised_so h' 0x80000005 0) (instruction_so h' disk w))

@@ -14,7 +14,7 @@ use Rattle.cloak_model.specs.declared.answer.Answer.{Answer}
 use Rattle.cloak_model.specs.declared.answer.Answer.TheVariants as told
 use Rattle.cloak_model.specs.declared.item.Item.{Item}
 use Rattle.cloak_model.specs.Events.{Event}
-use Rattle.cloak_model.specs.Memory.{frame_of}
+use Rattle.cloak_base.specs.Constants.{frame_of}
 use Rattle.cloak_model.specs.Ledger.{vector_of}
 use Rattle.cloak_model.specs.Halves.{is_inward, inward_half}
 use Rattle.cloak_model.specs.Cloaking.{CloakedMemory, AfterSettling, AfterOffer, Offer, Ready, Mismatch, Missed, settle, settle_if, settle_owed, settle_frame_if, owing_frame, owes, owed_in, compared, unless_missed, offer}

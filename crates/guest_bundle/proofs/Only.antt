@@ -8,7 +8,7 @@ use Rattle.std.proofs.lemmas.List.Elements.{recursion_from_All}
 use Rattle.std.proofs.lemmas.List.Concat.{flat_map-cons}
 use Rattle.cloak_model.specs.Bits.{word}
 use Rattle.cloak_model.specs.Bundle.{segment_bytes, program_bytes, bundle_bytes, IsSegmentIn, IsProgramIn, IsBundle}
-use Rattle.cloak_model.specs.Bundle.{largest_bundle}
+use Rattle.cloak_base.specs.Constants.{largest_bundle}
 use Rattle.cloak_model.specs.declared.image.Bundle.{Bundle}
 use Rattle.guest_bundle.specs.declared.header.Header.{Header}
 use Rattle.guest_bundle.specs.Reading.{version_at, header_at, turn_at, segment_at, segment_size, program_at}

@@ -8,7 +8,7 @@ ghost use Rattle.guest_bundle.specs.Reading.{program_size, parts_at};
 
 use crate::BundleFault;
 use crate::fields::{bytes, count, entry, number, pages};
-use cloak_base::Start;
+use cloak_base::{RAM_START, Start, ram_end};
 use std::alloc::Global;
 
 /// A segment of a file: its address, and where its bytes begin and end.
@@ -70,8 +70,7 @@ pub fn schedule(
 fn is_in_ram(frames: u32, address: u32, size: u32) -> bool
     ensures { result ≡ lies_in_ram frames address size }
 {
-    let end = 0x80000000 + 4096 * frames as u64;
-    address >= 0x80000000 && address as u64 + size as u64 <= end
+    address >= RAM_START && address as u64 + size as u64 <= ram_end(frames)
 }
 
 /// A segment.

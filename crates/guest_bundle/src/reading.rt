@@ -12,7 +12,7 @@ use crate::fields::pages;
 use crate::header::{Header, read_header};
 use crate::moving::{move_end, move_programs, move_segments};
 use crate::parts::{ProgramPlace, SegmentPlace, programs, schedule, segments};
-use cloak_base::NoMemory;
+use cloak_base::{LARGEST_BUNDLE, NoMemory};
 use cloak_model::{Bundle, KernelImage, Sequence};
 use std::alloc::Global;
 
@@ -67,7 +67,7 @@ fn gather(alloc: Global, file: Vec<u8>, h: Header, parts: Parts) -> Result<Bundl
 fn bundle(alloc: Global, file: Vec<u8>) -> Result<Bundle, BundleFault>
     ensures { Gives (λ x. x) result (bundle_at file.items) }
 {
-    if file.len() > 67_108_864 {
+    if file.len() > LARGEST_BUNDLE as usize {
         return Err(BundleFault::TooLarge(0));
     }
     let bytes = file.as_slice();

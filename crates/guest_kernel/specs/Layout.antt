@@ -1,5 +1,6 @@
 -- Where the parts of a generated image stand: this project's choice, which the texts of kernel and demo program share.
 use Rattle.std.specs.Prelude.{ℕ, ◌+◌, ◌*◌, List}
+use Rattle.cloak_base.specs.Constants.{ram_start}
 use Rattle.cloak_base.specs.declared.names.Start.{Start}
 use Rattle.guest_kernel.specs.declared.kernel_words.TheConstants.{KERNEL}
 use Rattle.guest_kernel.specs.declared.demo_words.TheConstants.{DEMO}
@@ -15,7 +16,7 @@ demo_words = DEMO
 -- The kernel's words stand in frame 0, where each hart starts, and its boot table in frame 1.
 
 abbrev pub kernel_address : ℕ
-kernel_address = 0x80000000
+kernel_address = ram_start
 
 abbrev pub boot_table_address : ℕ
 boot_table_address = 0x80001000

@@ -7,12 +7,12 @@ ghost use Rattle.guest_kernel.specs.Generated.{boot_table, segments_of};
 
 use crate::drawing::{harts, programs};
 use crate::kernel_words::kernel_words;
-use cloak_base::NoMemory;
+use cloak_base::{NoMemory, RAM_START};
 use cloak_model::{Segment, Sequence};
 use std::alloc::Global;
 
 /// Where the kernel stands, and where each hart starts.
-pub const KERNEL_ADDRESS: u32 = 0x8000_0000;
+pub const KERNEL_ADDRESS: u32 = RAM_START;
 
 /// Where its boot table stands.
 pub const BOOT_TABLE_ADDRESS: u32 = 0x8000_1000;

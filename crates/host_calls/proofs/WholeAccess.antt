@@ -7,8 +7,8 @@ use Rattle.cloak_model.specs.Hart.{Hart}
 use Rattle.cloak_model.specs.Csr.{satp_of}
 use Rattle.cloak_model.specs.Asking.{Asking, answered, then_ask}
 use Rattle.cloak_model.specs.Ask.{ask_load, ask_store_at}
-use Rattle.cloak_model.specs.HartStep.{Made, raised}
-use Rattle.cloak_model.specs.HostCalls.{After, over}
+use Rattle.cloak_model.specs.HartStep.{SteppedHart, raised}
+use Rattle.cloak_model.specs.HostCalls.{SteppedKernel, over}
 use Rattle.cloak_model.specs.KernelStep.{access}
 use Rattle.step_parts.specs.Parts.{after_load, load_part, after_store, store_part, decoded_part, executed_part, fetched_part, instruction_part}
 use Rattle.host_calls.specs.declared.ram.Ram.{Ghosts}
@@ -29,7 +29,7 @@ ended ram old new a b ask ending is steps =
       same_count = steps.same_count;
     }
 
-pub load_steps : {M : Type 0} (ram : Ghosts M) (old new : M) (h : Hart) (rd va width : ℕ) (s : Bool) (found : Result ℕ ℕ) (made : Made) →
+pub load_steps : {M : Type 0} (ram : Ghosts M) (old new : M) (h : Hart) (rd va width : ℕ) (s : Bool) (found : Result ℕ ℕ) (made : SteppedHart) →
     made ≡ after_load h rd va width s found →
     StepsOver ram old new found (ask_load (satp_of h.csrs) (access h Load va) width) →
     StepsOver ram old new made (load_part h rd va width s)
@@ -37,7 +37,7 @@ unfolding load_part
 load_steps ram old new h rd va width s found made is steps =
     ended ram old new found made _ (after_load h rd va width s) is steps
 
-pub store_steps : {M : Type 0} (ram : Ghosts M) (old new : M) (h : Hart) (va width value : ℕ) (found : Result (Unit {0}) ℕ) (made : Made) →
+pub store_steps : {M : Type 0} (ram : Ghosts M) (old new : M) (h : Hart) (va width value : ℕ) (found : Result (Unit {0}) ℕ) (made : SteppedHart) →
     made ≡ after_store h va found →
     StepsOver ram old new found (ask_store_at (satp_of h.csrs) (access h Store va) width value) →
     StepsOver ram old new made (store_part h va width value)
@@ -45,7 +45,7 @@ unfolding store_part
 store_steps ram old new h va width value found made is steps =
     ended ram old new found made _ (after_store h va) is steps
 
-fetch_steps : {M : Type 0} (ram : Ghosts M) (old mid new : M) (h : Hart) (disk : List ℕ) (pc : ℕ) (found : Result ℕ ℕ) (after : After) →
+fetch_steps : {M : Type 0} (ram : Ghosts M) (old mid new : M) (h : Hart) (disk : List ℕ) (pc : ℕ) (found : Result ℕ ℕ) (after : SteppedKernel) →
     pc ≡ h.pc → StepsOver ram old mid found (ask_load (satp_of h.csrs) (access h Fetch pc) 4) →
     StepsOver ram mid new after (fetched_part h disk found) →
     StepsOver ram old new after (instruction_part h disk)
@@ -59,7 +59,7 @@ fetch_steps ram old mid new h disk pc found after at steps then =
       same_count = then.same_count ∙ fetched.same_count;
     }
 
-pub fault_steps : {M : Type 0} (ram : Ghosts M) (old new : M) (h : Hart) (disk : List ℕ) (pc : ℕ) (cause : ℕ) (after : After) →
+pub fault_steps : {M : Type 0} (ram : Ghosts M) (old new : M) (h : Hart) (disk : List ℕ) (pc : ℕ) (cause : ℕ) (after : SteppedKernel) →
     pc ≡ h.pc → after ≡ over disk (raised h cause pc) →
     StepsOver ram old new (Err cause) (ask_load (satp_of h.csrs) (access h Fetch pc) 4) →
     StepsOver ram old new after (instruction_part h disk)
@@ -73,7 +73,7 @@ fault_steps ram old new h disk pc cause after at is steps =
       same_count = refl;
     })
 
-pub word_steps : {M : Type 0} (ram : Ghosts M) (old mid new : M) (h : Hart) (disk : List ℕ) (pc : ℕ) (word : ℕ) (i : Option Instr) (after : After) →
+pub word_steps : {M : Type 0} (ram : Ghosts M) (old mid new : M) (h : Hart) (disk : List ℕ) (pc : ℕ) (word : ℕ) (i : Option Instr) (after : SteppedKernel) →
     pc ≡ h.pc → i ≡ instruction word →
     StepsOver ram old mid (Ok word) (ask_load (satp_of h.csrs) (access h Fetch pc) 4) →
     StepsOver ram mid new after (decoded_part h disk word i) →

@@ -1,7 +1,7 @@
 ghost use Rattle.std.specs.Prelude.{◌≡◌};
 ghost use Rattle.cloak_model.specs.Leaving as spec;
 
-use cloak_base::{Mode, Regs, Shown};
+use cloak_base::{Mode, Regs, Shown, TRAMPOLINE};
 use rv_traps::Csrs;
 use std::marker::Model;
 
@@ -75,7 +75,7 @@ fn shown_registers(s: &Shown) -> Regs
 pub fn leave(h: &mut Hart, s: &Shown)
     ensures { h.new ≡ spec.leave h.old s.now }
 {
-    h.pc = h.csrs.enter_trap(Mode::U, s.cause, s.stval, 0x0000_1000);
+    h.pc = h.csrs.enter_trap(Mode::U, s.cause, s.stval, TRAMPOLINE);
     h.mode = Mode::S;
     h.regs = shown_registers(s);
     h.inside = None;

@@ -5,7 +5,8 @@ use Rattle.std.specs.Prelude.{All}
 use Rattle.std.specs.List.{list_all}
 use Rattle.std.proofs.lemmas.Bool.{and_parts, leb-true, ltb-true, eqb-true}
 use Rattle.std.proofs.lemmas.List.Elements.{All-nil, All-cons, All-get_or}
-use Rattle.cloak_model.specs.Bundle.{bundle_bytes, largest_bundle, IsSegmentIn, IsKernelImage, IsProgramIn, IsInGrammar}
+use Rattle.cloak_base.specs.Constants.{largest_bundle}
+use Rattle.cloak_model.specs.Bundle.{bundle_bytes, IsSegmentIn, IsKernelImage, IsProgramIn, IsInGrammar}
 use Rattle.cloak_model.specs.declared.image.Segment.{Segment}
 use Rattle.cloak_model.specs.declared.image.KernelImage.{KernelImage}
 use Rattle.cloak_model.specs.declared.image.Program.{Program}

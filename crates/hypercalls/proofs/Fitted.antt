@@ -8,7 +8,7 @@ use Rattle.cloak_model.specs.Resources.{Resources, started_resources}
 use Rattle.cloak_model.specs.DomainState.{Control}
 use Rattle.cloak_model.specs.Hypercalls.{with_slot}
 use Rattle.resource_map.specs.Kept.{IsInUse}
-use Rattle.resource_map.specs.Told.{SameSpaces}
+use Rattle.resource_map.specs.Owning.{SameSpaces}
 use Rattle.resource_map.proofs.Lists.{get_or-replicate_none}
 use Rattle.hypercalls.specs.Hashing.{HasHart}
 use Rattle.cloaked_fork.specs.Homes.{AllInUse}

@@ -11,12 +11,12 @@ use Rattle.rv_isa.specs.declared.instr.Instr.{Instr}
 use Rattle.rv_isa.specs.declared.instr.Instr.TheVariants as instr
 use Rattle.cloak_model.specs.Csr.{Csrs, csr_word, with_csr, bit, sstatus_word, with_pending, csr_read, is_csr, aligned, kept, csr_write, trap_entry, trap_return, status, status_in_trap, status_after_return, is_supervisor}
 use Rattle.cloak_model.specs.CsrNumbers as csr
-use Rattle.cloak_model.specs.declared.status.Sstatus.{Sstatus}
+use Rattle.cloak_model.specs.declared.sstatus.Sstatus.{Sstatus}
 use Rattle.cloak_model.specs.declared.outcome.Kernel.{Kernel}
 use Rattle.cloak_model.specs.declared.outcome.Kernel.TheVariants as ending
 use Rattle.cloak_model.specs.Exchange.{shown_words}
 use Rattle.cloak_model.specs.Hart.{Hart, started}
-use Rattle.cloak_model.specs.HartStep.{Made, with_word, gone_on, stays, raised, illegal, csr_now, csr_written, csr_found, csr_step, cleared, returned, idle, system}
+use Rattle.cloak_model.specs.HartStep.{SteppedHart, with_word, gone_on, stays, raised, illegal, csr_now, csr_written, csr_found, csr_step, cleared, returned, idle, system}
 use Rattle.cloak_model.specs.KernelStep.{ticked}
 use Rattle.cloak_model.specs.Leaving.{with_registers, shown_registers, leave}
 use Rattle.cloak_model.specs.Record.{IsWord}
@@ -147,7 +147,7 @@ EndingFits (ending.Put b) = Unit {0}
 EndingFits (ending.Halt value) = Unit {0}
 EndingFits (ending.Resume ctx answer) = IsWord ctx × IsWord answer
 
-pub record MadeFits (m : Made) : Type 0 where
+pub record MadeFits (m : SteppedHart) : Type 0 where
   pub hart : HartFits m.hart
   pub ending : EndingFits m.ending
 

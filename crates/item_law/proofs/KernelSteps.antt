@@ -14,10 +14,10 @@ use Rattle.cloak_model.specs.Effect.{effect}
 use Rattle.cloak_model.specs.declared.outcome.Effect.{Effect}
 use Rattle.cloak_model.specs.declared.outcome.Effect.TheVariants as does
 use Rattle.cloak_model.specs.Hart.{Hart}
-use Rattle.cloak_model.specs.HartStep.{Made, with_word, gone_on, stays, raised, system}
-use Rattle.cloak_model.specs.HostCalls.{After, ends, block_at, with_block, is_transfer, host_answers, put_call, timer_call, halt_call, read_block, write_block, read_call, write_call, host_call, resumed, ecall_in, ecall}
+use Rattle.cloak_model.specs.HartStep.{SteppedHart, with_word, gone_on, stays, raised, system}
+use Rattle.cloak_model.specs.HostCalls.{SteppedKernel, ends, block_at, with_block, is_transfer, host_answers, put_call, timer_call, halt_call, read_block, write_block, read_call, write_call, host_call, resumed, ecall_in, ecall}
 use Rattle.cloak_model.specs.KernelStep.{access, extended, is_ecall, or_trap, carried_out, executed, instruction_step, ticked, kernel_step}
-use Rattle.cloak_model.specs.Memory.{frame_of}
+use Rattle.cloak_base.specs.Constants.{frame_of}
 use Rattle.cloak_model.specs.Record.{IsWord}
 use Rattle.cloak_model.specs.World.{World}
 use Rattle.item_law.specs.Writing.{AreBytes}
@@ -26,12 +26,12 @@ use Rattle.item_law.proofs.Effects.{FieldsFit, EffectFits, instruction_fits, eff
 use Rattle.item_law.proofs.Harts.{HartFits, EndingFits, MadeFits, zero_registers_fit, with_pending_fits, register_fits, with_word_fits, gone_on_fits, with_pc_fits, ticked_fits, stays_fits, raised_fits, illegal_fits, system_fits}
 use Rattle.item_law.proofs.Worlds.{WorldFits, ToldFits, Anything, FoundFits, then_fits, either_told, count_told, load_told, store_at_told, frame_told, fill_told}
 
-pub record AfterFits (a : After) : Type 0 where
+pub record AfterFits (a : SteppedKernel) : Type 0 where
   pub hart : HartFits a.hart
   pub disk : AreBytes a.disk
   pub ending : EndingFits a.ending
 
-ends_told : (disk : List ℕ) (made : Made) (w : World) → AreBytes disk → MadeFits made → WorldFits w →
+ends_told : (disk : List ℕ) (made : SteppedHart) (w : World) → AreBytes disk → MadeFits made → WorldFits w →
     ToldFits AfterFits (ends disk made w)
 ends_told disk made w bytes fits world =
     record { answer = record { hart = fits.hart; disk = bytes; ending = fits.ending }; world = world }
@@ -144,7 +144,7 @@ ecall_told h disk w fits bytes world =
 -- Instructions.
 
 or_trap_told : {A : Type 0} (P : A → Type 0) (h : Hart) (disk : List ℕ) (va : ℕ) (found : Result A ℕ)
-    (next : A → Asking After) (w : World) → FoundFits P found → HartFits h → AreBytes disk → IsWord va → WorldFits w →
+    (next : A → Asking SteppedKernel) (w : World) → FoundFits P found → HartFits h → AreBytes disk → IsWord va → WorldFits w →
     ((a : A) → P a → ToldFits AfterFits (next a w)) → ToldFits AfterFits (or_trap h disk va found next w)
 or_trap_told P h disk va (Err cause) next w finds fits bytes at world more =
     ends_told disk _ w bytes (raised_fits h cause va fits finds at) world
@@ -161,14 +161,14 @@ carried_out_told h disk word i (does.Jump rd link target) w fits bytes here f e 
 carried_out_told h disk word i (does.Go target) w fits bytes here f e world =
     ends_told disk _ w bytes (stays_fits _ (with_pc_fits h target fits e)) world
 carried_out_told h disk word i (does.Load rd va width is_signed) w fits bytes here f e world =
-    let done : ℕ → Asking After = λ value. ends disk (stays (gone_on (with_word h rd (extended is_signed width value)))) in
+    let done : ℕ → Asking SteppedKernel = λ value. ends disk (stays (gone_on (with_word h rd (extended is_signed width value)))) in
     then_fits (FoundFits IsWord) AfterFits (ask_load (satp_of h.csrs) (access h Load va) width)
     (λ found. or_trap h disk va found done) w (load_told (satp_of h.csrs) (access h Load va) width w world)
     (λ found v finds there. or_trap_told IsWord h disk va found done v finds fits bytes e.0 there
     (λ value below. ends_told disk _ v bytes
     (stays_fits _ (gone_on_fits _ (with_word_fits h rd _ fits (extended_below is_signed width value below)))) there))
 carried_out_told h disk word i (does.Store va width value) w fits bytes here f e world =
-    let done : Unit {0} → Asking After = λ done. ends disk (stays (gone_on h)) in
+    let done : Unit {0} → Asking SteppedKernel = λ done. ends disk (stays (gone_on h)) in
     then_fits (FoundFits Anything) AfterFits (ask_store_at (satp_of h.csrs) (access h Store va) width value)
     (λ found. or_trap h disk va found done) w (store_at_told (satp_of h.csrs) (access h Store va) width value w world)
     (λ found v finds there. or_trap_told Anything h disk va found done v finds fits bytes e.0 there
@@ -192,7 +192,7 @@ instruction_told : (h : Hart) (disk : List ℕ) (w : World) → HartFits h → A
     ToldFits AfterFits (instruction_step h disk w)
 unfolding instruction_step
 instruction_told h disk w fits bytes world =
-    let done : ℕ → Asking After = λ word. executed h disk word (instruction word) in
+    let done : ℕ → Asking SteppedKernel = λ word. executed h disk word (instruction word) in
     then_fits (FoundFits IsWord) AfterFits (ask_load (satp_of h.csrs) (access h Fetch h.pc) 4)
     (λ found. or_trap h disk h.pc found done) w (load_told (satp_of h.csrs) (access h Fetch h.pc) 4 w world)
     (λ found v finds there. or_trap_told IsWord h disk h.pc found done v finds fits bytes fits.pc there

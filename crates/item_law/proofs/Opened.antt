@@ -18,7 +18,8 @@ use Rattle.cloak_model.specs.Cloaking.{CloakedMemory, ciphertext_of}
 use Rattle.cloak_model.specs.Contexts.{Context, started_contexts}
 use Rattle.cloak_model.specs.DomainState.{started_control, started_domain}
 use Rattle.cloak_model.specs.Ledger.{vector_of}
-use Rattle.cloak_model.specs.Memory.{frame_of, place_of, zero_ram, with_byte, with_bytes}
+use Rattle.cloak_base.specs.Constants.{frame_of, place_of}
+use Rattle.cloak_model.specs.Memory.{zero_ram, with_byte, with_bytes}
 use Rattle.cloak_model.specs.Opening.{with_segments, started_harts, numbers_below, started_ledger, started_kernel, started_memory, program_page, place_pages, place_programs, started_domains, started_joint, is_placed, opening_items, Opened, opened_with, opened_by, opening}
 use Rattle.cloak_model.specs.PageMoves.{place, place_with}
 use Rattle.cloak_model.specs.Record.{IsItem, IsWord}

@@ -19,7 +19,8 @@ use Rattle.cloak_model.specs.Asking.{Told, Asking, answered, then_ask}
 use Rattle.cloak_model.specs.Cloaking.{Offer, Ready, Mismatch, Missed}
 use Rattle.cloak_model.specs.Effect.{IsWidth}
 use Rattle.cloak_model.specs.Events.{Event}
-use Rattle.cloak_model.specs.Memory.{frame_of, place_of, is_in_ram, with_value_at, value_at}
+use Rattle.cloak_base.specs.Constants.{frame_of, place_of}
+use Rattle.cloak_model.specs.Memory.{is_in_ram, with_value_at, value_at}
 use Rattle.cloak_model.specs.PageMoves.{copy_pages, drop_pages}
 use Rattle.cloak_model.specs.Record.{IsItem, IsWord}
 use Rattle.cloak_model.specs.Walk.{Walk, FirstWord, Ends, GoesOn, access_fault, page_fault, first_entry, has_paging, is_valid, is_pointer, is_plain_pointer, allows, frame_at, first_leaf, second_leaf, first_word, second_word}

@@ -10,7 +10,8 @@ use Rattle.cloak_model.specs.declared.image.Segment.{Segment}
 use Rattle.cloak_model.specs.declared.image.KernelImage.{KernelImage}
 use Rattle.cloak_model.specs.Bundle.{IsSegmentIn}
 use Rattle.cloak_model.specs.Cloaking.{CloakedMemory}
-use Rattle.cloak_model.specs.Memory.{frame_of, place_of, with_byte, with_bytes, with_value_in, zero_ram}
+use Rattle.cloak_base.specs.Constants.{frame_of, place_of}
+use Rattle.cloak_model.specs.Memory.{with_byte, with_bytes, with_value_in, zero_ram}
 use Rattle.cloak_model.specs.Opening.{with_segments, started_kernel, started_ledger, started_memory}
 use Rattle.protect_meta.specs.declared.meta.Meta.{Meta}
 use Rattle.protect_meta.specs.Table.{meta_at}

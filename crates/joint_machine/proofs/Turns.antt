@@ -13,7 +13,7 @@ use Rattle.cloak_model.specs.DomainState as program
 use Rattle.cloak_model.specs.Exchange.{Piece}
 use Rattle.cloak_model.specs.Hart.{Hart, started}
 use Rattle.cloak_model.specs.Contexts.{domain_of, slot_of}
-use Rattle.cloak_model.specs.HostCalls.{After}
+use Rattle.cloak_model.specs.HostCalls.{SteppedKernel}
 use Rattle.cloak_model.specs.KernelStep.{ticked}
 use Rattle.cloak_model.specs.Joint.{Turn, by_interrupt, inside_step, hart_in, memory_of, after_kernel_step, after_outside, outside_ended, outside_step, cloak_outside, turn_of}
 use Rattle.cloak_model.specs.Parts as model
@@ -105,16 +105,16 @@ pub steps_plainly : {E : Type 0} (gave : E → E → List Piece → Type 0) (e e
     TellsSide gave e e' new.memory (record { hart = h'; disk = new.disk; ending = given }) (settled_step h old.disk (cloak_outside j.memory h)) →
     StepsPlainly gave e e' new given j number (settled_step (hart_in j number) j.disk (cloak_outside j.memory (hart_in j number)))
 steps_plainly gave e e' old new given j number h h' s is harts domains roots tells =
-    let told : Hart → List ℕ → Told After = λ x disk. settled_step x disk (cloak_outside j.memory x) in
+    let told : Hart → List ℕ → Told SteppedKernel = λ x disk. settled_step x disk (cloak_outside j.memory x) in
     let told_here : TellsSide gave e e' new.memory (record { hart = h'; disk = new.disk; ending = given }) (told (hart_in j number) j.disk) =
     subst (λ (x : Hart). TellsSide gave e e' new.memory (record { hart = h'; disk = new.disk; ending = given }) (told x j.disk)) is
     (subst (λ (disk : List ℕ). TellsSide gave e e' new.memory (record { hart = h'; disk = new.disk; ending = given }) (told h disk)) s.disk tells) in
     record {
-      answer = ap (λ (a : After). a.ending) told_here.answer;
+      answer = ap (λ (a : SteppedKernel). a.ending) told_here.answer;
       emits = told_here.emits;
       stands = record {
-        harts = harts ∙ ap (λ (hs : List Hart). slice_set hs number h') s.harts ∙ ap (λ (a : After). slice_set j.harts number a.hart) told_here.answer;
-        disk = ap (λ (a : After). a.disk) told_here.answer;
+        harts = harts ∙ ap (λ (hs : List Hart). slice_set hs number h') s.harts ∙ ap (λ (a : SteppedKernel). slice_set j.harts number a.hart) told_here.answer;
+        disk = ap (λ (a : SteppedKernel). a.disk) told_here.answer;
         memory = holds_memory new.memory (told (hart_in j number) j.disk).world j.memory told_here.holds;
         domains = subst (λ (xs : List Domain). AreDomains xs j.domains) (sym domains) s.domains;
         roots = subst (λ (root : SpaceId → Option ℕ). AreRoots new.roots root) (sym (plain_roots (hart_in j number) j.disk j.memory))
@@ -126,7 +126,7 @@ steps_plainly gave e e' old new given j number h h' s is harts domains roots tel
 pub stands_shown : (joint : Joint) (j : model.Joint) (console : List ℕ) → StandsForJoint joint j → StandsForJoint joint (record j { console = console })
 stands_shown joint j console s = record { harts = s.harts; disk = s.disk; memory = s.memory; domains = s.domains; roots = s.roots }
 
-module _ {E : Type 0} (gave : E → E → List Piece → Type 0) (e e' : E) (joint : Joint) (given : Kernel) (ended : Ended) (j : model.Joint) (number : ℕ) (told : Told After) (s : StepsPlainly gave e e' joint given j number told) where
+module _ {E : Type 0} (gave : E → E → List Piece → Type 0) (e e' : E) (joint : Joint) (given : Kernel) (ended : Ended) (j : model.Joint) (number : ℕ) (told : Told SteppedKernel) (s : StepsPlainly gave e e' joint given j number told) where
   pub ends_stay : given ≡ kernel.Stay → ended ≡ record { console = None; violation = None; halt = None } → EndsTurn gave e e' joint ended (after_outside j number told)
   unfolding after_outside outside_ended
   ends_stay is none = subst (λ (k : Kernel). EndsTurn gave e e' joint ended (outside_ended (after_kernel_step j number told) number (items_of told.world) k)) (sym is ∙ s.answer) (record {

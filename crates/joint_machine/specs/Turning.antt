@@ -10,7 +10,7 @@ use Rattle.cloak_model.specs.Hart.{Hart}
 use Rattle.cloak_model.specs.Cloaking.{CloakedMemory}
 use Rattle.cloak_model.specs.World.{Cloak, items_of, violation_of}
 use Rattle.cloak_model.specs.Asking.{Told}
-use Rattle.cloak_model.specs.HostCalls.{After}
+use Rattle.cloak_model.specs.HostCalls.{SteppedKernel}
 use Rattle.cloak_model.specs.Contexts.{Context, context_at}
 use Rattle.cloak_model.specs.DomainState as program
 use Rattle.cloak_model.specs.DomainStep.{DomainStepped}
@@ -43,7 +43,7 @@ pub record EndsTurn {E : Type 0} (gave : E → E → List Piece → Type 0) (e e
 -- A hart outside.
 
 -- its plain step has come about
-pub record StepsPlainly {E : Type 0} (gave : E → E → List Piece → Type 0) (e e' : E) (joint : Joint) (given : Kernel) (j : model.Joint) (number : ℕ) (told : Told After) : Type 0 where
+pub record StepsPlainly {E : Type 0} (gave : E → E → List Piece → Type 0) (e e' : E) (joint : Joint) (given : Kernel) (j : model.Joint) (number : ℕ) (told : Told SteppedKernel) : Type 0 where
   pub answer : given ≡ told.answer.ending
   pub emits : Emits gave e e' (item_pieces (items_of told.world))
   pub stands : StandsForJoint joint (after_kernel_step j number told)

@@ -1,5 +1,6 @@
 //! RAM as a run begins.
 ghost use Rattle.std.specs.Prelude.{◌≡◌, ◌≤◌, ◌+◌, ◌-◌, ◌*◌, ◌<◌, ℕ, [], length, reverse, take, drop, IfOk};
+ghost use Rattle.cloak_base.specs.Constants.{ram_start, ram_end};
 ghost use Rattle.cloak_model.specs.Bundle.{IsKernelImage, IsSegmentIn};
 ghost use Rattle.cloak_model.specs.Memory.{with_bytes};
 ghost use Rattle.cloak_model.specs.Opening.{started_memory};
@@ -7,7 +8,7 @@ ghost use Rattle.cloak_pager.specs.State.{held_in};
 ghost use Rattle.cloaked_side.specs.Holding.{Holds, domains_in, frames_of};
 ghost use Rattle.joint_machine.specs.Starting.{ArePages, HasFrames, IsReady};
 
-use cloak_base::{Frame, NoMemory};
+use cloak_base::{Frame, NoMemory, RAM_START};
 use cloak_model::{KernelImage, Segment};
 use cloak_pager::Pager;
 use cloaked_side::Memory;
@@ -16,16 +17,13 @@ use multi_shadow::Shadows;
 use outside_io::Stream;
 use std::alloc::Global;
 
-/// Where RAM begins.
-const RAM_START: u32 = 0x8000_0000;
-
 /// How many bytes a segment gives back at a time.
 const PIECE: usize = 65_536;
 
 /// Stores bytes from an address on.
 fn store(pager: &mut Pager, address: u32, bytes: &[u8])
-    requires from_start { 0x80000000 ≤ address }
-    requires to_end { address + length bytes.now ≤ 0x80000000 + 4096 * length pager.old.frames }
+    requires from_start { ram_start ≤ address }
+    requires to_end { address + length bytes.now ≤ ram_end (length pager.old.frames) }
     requires few { length pager.old.frames ≤ 4096 }
     requires outside { (k : ℕ) → held_in pager.old k ≡ None }
     requires pages { ArePages pager.old.frames }
@@ -39,8 +37,8 @@ fn store(pager: &mut Pager, address: u32, bytes: &[u8])
 
 /// Stores the last bytes of a list, the last one first, from an address on. The list gives them back. Answers how many they are.
 fn store_piece(pager: &mut Pager, address: u32, bytes: &mut Vec<u8>) -> u32
-    requires from_start { 0x80000000 ≤ address }
-    requires to_end { address + length bytes.old.items ≤ 0x80000000 + 4096 * length pager.old.frames }
+    requires from_start { ram_start ≤ address }
+    requires to_end { address + length bytes.old.items ≤ ram_end (length pager.old.frames) }
     requires few { length pager.old.frames ≤ 4096 }
     requires outside { (k : ℕ) → held_in pager.old k ≡ None }
     requires pages { ArePages pager.old.frames }

@@ -17,7 +17,8 @@ use Rattle.cloak_model.specs.Asking.{Told, Asking}
 use Rattle.cloak_model.specs.Cloaking.{Offer, Ready, Mismatch, Missed, offer, settle}
 use Rattle.cloak_model.specs.Effect.{IsWidth}
 use Rattle.cloak_model.specs.Events.{Event}
-use Rattle.cloak_model.specs.Memory.{frame_of, is_in_ram}
+use Rattle.cloak_base.specs.Constants.{frame_of}
+use Rattle.cloak_model.specs.Memory.{is_in_ram}
 use Rattle.cloak_model.specs.PageMoves.{copy_pages, drop_pages}
 use Rattle.cloak_model.specs.Walk.{Walk, FirstWord, Ends, GoesOn, first_entry}
 use Rattle.cloak_model.specs.World.{World, Cloak, Flat, Cloaked, Alone, Handed, ram_of, owed_of, items_of, noted, settled, cipher_items}

@@ -13,7 +13,8 @@ use Rattle.cloak_model.specs.Ask.{ask_word, ask_second, ask_after, ask_first, as
 use Rattle.cloak_model.specs.AskPages.{ask_inside_address}
 use Rattle.cloak_model.specs.Asking.{Told}
 use Rattle.cloak_model.specs.Effect.{IsWidth}
-use Rattle.cloak_model.specs.Memory.{frame_of, place_of, is_in_ram, with_value_at}
+use Rattle.cloak_base.specs.Constants.{frame_of, place_of}
+use Rattle.cloak_model.specs.Memory.{is_in_ram, with_value_at}
 use Rattle.cloak_model.specs.Walk.{Walk, FirstWord, Ends, GoesOn, first_entry, has_paging, is_valid, is_pointer, is_plain_pointer, first_leaf, second_leaf, first_word, second_word}
 use Rattle.cloak_model.specs.World.{World, ram_of}
 use Rattle.kernel_isolation.proofs.Shown.{either}

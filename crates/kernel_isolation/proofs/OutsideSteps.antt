@@ -6,7 +6,7 @@ use Rattle.cloak_model.specs.declared.item.Item.TheVariants as item
 use Rattle.cloak_model.specs.Ahead.{with_shown}
 use Rattle.cloak_model.specs.Asking.{Told}
 use Rattle.cloak_model.specs.Halves.{is_outward}
-use Rattle.cloak_model.specs.HostCalls.{After}
+use Rattle.cloak_model.specs.HostCalls.{SteppedKernel}
 use Rattle.cloak_model.specs.KernelAlone.{KernelAlone, Between, Outside, kernel_unfit, kernel_hart, has_halted, after_plain_step, plain_step, kernel_step_ended, kernel_step_begun, take_kernel_step, kernel_takes, take_kernel_item, kernel_taken}
 use Rattle.cloak_model.specs.KernelStep.{kernel_step}
 use Rattle.cloak_model.specs.Parts.{KernelPart}
@@ -24,7 +24,7 @@ abbrev pub shown_part : List (ℕ × List ℕ) → KernelPart → KernelPart
 shown_part ciphers k = record k { ram = with_shown ciphers k.ram }
 
 -- the plain step of a hart
-abbrev pub plain_told : ℕ → KernelPart → Told After
+abbrev pub plain_told : ℕ → KernelPart → Told SteppedKernel
 plain_told hart k = kernel_step (kernel_hart k hart) k.disk (Flat k.ram)
 
 -- the kernel's part after it

@@ -2,6 +2,7 @@
 use Rattle.std.specs.Prelude.{ℕ, ◌≡◌, ◌+◌, ◌*◌, ◌-◌, ◌%◌, ◌/◌, ◌^◌, ◌<◌, ◌≤◌, ◌⊎◌, ◌==◌, Bool, true, false, max, pos, List, [], ◌∷◌, ◌++◌, length, take, drop, replicate, slice_index, EachIndex, Option, Some, None}
 use Rattle.std.specs.Str.{NoCharPasses}
 use Rattle.outside_io.specs.Told.{Tells}
+use Rattle.cloak_base.specs.Constants.{ram_start}
 use Rattle.cloak_model.specs.declared.image.Segment.{Segment as KernelSegment}
 use Rattle.cloak_model.specs.declared.image.KernelImage.{KernelImage}
 use Rattle.cloak_model.specs.declared.image.Program.{Program as CloakedProgram}
@@ -117,7 +118,7 @@ module _ (held : List ℕ → Option (List ℕ)) (manifest : List ℕ) where
     pub frames : IsNumberOr (stands_at Frames document) 64 k.frames
     pub harts : IsNumberOr (stands_at Harts document) 1 k.harts
     pub schedule : IsSchedule (stands_at Schedule document) k.harts k.schedule
-    pub entry : IsNumberOr (stands_at Entry document) 0x80000000 k.entry
+    pub entry : IsNumberOr (stands_at Entry document) ram_start k.entry
     pub tables : Items
     pub list : IsList (stands_at Segment document) tables
     pub segments : EachMeans IsSegmentOf tables k.segments

@@ -3,6 +3,7 @@ ghost use Rattle.std.specs.Prelude.{◌≡◌, ◌≤◌, ◌<◌, ◌%◌, ◌^
 ghost use Rattle.toml.specs.Data.{integer};
 ghost use Rattle.toml.specs.View.{view, items_view};
 ghost use Rattle.program_parts.specs.Outside.{files};
+ghost use Rattle.cloak_base.specs.Constants.{ram_start};
 ghost use Rattle.cloak_model.specs.Bundle.{IsKernelImage};
 ghost use Rattle.manifest.specs.declared.key.Key.TheVariants as keys;
 ghost use Rattle.manifest.specs.Keys.{stands_at};
@@ -13,7 +14,8 @@ use crate::disk::disk;
 use crate::fault::{PackError, PackFault, Wrong};
 use crate::fields::{Place, in_range};
 use crate::key::Key;
-use crate::segments::{RAM_START, segments};
+use crate::segments::segments;
+use cloak_base::RAM_START;
 use cloak_model::{KernelImage, Sequence};
 use outside_io::Shelf;
 use std::alloc::Global;
@@ -83,7 +85,7 @@ fn schedule(alloc: Global, place: Place<'_>, harts: u32) -> Result<Vec<u8>, Pack
 
 /// The program counter at which the harts begin.
 fn entry(place: Place<'_>) -> Result<u32, PackFault>
-    ensures value { IfOk result (IsNumberOr (stands_at keys.Entry (view place.entry.table.now)) 0x80000000) }
+    ensures value { IfOk result (IsNumberOr (stands_at keys.Entry (view place.entry.table.now)) ram_start) }
     ensures multiple { IfOk result (λ n. n % 4 ≡ 0) }
 {
     let entry = place.number_or(Key::Entry, 0, u32::MAX, RAM_START)?;

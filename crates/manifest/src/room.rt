@@ -1,12 +1,11 @@
 //! How much room the parts of a bundle leave in the largest file.
 ghost use Rattle.std.specs.Prelude.{◌≡◌, ◌+◌, length, IfSome};
 ghost use Rattle.std.specs.List.{flat_map};
-ghost use Rattle.cloak_model.specs.Bundle.{bundle_bytes, largest_bundle, program_bytes, segment_bytes};
+ghost use Rattle.cloak_base.specs.Constants.{largest_bundle};
+ghost use Rattle.cloak_model.specs.Bundle.{bundle_bytes, program_bytes, segment_bytes};
 
+use cloak_base::LARGEST_BUNDLE;
 use cloak_model::{Bundle, Program, Segment};
-
-/// The largest file of a bundle, in bytes.
-const LARGEST_BUNDLE: u64 = 67_108_864;
 
 /// What some bytes leave of some room, where there is enough.
 fn taken(room: u64, size: usize) -> Option<u64>
@@ -56,7 +55,7 @@ pub fn room_behind(bundle: &Bundle) -> Option<u64>
     ensures { IfSome result (λ left. length (bundle_bytes bundle.now) + left ≡ largest_bundle) }
 {
     let kernel = &bundle.kernel;
-    let front = LARGEST_BUNDLE - 40;
+    let front = LARGEST_BUNDLE as u64 - 40;
     let turns = behind_bytes(front, kernel.schedule.as_slice())?;
     let disk = behind_bytes(turns, kernel.disk.as_slice())?;
     let segments = behind_segments(disk, kernel.segments.as_slice())?;

@@ -2,6 +2,7 @@
 ghost use Rattle.std.specs.Prelude.{◌≡◌, ◌≤◌, ◌+◌, ◌*◌, All, IfOk, IsTrue, length};
 ghost use Rattle.toml.specs.View.{view, items_view};
 ghost use Rattle.program_parts.specs.Outside.{files};
+ghost use Rattle.cloak_base.specs.Constants.{ram_end};
 ghost use Rattle.cloak_model.specs.Bundle.{IsSegmentIn};
 ghost use Rattle.manifest.specs.Manifest.{EachMeans, IsSegmentOf};
 ghost use Rattle.manifest.specs.Reading.{ReadsParts};
@@ -10,20 +11,18 @@ use crate::fault::{PackError, Wrong};
 use crate::fields::Place;
 use crate::key::{Key, Part};
 use crate::sources::source;
+use cloak_base::{RAM_START, ram_end};
 use cloak_model::{Segment, Sequence};
 use outside_io::Shelf;
 use std::alloc::Global;
 use toml::Value;
 
-/// Where RAM begins.
-pub const RAM_START: u32 = 0x8000_0000;
-
 /// So many bytes from this address of RAM on lie in RAM.
 fn is_in_ram(address: u32, size: usize, frames: u32) -> bool
     requires frames { frames ≤ 4096 }
-    ensures { IsTrue result → address + size ≤ 0x80000000 + 4096 * frames }
+    ensures { IsTrue result → address + size ≤ ram_end frames }
 {
-    let end = u64::from(RAM_START) + 4096 * u64::from(frames);
+    let end = ram_end(frames);
     let address = u64::from(address);
     address <= end && size as u64 <= end - address
 }

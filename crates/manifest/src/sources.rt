@@ -14,13 +14,11 @@ use crate::fault::{PackError, PackFault, Wrong};
 use crate::fields::Place;
 use crate::key::{Key, Part};
 use asm_text::{TextFault, assembled, shown_text};
+use cloak_base::LARGEST_BUNDLE;
 use outside_io::Shelf;
 use program_parts::{Refusal, read_front};
 use rv_asm::AsmFault;
 use std::alloc::Global;
-
-/// The most bytes of a file that a manifest may name: those of the largest bundle.
-const LARGEST_FILE: u32 = 67_108_864;
 
 /// The name of a file that a manifest names, from the manifest's folder on.
 fn path_of(alloc: Global, manifest: &str, name: &str) -> Result<String, PackFault>
@@ -76,14 +74,14 @@ fn named_file<S: Shelf>(
         (files S.held S.reading_faults S.writing_faults shelf.new) result }
     ensures settled { S.is_settled shelf.new }
 {
-    match read_whole(alloc, shelf, path, LARGEST_FILE) {
+    match read_whole(alloc, shelf, path, LARGEST_BUNDLE) {
         Ok(Some(bytes)) => {
             if bytes.is_empty() {
                 return Err(PackError::Faulty(place.fault(key, Wrong::NoFile)));
             }
             Ok(bytes)
         }
-        Ok(None) => Err(PackError::Faulty(place.fault(key, Wrong::NoRoom(LARGEST_FILE)))),
+        Ok(None) => Err(PackError::Faulty(place.fault(key, Wrong::NoRoom(LARGEST_BUNDLE)))),
         Err(error) => Err(error),
     }
 }

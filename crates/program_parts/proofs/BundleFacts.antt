@@ -5,7 +5,7 @@ use Rattle.std.proofs.Common.{IfSome}
 use Rattle.std.proofs.lemmas.Bool.Decides.{nat_tests}
 use Rattle.std.proofs.lemmas.List.{length-take, take_all}
 use Rattle.std.specs.Prelude.{nat_lt}
-use Rattle.cloak_model.specs.Bundle.{largest_bundle}
+use Rattle.cloak_base.specs.Constants.{largest_bundle}
 use Rattle.cloak_model.specs.BundleFault.{bundle_fault}
 use Rattle.cloak_model.specs.declared.fault.BundleFault.TheVariants.{TooLarge}
 

@@ -5,13 +5,11 @@ ghost use Rattle.program_parts.specs.Bundles.{ReadsBundle, ReadsJudging};
 
 use crate::files::read_front;
 use crate::refusal::Refusal;
+use cloak_base::LARGEST_BUNDLE;
 use cloak_model::Bundle;
 use guest_bundle::{BundleFault, read};
 use outside_io::Shelf;
 use std::alloc::Global;
-
-/// The largest file of a bundle, in bytes.
-const LARGEST_BUNDLE: u64 = 67_108_864;
 
 /// The bytes of a file that is not too large for a bundle.
 #[tactic(auto, using(crate::proofs::BundleFacts::whole))]
@@ -24,8 +22,8 @@ fn read_whole<S: Shelf>(alloc: Global, shelf: &mut S, name: &str) -> Result<Vec<
     ensures writing { S.writing_faults shelf.new ≡ S.writing_faults shelf.old }
     ensures settled { S.is_settled shelf.new }
 {
-    let bytes = read_front(alloc, shelf, name, LARGEST_BUNDLE + 1)?;
-    if bytes.len() as u64 > LARGEST_BUNDLE {
+    let bytes = read_front(alloc, shelf, name, LARGEST_BUNDLE as u64 + 1)?;
+    if bytes.len() > LARGEST_BUNDLE as usize {
         return Err(Refusal::BadBundle(BundleFault::TooLarge(0)));
     }
     Ok(bytes)

@@ -13,7 +13,7 @@ use Rattle.cloak_model.specs.declared.resource.Region.{Region}
 use Rattle.cloak_model.specs.Resources.{Resources, resource_at, regions_in, pages_of, all_pages, is_shared_with, with_regions, is_space, is_private_to, without_space, drop_space, started_resources}
 use Rattle.cloak_model.specs.Files.{holds_file}
 use Rattle.resource_map.specs.Kept.{IsInUse, IsMapped, IsOwner, IsHeld, IsSound}
-use Rattle.resource_map.specs.Told.{MayOwn}
+use Rattle.resource_map.specs.Owning.{MayOwn}
 use Rattle.resource_map.proofs.Lists.{get_or-replicate_none, get_or-map_all, get_or-set_none, count_by-no_position, sum_by-map-le}
 
 -- As a domain begins.

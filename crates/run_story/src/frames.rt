@@ -1,13 +1,10 @@
 //! Frames that are only read: words, walks by page tables, and instructions.
 ghost use Rattle.std.specs.Prelude.{◌<◌, IfSome, length};
 
-use cloak_base::{Kind, Mode};
+use cloak_base::{Kind, Mode, RAM_START};
 use cloak_model::word_in;
 use host_calls::Hart;
 use sv32_walk::{Words, walk};
-
-/// Where RAM begins.
-const RAM_START: u64 = 0x8000_0000;
 
 /// The word of an ECALL.
 const ECALL: u32 = 0x0000_0073;
@@ -34,10 +31,7 @@ impl<'f> Words for Frames<'f> {
 fn frame_of(frames: &[[u8; 4096]], pa: u64) -> Option<usize>
     ensures { IfSome result (λ f. f < length frames.now) }
 {
-    if pa < RAM_START {
-        return None;
-    }
-    let frame = (pa - RAM_START) / 4096;
+    let frame = pa.checked_sub(RAM_START as u64)? / 4096;
     if frame < frames.len() as u64 {
         Some(frame as usize)
     } else {

@@ -4,7 +4,7 @@ use Rattle.cloak_base.specs.declared.names.Mode.{Mode}
 use Rattle.cloak_base.specs.declared.names.Mode.TheVariants.{U, S}
 use Rattle.cloak_model.specs.Bits.{has_bit}
 use Rattle.cloak_model.specs.Csr.{bit, sstatus_of, sstatus_word}
-use Rattle.cloak_model.specs.declared.status.Sstatus.{Sstatus}
+use Rattle.cloak_model.specs.declared.sstatus.Sstatus.{Sstatus}
 
 pub has_bit-bit : (b : Bool) → has_bit (bit 5 b) 5 ≡ b
 has_bit-bit true = refl

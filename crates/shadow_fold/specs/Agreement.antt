@@ -6,7 +6,7 @@ use Rattle.cloak_base.specs.declared.names.Mode.TheVariants.{U}
 use Rattle.cloak_base.specs.declared.names.PageId.{PageId}
 use Rattle.cloak_base.specs.declared.names.SpaceId.{SpaceId}
 use Rattle.cloak_model.specs.declared.access.Access.{Access}
-use Rattle.cloak_model.specs.Memory.{ram_start}
+use Rattle.cloak_base.specs.Constants.{ram_start}
 use Rattle.cloak_model.specs.Walk.{walk}
 use Rattle.shadow_fold.specs.declared.entry.Entry.{Entry}
 use Rattle.shadow_fold.specs.declared.entry.ShadowView.{ShadowView}

@@ -17,7 +17,8 @@ use Rattle.cloak_model.specs.Ask.{shown_word, ask_word, ask_second, ask_after, a
 use Rattle.cloak_model.specs.AskPages.{is_store}
 use Rattle.cloak_model.specs.Asking.{Told}
 use Rattle.cloak_model.specs.Cloaking.{CloakedMemory, AfterSettling, AfterOffer, Ready, Mismatch, owed_in, owes, owing_frame, settle, settle_if, settle_frame_if, with_comparison, is_clash, taken, compared, unless_missed, offer}
-use Rattle.cloak_model.specs.Memory.{frame_of, is_in_ram, value_at}
+use Rattle.cloak_base.specs.Constants.{frame_of}
+use Rattle.cloak_model.specs.Memory.{is_in_ram, value_at}
 use Rattle.cloak_model.specs.Walk.{Walk, FirstWord, Ends, GoesOn, has_paging, without_paging, frame_at, first_entry, first_word, second_word, word_in_ram, walk, access_fault}
 use Rattle.cloak_model.specs.World.{World, Cloak, Cloaked, noted, settled, cipher_items}
 use Rattle.cloak_model.specs.Events.{Event, Touch}

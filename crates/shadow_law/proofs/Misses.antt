@@ -15,7 +15,8 @@ use Rattle.cloak_model.specs.Ask.{ask_walk}
 use Rattle.cloak_model.specs.AskPages.{is_store}
 use Rattle.cloak_model.specs.Asking.{Told}
 use Rattle.cloak_model.specs.Cloaking.{CloakedMemory, AfterSettling, owed_in, settle, offer}
-use Rattle.cloak_model.specs.Memory.{frame_of, is_in_frames, is_in_ram}
+use Rattle.cloak_base.specs.Constants.{frame_of, is_in_frames}
+use Rattle.cloak_model.specs.Memory.{is_in_ram}
 use Rattle.cloak_model.specs.Walk.{Walk, walk}
 use Rattle.cloak_model.specs.World.{World, Cloak, Flat, Cloaked, Alone, unnoted}
 use Rattle.cloak_model.proofs.FlatWalk.{ask_walk-flat}

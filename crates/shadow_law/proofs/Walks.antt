@@ -5,7 +5,8 @@ use Rattle.std.proofs.lemmas.Bool.{ltb-true}
 use Rattle.cloak_base.specs.declared.names.Frame.{Frame}
 use Rattle.cloak_model.specs.declared.access.Access.{Access}
 use Rattle.cloak_model.specs.declared.access.Walked.{Walked}
-use Rattle.cloak_model.specs.Memory.{frame_of, place_of, is_in_frames, is_in_ram, value_in, value_at}
+use Rattle.cloak_base.specs.Constants.{frame_of, place_of, is_in_frames}
+use Rattle.cloak_model.specs.Memory.{is_in_ram, value_in, value_at}
 use Rattle.cloak_model.specs.Walk.{Walk, FirstWord, Ends, GoesOn, has_paging, without_paging, frame_at, first_entry, second_entry, is_valid, is_pointer, is_plain_pointer, allows, page_fault, first_leaf, second_leaf, first_word, second_word, word_in_ram, walk_after, walk, table_at, tables_after, walk_tables}
 use Rattle.rv_isa.specs.Fields.{bits}
 use Rattle.shadow_fold.proofs.Keys.{and_true}

@@ -11,7 +11,8 @@ use Rattle.cloak_model.specs.declared.access.Walked.{Walked}
 use Rattle.cloak_model.specs.Ask.{ask_walk}
 use Rattle.cloak_model.specs.AskPages.{is_store}
 use Rattle.cloak_model.specs.Cloaking.{CloakedMemory, owed_in, settle, offer}
-use Rattle.cloak_model.specs.Memory.{frame_of, is_in_ram}
+use Rattle.cloak_base.specs.Constants.{frame_of}
+use Rattle.cloak_model.specs.Memory.{is_in_ram}
 use Rattle.cloak_model.specs.Walk.{walk}
 use Rattle.cloak_model.specs.World.{Cloak, Cloaked}
 use Rattle.shadow_fold.specs.declared.entry.Entry.{Entry}

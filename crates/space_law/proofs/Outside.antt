@@ -15,7 +15,7 @@ use Rattle.cloak_model.specs.Csr.{satp_of, interrupt_due}
 use Rattle.cloak_model.specs.Effect.{effect}
 use Rattle.cloak_model.specs.Hart.{Hart}
 use Rattle.cloak_model.specs.HartStep.{with_word, gone_on, stays, raised, system}
-use Rattle.cloak_model.specs.HostCalls.{After, ends, read_block, write_block, read_call, write_call, host_call, ecall_in, ecall}
+use Rattle.cloak_model.specs.HostCalls.{SteppedKernel, ends, read_block, write_block, read_call, write_call, host_call, ecall_in, ecall}
 use Rattle.cloak_model.specs.KernelStep.{access, extended, is_ecall, or_trap, carried_out, executed, instruction_step, ticked, kernel_step}
 use Rattle.cloak_model.specs.World.{World, Cloaked}
 use Rattle.space_law.specs.Mapping.{MakesOutside}
@@ -63,7 +63,7 @@ module _ (mapped : SpaceId → ℕ → Option PageId) (s : Option SpaceId) where
 
   -- Instructions.
 
-  pub maps_or_trap : {A : Type 0} (h : Hart) (disk : List ℕ) (va : ℕ) (found : Result A ℕ) (next : A → Asking After)
+  pub maps_or_trap : {A : Type 0} (h : Hart) (disk : List ℕ) (va : ℕ) (found : Result A ℕ) (next : A → Asking SteppedKernel)
       (w : World) → ((x : A) → Maps mapped s w (next x w).world) → Maps mapped s w (or_trap h disk va found next w).world
   maps_or_trap h disk va (Err cause) next w on = maps_refl mapped s w
   maps_or_trap h disk va (Ok x) next w on = on x

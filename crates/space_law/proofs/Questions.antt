@@ -16,7 +16,7 @@ use Rattle.cloak_model.specs.Cloaking.{CloakedMemory, Offer, Ready, Mismatch, Mi
 use Rattle.cloak_model.specs.Events.{Event, Look, Touch, Read, Write, Drop, births_by}
 use Rattle.cloak_model.specs.Events.{Offer as offers}
 use Rattle.cloak_model.specs.Fork.{ask_copies, ask_forgets}
-use Rattle.cloak_model.specs.Memory.{frame_of}
+use Rattle.cloak_base.specs.Constants.{frame_of}
 use Rattle.cloak_model.specs.Walk.{Walk, FirstWord, Ends, GoesOn, first_entry, walk}
 use Rattle.cloak_model.specs.World.{World, Handed, Flat, Cloaked, Alone, ram_of, view_of, events_of, noted, settled, stored_at, filled_frame, written, with_plain, cipher_items}
 use Rattle.shadow_fold.specs.Agreement.{IsMapped}

@@ -10,14 +10,14 @@ use Rattle.cloak_model.specs.Csr.{interrupt_due}
 use Rattle.cloak_model.specs.World.{World}
 use Rattle.cloak_model.specs.Asking.{Asking, answered}
 use Rattle.cloak_model.specs.HartStep.{with_word, gone_on, stays, raised, system}
-use Rattle.cloak_model.specs.HostCalls.{After, ends, ecall}
+use Rattle.cloak_model.specs.HostCalls.{SteppedKernel, ends, ecall}
 use Rattle.cloak_model.specs.KernelStep as whole
 use Rattle.cloak_model.specs.KernelStep.{extended, ticked, is_ecall, or_trap}
-use Rattle.step_parts.specs.Parts.{after_load, load_part, took, after_store, store_part, off_disk, done_part, decoded_part, executed_part, fetched_part, instruction_part, interrupted, step_in_parts}
+use Rattle.step_parts.specs.Parts.{after_load, load_part, loaded, after_store, store_part, off_disk, done_part, decoded_part, executed_part, fetched_part, instruction_part, interrupted, step_in_parts}
 
 same_loaded : (h : Hart) (disk : List ℕ) (rd va width : ℕ) (s : Bool) (r : Result ℕ ℕ) (w : World) →
     or_trap h disk va r (λ value. ends disk (stays (gone_on (with_word h rd (extended s width value))))) w ≡ off_disk disk (answered (after_load h rd va width s r)) w
-unfolding took
+unfolding loaded
 same_loaded h disk rd va width s (Err cause) w = refl
 same_loaded h disk rd va width s (Ok value) w = refl
 
@@ -26,7 +26,7 @@ same_stored : (h : Hart) (disk : List ℕ) (va : ℕ) (r : Result (Unit {0}) ℕ
 same_stored h disk va (Err cause) w = refl
 same_stored h disk va (Ok done) w = refl
 
-either : (b : Bool) (f g : Asking After) (w : World) → (cond b f g) w ≡ cond b (f w) (g w)
+either : (b : Bool) (f g : Asking SteppedKernel) (w : World) → (cond b f g) w ≡ cond b (f w) (g w)
 either true f g w = refl
 either false f g w = refl
 

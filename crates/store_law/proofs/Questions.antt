@@ -13,7 +13,7 @@ use Rattle.cloak_model.specs.AskPages.{is_store, offer_events, answer_item, repl
 use Rattle.cloak_model.specs.Asking.{Asking}
 use Rattle.cloak_model.specs.Cloaking.{Offer, Ready, Mismatch, Missed, offer, settle}
 use Rattle.cloak_model.specs.Events.{Event}
-use Rattle.cloak_model.specs.Memory.{frame_of}
+use Rattle.cloak_base.specs.Constants.{frame_of}
 use Rattle.cloak_model.specs.PageMoves.{copy_pages, drop_pages}
 use Rattle.cloak_model.specs.Walk.{Walk, FirstWord, Ends, GoesOn, first_entry}
 use Rattle.cloak_model.specs.World.{World, Cloak, Flat, Cloaked, Alone, settled, cipher_items, noted, written, stored_at}

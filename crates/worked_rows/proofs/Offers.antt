@@ -13,7 +13,8 @@ use Rattle.cloak_model.specs.declared.answer.Answer.TheVariants as told
 use Rattle.cloak_model.specs.declared.item.Item.TheVariants as item
 use Rattle.cloak_model.specs.Events.{Event, Look, births}
 use Rattle.cloak_model.specs.Events as events
-use Rattle.cloak_model.specs.Memory.{frame_of, is_in_ram}
+use Rattle.cloak_base.specs.Constants.{frame_of}
+use Rattle.cloak_model.specs.Memory.{is_in_ram}
 use Rattle.cloak_model.specs.Walk.{has_paging}
 use Rattle.cloak_model.specs.Cloaking as cloaking
 use Rattle.cloak_model.specs.Cloaking.{CloakedMemory, AfterOffer, Ready, Mismatch, with_comparison, owed_in, owing_frame, taken, compared, offer}

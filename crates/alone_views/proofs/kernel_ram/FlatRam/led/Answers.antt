@@ -1,7 +1,7 @@
 -- A walk leaves the frames as they are.
 use Rattle.std.proofs.Common.{◌≡◌, ◌∙◌, ℕ, Bool, true, refl, ap, subst, IsTrue, Result, Err, rules}
 use Rattle.cloak_model.specs.Ask.{ask_inside}
-use Rattle.cloak_model.specs.Memory.{is_in_frames}
+use Rattle.cloak_base.specs.Constants.{is_in_frames}
 use Rattle.alone_views.proofs.KernelRam.{same_length, follows_translate, tested_inside, tested_outside}
 use Rattle.alone_views.proofs.kernel_ram.FlatRam.led.Goals as goal
 

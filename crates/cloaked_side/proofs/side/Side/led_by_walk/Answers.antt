@@ -1,5 +1,5 @@
 use Rattle.std.proofs.Common.{◌≡◌, ◌/◌, ℕ, Bool, true, false, rules, refl, ap, sym, ◌∙◌, Ok, Err}
-use Rattle.cloak_model.specs.Memory.{is_in_frames}
+use Rattle.cloak_base.specs.Constants.{is_in_frames}
 use Rattle.cloaked_side.specs.Leading.{place_in}
 use Rattle.cloaked_side.specs.Holding.{frames_of}
 use Rattle.shadow_fold.specs.Agreement.{satp_in, access_in}

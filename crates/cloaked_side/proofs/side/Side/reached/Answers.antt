@@ -1,6 +1,6 @@
 use Rattle.std.proofs.Common.{◌≡◌, ◌∙◌, Some, ap, refl, sym, subst, ℕ, true}
 use Rattle.cloak_base.specs.declared.causes.Violation.TheVariants as violation
-use Rattle.cloak_model.specs.Memory.{is_in_frames}
+use Rattle.cloak_base.specs.Constants.{is_in_frames}
 use Rattle.cloak_model.specs.AskPages.{is_store}
 use Rattle.cloak_model.specs.Cloaking.{offer}
 use Rattle.cloak_model.specs.World.{World, Cloaked}

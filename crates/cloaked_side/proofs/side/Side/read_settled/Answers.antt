@@ -1,5 +1,6 @@
 use Rattle.std.proofs.Common.{◌∙◌, refl, ap, subst, ℕ}
-use Rattle.cloak_model.specs.Memory.{frame_of, place_of, value_in}
+use Rattle.cloak_base.specs.Constants.{frame_of, place_of}
+use Rattle.cloak_model.specs.Memory.{value_in}
 use Rattle.cloak_pager.specs.Asking.{SeesFrame}
 use Rattle.cloaked_side.proofs.Sided.{read_after, within_repaged, read_size, no_more_read}
 use Rattle.cloaked_side.proofs.side.Side.read_settled.Goals as goal

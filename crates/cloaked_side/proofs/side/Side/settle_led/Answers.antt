@@ -3,7 +3,7 @@ use Rattle.std.specs.Prelude.{IfSome}
 use Rattle.cloak_base.specs.declared.names.SpaceId.{SpaceId}
 use Rattle.cloak_model.specs.declared.access.Walked.{Walked}
 use Rattle.cloak_model.specs.World.{settled}
-use Rattle.cloak_model.specs.Memory.{frame_of}
+use Rattle.cloak_base.specs.Constants.{frame_of}
 use Rattle.cloak_pager.specs.State.{held_in}
 use Rattle.shadow_fold.specs.Table.{is_known}
 use Rattle.shadow_fold.specs.Agreement.{satp_in, access_in}

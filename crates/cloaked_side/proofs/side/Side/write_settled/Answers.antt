@@ -3,7 +3,7 @@ use Rattle.cloak_base.specs.declared.names.PageId.{PageId}
 use Rattle.cloak_pager.specs.State.{held_in}
 use Rattle.cloaked_side.proofs.Tracking.{write_tracks}
 use Rattle.cloaked_side.proofs.Translating.{held_by_rights}
-use Rattle.cloak_model.specs.Memory.{frame_of}
+use Rattle.cloak_base.specs.Constants.{frame_of}
 use Rattle.cloak_pager.specs.Asking.{FollowsCallStill, after_write_outside}
 use Rattle.cloaked_side.proofs.Sided.{stored_after, still_written, within_repaged, written_size, written_count}
 use Rattle.cloaked_side.proofs.Holders.{no_more_rights}

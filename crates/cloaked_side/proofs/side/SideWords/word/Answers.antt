@@ -1,6 +1,7 @@
 use Rattle.std.proofs.Common.{rules, ◌∙◌, refl, sym, ap, subst, ℕ, Some, length}
 use Rattle.cloak_model.specs.Cloaking.{settle}
-use Rattle.cloak_model.specs.Memory.{frame_of, place_of, value_in}
+use Rattle.cloak_base.specs.Constants.{frame_of, place_of}
+use Rattle.cloak_model.specs.Memory.{value_in}
 use Rattle.shadow_fold.specs.Fold.{frame, touched}
 use Rattle.shadow_fold.specs.Reads.{Spends}
 use Rattle.cloaked_side.specs.Holding.{Settles}

@@ -1,6 +1,6 @@
 use Rattle.std.proofs.Common.{arith, ◌∙◌, sym, subst}
 use Rattle.cloak_model.specs.Resources.{Resources}
-use Rattle.resource_map.specs.Told.{MayOwn}
+use Rattle.resource_map.specs.Owning.{MayOwn}
 use Rattle.resource_map.proofs.Lists.{first_free-at}
 use Rattle.resource_map.proofs.Soundness.{IsSound-made}
 use Rattle.resource_map.proofs.resources.Resources.new_owned.Goals as goal
