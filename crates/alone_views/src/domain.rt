@@ -9,7 +9,8 @@ ghost use Rattle.cloak_model.specs.DomainState.{domain_line};
 ghost use Rattle.cloak_model.specs.DomainStep.{domain_step, resume_slot};
 ghost use Rattle.cloak_model.specs.World.{Alone, Handed};
 ghost use Rattle.hypercalls.specs.Standing.{StandsFor, control_of, number_of};
-ghost use Rattle.outside_io.specs.Told.{Counts, Puts};
+ghost use Rattle.outside_io.specs.Sinks.{PutsTo};
+ghost use Rattle.outside_io.specs.Told.{Counts};
 ghost use Rattle.alone_views.specs.Side.{answers_in, one_answer};
 
 use crate::asked::Asked;
@@ -128,8 +129,7 @@ impl DomainAlone {
     pub fn report<O: Sink>(self, out: &mut O) -> Result<(), Failed>
         ensures puts { (number : ℕ) (schedule : List ℕ) (s : spec.DomainAlone) →
             StandsForDomain number schedule self s → s.unfit ≡ None → length s.part.domain.loads < 2 ^ 64 →
-            Puts (O.taken out.old) (O.taken out.new) (O.faults out.old) (O.faults out.new)
-            (domain_line s.part.domain) result }
+            PutsTo O.Sink out.old out.new (domain_line s.part.domain) result }
         ensures faults { Counts (O.faults out.old) (O.faults out.new) result }
     {
         let DomainAlone { domain, .. } = self;

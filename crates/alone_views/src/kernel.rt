@@ -7,7 +7,8 @@ ghost use Rattle.cloak_model.specs.Exchange.{EmitsSome};
 ghost use Rattle.cloak_model.specs.KernelAlone as spec;
 ghost use Rattle.cloak_model.specs.Record.{IsItem};
 ghost use Rattle.cloak_model.specs.Report.{kernel_lines};
-ghost use Rattle.outside_io.specs.Told.{Counts, Puts};
+ghost use Rattle.outside_io.specs.Sinks.{PutsTo};
+ghost use Rattle.outside_io.specs.Told.{Counts};
 ghost use Rattle.alone_views.specs.KernelPlaces.{IsPlaceAmong};
 
 use crate::kernel_place::KernelPlace;
@@ -147,8 +148,7 @@ impl KernelAlone {
     pub fn report<O: Sink>(self, out: &mut O) -> Result<(), Failed>
         ensures puts { (turns : List ℕ) (s : spec.KernelAlone) → StandsForKernel self turns s →
             length s.kernel.console < 2 ^ 64 →
-            Puts (O.taken out.old) (O.taken out.new) (O.faults out.old) (O.faults out.new)
-            (kernel_lines s.kernel) result }
+            PutsTo O.Sink out.old out.new (kernel_lines s.kernel) result }
         ensures faults { Counts (O.faults out.old) (O.faults out.new) result }
     {
         let KernelAlone {

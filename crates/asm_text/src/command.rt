@@ -46,8 +46,7 @@ fn reason_of_fault(alloc: Global, name: &str, text: &[u8], fault: TextFault) -> 
 fn words_of_file<S: Shelf>(alloc: Global, name: &str, shelf: &mut S) -> Result<Vec<u8>, Reason>
     requires { S.is_settled shelf.old }
     ensures { ReadsFor (AreWordsOfFile (S.held shelf.old name.now)) (TellsTextFault name.now (S.held shelf.old name.now))
-        (files S.held S.reading_faults S.writing_faults shelf.old)
-        (files S.held S.reading_faults S.writing_faults shelf.new) result }
+        (files S.Shelf shelf.old) (files S.Shelf shelf.new) result }
 {
     let text = match read_front(alloc, shelf, name, LONGEST_TEXT + 1) {
         Ok(text) => text,
@@ -69,8 +68,7 @@ pub fn asm_command<S: Shelf, O: Sink>(
 ) -> Status
     requires { S.is_settled shelf.old }
     ensures { AsmAnswers text_name.now words_name.now
-        (outside S.held S.reading_faults S.writing_faults O.taken O.faults shelf.old out.old)
-        (outside S.held S.reading_faults S.writing_faults O.taken O.faults shelf.new out.new) result }
+        (outside S.Shelf O.Sink shelf.old out.old) (outside S.Shelf O.Sink shelf.new out.new) result }
 {
     let made = words_of_file(alloc, text_name, shelf);
     conclude(&made, words_name, shelf, out)

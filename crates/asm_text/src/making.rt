@@ -45,7 +45,7 @@ fn write_file<S: Shelf>(shelf: &mut S, name: &str, bytes: &[u8]) -> Result<(), F
 
 /// Shows the text of a reason, and answers its status, or the write fault.
 fn show_reason<O: Sink>(out: &mut O, reason: &Reason) -> Status
-    ensures { ShowsWhy reason.now (output O.taken O.faults out.old) (output O.taken O.faults out.new) result }
+    ensures { ShowsWhy reason.now (output O.Sink out.old) (output O.Sink out.new) result }
 {
     match reason {
         Reason::ReadFault => refuse(out, &Refusal::ReadFault),
@@ -65,8 +65,7 @@ pub fn conclude<S: Shelf, O: Sink>(
     out: &mut O,
 ) -> Status
     ensures { Concludes made.now name.now
-        (outside S.held S.reading_faults S.writing_faults O.taken O.faults shelf.old out.old)
-        (outside S.held S.reading_faults S.writing_faults O.taken O.faults shelf.new out.new) result }
+        (outside S.Shelf O.Sink shelf.old out.old) (outside S.Shelf O.Sink shelf.new out.new) result }
 {
     match made {
         Ok(bytes) => match write_file(shelf, name, bytes.as_slice()) {

@@ -26,8 +26,7 @@ fn carry_out<S: Shelf, O: Sink>(
     requires writing { S.writing_faults shelf.old < 2 ^ 64 - 1 }
     requires output { O.faults out.old < 2 ^ 64 - 1 }
     ensures answers { Answers (spec.words_of (map string_bytes words.now.items))
-        (outside S.held S.reading_faults S.writing_faults O.taken O.faults shelf.old out.old)
-        (outside S.held S.reading_faults S.writing_faults O.taken O.faults shelf.new out.new) result }
+        (outside S.Shelf O.Sink shelf.old out.old) (outside S.Shelf O.Sink shelf.new out.new) result }
     ensures kept { KeepsOthers (spec.words_of (map string_bytes words.now.items)) result
         (S.held shelf.old) (S.held shelf.new) }
 {
@@ -58,13 +57,11 @@ pub fn cloak<S: Shelf, O: Sink>(
     requires writing { S.writing_faults shelf.old < 2 ^ 64 - 1 }
     requires output { O.faults out.old < 2 ^ 64 - 1 }
     ensures answers { Answers (spec.words_of (map string_bytes words.now.items))
-        (outside S.held S.reading_faults S.writing_faults O.taken O.faults shelf.old out.old)
-        (outside S.held S.reading_faults S.writing_faults O.taken O.faults shelf.new out.new) result }
+        (outside S.Shelf O.Sink shelf.old out.old) (outside S.Shelf O.Sink shelf.new out.new) result }
     ensures kept { KeepsOthers (spec.words_of (map string_bytes words.now.items)) result
         (S.held shelf.old) (S.held shelf.new) }
     ensures complete { IsComplete (spec.words_of (map string_bytes words.now.items)) result
-        (outside S.held S.reading_faults S.writing_faults O.taken O.faults shelf.old out.old)
-        (outside S.held S.reading_faults S.writing_faults O.taken O.faults shelf.new out.new) }
+        (outside S.Shelf O.Sink shelf.old out.old) (outside S.Shelf O.Sink shelf.new out.new) }
 {
     carry_out(alloc, words, shelf, out)
 }

@@ -18,8 +18,7 @@ fn obey<S: Shelf, O: Sink>(alloc: Global, words: &Words, shelf: &mut S, out: &mu
     requires writing { S.writing_faults shelf.old < 2 ^ 64 - 1 }
     requires output { O.faults out.old < 2 ^ 64 - 1 }
     ensures { AnswersWords words.now
-        (outside S.held S.reading_faults S.writing_faults O.taken O.faults shelf.old out.old)
-        (outside S.held S.reading_faults S.writing_faults O.taken O.faults shelf.new out.new) result }
+        (outside S.Shelf O.Sink shelf.old out.old) (outside S.Shelf O.Sink shelf.new out.new) result }
 {
     match words {
         Words::Taken(words) => cloak(alloc, words, shelf, out),
@@ -40,8 +39,7 @@ pub fn run_program<S: Shelf, O: Sink>(
     requires writing { S.writing_faults shelf.old < 2 ^ 64 - 1 }
     requires output { O.faults out.old < 2 ^ 64 - 1 }
     ensures exits { Exits words.now
-        (outside S.held S.reading_faults S.writing_faults O.taken O.faults shelf.old out.old)
-        (outside S.held S.reading_faults S.writing_faults O.taken O.faults shelf.new out.new) result }
+        (outside S.Shelf O.Sink shelf.old out.old) (outside S.Shelf O.Sink shelf.new out.new) result }
     ensures files { result ≢ Status.WriteFault → S.is_settled shelf.new }
     ensures shown { result ≢ Status.WriteFault → O.is_settled out.new }
 {

@@ -2,7 +2,7 @@
 ghost use Rattle.std.specs.Prelude.{◌≡◌, List, ℕ, None, map};
 ghost use Rattle.std.specs.List.{concat};
 ghost use Rattle.sha2.specs.Sha256.{sha256};
-ghost use Rattle.outside_io.specs.Told.{Puts};
+ghost use Rattle.outside_io.specs.Sinks.{PutsTo};
 ghost use Rattle.cloak_model.specs.Cloaking.{CloakedMemory};
 ghost use Rattle.cloak_model.specs.Report as spec;
 ghost use Rattle.cloak_pager.specs.State.{held_in};
@@ -59,7 +59,7 @@ pub fn kernel_lines_of(
 
 /// What the kernel presented.
 fn put_violation<O: Sink>(out: &mut O, so_far: SoFar, violation: &Violation) -> SoFar
-    ensures { PutsMore (putting O.taken O.faults out.old so_far) (putting O.taken O.faults out.new result)
+    ensures { PutsMore (putting O.Sink out.old so_far) (putting O.Sink out.new result)
         (spec.violation_text violation.now) }
 {
     match *violation {
@@ -88,8 +88,7 @@ fn put_violation<O: Sink>(out: &mut O, so_far: SoFar, violation: &Violation) -> 
 
 /// The line that says why a run ended.
 pub fn put_stop_line<O: Sink>(out: &mut O, so_far: SoFar, stop: &Stop) -> SoFar
-    ensures { PutsMore (putting O.taken O.faults out.old so_far) (putting O.taken O.faults out.new result)
-        (spec.stop_line stop.now) }
+    ensures { PutsMore (putting O.Sink out.old so_far) (putting O.Sink out.new result) (spec.stop_line stop.now) }
 {
     let so_far = put_stop(out, so_far, stop);
     text(out, so_far, b"\n")
@@ -97,8 +96,7 @@ pub fn put_stop_line<O: Sink>(out: &mut O, so_far: SoFar, stop: &Stop) -> SoFar
 
 /// Why a run ended.
 fn put_stop<O: Sink>(out: &mut O, so_far: SoFar, stop: &Stop) -> SoFar
-    ensures { PutsMore (putting O.taken O.faults out.old so_far) (putting O.taken O.faults out.new result)
-        (spec.stop_text stop.now) }
+    ensures { PutsMore (putting O.Sink out.old so_far) (putting O.Sink out.new result) (spec.stop_text stop.now) }
 {
     match *stop {
         Stop::Halt(value) => {
@@ -116,8 +114,7 @@ fn put_stop<O: Sink>(out: &mut O, so_far: SoFar, stop: &Stop) -> SoFar
 
 /// A line of a name and a number.
 pub fn put_number<O: Sink>(out: &mut O, so_far: SoFar, name: &[u8], n: u64) -> SoFar
-    ensures { PutsMore (putting O.taken O.faults out.old so_far) (putting O.taken O.faults out.new result)
-        (spec.number_line name.now n) }
+    ensures { PutsMore (putting O.Sink out.old so_far) (putting O.Sink out.new result) (spec.number_line name.now n) }
 {
     let so_far = text(out, so_far, name);
     let so_far = decimal(out, so_far, n);
@@ -126,7 +123,7 @@ pub fn put_number<O: Sink>(out: &mut O, so_far: SoFar, name: &[u8], n: u64) -> S
 
 /// Lines of programs, as they are.
 fn put_lines<O: Sink>(out: &mut O, so_far: SoFar, lines: &[DomainLine]) -> SoFar
-    ensures { PutsMore (putting O.taken O.faults out.old so_far) (putting O.taken O.faults out.new result)
+    ensures { PutsMore (putting O.Sink out.old so_far) (putting O.Sink out.new result)
         (concat (map line_text lines.now)) }
 {
     let mut so_far = so_far;
@@ -148,8 +145,7 @@ impl End {
 
     /// Writes the report. One that failed has written a front of it.
     pub fn report<O: Sink>(&self, out: &mut O) -> Result<(), Failed>
-        ensures { Puts (O.taken out.old) (O.taken out.new) (O.faults out.old) (O.faults out.new)
-            (end_report self.now) result }
+        ensures { PutsTo O.Sink out.old out.new (end_report self.now) result }
     {
         let so_far = put_stop_line(out, Ok(()), &self.stop);
         let so_far = put_number(out, so_far, b"steps ", self.steps as u64);
@@ -160,8 +156,7 @@ impl End {
 
     /// Writes the report without the kernel's lines. One that failed has written a front of it.
     pub fn short_report<O: Sink>(&self, out: &mut O) -> Result<(), Failed>
-        ensures { Puts (O.taken out.old) (O.taken out.new) (O.faults out.old) (O.faults out.new)
-            (end_short_report self.now) result }
+        ensures { PutsTo O.Sink out.old out.new (end_short_report self.now) result }
     {
         let so_far = put_stop_line(out, Ok(()), &self.stop);
         let so_far = put_number(out, so_far, b"steps ", self.steps as u64);

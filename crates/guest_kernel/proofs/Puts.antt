@@ -1,6 +1,7 @@
 -- A line that is put piece by piece.
 use Rattle.std.proofs.Common.{◌≡◌, ℕ, List, ◌++◌, length, codes, ◌∙◌, ap, sym, subst, Option, Result, Ok, Err, OnOk, OnErr, IsErrAnd}
 use Rattle.cloak_base.specs.declared.causes.Failed.{Failed}
+use Rattle.outside_io.specs.declared.sink.Sink.{Ghosts}
 use Rattle.outside_io.specs.Told.{Grows, GrowsByFront, Counts, Puts}
 use Rattle.outside_io.proofs.ToldFacts.{Grows-append, GrowsByFront-append, GrowsByFront-first, Rose-after}
 use Rattle.cloak_model.specs.Bundle.{bundle_bytes}
@@ -14,9 +15,11 @@ puts : (a b : Option (List ℕ)) (m n : ℕ) (text : List ℕ) (r : Result Unit 
 puts a b m n text (Ok u) grows front counts = (grows, counts)
 puts a b m n text (Err e) grows front counts = (front, counts)
 
-pub text_put : (a b : Option (List ℕ)) (m n : ℕ) (text : List ℕ) (r : Result Unit Failed) → OnOk r (Grows a b text) →
-    OnErr r (GrowsByFront a b text) → Counts m n r → PutsText a b m n text r
-text_put a b m n text r grows front counts = record { puts = puts a b m n text r grows front counts }
+pub text_put : {O : Type 0} (sink : Ghosts O) (a b : O) (text : List ℕ) (r : Result Unit Failed) →
+    OnOk r (Grows (sink.taken a) (sink.taken b) text) → OnErr r (GrowsByFront (sink.taken a) (sink.taken b) text) →
+    Counts (sink.faults a) (sink.faults b) r → PutsText sink a b text r
+text_put sink a b text r grows front counts =
+    record { puts = puts (sink.taken a) (sink.taken b) (sink.faults a) (sink.faults b) text r grows front counts }
 
 puts-then : (a b c : Option (List ℕ)) (m n k : ℕ) (x y : List ℕ) (u : Unit) (r : Result Unit Failed) →
     Puts a b m n x (Ok u) → Puts b c n k y r → Puts a c m k (x ++ y) r
@@ -25,32 +28,34 @@ puts-then a b c m n k x y u (Err e) first second =
     (GrowsByFront-append a b c x y first.0 second.0, Rose-after m n k first.1 second.1)
 
 -- a piece, and then another
-pub then : {a b c : Option (List ℕ)} {m n k : ℕ} {x y : List ℕ} {u : Unit} {r : Result Unit Failed} →
-    PutsText a b m n x (Ok u) → PutsText b c n k y r → PutsText a c m k (x ++ y) r
-then {a} {b} {c} {m} {n} {k} {x} {y} {u} {r} first second =
-    record { puts = puts-then a b c m n k x y u r first.puts second.puts }
+pub then : {O : Type 0} {sink : Ghosts O} {a b c : O} {x y : List ℕ} {u : Unit} {r : Result Unit Failed} →
+    PutsText sink a b x (Ok u) → PutsText sink b c y r → PutsText sink a c (x ++ y) r
+then {O} {sink} {a} {b} {c} {x} {y} {u} {r} first second = record {
+  puts = puts-then (sink.taken a) (sink.taken b) (sink.taken c) (sink.faults a) (sink.faults b) (sink.faults c) x y u r
+      first.puts second.puts;
+}
 
 -- a piece that failed, and no other
-pub front : {a b : Option (List ℕ)} {m n : ℕ} {x : List ℕ} {e : Failed} (y : List ℕ) → PutsText a b m n x (Err e) →
-    PutsText a b m n (x ++ y) (Err e)
-front {a} {b} {m} {n} {x} {e} y failed =
-    record { puts = (GrowsByFront-first a b x y failed.puts.0, failed.puts.1) }
+pub front : {O : Type 0} {sink : Ghosts O} {a b : O} {x : List ℕ} {e : Failed} (y : List ℕ) →
+    PutsText sink a b x (Err e) → PutsText sink a b (x ++ y) (Err e)
+front {O} {sink} {a} {b} {x} {e} y failed =
+    record { puts = (GrowsByFront-first (sink.taken a) (sink.taken b) x y failed.puts.0, failed.puts.1) }
 
 -- the failure, handed on
-pub handed : {a b : Option (List ℕ)} {m n : ℕ} {text : List ℕ} {e : Failed} (r : Result Unit Failed)
-    (P : Failed → Type 0) → IsErrAnd r P → PutsText a b m n text (Err e) → PutsText a b m n text r
+pub handed : {O : Type 0} {sink : Ghosts O} {a b : O} {text : List ℕ} {e : Failed} (r : Result Unit Failed)
+    (P : Failed → Type 0) → IsErrAnd r P → PutsText sink a b text (Err e) → PutsText sink a b text r
 handed (Ok u) P is failed = absurd is
 handed (Err f) P is failed = record { puts = failed.puts }
 
 -- the same text under another name
-pub text_is : {a b : Option (List ℕ)} {m n : ℕ} {x y : List ℕ} {r : Result Unit Failed} → PutsText a b m n x r →
-    x ≡ y → PutsText a b m n y r
-text_is {a} {b} {m} {n} {x} {y} {r} put same = subst (λ (text : List ℕ). PutsText a b m n text r) same put
+pub text_is : {O : Type 0} {sink : Ghosts O} {a b : O} {x y : List ℕ} {r : Result Unit Failed} → PutsText sink a b x r →
+    x ≡ y → PutsText sink a b y r
+text_is {O} {sink} {a} {b} {x} {y} {r} put same = subst (λ (text : List ℕ). PutsText sink a b text r) same put
 
-pub number_is : {a b : Option (List ℕ)} {m n : ℕ} {r : Result Unit Failed} (name : List ℕ) (k : ℕ) {l : ℕ} →
-    PutsText a b m n (named name k) r → k ≡ l → PutsText a b m n (named name l) r
-number_is {a} {b} {m} {n} {r} name k {l} put same =
-    subst (λ (number : ℕ). PutsText a b m n (named name number) r) same put
+pub number_is : {O : Type 0} {sink : Ghosts O} {a b : O} {r : Result Unit Failed} (name : List ℕ) (k : ℕ) {l : ℕ} →
+    PutsText sink a b (named name k) r → k ≡ l → PutsText sink a b (named name l) r
+number_is {O} {sink} {a} {b} {r} name k {l} put same =
+    subst (λ (number : ℕ). PutsText sink a b (named name number) r) same put
 
 -- The line of an image, its fronts by its number.
 
@@ -75,23 +80,23 @@ line_is n =
 
 -- a front of the line that failed
 
-pub failed_bytes : {a b : Option (List ℕ)} {m k : ℕ} {e : Failed} (n : ℕ) → PutsText a b m k (to_bytes n) (Err e) →
-    PutsText a b m k (summary_line n) (Err e)
+pub failed_bytes : {O : Type 0} {sink : Ghosts O} {a b : O} {e : Failed} (n : ℕ) →
+    PutsText sink a b (to_bytes n) (Err e) → PutsText sink a b (summary_line n) (Err e)
 failed_bytes n failed = text_is (front (codes "\n") failed) (line_is n)
 
-pub failed_frames : {a b : Option (List ℕ)} {m k : ℕ} {e : Failed} (n : ℕ) → PutsText a b m k (to_frames n) (Err e) →
-    PutsText a b m k (summary_line n) (Err e)
+pub failed_frames : {O : Type 0} {sink : Ghosts O} {a b : O} {e : Failed} (n : ℕ) →
+    PutsText sink a b (to_frames n) (Err e) → PutsText sink a b (summary_line n) (Err e)
 failed_frames n failed =
     failed_bytes n (front (named (codes " bytes ") (length (bundle_bytes (generated n)))) failed)
 
-pub failed_programs : {a b : Option (List ℕ)} {m k : ℕ} {e : Failed} (n : ℕ) →
-    PutsText a b m k (to_programs n) (Err e) → PutsText a b m k (summary_line n) (Err e)
+pub failed_programs : {O : Type 0} {sink : Ghosts O} {a b : O} {e : Failed} (n : ℕ) →
+    PutsText sink a b (to_programs n) (Err e) → PutsText sink a b (summary_line n) (Err e)
 failed_programs n failed = failed_frames n (front (named (codes " frames ") 256) failed)
 
-pub failed_harts : {a b : Option (List ℕ)} {m k : ℕ} {e : Failed} (n : ℕ) → PutsText a b m k (to_harts n) (Err e) →
-    PutsText a b m k (summary_line n) (Err e)
+pub failed_harts : {O : Type 0} {sink : Ghosts O} {a b : O} {e : Failed} (n : ℕ) →
+    PutsText sink a b (to_harts n) (Err e) → PutsText sink a b (summary_line n) (Err e)
 failed_harts n failed = failed_programs n (front (named (codes " programs ") (program_count n)) failed)
 
-pub failed_number : {a b : Option (List ℕ)} {m k : ℕ} {e : Failed} (n : ℕ) →
-    PutsText a b m k (named (codes "gen ") n) (Err e) → PutsText a b m k (summary_line n) (Err e)
+pub failed_number : {O : Type 0} {sink : Ghosts O} {a b : O} {e : Failed} (n : ℕ) →
+    PutsText sink a b (named (codes "gen ") n) (Err e) → PutsText sink a b (summary_line n) (Err e)
 failed_number n failed = failed_harts n (front (named (codes " harts ") (hart_count n)) failed)

@@ -1,7 +1,8 @@
 -- The line that tells a generated image.
-use Rattle.std.specs.Prelude.{ℕ, List, ◌++◌, length, codes, decimal, Option, Result}
+use Rattle.std.specs.Prelude.{ℕ, List, ◌++◌, length, codes, decimal, Result}
 use Rattle.cloak_base.specs.declared.causes.Failed.{Failed}
-use Rattle.outside_io.specs.Told.{Puts}
+use Rattle.outside_io.specs.declared.sink.Sink.{Ghosts}
+use Rattle.outside_io.specs.Sinks.{PutsTo}
 use Rattle.cloak_model.specs.Bundle.{bundle_bytes}
 use Rattle.cloak_model.specs.declared.image.Bundle.{Bundle}
 use Rattle.guest_kernel.specs.Generated.{generated}
@@ -19,7 +20,6 @@ image_line n b =
 abbrev pub summary_line : ℕ → List ℕ
 summary_line n = image_line n (generated n)
 
--- A call put this text to a sink, or a front of it and a fault: the bytes that the sink told before and tells now, and
--- its count of faults before and now.
-pub record PutsText (old new : Option (List ℕ)) (before now : ℕ) (text : List ℕ) (r : Result Unit Failed) : Type 0 where
-  pub puts : Puts old new before now text r
+-- a call put this text to a sink, or a front of it and a fault
+pub record PutsText {O : Type 0} (sink : Ghosts O) (old new : O) (text : List ℕ) (r : Result Unit Failed) : Type 0 where
+  pub puts : PutsTo sink old new text r

@@ -1,6 +1,6 @@
 //! The line that tells a generated image.
 ghost use Rattle.std.specs.Prelude.{decimal};
-ghost use Rattle.outside_io.specs.Told.{Puts};
+ghost use Rattle.outside_io.specs.Sinks.{PutsTo};
 ghost use Rattle.guest_kernel.specs.Summary.{PutsText, named, summary_line};
 
 use crate::drawing::{harts, programs};
@@ -10,15 +10,14 @@ use outside_io::{Sink, put_all};
 
 /// Puts a text.
 fn put_text<O: Sink>(out: &mut O, text: &[u8]) -> Result<(), Failed>
-    ensures { PutsText (O.taken out.old) (O.taken out.new) (O.faults out.old) (O.faults out.new) text.now result }
+    ensures { PutsText O.Sink out.old out.new text.now result }
 {
     put_all(out, text)
 }
 
 /// Puts a number in decimal digits.
 fn put_number<O: Sink>(out: &mut O, number: u64) -> Result<(), Failed>
-    ensures { PutsText (O.taken out.old) (O.taken out.new) (O.faults out.old) (O.faults out.new)
-        (decimal number) result }
+    ensures { PutsText O.Sink out.old out.new (decimal number) result }
 {
     let mut digits = itoa::Buffer::new();
     put_text(out, digits.format(number).as_bytes())
@@ -26,8 +25,7 @@ fn put_number<O: Sink>(out: &mut O, number: u64) -> Result<(), Failed>
 
 /// Puts a number behind its name.
 fn put_named<O: Sink>(out: &mut O, name: &[u8], number: u64) -> Result<(), Failed>
-    ensures { PutsText (O.taken out.old) (O.taken out.new) (O.faults out.old) (O.faults out.new)
-        (named name.now number) result }
+    ensures { PutsText O.Sink out.old out.new (named name.now number) result }
 {
     put_text(out, name)?;
     put_number(out, number)
@@ -35,7 +33,7 @@ fn put_named<O: Sink>(out: &mut O, name: &[u8], number: u64) -> Result<(), Faile
 
 /// Puts the line of a number's image. One that failed has put a front of it.
 pub fn put_summary<O: Sink>(out: &mut O, n: u64) -> Result<(), Failed>
-    ensures { Puts (O.taken out.old) (O.taken out.new) (O.faults out.old) (O.faults out.new) (summary_line n) result }
+    ensures { PutsTo O.Sink out.old out.new (summary_line n) result }
 {
     put_named(out, b"gen ", n)?;
     put_named(out, b" harts ", u64::from(harts(n)))?;

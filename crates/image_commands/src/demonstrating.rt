@@ -1,7 +1,7 @@
 //! The command `demo`.
 ghost use Rattle.std.specs.Prelude.{◌≡◌, ◌≤◌, ◌<◌, ◌-◌, ◌^◌, ◌++◌, IfOk, Ok};
 ghost use Rattle.cloak_base.specs.Random.{Random, numbered};
-ghost use Rattle.outside_io.specs.Told.{Puts};
+ghost use Rattle.outside_io.specs.Sinks.{PutsTo};
 ghost use Rattle.cloak_model.specs.declared.image.Bundle.{Bundle as AnyBundle};
 ghost use Rattle.cloak_model.specs.Joint.{Moment};
 ghost use Rattle.cloak_model.specs.Opening.{Opened, opening};
@@ -80,8 +80,7 @@ fn status(stop: &Stop) -> Status
 
 /// Shows the line of a number's image, and what its run came to. One that failed has shown a front of it.
 fn show_demo<O: Sink>(out: &mut O, number: u64, end: &End) -> Result<(), Failed>
-    ensures { Puts (O.taken out.old) (O.taken out.new) (O.faults out.old) (O.faults out.new)
-        (summary_line number ++ end_short_report end.now) result }
+    ensures { PutsTo O.Sink out.old out.new (summary_line number ++ end_short_report end.now) result }
 {
     put_summary(out, number)?;
     end.short_report(out)
@@ -91,7 +90,7 @@ fn show_demo<O: Sink>(out: &mut O, number: u64, end: &End) -> Result<(), Failed>
 pub fn demo_command<O: Sink>(alloc: Global, number: u64, steps: u32, out: &mut O) -> Status
     requires few { steps ≤ most_steps }
     requires output { O.faults out.old < 2 ^ 64 - 1 }
-    ensures { DemoAnswers number steps (output O.taken O.faults out.old) (output O.taken O.faults out.new) result }
+    ensures { DemoAnswers number steps (output O.Sink out.old) (output O.Sink out.new) result }
 {
     let Ok(machine) = open_image(alloc, number) else {
         return refuse(out, &Refusal::NoMemory);

@@ -44,8 +44,7 @@ pub fn gen_command<S: Shelf, O: Sink>(
     requires writing { S.writing_faults shelf.old < 2 ^ 64 - 1 }
     requires output { O.faults out.old < 2 ^ 64 - 1 }
     ensures { GenAnswers number bundle.now
-        (outside S.held S.reading_faults S.writing_faults O.taken O.faults shelf.old out.old)
-        (outside S.held S.reading_faults S.writing_faults O.taken O.faults shelf.new out.new) result }
+        (outside S.Shelf O.Sink shelf.old out.old) (outside S.Shelf O.Sink shelf.new out.new) result }
 {
     let Ok(bytes) = file_bytes(alloc, number) else {
         return refuse(out, &Refusal::NoMemory);

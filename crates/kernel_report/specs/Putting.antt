@@ -1,6 +1,7 @@
 -- Texts that are put to a sink one after another, up to the first that fails.
 use Rattle.std.specs.Prelude.{ℕ, List, ◌++◌, Option, Result}
 use Rattle.cloak_base.specs.declared.causes.Failed.{Failed}
+use Rattle.outside_io.specs.declared.sink.Sink.{Ghosts}
 use Rattle.outside_io.specs.Told.{Puts}
 
 -- A sink behind the texts that were put to it: the bytes that it tells, its count of faults, and whether a text failed.
@@ -9,8 +10,8 @@ pub record Putting : Type 0 where
   pub faults : ℕ
   pub so_far : Result Unit Failed
 
-abbrev pub putting : {O : Type 0} → (O → Option (List ℕ)) → (O → ℕ) → O → Result Unit Failed → Putting
-putting taken faults out so_far = record { taken = taken out; faults = faults out; so_far = so_far }
+abbrev pub putting : {O : Type 0} → Ghosts O → O → Result Unit Failed → Putting
+putting sink out so_far = record { taken = sink.taken out; faults = sink.faults out; so_far = so_far }
 
 -- Behind whatever was put so far, this text was put too, unless something failed before.
 pub record PutsMore (old new : Putting) (text : List ℕ) : Type 0 where

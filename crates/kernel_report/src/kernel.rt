@@ -21,7 +21,7 @@ pub struct KernelLines {
 
 /// A line of a name and a digest.
 fn put_digest<O: Sink>(out: &mut O, so_far: SoFar, name: &[u8], bytes: &[u8; 32]) -> SoFar
-    ensures { PutsMore (putting O.taken O.faults out.old so_far) (putting O.taken O.faults out.new result)
+    ensures { PutsMore (putting O.Sink out.old so_far) (putting O.Sink out.new result)
         (digest_text name.now bytes.now) }
 {
     let so_far = text(out, so_far, name);
@@ -31,8 +31,7 @@ fn put_digest<O: Sink>(out: &mut O, so_far: SoFar, name: &[u8], bytes: &[u8; 32]
 
 /// Each word behind a space.
 fn put_words<O: Sink>(out: &mut O, so_far: SoFar, words: &[u32]) -> SoFar
-    ensures { PutsMore (putting O.taken O.faults out.old so_far) (putting O.taken O.faults out.new result)
-        (spec.words_text words.now) }
+    ensures { PutsMore (putting O.Sink out.old so_far) (putting O.Sink out.new result) (spec.words_text words.now) }
 {
     let mut so_far = so_far;
     for word in words {
@@ -44,7 +43,7 @@ fn put_words<O: Sink>(out: &mut O, so_far: SoFar, words: &[u32]) -> SoFar
 
 /// A line of a name and words.
 fn put_words_line<O: Sink>(out: &mut O, so_far: SoFar, name: &[u8], words: &[u32]) -> SoFar
-    ensures { PutsMore (putting O.taken O.faults out.old so_far) (putting O.taken O.faults out.new result)
+    ensures { PutsMore (putting O.Sink out.old so_far) (putting O.Sink out.new result)
         (spec.words_line name.now words.now) }
 {
     let so_far = text(out, so_far, name);
@@ -54,8 +53,7 @@ fn put_words_line<O: Sink>(out: &mut O, so_far: SoFar, name: &[u8], words: &[u32
 
 /// The letter of a mode.
 fn put_mode<O: Sink>(out: &mut O, so_far: SoFar, mode: Mode) -> SoFar
-    ensures { PutsMore (putting O.taken O.faults out.old so_far) (putting O.taken O.faults out.new result)
-        (spec.mode_text mode) }
+    ensures { PutsMore (putting O.Sink out.old so_far) (putting O.Sink out.new result) (spec.mode_text mode) }
 {
     match mode {
         Mode::U => text(out, so_far, b"U"),
@@ -65,8 +63,7 @@ fn put_mode<O: Sink>(out: &mut O, so_far: SoFar, mode: Mode) -> SoFar
 
 /// The number of the context that a hart runs, or a hyphen.
 fn put_inside<O: Sink>(out: &mut O, so_far: SoFar, inside: Option<u32>) -> SoFar
-    ensures { PutsMore (putting O.taken O.faults out.old so_far) (putting O.taken O.faults out.new result)
-        (spec.inside_text inside) }
+    ensures { PutsMore (putting O.Sink out.old so_far) (putting O.Sink out.new result) (spec.inside_text inside) }
 {
     match inside {
         None => text(out, so_far, b"-"),
@@ -76,7 +73,7 @@ fn put_inside<O: Sink>(out: &mut O, so_far: SoFar, inside: Option<u32>) -> SoFar
 
 /// A hart's number, mode, program counter, context and timer.
 fn put_hart_line<O: Sink>(out: &mut O, so_far: SoFar, number: u64, hart: &Hart) -> SoFar
-    ensures { PutsMore (putting O.taken O.faults out.old so_far) (putting O.taken O.faults out.new result)
+    ensures { PutsMore (putting O.Sink out.old so_far) (putting O.Sink out.new result)
         (spec.hart_line number hart.now) }
 {
     let so_far = text(out, so_far, b"hart ");
@@ -94,7 +91,7 @@ fn put_hart_line<O: Sink>(out: &mut O, so_far: SoFar, number: u64, hart: &Hart) 
 
 /// A hart's line, its registers and its CSRs.
 fn put_hart<O: Sink>(out: &mut O, so_far: SoFar, number: u64, hart: &Hart) -> SoFar
-    ensures { PutsMore (putting O.taken O.faults out.old so_far) (putting O.taken O.faults out.new result)
+    ensures { PutsMore (putting O.Sink out.old so_far) (putting O.Sink out.new result)
         (spec.hart_lines number hart.now) }
 {
     let so_far = put_hart_line(out, so_far, number, hart);
@@ -104,8 +101,7 @@ fn put_hart<O: Sink>(out: &mut O, so_far: SoFar, number: u64, hart: &Hart) -> So
 
 /// The lines of all harts.
 fn put_harts<O: Sink>(out: &mut O, so_far: SoFar, harts: &[Hart]) -> SoFar
-    ensures { PutsMore (putting O.taken O.faults out.old so_far) (putting O.taken O.faults out.new result)
-        (spec.harts_lines 0 harts.now) }
+    ensures { PutsMore (putting O.Sink out.old so_far) (putting O.Sink out.new result) (spec.harts_lines 0 harts.now) }
 {
     let mut so_far = so_far;
     for (number, hart) in harts.iter().enumerate() {
@@ -116,8 +112,7 @@ fn put_harts<O: Sink>(out: &mut O, so_far: SoFar, harts: &[Hart]) -> SoFar
 
 /// The console's line.
 fn put_console<O: Sink>(out: &mut O, so_far: SoFar, lines: &KernelLines) -> SoFar
-    ensures { PutsMore (putting O.taken O.faults out.old so_far) (putting O.taken O.faults out.new result)
-        (console_text lines.now) }
+    ensures { PutsMore (putting O.Sink out.old so_far) (putting O.Sink out.new result) (console_text lines.now) }
 {
     let so_far = text(out, so_far, b"console ");
     let so_far = decimal(out, so_far, lines.console_length);
@@ -126,8 +121,7 @@ fn put_console<O: Sink>(out: &mut O, so_far: SoFar, lines: &KernelLines) -> SoFa
 
 /// The lines of console, memory, disk and harts.
 pub fn put_kernel<O: Sink>(out: &mut O, so_far: SoFar, lines: &KernelLines) -> SoFar
-    ensures { PutsMore (putting O.taken O.faults out.old so_far) (putting O.taken O.faults out.new result)
-        (kernel_text lines.now) }
+    ensures { PutsMore (putting O.Sink out.old so_far) (putting O.Sink out.new result) (kernel_text lines.now) }
 {
     let so_far = put_console(out, so_far, lines);
     let so_far = put_digest(out, so_far, b"ram ", &lines.ram);

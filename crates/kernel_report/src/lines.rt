@@ -12,7 +12,7 @@ pub type SoFar = Result<(), Failed>;
 
 /// A text as it is.
 pub fn text<O: Sink>(out: &mut O, so_far: SoFar, piece: &[u8]) -> SoFar
-    ensures { PutsMore (putting O.taken O.faults out.old so_far) (putting O.taken O.faults out.new result) piece.now }
+    ensures { PutsMore (putting O.Sink out.old so_far) (putting O.Sink out.new result) piece.now }
 {
     match so_far {
         Ok(()) => put_all(out, piece),
@@ -22,8 +22,7 @@ pub fn text<O: Sink>(out: &mut O, so_far: SoFar, piece: &[u8]) -> SoFar
 
 /// A number in decimal digits.
 pub fn decimal<O: Sink>(out: &mut O, so_far: SoFar, n: u64) -> SoFar
-    ensures { PutsMore (putting O.taken O.faults out.old so_far) (putting O.taken O.faults out.new result)
-        (decimal n) }
+    ensures { PutsMore (putting O.Sink out.old so_far) (putting O.Sink out.new result) (decimal n) }
 {
     let mut digits = itoa::Buffer::new();
     text(out, so_far, digits.format(n).as_bytes())
@@ -31,8 +30,7 @@ pub fn decimal<O: Sink>(out: &mut O, so_far: SoFar, n: u64) -> SoFar
 
 /// A word in eight hexadecimal digits.
 pub fn hexadecimal<O: Sink>(out: &mut O, so_far: SoFar, w: u32) -> SoFar
-    ensures { PutsMore (putting O.taken O.faults out.old so_far) (putting O.taken O.faults out.new result)
-        (spec.hexadecimal w) }
+    ensures { PutsMore (putting O.Sink out.old so_far) (putting O.Sink out.new result) (spec.hexadecimal w) }
 {
     let mut digits = [0; 8];
     let Ok(()) = hex::encode_to_slice(w.to_be_bytes().as_slice(), &mut digits) else {
@@ -43,8 +41,7 @@ pub fn hexadecimal<O: Sink>(out: &mut O, so_far: SoFar, w: u32) -> SoFar
 
 /// A digest in hexadecimal digits.
 pub fn digest<O: Sink>(out: &mut O, so_far: SoFar, bytes: &[u8; 32]) -> SoFar
-    ensures { PutsMore (putting O.taken O.faults out.old so_far) (putting O.taken O.faults out.new result)
-        (encode_lower bytes.now) }
+    ensures { PutsMore (putting O.Sink out.old so_far) (putting O.Sink out.new result) (encode_lower bytes.now) }
 {
     let mut digits = [0; 64];
     let Ok(()) = hex::encode_to_slice(bytes.as_slice(), &mut digits) else {

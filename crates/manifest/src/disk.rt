@@ -51,8 +51,7 @@ fn place_files<S: Shelf>(
     requires { S.is_settled shelf.old }
     ensures stored { OnOk result (StoresFiles (S.held shelf.old) manifest.now (items_view tables.now) disk.old disk.new) }
     ensures same_length { length disk.new ≡ length disk.old }
-    ensures reads { ReadsParts (files S.held S.reading_faults S.writing_faults shelf.old)
-        (files S.held S.reading_faults S.writing_faults shelf.new) result }
+    ensures reads { ReadsParts (files S.Shelf shelf.old) (files S.Shelf shelf.new) result }
     ensures settled { S.is_settled shelf.new }
 {
     let mut count = 0;
@@ -86,8 +85,7 @@ fn disk_of<S: Shelf>(
     ensures means { IfOk result (λ v. IsDiskOf (S.held shelf.old) manifest.now (view place.entry.table.now) v.items) }
     ensures blocks { IfOk result (λ v. length v.items % 4096 ≡ 0) }
     ensures few { IfOk result (λ v. length v.items ≤ 4096 * 4096) }
-    ensures reads { ReadsParts (files S.held S.reading_faults S.writing_faults shelf.old)
-        (files S.held S.reading_faults S.writing_faults shelf.new) result }
+    ensures reads { ReadsParts (files S.Shelf shelf.old) (files S.Shelf shelf.new) result }
     ensures settled { S.is_settled shelf.new }
 {
     place.has_only(alloc, &[Key::Blocks, Key::File])?;
@@ -110,8 +108,7 @@ pub fn disk<S: Shelf>(
         IsDisk (S.held shelf.old) manifest.now (stands_at keys.Disk (view place.entry.table.now)) v.items) }
     ensures blocks { IfOk result (λ v. length v.items % 4096 ≡ 0) }
     ensures few { IfOk result (λ v. length v.items ≤ 4096 * 4096) }
-    ensures reads { ReadsParts (files S.held S.reading_faults S.writing_faults shelf.old)
-        (files S.held S.reading_faults S.writing_faults shelf.new) result }
+    ensures reads { ReadsParts (files S.Shelf shelf.old) (files S.Shelf shelf.new) result }
     ensures settled { S.is_settled shelf.new }
 {
     let Some(table) = place.value(Key::Disk) else {

@@ -38,8 +38,7 @@ pub fn bundle_of<S: Shelf>(
     requires { S.is_settled shelf.old }
     ensures means { IfOk result (IsImageOf (S.held shelf.old) manifest.now (view document.now)) }
     ensures in_grammar { IfOk result IsInGrammar }
-    ensures reads { ReadsParts (files S.held S.reading_faults S.writing_faults shelf.old)
-        (files S.held S.reading_faults S.writing_faults shelf.new) result }
+    ensures reads { ReadsParts (files S.Shelf shelf.old) (files S.Shelf shelf.new) result }
     ensures settled { S.is_settled shelf.new }
 {
     let place = Place {

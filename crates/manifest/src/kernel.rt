@@ -105,8 +105,7 @@ pub fn kernel<S: Shelf>(
     requires { S.is_settled shelf.old }
     ensures means { IfOk result (IsKernelOf (S.held shelf.old) manifest.now (view place.entry.table.now)) }
     ensures in_image { IfOk result IsKernelImage }
-    ensures reads { ReadsParts (files S.held S.reading_faults S.writing_faults shelf.old)
-        (files S.held S.reading_faults S.writing_faults shelf.new) result }
+    ensures reads { ReadsParts (files S.Shelf shelf.old) (files S.Shelf shelf.new) result }
     ensures settled { S.is_settled shelf.new }
 {
     let frames = place.number_or(Key::Frames, 64, 4096, 64)?;

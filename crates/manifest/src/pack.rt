@@ -43,8 +43,7 @@ fn meant_bundle<S: Shelf>(alloc: Global, shelf: &mut S, manifest: &str) -> Resul
     requires { S.is_settled shelf.old }
     ensures meant { IfOk result (IsMeantBy (S.held shelf.old) manifest.now) }
     ensures in_grammar { IfOk result IsInGrammar }
-    ensures reads { ReadsParts (files S.held S.reading_faults S.writing_faults shelf.old)
-        (files S.held S.reading_faults S.writing_faults shelf.new) result }
+    ensures reads { ReadsParts (files S.Shelf shelf.old) (files S.Shelf shelf.new) result }
 {
     let Some(text) = read_whole(alloc, shelf, manifest, LARGEST_MANIFEST)? else {
         return Err(PackError::Faulty(PackFault::TooLong));
@@ -74,8 +73,7 @@ fn reason_of_fault(alloc: Global, manifest: &str, fault: &PackFault) -> Reason
 fn packed<S: Shelf>(alloc: Global, shelf: &mut S, manifest: &str) -> Result<Vec<u8>, Reason>
     requires { S.is_settled shelf.old }
     ensures { ReadsFor (IsPacked (S.held shelf.old) manifest.now) (TellsPackFault manifest.now)
-        (files S.held S.reading_faults S.writing_faults shelf.old)
-        (files S.held S.reading_faults S.writing_faults shelf.new) result }
+        (files S.Shelf shelf.old) (files S.Shelf shelf.new) result }
 {
     let bundle = match meant_bundle(alloc, shelf, manifest) {
         Ok(bundle) => bundle,
@@ -98,8 +96,7 @@ pub fn pack_command<S: Shelf, O: Sink>(
 ) -> Status
     requires { S.is_settled shelf.old }
     ensures { PackAnswers manifest.now bundle.now
-        (outside S.held S.reading_faults S.writing_faults O.taken O.faults shelf.old out.old)
-        (outside S.held S.reading_faults S.writing_faults O.taken O.faults shelf.new out.new) result }
+        (outside S.Shelf O.Sink shelf.old out.old) (outside S.Shelf O.Sink shelf.new out.new) result }
 {
     let made = packed(alloc, shelf, manifest);
     conclude(&made, bundle, shelf, out)

@@ -140,8 +140,7 @@ fn program<S: Shelf>(
     requires { S.is_settled shelf.old }
     ensures means { IfOk result (IsProgramOf (S.held shelf.old) manifest.now (view place.entry.table.now)) }
     ensures in_image { IfOk result (IsProgramIn frames) }
-    ensures reads { ReadsParts (files S.held S.reading_faults S.writing_faults shelf.old)
-        (files S.held S.reading_faults S.writing_faults shelf.new) result }
+    ensures reads { ReadsParts (files S.Shelf shelf.old) (files S.Shelf shelf.new) result }
     ensures settled { S.is_settled shelf.new }
 {
     place.has_only(alloc, &KEYS)?;
@@ -161,8 +160,7 @@ pub fn programs<S: Shelf>(
     ensures mean { IfOk result (λ v. EachMeans (IsProgramOf (S.held shelf.old) manifest.now) (items_view tables.now) v.items) }
     ensures count { IfOk result (λ v. length v.items ≡ length tables.now) }
     ensures in_image { IfOk result (λ v. All (IsProgramIn frames) v.items) }
-    ensures reads { ReadsParts (files S.held S.reading_faults S.writing_faults shelf.old)
-        (files S.held S.reading_faults S.writing_faults shelf.new) result }
+    ensures reads { ReadsParts (files S.Shelf shelf.old) (files S.Shelf shelf.new) result }
     ensures settled { S.is_settled shelf.new }
 {
     let mut programs = Vec::new(alloc);

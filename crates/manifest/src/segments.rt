@@ -39,8 +39,7 @@ fn segment<S: Shelf>(
     requires frames { frames ≤ 4096 }
     ensures means { IfOk result (IsSegmentOf (S.held shelf.old) manifest.now (view place.entry.table.now)) }
     ensures in_ram { IfOk result (IsSegmentIn frames) }
-    ensures reads { ReadsParts (files S.held S.reading_faults S.writing_faults shelf.old)
-        (files S.held S.reading_faults S.writing_faults shelf.new) result }
+    ensures reads { ReadsParts (files S.Shelf shelf.old) (files S.Shelf shelf.new) result }
     ensures settled { S.is_settled shelf.new }
 {
     place.has_only(alloc, &[Key::Address, Key::Text, Key::Bytes])?;
@@ -68,8 +67,7 @@ pub fn segments<S: Shelf>(
     ensures mean { IfOk result (λ v. EachMeans (IsSegmentOf (S.held shelf.old) manifest.now) (items_view tables.now) v.items) }
     ensures count { IfOk result (λ v. length v.items ≡ length tables.now) }
     ensures in_ram { IfOk result (λ v. All (IsSegmentIn frames) v.items) }
-    ensures reads { ReadsParts (files S.held S.reading_faults S.writing_faults shelf.old)
-        (files S.held S.reading_faults S.writing_faults shelf.new) result }
+    ensures reads { ReadsParts (files S.Shelf shelf.old) (files S.Shelf shelf.new) result }
     ensures settled { S.is_settled shelf.new }
 {
     let mut segments = Vec::new(alloc);

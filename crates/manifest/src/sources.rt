@@ -44,8 +44,7 @@ pub fn read_whole<S: Shelf>(
     requires { S.is_settled shelf.old }
     ensures told { IfOk result (λ found. IfSome found (λ v. Tells (S.held shelf.old name.now) v.items)) }
     ensures fits { IfOk result (λ found. IfSome found (λ v. length v.items ≤ limit)) }
-    ensures reads { ReadsParts (files S.held S.reading_faults S.writing_faults shelf.old)
-        (files S.held S.reading_faults S.writing_faults shelf.new) result }
+    ensures reads { ReadsParts (files S.Shelf shelf.old) (files S.Shelf shelf.new) result }
     ensures settled { S.is_settled shelf.new }
 {
     let bytes = match read_front(alloc, shelf, name, u64::from(limit) + 1) {
@@ -70,8 +69,7 @@ fn named_file<S: Shelf>(
     requires { S.is_settled shelf.old }
     ensures told { IfOk result (λ v. Tells (S.held shelf.old path.now) v.items) }
     ensures some { IfOk result (λ v. 0 < length v.items) }
-    ensures reads { ReadsParts (files S.held S.reading_faults S.writing_faults shelf.old)
-        (files S.held S.reading_faults S.writing_faults shelf.new) result }
+    ensures reads { ReadsParts (files S.Shelf shelf.old) (files S.Shelf shelf.new) result }
     ensures settled { S.is_settled shelf.new }
 {
     match read_whole(alloc, shelf, path, LARGEST_BUNDLE) {
@@ -115,8 +113,7 @@ pub fn source<S: Shelf>(
 ) -> Result<Vec<u8>, PackError>
     requires { S.is_settled shelf.old }
     ensures source { IfOk result (λ v. IsSource (S.held shelf.old) manifest.now (view place.entry.table.now) v.items) }
-    ensures reads { ReadsParts (files S.held S.reading_faults S.writing_faults shelf.old)
-        (files S.held S.reading_faults S.writing_faults shelf.new) result }
+    ensures reads { ReadsParts (files S.Shelf shelf.old) (files S.Shelf shelf.new) result }
     ensures settled { S.is_settled shelf.new }
 {
     let flat = place.file_name(Key::Bytes)?;

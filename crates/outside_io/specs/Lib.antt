@@ -4,3 +4,4 @@ pub mod Source
 pub mod Table
 pub mod Pieces
 pub mod Files
+pub mod Sinks

@@ -1,5 +1,7 @@
 -- What is outside: the files of a shelf, and an output.
 use Rattle.std.specs.Prelude.{ℕ, ◌≡◌, ◌<◌, List, Option}
+use Rattle.outside_io.specs.declared.shelf.Shelf as shelves
+use Rattle.outside_io.specs.declared.sink.Sink as sinks
 use Rattle.outside_io.specs.Told.{Rose, SameFiles}
 
 -- a shelf, the bytes of its files by their names as far as it tells them, and how often reading and writing them failed
@@ -21,23 +23,19 @@ pub record Outside (S O : Type 0) : Type 0 where
 
 -- what this shelf and this output tell
 
-abbrev pub files : {S : Type 0} → (S → List ℕ → Option (List ℕ)) → (S → ℕ) → (S → ℕ) → S → FilesOutside S
-files held reading writing shelf = record {
-  shelf = shelf;
-  held = held shelf;
-  reading = reading shelf;
-  writing = writing shelf;
+abbrev pub files : {S : Type 0} → shelves.Ghosts S → S → FilesOutside S
+files shelf s = record {
+  shelf = s;
+  held = shelf.held s;
+  reading = shelf.reading_faults s;
+  writing = shelf.writing_faults s;
 }
 
-abbrev pub output : {O : Type 0} → (O → Option (List ℕ)) → (O → ℕ) → O → Output O
-output taken faults out = record { out = out; taken = taken out; faults = faults out }
+abbrev pub output : {O : Type 0} → sinks.Ghosts O → O → Output O
+output sink o = record { out = o; taken = sink.taken o; faults = sink.faults o }
 
-abbrev pub outside : {S O : Type 0} → (S → List ℕ → Option (List ℕ)) → (S → ℕ) → (S → ℕ) →
-    (O → Option (List ℕ)) → (O → ℕ) → S → O → Outside S O
-outside held reading writing taken faults shelf out = record {
-  files = files held reading writing shelf;
-  output = output taken faults out;
-}
+abbrev pub outside : {S O : Type 0} → shelves.Ghosts S → sinks.Ghosts O → S → O → Outside S O
+outside shelf sink s o = record { files = files shelf s; output = output sink o }
 
 -- A count of faults is greater, as a call that failed leaves it.
 pub record Raised (before now : ℕ) : Type 0 where

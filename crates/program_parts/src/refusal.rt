@@ -1,6 +1,6 @@
 //! Why there is no run, and the line that says so.
 ghost use Rattle.std.specs.Prelude.{◌≡◌, decimal};
-ghost use Rattle.outside_io.specs.Told.{Puts};
+ghost use Rattle.outside_io.specs.Sinks.{PutsTo};
 ghost use Rattle.command_words.specs.Command.{usage_line};
 ghost use Rattle.program_parts.specs.Outside.{output};
 ghost use Rattle.program_parts.specs.Refusing.{Refuses};
@@ -43,14 +43,14 @@ fn status(refusal: &Refusal) -> Status
 
 /// Shows a text.
 fn show<O: Sink>(out: &mut O, text: &[u8]) -> Result<(), Failed>
-    ensures { Puts (O.taken out.old) (O.taken out.new) (O.faults out.old) (O.faults out.new) text.now result }
+    ensures { PutsTo O.Sink out.old out.new text.now result }
 {
     put_all(out, text)
 }
 
 /// Shows a number in decimal digits.
 pub fn show_decimal<O: Sink>(out: &mut O, number: u64) -> Result<(), Failed>
-    ensures { Puts (O.taken out.old) (O.taken out.new) (O.faults out.old) (O.faults out.new) (decimal number) result }
+    ensures { PutsTo O.Sink out.old out.new (decimal number) result }
 {
     let mut digits = itoa::Buffer::new();
     show(out, digits.format(number).as_bytes())
@@ -58,8 +58,7 @@ pub fn show_decimal<O: Sink>(out: &mut O, number: u64) -> Result<(), Failed>
 
 /// Shows a line that ends with a number.
 pub fn show_numbered<O: Sink>(out: &mut O, text: &[u8], number: u64) -> Result<(), Failed>
-    ensures { Puts (O.taken out.old) (O.taken out.new) (O.faults out.old) (O.faults out.new)
-        (numbered_line text.now number) result }
+    ensures { PutsTo O.Sink out.old out.new (numbered_line text.now number) result }
 {
     show(out, text)?;
     show_decimal(out, number)?;
@@ -68,8 +67,7 @@ pub fn show_numbered<O: Sink>(out: &mut O, text: &[u8], number: u64) -> Result<(
 
 /// Shows what is wrong with the words.
 fn show_usage<O: Sink>(out: &mut O, fault: UsageFault) -> Result<(), Failed>
-    ensures { Puts (O.taken out.old) (O.taken out.new) (O.faults out.old) (O.faults out.new)
-        (usage_line fault) result }
+    ensures { PutsTo O.Sink out.old out.new (usage_line fault) result }
 {
     match fault {
         UsageFault::NoCommand => show(out, b"usage: no command\n"),
@@ -82,8 +80,7 @@ fn show_usage<O: Sink>(out: &mut O, fault: UsageFault) -> Result<(), Failed>
 
 /// Shows why a file is no bundle.
 fn show_bundle_fault<O: Sink>(out: &mut O, fault: BundleFault) -> Result<(), Failed>
-    ensures { Puts (O.taken out.old) (O.taken out.new) (O.faults out.old) (O.faults out.new)
-        (bundle_line fault) result }
+    ensures { PutsTo O.Sink out.old out.new (bundle_line fault) result }
 {
     match fault {
         BundleFault::Short(at) => show_numbered(out, b"bundle: short at ", at),
@@ -100,8 +97,7 @@ fn show_bundle_fault<O: Sink>(out: &mut O, fault: BundleFault) -> Result<(), Fai
 /// Shows the line of a refusal.
 #[tactic(auto, unfolding(crate::specs::Refusal::refusal_line))]
 fn show_line<O: Sink>(out: &mut O, refusal: &Refusal) -> Result<(), Failed>
-    ensures { Puts (O.taken out.old) (O.taken out.new) (O.faults out.old) (O.faults out.new)
-        (refusal_line refusal.now) result }
+    ensures { PutsTo O.Sink out.old out.new (refusal_line refusal.now) result }
 {
     match *refusal {
         Refusal::Usage(fault) => show_usage(out, fault),
@@ -116,7 +112,7 @@ fn show_line<O: Sink>(out: &mut O, refusal: &Refusal) -> Result<(), Failed>
 
 /// Shows the line of a refusal, and answers its status, or the write fault.
 pub fn refuse<O: Sink>(out: &mut O, refusal: &Refusal) -> Status
-    ensures { Refuses (output O.taken O.faults out.old) (output O.taken O.faults out.new) refusal.now result }
+    ensures { Refuses (output O.Sink out.old) (output O.Sink out.new) refusal.now result }
 {
     match show_line(out, refusal) {
         Ok(()) => status(refusal),

@@ -14,6 +14,7 @@ use Rattle.alone_views.specs.KernelStanding.{StandsForKernel, TakesItem, answer_
 use Rattle.record_reader.specs.Ahead.{readable}
 use Rattle.record_reader.specs.Reading.{IsBehind, reader_offset}
 use Rattle.record_reader.specs.declared.reader.Reader.{Reader}
+use Rattle.outside_io.specs.declared.sink.Sink as sinks
 use Rattle.outside_io.proofs.ToldFacts.{Grows-none}
 use Rattle.read_back.specs.Answering.{viewed_unfit}
 use Rattle.read_back.specs.Reading.{IsReadTo}
@@ -180,14 +181,15 @@ kernel_ends {E} {gave} {e} {e'} {k} {machine} {told} {reader} {m} {n} {ended} re
 }
 
 -- a screen shows on the same output
-pub same_screen : {O : Type 0} {taken : O → Option (List ℕ)} {faults : O → ℕ} {old new : Screen O} {pieces : List Piece} →
-    Emits (GaveScreen taken faults) old new pieces → new.out.ghost_name ≡ old.out.ghost_name
-same_screen {O} {taken} {faults} {old} {new} {pieces} emits = (emits.more old [] (record {
+pub same_screen : {O : Type 0} {sink : sinks.Ghosts O} {old new : Screen O} {pieces : List Piece} →
+    Emits (GaveScreen sink) old new pieces → new.out.ghost_name ≡ old.out.ghost_name
+same_screen {O} {sink} {old} {new} {pieces} emits = (emits.more old [] (record {
   output = refl;
   text = λ fresh. start old.failed fresh;
 })).output
   where
     start : (failed : Bool) → failed ≡ false →
-        ShowsText failed (taken old.out.now) (taken old.out.now) (faults old.out.now) (faults old.out.now) []
-    start false fresh = (Grows-none (taken old.out.now), refl)
+        ShowsText failed (sink.taken old.out.now) (sink.taken old.out.now) (sink.faults old.out.now)
+        (sink.faults old.out.now) []
+    start false fresh = (Grows-none (sink.taken old.out.now), refl)
     start true fresh = absurd (let clash : true ≡ false = fresh in cc)

@@ -2,6 +2,7 @@
 use Rattle.std.proofs.Common.{◌≡◌, ℕ, Bool, true, false, List, [], ◌∷◌, ◌++◌, Option, Result, Ok, Err, OnOk, OnErr, is_err, refl, sym, ap, subst, ◌∙◌}
 use Rattle.std.proofs.Common.{append-nil, append_assoc}
 use Rattle.cloak_base.specs.declared.causes.Failed.{Failed}
+use Rattle.outside_io.specs.declared.sink.Sink as sinks
 use Rattle.outside_io.specs.Told.{Grows, GrowsByFront, Counts}
 use Rattle.outside_io.proofs.ToldFacts.{Grows-append, GrowsByFront-append, GrowsByFront-first, Rose-after}
 use Rattle.cloak_model.specs.Exchange.{Piece, recorded, shown, shown_bytes, Emits}
@@ -22,14 +23,14 @@ recorded_more (recorded x ∷ before) b = recorded_more before b
 recorded_more (shown x ∷ before) b = ap (λ (l : List ℕ). x ++ l) (recorded_more before b)
 
 -- what is for a record is not shown
-pub emits_recorded : {O : Type 0} (taken : O → Option (List ℕ)) (faults : O → ℕ) (o : Screen O) (bytes : List ℕ) →
-    Emits (GaveScreen taken faults) o o (recorded bytes ∷ [])
-emits_recorded {O} taken faults o bytes = record {
+pub emits_recorded : {O : Type 0} (sink : sinks.Ghosts O) (o : Screen O) (bytes : List ℕ) →
+    Emits (GaveScreen sink) o o (recorded bytes ∷ [])
+emits_recorded {O} sink o bytes = record {
   more = λ first before gave. record {
     output = gave.output;
     text = λ fresh.
-        subst (λ (l : List ℕ). ShowsText o.failed (taken first.out.now) (taken o.out.now) (faults first.out.now)
-        (faults o.out.now) l) (sym (recorded_more before bytes)) (gave.text fresh);
+        subst (λ (l : List ℕ). ShowsText o.failed (sink.taken first.out.now) (sink.taken o.out.now)
+        (sink.faults first.out.now) (sink.faults o.out.now) l) (sym (recorded_more before bytes)) (gave.text fresh);
   };
 }
 
@@ -39,14 +40,14 @@ failed_more : (failed : Bool) (old new : Option (List ℕ)) (m n : ℕ) (text mo
 failed_more true old new m n text more is shows = (GrowsByFront-first old new text more shows.0, shows.1)
 failed_more false old new m n text more is shows = absurd (let clash : false ≡ true = is in cc)
 
-pub emits_none : {O : Type 0} (taken : O → Option (List ℕ)) (faults : O → ℕ) (o : Screen O) (bytes : List ℕ) →
-    o.failed ≡ true → Emits (GaveScreen taken faults) o o (shown bytes ∷ [])
-emits_none {O} taken faults o bytes failed = record {
+pub emits_none : {O : Type 0} (sink : sinks.Ghosts O) (o : Screen O) (bytes : List ℕ) →
+    o.failed ≡ true → Emits (GaveScreen sink) o o (shown bytes ∷ [])
+emits_none {O} sink o bytes failed = record {
   more = λ first before gave. record {
     output = gave.output;
     text = λ fresh.
-        subst (λ (l : List ℕ). ShowsText o.failed (taken first.out.now) (taken o.out.now) (faults first.out.now)
-        (faults o.out.now) l) (sym (shown_more before bytes))
+        subst (λ (l : List ℕ). ShowsText o.failed (sink.taken first.out.now) (sink.taken o.out.now)
+        (sink.faults first.out.now) (sink.faults o.out.now) l) (sym (shown_more before bytes))
         (failed_more o.failed _ _ _ _ (shown_bytes before) bytes failed (gave.text fresh));
   };
 }
@@ -63,20 +64,20 @@ put_more (Ok v) false false a b c m n k text more fresh is grows front counts sh
 put_more (Err e) false true a b c m n k text more fresh is grows front counts shows =
     (GrowsByFront-append a b c text more shows.0 front, Rose-after m n k shows.1 counts)
 
-pub emits_shown : {O A : Type 0} (taken : O → Option (List ℕ)) (faults : O → ℕ) (old new : Screen O) (bytes : List ℕ)
+pub emits_shown : {O A : Type 0} (sink : sinks.Ghosts O) (old new : Screen O) (bytes : List ℕ)
     (r : Result A Failed) → old.failed ≡ false → new.failed ≡ is_err r → new.out.ghost_name ≡ old.out.ghost_name →
-    OnOk r (Grows (taken old.out.now) (taken new.out.now) bytes) →
-    OnErr r (GrowsByFront (taken old.out.now) (taken new.out.now) bytes) →
-    Counts (faults old.out.now) (faults new.out.now) r →
-    Emits (GaveScreen taken faults) old new (shown bytes ∷ [])
-emits_shown {O} {A} taken faults old new bytes r fresh failed same ok err counts = record {
+    OnOk r (Grows (sink.taken old.out.now) (sink.taken new.out.now) bytes) →
+    OnErr r (GrowsByFront (sink.taken old.out.now) (sink.taken new.out.now) bytes) →
+    Counts (sink.faults old.out.now) (sink.faults new.out.now) r →
+    Emits (GaveScreen sink) old new (shown bytes ∷ [])
+emits_shown {O} {A} sink old new bytes r fresh failed same ok err counts = record {
   more = λ first before gave. record {
     output = same ∙ gave.output;
     text = λ begun.
-        subst (λ (l : List ℕ). ShowsText new.failed (taken first.out.now) (taken new.out.now) (faults first.out.now)
-        (faults new.out.now) l) (sym (shown_more before bytes))
-        (put_more r old.failed new.failed (taken first.out.now) (taken old.out.now) (taken new.out.now)
-        (faults first.out.now) (faults old.out.now) (faults new.out.now) (shown_bytes before) bytes fresh failed ok err
-        counts (gave.text begun));
+        subst (λ (l : List ℕ). ShowsText new.failed (sink.taken first.out.now) (sink.taken new.out.now)
+        (sink.faults first.out.now) (sink.faults new.out.now) l) (sym (shown_more before bytes))
+        (put_more r old.failed new.failed (sink.taken first.out.now) (sink.taken old.out.now) (sink.taken new.out.now)
+        (sink.faults first.out.now) (sink.faults old.out.now) (sink.faults new.out.now) (shown_bytes before) bytes fresh
+        failed ok err counts (gave.text begun));
   };
 }

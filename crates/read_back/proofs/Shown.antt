@@ -1,7 +1,10 @@
 -- What was shown of a record that was read back.
 use Rattle.std.proofs.Common.{◌≡◌, ℕ, Bool, true, false, List, [], ◌∷◌, ◌++◌, codes, Option, Some, None, Ok, Err, refl, sym, ap, subst, ◌∙◌, inl, inr}
 use Rattle.cloak_base.specs.declared.causes.Failed.{Failed}
-use Rattle.outside_io.specs.Told.{Grows, GrowsByFront, Rose, Puts}
+use Rattle.outside_io.specs.declared.shelf.Shelf as shelves
+use Rattle.outside_io.specs.declared.sink.Sink as sinks
+use Rattle.outside_io.specs.Sinks.{PutsTo}
+use Rattle.outside_io.specs.Told.{Grows, GrowsByFront, Rose}
 use Rattle.outside_io.proofs.ToldFacts.{Grows-none, Grows-append, GrowsByFront-append, GrowsByFront-first, Rose-after}
 use Rattle.cloak_model.specs.declared.image.KernelImage.{KernelImage}
 use Rattle.cloak_model.specs.declared.image.Program.{Program}
@@ -35,16 +38,17 @@ shows_nothing false a m fresh = (Grows-none a, refl)
 shows_nothing true a m fresh = absurd (let clash : true ≡ false = fresh in cc)
 
 -- what a screen that was whole was given since
-screen_shows : {O : Type 0} (taken : O → Option (List ℕ)) (faults : O → ℕ) (first now : Screen O) (bytes : List ℕ) →
-    first.failed ≡ false → Emits (GaveScreen taken faults) first now (shown_each bytes) →
-    ShowsText now.failed (taken first.out.now) (taken now.out.now) (faults first.out.now) (faults now.out.now) bytes
-screen_shows {O} taken faults first now bytes fresh emits =
-    let start : GaveScreen taken faults first first [] = record {
+screen_shows : {O : Type 0} (sink : sinks.Ghosts O) (first now : Screen O) (bytes : List ℕ) →
+    first.failed ≡ false → Emits (GaveScreen sink) first now (shown_each bytes) →
+    ShowsText now.failed (sink.taken first.out.now) (sink.taken now.out.now) (sink.faults first.out.now)
+    (sink.faults now.out.now) bytes
+screen_shows {O} sink first now bytes fresh emits =
+    let start : GaveScreen sink first first [] = record {
       output = refl;
-      text = λ is. shows_nothing first.failed (taken first.out.now) (faults first.out.now) is;
+      text = λ is. shows_nothing first.failed (sink.taken first.out.now) (sink.faults first.out.now) is;
     } in
-    subst (λ (l : List ℕ). ShowsText now.failed (taken first.out.now) (taken now.out.now) (faults first.out.now)
-    (faults now.out.now) l) (each_shown bytes) ((emits.more first [] start).text fresh)
+    subst (λ (l : List ℕ). ShowsText now.failed (sink.taken first.out.now) (sink.taken now.out.now)
+    (sink.faults first.out.now) (sink.faults now.out.now) l) (each_shown bytes) ((emits.more first [] start).text fresh)
 
 -- Where it did not fail, and where it did.
 
@@ -66,105 +70,109 @@ view_front a b k (Some ended) front =
     GrowsByFront-first a b k.console (codes "\n" ++ lines_or_fault (kernel_lines k) ended) front
 
 -- `view`: the screen failed
-pub view_broke : {S O : Type 0} (held : S → List ℕ → Option (List ℕ)) (reading writing : S → ℕ)
-    (taken : O → Option (List ℕ)) (faults : O → ℕ) {k : KernelImage} {machine : KernelAlone} {first now : Screen O}
-    {name : List ℕ} {s s' : S} {o o' : O} {ended : Option Ending} →
-    ViewsTo (GaveScreen taken faults) first now k machine (held s name) (reading s) (reading s') ended →
+pub view_broke : {S O : Type 0} (shelf : shelves.Ghosts S) (sink : sinks.Ghosts O)
+    {k : KernelImage} {machine : KernelAlone} {first now : Screen O} {name : List ℕ} {s s' : S} {o o' : O}
+    {ended : Option Ending} →
+    ViewsTo (GaveScreen sink) first now k machine (shelf.held s name) (shelf.reading_faults s)
+    (shelf.reading_faults s') ended →
     first.failed ≡ false → now.failed ≡ true → first.out.now ≡ o → o' ≡ now.out.now →
-    ShowsRecord (viewed_unfit k) (viewed_text k) name status.WriteFault (outside held reading writing taken faults s o)
-    (outside held reading writing taken faults s' o')
-view_broke {S} {O} held reading writing taken faults {k} {machine} {first} {now} {name} {s} {s'} {o} {o'}
+    ShowsRecord (viewed_unfit k) (viewed_text k) name status.WriteFault (outside shelf sink s o)
+    (outside shelf sink s' o')
+view_broke {S} {O} shelf sink {k} {machine} {first} {now} {name} {s} {s'} {o} {o'}
     {ended} views fresh broken same_first same_now =
     let console = (kernel_alone k views.items).kernel.console in
-    let front = text_front now.failed _ _ _ _ console broken (screen_shows taken faults first now console fresh views.shows) in
-    let shown : GrowsByFront (taken o) (taken o') console =
-    subst (λ (x : O). GrowsByFront (taken x) (taken o') console) same_first
-    (subst (λ (x : O). GrowsByFront (taken first.out.now) (taken x) console) (sym same_now) front.0) in
-    let rose : Rose (faults o) (faults o') =
-    subst (λ (x : O). Rose (faults x) (faults o')) same_first
-    (subst (λ (x : O). Rose (faults first.out.now) (faults x)) (sym same_now) front.1) in
+    let front = text_front now.failed _ _ _ _ console broken (screen_shows sink first now console fresh views.shows) in
+    let shown : GrowsByFront (sink.taken o) (sink.taken o') console =
+    subst (λ (x : O). GrowsByFront (sink.taken x) (sink.taken o') console) same_first
+    (subst (λ (x : O). GrowsByFront (sink.taken first.out.now) (sink.taken x) console) (sym same_now) front.0) in
+    let rose : Rose (sink.faults o) (sink.faults o') =
+    subst (λ (x : O). Rose (sink.faults x) (sink.faults o')) same_first
+    (subst (λ (x : O). Rose (sink.faults first.out.now) (sink.faults x)) (sym same_now) front.1) in
     inr (
       refl,
       record {
         items = views.items;
         ended = ended;
         read = views.read;
-        shown = view_front (taken o) (taken o') (kernel_alone k views.items).kernel ended shown;
+        shown = view_front (sink.taken o) (sink.taken o') (kernel_alone k views.items).kernel ended shown;
         faults = rose;
       },
     )
 
 -- `view`: the console was shown, and then the end
-pub view_whole : {S O : Type 0} (held : S → List ℕ → Option (List ℕ)) (reading writing : S → ℕ)
-    (taken : O → Option (List ℕ)) (faults : O → ℕ) {k : KernelImage} {machine : KernelAlone} {first now : Screen O}
-    {name : List ℕ} {s s' : S} {o mid : O} {ended : Ending} {given : Status} {u : Unit} (o' : O) →
-    (views : ViewsTo (GaveScreen taken faults) first now k machine (held s name) (reading s) (reading s') (Some ended)) →
+pub view_whole : {S O : Type 0} (shelf : shelves.Ghosts S) (sink : sinks.Ghosts O)
+    {k : KernelImage} {machine : KernelAlone} {first now : Screen O} {name : List ℕ} {s s' : S} {o mid : O}
+    {ended : Ending} {given : Status} {u : Unit} (o' : O) →
+    (views : ViewsTo (GaveScreen sink) first now k machine (shelf.held s name) (shelf.reading_faults s)
+    (shelf.reading_faults s') (Some ended)) →
     first.failed ≡ false → now.failed ≡ false → first.out.now ≡ o → mid ≡ now.out.now →
-    Puts (taken mid) (taken o') (faults mid) (faults o')
+    PutsTo sink mid o'
     (codes "\n" ++ lines_or_fault (kernel_lines (kernel_alone k views.items).kernel) ended) (Ok u) →
     given ≡ status_of_ending ended →
-    ShowsRecord (viewed_unfit k) (viewed_text k) name given (outside held reading writing taken faults s o)
-    (outside held reading writing taken faults s' o')
-view_whole {S} {O} held reading writing taken faults {k} {machine} {first} {now} {name} {s} {s'} {o} {mid}
+    ShowsRecord (viewed_unfit k) (viewed_text k) name given (outside shelf sink s o)
+    (outside shelf sink s' o')
+view_whole {S} {O} shelf sink {k} {machine} {first} {now} {name} {s} {s'} {o} {mid}
     {ended} {given} {u} o' views fresh well same_first same_now puts answer =
     let console = (kernel_alone k views.items).kernel.console in
     let end = codes "\n" ++ lines_or_fault (kernel_lines (kernel_alone k views.items).kernel) ended in
-    let whole = text_whole now.failed _ _ _ _ console well (screen_shows taken faults first now console fresh views.shows) in
-    let shown : Grows (taken o) (taken mid) console =
-    subst (λ (x : O). Grows (taken x) (taken mid) console) same_first
-    (subst (λ (x : O). Grows (taken first.out.now) (taken x) console) (sym same_now) whole.0) in
-    let same : faults mid ≡ faults o = ap faults same_now ∙ (whole.1 ∙ ap faults same_first) in
+    let whole = text_whole now.failed _ _ _ _ console well (screen_shows sink first now console fresh views.shows) in
+    let shown : Grows (sink.taken o) (sink.taken mid) console =
+    subst (λ (x : O). Grows (sink.taken x) (sink.taken mid) console) same_first
+    (subst (λ (x : O). Grows (sink.taken first.out.now) (sink.taken x) console) (sym same_now) whole.0) in
+    let same : sink.faults mid ≡ sink.faults o = ap sink.faults same_now ∙ (whole.1 ∙ ap sink.faults same_first) in
     inl (record {
       items = views.items;
       ended = ended;
       status = answer;
       read = views.read;
-      shown = Grows-append (taken o) (taken mid) (taken o') console end shown puts.0;
+      shown = Grows-append (sink.taken o) (sink.taken mid) (sink.taken o') console end shown puts.0;
       faults = puts.1 ∙ same;
     })
 
 -- `view`: the console was shown, and then a front of the end
-pub view_cut : {S O : Type 0} (held : S → List ℕ → Option (List ℕ)) (reading writing : S → ℕ)
-    (taken : O → Option (List ℕ)) (faults : O → ℕ) {k : KernelImage} {machine : KernelAlone} {first now : Screen O}
-    {name : List ℕ} {s s' : S} {o mid : O} {ended : Ending} {e : Failed} (o' : O) →
-    (views : ViewsTo (GaveScreen taken faults) first now k machine (held s name) (reading s) (reading s') (Some ended)) →
+pub view_cut : {S O : Type 0} (shelf : shelves.Ghosts S) (sink : sinks.Ghosts O)
+    {k : KernelImage} {machine : KernelAlone} {first now : Screen O} {name : List ℕ} {s s' : S} {o mid : O}
+    {ended : Ending} {e : Failed} (o' : O) →
+    (views : ViewsTo (GaveScreen sink) first now k machine (shelf.held s name) (shelf.reading_faults s)
+    (shelf.reading_faults s') (Some ended)) →
     first.failed ≡ false → now.failed ≡ false → first.out.now ≡ o → mid ≡ now.out.now →
-    Puts (taken mid) (taken o') (faults mid) (faults o')
+    PutsTo sink mid o'
     (codes "\n" ++ lines_or_fault (kernel_lines (kernel_alone k views.items).kernel) ended) (Err e) →
-    ShowsRecord (viewed_unfit k) (viewed_text k) name status.WriteFault (outside held reading writing taken faults s o)
-    (outside held reading writing taken faults s' o')
-view_cut {S} {O} held reading writing taken faults {k} {machine} {first} {now} {name} {s} {s'} {o} {mid}
+    ShowsRecord (viewed_unfit k) (viewed_text k) name status.WriteFault (outside shelf sink s o)
+    (outside shelf sink s' o')
+view_cut {S} {O} shelf sink {k} {machine} {first} {now} {name} {s} {s'} {o} {mid}
     {ended} {e} o' views fresh well same_first same_now puts =
     let console = (kernel_alone k views.items).kernel.console in
     let end = codes "\n" ++ lines_or_fault (kernel_lines (kernel_alone k views.items).kernel) ended in
-    let whole = text_whole now.failed _ _ _ _ console well (screen_shows taken faults first now console fresh views.shows) in
-    let shown : Grows (taken o) (taken mid) console =
-    subst (λ (x : O). Grows (taken x) (taken mid) console) same_first
-    (subst (λ (x : O). Grows (taken first.out.now) (taken x) console) (sym same_now) whole.0) in
-    let same : faults mid ≡ faults o = ap faults same_now ∙ (whole.1 ∙ ap faults same_first) in
+    let whole = text_whole now.failed _ _ _ _ console well (screen_shows sink first now console fresh views.shows) in
+    let shown : Grows (sink.taken o) (sink.taken mid) console =
+    subst (λ (x : O). Grows (sink.taken x) (sink.taken mid) console) same_first
+    (subst (λ (x : O). Grows (sink.taken first.out.now) (sink.taken x) console) (sym same_now) whole.0) in
+    let same : sink.faults mid ≡ sink.faults o = ap sink.faults same_now ∙ (whole.1 ∙ ap sink.faults same_first) in
     inr (
       refl,
       record {
         items = views.items;
         ended = Some ended;
         read = views.read;
-        shown = GrowsByFront-append (taken o) (taken mid) (taken o') console end shown puts.0;
-        faults = Rose-after (faults o) (faults mid) (faults o') same puts.1;
+        shown = GrowsByFront-append (sink.taken o) (sink.taken mid) (sink.taken o') console end shown puts.0;
+        faults = Rose-after (sink.faults o) (sink.faults mid) (sink.faults o') same puts.1;
       },
     )
 
 -- `solo`
 
-pub solo_whole : {S O : Type 0} (held : S → List ℕ → Option (List ℕ)) (reading writing : S → ℕ)
-    (taken : O → Option (List ℕ)) (faults : O → ℕ) {d : ℕ} {k : KernelImage} {p : Program} {machine : DomainAlone}
-    {name : List ℕ} {s s' : S} {ended : Ending} {given : Status} {u : Unit} (o o' : O) →
-    (solos : SolosTo d k p machine (held s name) (reading s) (reading s') (Some ended)) →
-    Puts (taken o) (taken o') (faults o) (faults o')
+pub solo_whole : {S O : Type 0} (shelf : shelves.Ghosts S) (sink : sinks.Ghosts O)
+    {d : ℕ} {k : KernelImage} {p : Program} {machine : DomainAlone} {name : List ℕ} {s s' : S} {ended : Ending}
+    {given : Status} {u : Unit} (o o' : O) →
+    (solos : SolosTo d k p machine (shelf.held s name) (shelf.reading_faults s) (shelf.reading_faults s')
+    (Some ended)) →
+    PutsTo sink o o'
     (lines_or_fault (domain_line (domain_alone d k.schedule p solos.items).part.domain) ended) (Ok u) →
     given ≡ status_of_ending ended →
-    ShowsRecord (program_unfit d k p) (program_text d k p) name given (outside held reading writing taken faults s o)
-    (outside held reading writing taken faults s' o')
-solo_whole {S} {O} held reading writing taken faults {d} {k} {p} {machine} {name} {s} {s'} {ended} {given} {u}
+    ShowsRecord (program_unfit d k p) (program_text d k p) name given (outside shelf sink s o)
+    (outside shelf sink s' o')
+solo_whole {S} {O} shelf sink {d} {k} {p} {machine} {name} {s} {s'} {ended} {given} {u}
     o o' solos puts answer =
     inl (record {
       items = solos.items;
@@ -175,15 +183,16 @@ solo_whole {S} {O} held reading writing taken faults {d} {k} {p} {machine} {name
       faults = puts.1;
     })
 
-pub solo_cut : {S O : Type 0} (held : S → List ℕ → Option (List ℕ)) (reading writing : S → ℕ)
-    (taken : O → Option (List ℕ)) (faults : O → ℕ) {d : ℕ} {k : KernelImage} {p : Program} {machine : DomainAlone}
-    {name : List ℕ} {s s' : S} {ended : Ending} {e : Failed} (o o' : O) →
-    (solos : SolosTo d k p machine (held s name) (reading s) (reading s') (Some ended)) →
-    Puts (taken o) (taken o') (faults o) (faults o')
+pub solo_cut : {S O : Type 0} (shelf : shelves.Ghosts S) (sink : sinks.Ghosts O)
+    {d : ℕ} {k : KernelImage} {p : Program} {machine : DomainAlone} {name : List ℕ} {s s' : S} {ended : Ending}
+    {e : Failed} (o o' : O) →
+    (solos : SolosTo d k p machine (shelf.held s name) (shelf.reading_faults s) (shelf.reading_faults s')
+    (Some ended)) →
+    PutsTo sink o o'
     (lines_or_fault (domain_line (domain_alone d k.schedule p solos.items).part.domain) ended) (Err e) →
     ShowsRecord (program_unfit d k p) (program_text d k p) name status.WriteFault
-    (outside held reading writing taken faults s o) (outside held reading writing taken faults s' o')
-solo_cut {S} {O} held reading writing taken faults {d} {k} {p} {machine} {name} {s} {s'} {ended} {e} o o' solos
+    (outside shelf sink s o) (outside shelf sink s' o')
+solo_cut {S} {O} shelf sink {d} {k} {p} {machine} {name} {s} {s'} {ended} {e} o o' solos
     puts =
     inr (
       refl,

@@ -1,6 +1,6 @@
 //! How the reading of a record ends, with the status and the line that say so.
 ghost use Rattle.std.specs.Prelude.{◌≡◌, ◌≢◌};
-ghost use Rattle.outside_io.specs.Told.{Puts};
+ghost use Rattle.outside_io.specs.Sinks.{PutsTo};
 ghost use Rattle.read_back.specs.Reading.{status_of_ending};
 ghost use Rattle.read_back.specs.Text.{fault_line, record_line};
 
@@ -35,8 +35,7 @@ pub fn status(ending: &Ending) -> Status
 
 /// Shows why a file is no record.
 fn show_record_fault<O: Sink>(out: &mut O, fault: RecordFault) -> Result<(), Failed>
-    ensures { Puts (O.taken out.old) (O.taken out.new) (O.faults out.old) (O.faults out.new)
-        (record_line fault) result }
+    ensures { PutsTo O.Sink out.old out.new (record_line fault) result }
 {
     match fault {
         RecordFault::Short(at) => show_numbered(out, b"record: short at ", at),
@@ -49,8 +48,7 @@ fn show_record_fault<O: Sink>(out: &mut O, fault: RecordFault) -> Result<(), Fai
 
 /// Shows the line that says why a record was not read to its end; nothing where it was.
 pub fn show_fault<O: Sink>(out: &mut O, ending: &Ending) -> Result<(), Failed>
-    ensures { Puts (O.taken out.old) (O.taken out.new) (O.faults out.old) (O.faults out.new)
-        (fault_line ending.now) result }
+    ensures { PutsTo O.Sink out.old out.new (fault_line ending.now) result }
 {
     match *ending {
         Ending::Whole => Ok(()),

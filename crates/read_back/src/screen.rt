@@ -1,6 +1,5 @@
 //! The output, as a machine that runs alone shows its console on it.
 ghost use Rattle.std.specs.Prelude.{◌≡◌};
-ghost use Rattle.outside_io.specs.Told.{Puts};
 
 use cloak_model::{Emit, Item};
 use outside_io::Sink;
@@ -15,7 +14,7 @@ pub struct Screen<'o, O: Sink> {
 impl<'o, O: Sink> Emit for Screen<'o, O> {
     ghost use Rattle.read_back.specs.Screen.{GaveScreen};
 
-    ghost gave = { GaveScreen O.taken O.faults };
+    ghost gave = { GaveScreen O.Sink };
 
     fn item(&mut self, i: &Item) {
         let _ = i;

@@ -1,6 +1,7 @@
 //! The command `solo`.
 ghost use Rattle.std.specs.Prelude.{◌≡◌, ◌<◌, ◌-◌, ◌^◌, ℕ, List, Some, None, length};
-ghost use Rattle.outside_io.specs.Told.{Puts, SameFiles};
+ghost use Rattle.outside_io.specs.Sinks.{PutsTo};
+ghost use Rattle.outside_io.specs.Told.{SameFiles};
 ghost use Rattle.cloak_model.specs.declared.image.KernelImage.{KernelImage};
 ghost use Rattle.cloak_model.specs.declared.image.Program.{Program};
 ghost use Rattle.cloak_model.specs.DomainAlone as model;
@@ -53,8 +54,7 @@ fn read_program<S: Shelf>(program: &mut DomainAlone, name: &str, shelf: &mut S) 
 fn show_end<O: Sink>(program: DomainAlone, ending: &Ending, out: &mut O) -> Result<(), Failed>
     ensures { (number : ℕ) (turns : List ℕ) (s : model.DomainAlone) → StandsForDomain number turns program s →
         length s.part.domain.loads < 2 ^ 64 → (ending.now ≡ Ending.Whole → s.unfit ≡ None) →
-        Puts (O.taken out.old) (O.taken out.new) (O.faults out.old) (O.faults out.new)
-        (lines_or_fault (domain_line s.part.domain) ending.now) result }
+        PutsTo O.Sink out.old out.new (lines_or_fault (domain_line s.part.domain) ending.now) result }
 {
     match ending {
         Ending::Whole => program.report(out),
@@ -74,8 +74,7 @@ fn solo_record<S: Shelf, O: Sink>(
     ensures shows { (d : ℕ) (k : KernelImage) (p : Program) →
         StandsForDomain d k.schedule program (model.opened_domain d p) →
         ShowsRecord (program_unfit d k p) (program_text d k p) name.now result
-        (outside S.held S.reading_faults S.writing_faults O.taken O.faults shelf.old out.old)
-        (outside S.held S.reading_faults S.writing_faults O.taken O.faults shelf.new out.new) }
+        (outside S.Shelf O.Sink shelf.old out.old) (outside S.Shelf O.Sink shelf.new out.new) }
     ensures files { SameFiles (S.held shelf.old) (S.held shelf.new) }
     ensures writing { S.writing_faults shelf.new ≡ S.writing_faults shelf.old }
 {
@@ -98,8 +97,7 @@ pub fn solo_command<S: Shelf, O: Sink>(
     requires reading { S.reading_faults shelf.old < 2 ^ 64 - 1 }
     requires output { O.faults out.old < 2 ^ 64 - 1 }
     ensures answers { SoloAnswers (asked_of_solo solo.now)
-        (outside S.held S.reading_faults S.writing_faults O.taken O.faults shelf.old out.old)
-        (outside S.held S.reading_faults S.writing_faults O.taken O.faults shelf.new out.new) result }
+        (outside S.Shelf O.Sink shelf.old out.old) (outside S.Shelf O.Sink shelf.new out.new) result }
     ensures files { SameFiles (S.held shelf.old) (S.held shelf.new) }
     ensures writing { S.writing_faults shelf.new ≡ S.writing_faults shelf.old }
 {

@@ -1,6 +1,7 @@
 //! The command `view`.
 ghost use Rattle.std.specs.Prelude.{◌≡◌, ◌<◌, ◌-◌, ◌^◌, ◌++◌, ℕ, List, true, None, codes, length};
-ghost use Rattle.outside_io.specs.Told.{Puts, SameFiles};
+ghost use Rattle.outside_io.specs.Sinks.{PutsTo};
+ghost use Rattle.outside_io.specs.Told.{SameFiles};
 ghost use Rattle.cloak_model.specs.declared.image.KernelImage.{KernelImage};
 ghost use Rattle.cloak_model.specs.KernelAlone as model;
 ghost use Rattle.command_words.specs.Request.{asked_of_view};
@@ -33,7 +34,7 @@ fn read_kernel<S: Shelf, O: Sink>(
 ) -> Option<Ending>
     requires settled { S.is_settled shelf.old }
     ensures views { (k : KernelImage) → StandsForKernel kernel.old k.schedule (model.opened_kernel k) →
-        ViewsTo (GaveScreen O.taken O.faults) screen.old screen.new k kernel.new (S.held shelf.old name.now)
+        ViewsTo (GaveScreen O.Sink) screen.old screen.new k kernel.new (S.held shelf.old name.now)
         (S.reading_faults shelf.old) (S.reading_faults shelf.new) result }
     ensures failed { result ≡ None → screen.new.failed ≡ true }
     ensures same_out { screen.new.out.ghost_name ≡ screen.old.out.ghost_name }
@@ -61,8 +62,7 @@ fn read_kernel<S: Shelf, O: Sink>(
 fn show_end<O: Sink>(kernel: KernelAlone, ending: &Ending, out: &mut O) -> Result<(), Failed>
     ensures { (turns : List ℕ) (s : model.KernelAlone) → StandsForKernel kernel turns s →
         length s.kernel.console < 2 ^ 64 →
-        Puts (O.taken out.old) (O.taken out.new) (O.faults out.old) (O.faults out.new)
-        (codes "\n" ++ lines_or_fault (kernel_lines s.kernel) ending.now) result }
+        PutsTo O.Sink out.old out.new (codes "\n" ++ lines_or_fault (kernel_lines s.kernel) ending.now) result }
 {
     put_all(out, b"\n")?;
     match ending {
@@ -82,8 +82,7 @@ fn view_record<S: Shelf, O: Sink>(
     requires output { O.faults out.old < 2 ^ 64 - 1 }
     ensures shows { (k : KernelImage) → StandsForKernel kernel k.schedule (model.opened_kernel k) →
         ShowsRecord (viewed_unfit k) (viewed_text k) name.now result
-        (outside S.held S.reading_faults S.writing_faults O.taken O.faults shelf.old out.old)
-        (outside S.held S.reading_faults S.writing_faults O.taken O.faults shelf.new out.new) }
+        (outside S.Shelf O.Sink shelf.old out.old) (outside S.Shelf O.Sink shelf.new out.new) }
     ensures files { SameFiles (S.held shelf.old) (S.held shelf.new) }
     ensures writing { S.writing_faults shelf.new ≡ S.writing_faults shelf.old }
 {
@@ -113,8 +112,7 @@ pub fn view_command<S: Shelf, O: Sink>(
     requires reading { S.reading_faults shelf.old < 2 ^ 64 - 1 }
     requires output { O.faults out.old < 2 ^ 64 - 1 }
     ensures answers { ViewAnswers (asked_of_view files.now)
-        (outside S.held S.reading_faults S.writing_faults O.taken O.faults shelf.old out.old)
-        (outside S.held S.reading_faults S.writing_faults O.taken O.faults shelf.new out.new) result }
+        (outside S.Shelf O.Sink shelf.old out.old) (outside S.Shelf O.Sink shelf.new out.new) result }
     ensures files { SameFiles (S.held shelf.old) (S.held shelf.new) }
     ensures writing { S.writing_faults shelf.new ≡ S.writing_faults shelf.old }
 {

@@ -46,16 +46,14 @@ pub fn call_name(number: u32) -> &'static str
 
 /// A word in eight hexadecimal digits.
 pub fn put_word<O: Sink>(out: &mut O, so_far: SoFar, word: u32) -> SoFar
-    ensures { PutsMore (putting O.taken O.faults out.old so_far) (putting O.taken O.faults out.new result)
-        (report.hexadecimal word) }
+    ensures { PutsMore (putting O.Sink out.old so_far) (putting O.Sink out.new result) (report.hexadecimal word) }
 {
     hexadecimal(out, so_far, word)
 }
 
 /// A name.
 pub fn put_name<O: Sink>(out: &mut O, so_far: SoFar, name: &str) -> SoFar
-    ensures { PutsMore (putting O.taken O.faults out.old so_far) (putting O.taken O.faults out.new result)
-        (name.now) }
+    ensures { PutsMore (putting O.Sink out.old so_far) (putting O.Sink out.new result) (name.now) }
 {
     text(out, so_far, name.as_bytes())
 }

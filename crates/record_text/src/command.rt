@@ -16,8 +16,7 @@ use read_back::{Ending, show_fault, status};
 
 /// Shows why a record was not read to its end, unless something failed before.
 fn put_ending<O: Sink>(out: &mut O, so_far: SoFar, ending: &Ending) -> SoFar
-    ensures { PutsMore (putting O.taken O.faults out.old so_far) (putting O.taken O.faults out.new result)
-        (fault_line ending.now) }
+    ensures { PutsMore (putting O.Sink out.old so_far) (putting O.Sink out.new result) (fault_line ending.now) }
 {
     match so_far {
         Ok(()) => show_fault(out, ending),
@@ -44,8 +43,7 @@ fn show_record<S: Shelf, O: Sink>(
 ) -> Status
     requires { S.is_settled shelf.old }
     ensures shows { ShowsRecord never_unfit (text_by false selection.now) name.now result
-        (outside S.held S.reading_faults S.writing_faults O.taken O.faults shelf.old out.old)
-        (outside S.held S.reading_faults S.writing_faults O.taken O.faults shelf.new out.new) }
+        (outside S.Shelf O.Sink shelf.old out.old) (outside S.Shelf O.Sink shelf.new out.new) }
     ensures files { SameFiles (S.held shelf.old) (S.held shelf.new) }
     ensures writing { S.writing_faults shelf.new ≡ S.writing_faults shelf.old }
 {
@@ -67,8 +65,7 @@ fn show_counts<S: Shelf, O: Sink>(
 ) -> Status
     requires { S.is_settled shelf.old }
     ensures shows { ShowsRecord never_unfit (text_by true selection.now) name.now result
-        (outside S.held S.reading_faults S.writing_faults O.taken O.faults shelf.old out.old)
-        (outside S.held S.reading_faults S.writing_faults O.taken O.faults shelf.new out.new) }
+        (outside S.Shelf O.Sink shelf.old out.old) (outside S.Shelf O.Sink shelf.new out.new) }
     ensures files { SameFiles (S.held shelf.old) (S.held shelf.new) }
     ensures writing { S.writing_faults shelf.new ≡ S.writing_faults shelf.old }
 {
@@ -87,8 +84,7 @@ pub fn show_command<S: Shelf, O: Sink>(
 ) -> Status
     requires { S.is_settled shelf.old }
     ensures shows { ShowsRecord never_unfit (record_text selection.now) name.now result
-        (outside S.held S.reading_faults S.writing_faults O.taken O.faults shelf.old out.old)
-        (outside S.held S.reading_faults S.writing_faults O.taken O.faults shelf.new out.new) }
+        (outside S.Shelf O.Sink shelf.old out.old) (outside S.Shelf O.Sink shelf.new out.new) }
     ensures files { SameFiles (S.held shelf.old) (S.held shelf.new) }
     ensures writing { S.writing_faults shelf.new ≡ S.writing_faults shelf.old }
 {

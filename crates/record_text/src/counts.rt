@@ -40,8 +40,7 @@ fn counted(count: u64, kind: Kinds, item: &Item) -> u64
 
 /// The line of a count, whose name has a space behind it.
 fn put_count<O: Sink>(out: &mut O, so_far: SoFar, name: &[u8], count: u64) -> SoFar
-    ensures { PutsMore (putting O.taken O.faults out.old so_far) (putting O.taken O.faults out.new result)
-        (number_line name.now count) }
+    ensures { PutsMore (putting O.Sink out.old so_far) (putting O.Sink out.new result) (number_line name.now count) }
 {
     let so_far = text(out, so_far, name);
     let so_far = decimal(out, so_far, count);
@@ -85,8 +84,7 @@ impl Counts {
     /// A line for each kind.
     pub fn put<O: Sink>(&self, out: &mut O, so_far: SoFar) -> SoFar
         ensures { (items : List Item) → AreCounts self.now items →
-            PutsMore (putting O.taken O.faults out.old so_far) (putting O.taken O.faults out.new result)
-            (counts_text items) }
+            PutsMore (putting O.Sink out.old so_far) (putting O.Sink out.new result) (counts_text items) }
     {
         let so_far = put_count(out, so_far, b"cipher ", self.cipher);
         let so_far = put_count(out, so_far, b"put ", self.put);

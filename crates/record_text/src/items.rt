@@ -13,8 +13,7 @@ use sha2::{Digest, Sha256};
 
 /// `program D`
 fn put_program<O: Sink>(out: &mut O, so_far: SoFar, domain: u8) -> SoFar
-    ensures { PutsMore (putting O.taken O.faults out.old so_far) (putting O.taken O.faults out.new result)
-        (spec.program_named domain) }
+    ensures { PutsMore (putting O.Sink out.old so_far) (putting O.Sink out.new result) (spec.program_named domain) }
 {
     let so_far = text(out, so_far, b"program ");
     decimal(out, so_far, domain as u64)
@@ -22,8 +21,7 @@ fn put_program<O: Sink>(out: &mut O, so_far: SoFar, domain: u8) -> SoFar
 
 /// `context C`
 fn put_context<O: Sink>(out: &mut O, so_far: SoFar, ctx: u32) -> SoFar
-    ensures { PutsMore (putting O.taken O.faults out.old so_far) (putting O.taken O.faults out.new result)
-        (spec.context_named ctx) }
+    ensures { PutsMore (putting O.Sink out.old so_far) (putting O.Sink out.new result) (spec.context_named ctx) }
 {
     let so_far = text(out, so_far, b"context ");
     decimal(out, so_far, ctx as u64)
@@ -31,7 +29,7 @@ fn put_context<O: Sink>(out: &mut O, so_far: SoFar, ctx: u32) -> SoFar
 
 /// What the kernel is shown in a frame.
 fn put_cipher<O: Sink>(out: &mut O, so_far: SoFar, frame: u32, bytes: &[u8; 4096]) -> SoFar
-    ensures { PutsMore (putting O.taken O.faults out.old so_far) (putting O.taken O.faults out.new result)
+    ensures { PutsMore (putting O.Sink out.old so_far) (putting O.Sink out.new result)
         (spec.cipher_text frame bytes.now) }
 {
     let so_far = text(out, so_far, b"frame ");
@@ -42,7 +40,7 @@ fn put_cipher<O: Sink>(out: &mut O, so_far: SoFar, frame: u32, bytes: &[u8; 4096
 
 /// What a program stores where the kernel sees it.
 fn put_put<O: Sink>(out: &mut O, so_far: SoFar, address: u32, width: u8, value: u32) -> SoFar
-    ensures { PutsMore (putting O.taken O.faults out.old so_far) (putting O.taken O.faults out.new result)
+    ensures { PutsMore (putting O.Sink out.old so_far) (putting O.Sink out.new result)
         (spec.put_text address width value) }
 {
     let so_far = text(out, so_far, b"a program stores ");
@@ -55,8 +53,7 @@ fn put_put<O: Sink>(out: &mut O, so_far: SoFar, address: u32, width: u8, value: 
 
 /// Each word behind a space.
 fn put_words<O: Sink>(out: &mut O, so_far: SoFar, words: &[u32]) -> SoFar
-    ensures { PutsMore (putting O.taken O.faults out.old so_far) (putting O.taken O.faults out.new result)
-        (words_text words.now) }
+    ensures { PutsMore (putting O.Sink out.old so_far) (putting O.Sink out.new result) (words_text words.now) }
 {
     let mut so_far = so_far;
     for word in words {
@@ -68,8 +65,7 @@ fn put_words<O: Sink>(out: &mut O, so_far: SoFar, words: &[u32]) -> SoFar
 
 /// The call of a leave, with its arguments.
 fn put_call<O: Sink>(out: &mut O, so_far: SoFar, shown: &Shown) -> SoFar
-    ensures { PutsMore (putting O.taken O.faults out.old so_far) (putting O.taken O.faults out.new result)
-        (spec.call_text shown.now) }
+    ensures { PutsMore (putting O.Sink out.old so_far) (putting O.Sink out.new result) (spec.call_text shown.now) }
 {
     let so_far = text(out, so_far, b": ");
     let so_far = put_name(out, so_far, call_name(shown.number));
@@ -81,8 +77,7 @@ fn put_call<O: Sink>(out: &mut O, so_far: SoFar, shown: &Shown) -> SoFar
 
 /// The page of a leave.
 fn put_page<O: Sink>(out: &mut O, so_far: SoFar, shown: &Shown) -> SoFar
-    ensures { PutsMore (putting O.taken O.faults out.old so_far) (putting O.taken O.faults out.new result)
-        (spec.page_text shown.now) }
+    ensures { PutsMore (putting O.Sink out.old so_far) (putting O.Sink out.new result) (spec.page_text shown.now) }
 {
     let so_far = text(out, so_far, b" at page ");
     put_word(out, so_far, shown.stval)
@@ -90,8 +85,7 @@ fn put_page<O: Sink>(out: &mut O, so_far: SoFar, shown: &Shown) -> SoFar
 
 /// What a leave shows behind its cause.
 fn put_leave_end<O: Sink>(out: &mut O, so_far: SoFar, shown: &Shown) -> SoFar
-    ensures { PutsMore (putting O.taken O.faults out.old so_far) (putting O.taken O.faults out.new result)
-        (spec.leave_end shown.now) }
+    ensures { PutsMore (putting O.Sink out.old so_far) (putting O.Sink out.new result) (spec.leave_end shown.now) }
 {
     if shown.cause == 8 {
         put_call(out, so_far, shown)
@@ -104,8 +98,7 @@ fn put_leave_end<O: Sink>(out: &mut O, so_far: SoFar, shown: &Shown) -> SoFar
 
 /// Why a context leaves.
 fn put_leave<O: Sink>(out: &mut O, so_far: SoFar, shown: &Shown) -> SoFar
-    ensures { PutsMore (putting O.taken O.faults out.old so_far) (putting O.taken O.faults out.new result)
-        (spec.leave_text shown.now) }
+    ensures { PutsMore (putting O.Sink out.old so_far) (putting O.Sink out.new result) (spec.leave_text shown.now) }
 {
     let so_far = put_context(out, so_far, shown.ctx);
     let so_far = text(out, so_far, b" leaves: ");
@@ -115,7 +108,7 @@ fn put_leave<O: Sink>(out: &mut O, so_far: SoFar, shown: &Shown) -> SoFar
 
 /// What a program was answered.
 fn put_inward<O: Sink>(out: &mut O, so_far: SoFar, domain: u8, words: &[u8]) -> SoFar
-    ensures { PutsMore (putting O.taken O.faults out.old so_far) (putting O.taken O.faults out.new result)
+    ensures { PutsMore (putting O.Sink out.old so_far) (putting O.Sink out.new result)
         (spec.inward_text domain words.now) }
 {
     let so_far = put_program(out, so_far, domain);
@@ -124,7 +117,7 @@ fn put_inward<O: Sink>(out: &mut O, so_far: SoFar, domain: u8, words: &[u8]) -> 
 
 /// A resume.
 fn put_resume<O: Sink>(out: &mut O, so_far: SoFar, domain: u8, ctx: u32, answer: u32) -> SoFar
-    ensures { PutsMore (putting O.taken O.faults out.old so_far) (putting O.taken O.faults out.new result)
+    ensures { PutsMore (putting O.Sink out.old so_far) (putting O.Sink out.new result)
         (spec.resume_text domain ctx answer) }
 {
     let so_far = put_context(out, so_far, ctx);
@@ -136,8 +129,7 @@ fn put_resume<O: Sink>(out: &mut O, so_far: SoFar, domain: u8, ctx: u32, answer:
 
 /// An address that is absent.
 fn put_absent<O: Sink>(out: &mut O, so_far: SoFar, domain: u8, cause: u32) -> SoFar
-    ensures { PutsMore (putting O.taken O.faults out.old so_far) (putting O.taken O.faults out.new result)
-        (spec.absent_text domain cause) }
+    ensures { PutsMore (putting O.Sink out.old so_far) (putting O.Sink out.new result) (spec.absent_text domain cause) }
 {
     let so_far = put_inward(out, so_far, domain, b" finds its address absent: ");
     put_name(out, so_far, cause_name(cause))
@@ -145,8 +137,7 @@ fn put_absent<O: Sink>(out: &mut O, so_far: SoFar, domain: u8, cause: u32) -> So
 
 /// A word that was loaded where the kernel sees it.
 fn put_loaded<O: Sink>(out: &mut O, so_far: SoFar, domain: u8, value: u32) -> SoFar
-    ensures { PutsMore (putting O.taken O.faults out.old so_far) (putting O.taken O.faults out.new result)
-        (spec.word_text domain value) }
+    ensures { PutsMore (putting O.Sink out.old so_far) (putting O.Sink out.new result) (spec.word_text domain value) }
 {
     let so_far = put_inward(out, so_far, domain, b" loads, uncloaked, ");
     put_word(out, so_far, value)
@@ -155,8 +146,7 @@ fn put_loaded<O: Sink>(out: &mut O, so_far: SoFar, domain: u8, value: u32) -> So
 /// An item that is no marker, in words.
 #[tactic(auto, unfolding(crate::specs::Items::item_text))]
 pub fn put_item<O: Sink>(out: &mut O, so_far: SoFar, item: &Item) -> SoFar
-    ensures { PutsMore (putting O.taken O.faults out.old so_far) (putting O.taken O.faults out.new result)
-        (spec.item_text item.now) }
+    ensures { PutsMore (putting O.Sink out.old so_far) (putting O.Sink out.new result) (spec.item_text item.now) }
 {
     match item {
         Item::Cipher { frame, bytes } => put_cipher(out, so_far, *frame, bytes),

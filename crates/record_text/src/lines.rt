@@ -20,7 +20,7 @@ pub struct Line {
 
 /// The name of a step or the closing.
 fn put_number<O: Sink>(out: &mut O, so_far: SoFar, words: &[u8], number: u32) -> SoFar
-    ensures { PutsMore (putting O.taken O.faults out.old so_far) (putting O.taken O.faults out.new result)
+    ensures { PutsMore (putting O.Sink out.old so_far) (putting O.Sink out.new result)
         (spec.numbered_place words.now number) }
 {
     let so_far = text(out, so_far, words);
@@ -29,8 +29,7 @@ fn put_number<O: Sink>(out: &mut O, so_far: SoFar, words: &[u8], number: u32) ->
 
 /// The name of a place.
 fn put_place<O: Sink>(out: &mut O, so_far: SoFar, place: Place) -> SoFar
-    ensures { PutsMore (putting O.taken O.faults out.old so_far) (putting O.taken O.faults out.new result)
-        (spec.place_text place) }
+    ensures { PutsMore (putting O.Sink out.old so_far) (putting O.Sink out.new result) (spec.place_text place) }
 {
     match place {
         Place::Opening => text(out, so_far, b"opening"),
@@ -42,8 +41,7 @@ fn put_place<O: Sink>(out: &mut O, so_far: SoFar, place: Place) -> SoFar
 
 /// Ends a line, where one was begun.
 pub fn end_line<O: Sink>(out: &mut O, so_far: SoFar, line: Line) -> SoFar
-    ensures { PutsMore (putting O.taken O.faults out.old so_far) (putting O.taken O.faults out.new result)
-        (spec.line_end line) }
+    ensures { PutsMore (putting O.Sink out.old so_far) (putting O.Sink out.new result) (spec.line_end line) }
 {
     if line.is_open {
         text(out, so_far, b"\n")
@@ -54,8 +52,7 @@ pub fn end_line<O: Sink>(out: &mut O, so_far: SoFar, line: Line) -> SoFar
 
 /// Begins a line, where none was begun.
 fn begin_line<O: Sink>(out: &mut O, so_far: SoFar, line: Line) -> SoFar
-    ensures { PutsMore (putting O.taken O.faults out.old so_far) (putting O.taken O.faults out.new result)
-        (spec.line_begin line) }
+    ensures { PutsMore (putting O.Sink out.old so_far) (putting O.Sink out.new result) (spec.line_begin line) }
 {
     if line.is_open {
         text(out, so_far, b"")
@@ -66,7 +63,7 @@ fn begin_line<O: Sink>(out: &mut O, so_far: SoFar, line: Line) -> SoFar
 
 /// Begins the line of a place that is shown also where none of its items is.
 fn begin_bare<O: Sink>(out: &mut O, so_far: SoFar, place: Place, is_bare: bool) -> SoFar
-    ensures { PutsMore (putting O.taken O.faults out.old so_far) (putting O.taken O.faults out.new result)
+    ensures { PutsMore (putting O.Sink out.old so_far) (putting O.Sink out.new result)
         (if is_bare then spec.place_text place else []) }
 {
     if is_bare {
@@ -85,7 +82,7 @@ fn at_place<O: Sink>(
     place: Place,
     selection: &Selection,
 ) -> (SoFar, Line)
-    ensures text { PutsMore (putting O.taken O.faults out.old so_far) (putting O.taken O.faults out.new result.0)
+    ensures text { PutsMore (putting O.Sink out.old so_far) (putting O.Sink out.new result.0)
         (spec.at_place selection.now line place).text }
     ensures line { result.1 ≡ (spec.at_place selection.now line place).line }
 {
@@ -103,7 +100,7 @@ fn at_place<O: Sink>(
 
 /// Shows an item that is chosen.
 fn put_chosen<O: Sink>(out: &mut O, so_far: SoFar, line: Line, item: &Item) -> SoFar
-    ensures { PutsMore (putting O.taken O.faults out.old so_far) (putting O.taken O.faults out.new result)
+    ensures { PutsMore (putting O.Sink out.old so_far) (putting O.Sink out.new result)
         (spec.item_on_line line item.now) }
 {
     let so_far = begin_line(out, so_far, line);
@@ -120,7 +117,7 @@ fn put_on_line<O: Sink>(
     item: &Item,
     selection: &Selection,
 ) -> (SoFar, Line)
-    ensures text { PutsMore (putting O.taken O.faults out.old so_far) (putting O.taken O.faults out.new result.0)
+    ensures text { PutsMore (putting O.Sink out.old so_far) (putting O.Sink out.new result.0)
         (spec.on_line selection.now line item.now).text }
     ensures line { result.1 ≡ (spec.on_line selection.now line item.now).line }
 {
@@ -148,7 +145,7 @@ pub fn put_next<O: Sink>(
     item: &Item,
     selection: &Selection,
 ) -> (SoFar, Line)
-    ensures text { PutsMore (putting O.taken O.faults out.old so_far) (putting O.taken O.faults out.new result.0)
+    ensures text { PutsMore (putting O.Sink out.old so_far) (putting O.Sink out.new result.0)
         (spec.line_more selection.now line item.now).text }
     ensures line { result.1 ≡ (spec.line_more selection.now line item.now).line }
 {
@@ -161,7 +158,7 @@ pub fn put_next<O: Sink>(
 /// Begins with the opening.
 #[tactic(auto, unfolding(crate::specs::Lines::opening_line))]
 pub fn put_first<O: Sink>(out: &mut O, so_far: SoFar, selection: &Selection) -> (SoFar, Line)
-    ensures text { PutsMore (putting O.taken O.faults out.old so_far) (putting O.taken O.faults out.new result.0)
+    ensures text { PutsMore (putting O.Sink out.old so_far) (putting O.Sink out.new result.0)
         (spec.opening_line selection.now).text }
     ensures line { result.1 ≡ (spec.opening_line selection.now).line }
 {

@@ -26,7 +26,7 @@ pub fn show_items<S: Shelf, O: Sink>(
     requires { S.is_settled shelf.old }
     ensures shows { ShowsItems selection.now (S.held shelf.old name.now)
         (S.reading_faults shelf.old) (S.reading_faults shelf.new)
-        (putting O.taken O.faults out.old (Ok tt)) (putting O.taken O.faults out.new) result }
+        (putting O.Sink out.old (Ok tt)) (putting O.Sink out.new) result }
     ensures files { SameFiles (S.held shelf.old) (S.held shelf.new) }
     ensures writing { S.writing_faults shelf.new ≡ S.writing_faults shelf.old }
 {

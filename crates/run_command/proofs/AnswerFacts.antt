@@ -4,6 +4,8 @@ use Rattle.std.proofs.Common.{inr, Option, Some, Result, Ok}
 use Rattle.cloak_base.specs.declared.causes.Stop.{Stop}
 use Rattle.cloak_base.specs.declared.causes.Stop.TheVariants as stop
 use Rattle.cloak_machine.specs.declared.machine.Machine.{Machine}
+use Rattle.outside_io.specs.declared.shelf.Shelf as shelves
+use Rattle.outside_io.specs.declared.sink.Sink as sinks
 use Rattle.outside_io.specs.Told.{Tells, Grows, Rose, SameFiles, OtherFiles}
 use Rattle.outside_io.proofs.ToldFacts.{Tells_after, Rose-after}
 use Rattle.command_words.specs.Command as spec
@@ -73,19 +75,16 @@ answers_no_run {S} {O} {asked} {r} {before} {after} {given} none low (inr front)
 
 -- an outlet over a record that was begun, and what it wrote, under the names that the shelf and the output have
 -- afterwards
-abbrev at : {S O : Type 0} → (S → List ℕ → Option (List ℕ)) → (S → ℕ) → (S → ℕ) → (O → Option (List ℕ)) → (O → ℕ) →
-    Outlet S O → Outside S O
-at held reading writing taken faults o = outside held reading writing taken faults o.shelf.now o.out.now
+abbrev at : {S O : Type 0} → shelves.Ghosts S → sinks.Ghosts O → Outlet S O → Outside S O
+at of_shelf of_sink o = outside of_shelf of_sink o.shelf.now o.out.now
 
-records_at : {S O : Type 0} (held : S → List ℕ → Option (List ℕ)) (reading writing : S → ℕ)
-    (taken : O → Option (List ℕ)) (faults : O → ℕ) (name : List ℕ) (before : Outside S O) (now : Outlet S O) (s' : S)
-    (o' : O) (given : Status) (r : Run) →
-    s' ≡ now.shelf.now → o' ≡ now.out.now → Records name before (at held reading writing taken faults now) given r →
-    Records name before (outside held reading writing taken faults s' o') given r
-records_at {S} {O} held reading writing taken faults name before now s' o' given r same_shelf same_out records =
-    subst (λ (x : S). Records name before (outside held reading writing taken faults x o') given r) (sym same_shelf)
-    (subst (λ (x : O). Records name before (outside held reading writing taken faults now.shelf.now x) given r)
-    (sym same_out) records)
+records_at : {S O : Type 0} (of_shelf : shelves.Ghosts S) (of_sink : sinks.Ghosts O) (name : List ℕ)
+    (before : Outside S O) (now : Outlet S O) (s' : S) (o' : O) (given : Status) (r : Run) →
+    s' ≡ now.shelf.now → o' ≡ now.out.now → Records name before (at of_shelf of_sink now) given r →
+    Records name before (outside of_shelf of_sink s' o') given r
+records_at {S} {O} of_shelf of_sink name before now s' o' given r same_shelf same_out records =
+    subst (λ (x : S). Records name before (outside of_shelf of_sink x o') given r) (sym same_shelf)
+    (subst (λ (x : O). Records name before (outside of_shelf of_sink now.shelf.now x) given r) (sym same_out) records)
 
 -- where writing failed, seen from before the record was begun
 failed_since : {S O : Type 0} (piece : Piece) (before mid after : Outside S O) →
@@ -152,42 +151,43 @@ records_all {S} {O} name before mid after given r pieces w all some answer empty
       });
     }
 
-pub recorded_front : {S O : Type 0} {held : S → List ℕ → Option (List ℕ)} {reading writing : S → ℕ}
-    {taken : O → Option (List ℕ)} {faults : O → ℕ} {first now : Outlet S O} {pieces : List Piece} (old s' : S) (o' : O)
-    (r : Run) → Gave held reading writing taken faults first now pieces →
-    (NoClash r → Gave held reading writing taken faults first now (due r)) → first.failed ≡ false → now.failed ≡ true →
+pub recorded_front : {S O : Type 0} {of_shelf : shelves.Ghosts S} {of_sink : sinks.Ghosts O} {first now : Outlet S O}
+    {pieces : List Piece} (old s' : S) (o' : O) (r : Run) → Gave of_shelf of_sink first now pieces →
+    (NoClash r → Gave of_shelf of_sink first now (due r)) → first.failed ≡ false → now.failed ≡ true →
     s' ≡ now.shelf.now → o' ≡ now.out.now →
-    Tells (held first.shelf.now first.name.now) [] → OtherFiles first.name.now (held old) (held first.shelf.now) →
-    reading first.shelf.now ≡ reading old → writing first.shelf.now ≡ writing old →
-    Records first.name.now (outside held reading writing taken faults old first.out.now)
-    (outside held reading writing taken faults s' o') status.WriteFault r
-recorded_front {S} {O} {held} {reading} {writing} {taken} {faults} {first} {now} {pieces} old s' o' r gave all fresh
+    Tells (of_shelf.held first.shelf.now first.name.now) [] →
+    OtherFiles first.name.now (of_shelf.held old) (of_shelf.held first.shelf.now) →
+    of_shelf.reading_faults first.shelf.now ≡ of_shelf.reading_faults old →
+    of_shelf.writing_faults first.shelf.now ≡ of_shelf.writing_faults old →
+    Records first.name.now (outside of_shelf of_sink old first.out.now) (outside of_shelf of_sink s' o')
+    status.WriteFault r
+recorded_front {S} {O} {of_shelf} {of_sink} {first} {now} {pieces} old s' o' r gave all fresh
     broken same_shelf same_out empty others same_reading same_writing =
-    let before = outside held reading writing taken faults old first.out.now in
-    let mid = at held reading writing taken faults first in
-    let after = at held reading writing taken faults now in
-    records_at held reading writing taken faults first.name.now before now s' o' status.WriteFault r same_shelf same_out
+    let before = outside of_shelf of_sink old first.out.now in
+    let mid = at of_shelf of_sink first in
+    let after = at of_shelf of_sink now in
+    records_at of_shelf of_sink first.name.now before now s' o' status.WriteFault r same_shelf same_out
     (records_front first.name.now before mid after r pieces
     (subst (λ (b : Bool). Writes b first.name.now mid after pieces) broken (gave.wrote fresh))
     (λ none. let g = all none in subst (λ (b : Bool). Writes b first.name.now mid after (due r)) broken (g.wrote fresh))
     empty others same_reading same_writing refl)
 
-pub recorded_all : {S O : Type 0} {held : S → List ℕ → Option (List ℕ)} {reading writing : S → ℕ}
-    {taken : O → Option (List ℕ)} {faults : O → ℕ} {first now : Outlet S O} {pieces : List Piece} (old s' : S) (o' : O)
-    (given : Status) (r : Run) → Gave held reading writing taken faults first now pieces →
-    (NoClash r → Gave held reading writing taken faults first now (due r)) → first.failed ≡ false →
+pub recorded_all : {S O : Type 0} {of_shelf : shelves.Ghosts S} {of_sink : sinks.Ghosts O} {first now : Outlet S O}
+    {pieces : List Piece} (old s' : S) (o' : O) (given : Status) (r : Run) → Gave of_shelf of_sink first now pieces →
+    (NoClash r → Gave of_shelf of_sink first now (due r)) → first.failed ≡ false →
     now.failed ≡ false → s' ≡ now.shelf.now → o' ≡ now.out.now → IsStatusOfStop given →
     (NoClash r → given ≡ status_of r.stop) →
-    Tells (held first.shelf.now first.name.now) [] → OtherFiles first.name.now (held old) (held first.shelf.now) →
-    reading first.shelf.now ≡ reading old → writing first.shelf.now ≡ writing old →
-    Records first.name.now (outside held reading writing taken faults old first.out.now)
-    (outside held reading writing taken faults s' o') given r
-recorded_all {S} {O} {held} {reading} {writing} {taken} {faults} {first} {now} {pieces} old s' o' given r gave all fresh
+    Tells (of_shelf.held first.shelf.now first.name.now) [] →
+    OtherFiles first.name.now (of_shelf.held old) (of_shelf.held first.shelf.now) →
+    of_shelf.reading_faults first.shelf.now ≡ of_shelf.reading_faults old →
+    of_shelf.writing_faults first.shelf.now ≡ of_shelf.writing_faults old →
+    Records first.name.now (outside of_shelf of_sink old first.out.now) (outside of_shelf of_sink s' o') given r
+recorded_all {S} {O} {of_shelf} {of_sink} {first} {now} {pieces} old s' o' given r gave all fresh
     well same_shelf same_out some answer empty others same_reading same_writing =
-    let before = outside held reading writing taken faults old first.out.now in
-    let mid = at held reading writing taken faults first in
-    let after = at held reading writing taken faults now in
-    records_at held reading writing taken faults first.name.now before now s' o' given r same_shelf same_out
+    let before = outside of_shelf of_sink old first.out.now in
+    let mid = at of_shelf of_sink first in
+    let after = at of_shelf of_sink now in
+    records_at of_shelf of_sink first.name.now before now s' o' given r same_shelf same_out
     (records_all first.name.now before mid after given r pieces
     (subst (λ (b : Bool). Writes b first.name.now mid after pieces) well (gave.wrote fresh))
     (λ none. let g = all none in subst (λ (b : Bool). Writes b first.name.now mid after (due r)) well (g.wrote fresh))

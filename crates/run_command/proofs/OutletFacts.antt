@@ -4,6 +4,8 @@ use Rattle.std.proofs.Common.{ap, subst, append_assoc, arith, length-append, Opt
 use Rattle.std.proofs.Common.{OnOk, OnErr, is_err}
 use Rattle.std.proofs.lemmas.List.{append-nil}
 use Rattle.cloak_base.specs.declared.causes.Failed.{Failed}
+use Rattle.outside_io.specs.declared.shelf.Shelf as shelves
+use Rattle.outside_io.specs.declared.sink.Sink as sinks
 use Rattle.outside_io.specs.Told.{Tells, Puts, Grows, GrowsByFront, Counts, OtherFiles}
 use Rattle.outside_io.proofs.ToldFacts.{Grows-none, Grows-append, GrowsByFront-whole, Rose-after}
 use Rattle.cloak_model.specs.Exchange.{Piece, recorded, shown, recorded_bytes, shown_bytes, Emits}
@@ -168,12 +170,11 @@ writes_none name before after ps qs w = record {
 -- The outlet.
 
 -- an outlet that failed takes pieces and does nothing
-pub emits_none : {S O : Type 0} (held : S → List ℕ → Option (List ℕ)) (reading_faults writing_faults : S → ℕ)
-    (taken : O → Option (List ℕ)) (faults : O → ℕ) (o : Outlet S O) (ps : List Piece) →
-    o.failed ≡ true → Emits (Gave held reading_faults writing_faults taken faults) o o ps
-emits_none {S} {O} held reading_faults writing_faults taken faults o ps failed = record {
+pub emits_none : {S O : Type 0} (of_shelf : shelves.Ghosts S) (of_sink : sinks.Ghosts O) (o : Outlet S O)
+    (ps : List Piece) → o.failed ≡ true → Emits (Gave of_shelf of_sink) o o ps
+emits_none {S} {O} of_shelf of_sink o ps failed = record {
   more = λ first before gave.
-      let at = λ (x : Outlet S O). outside held reading_faults writing_faults taken faults x.shelf.now x.out.now in
+      let at = λ (x : Outlet S O). outside of_shelf of_sink x.shelf.now x.out.now in
       record {
         shelf = gave.shelf;
         output = gave.output;
@@ -186,20 +187,20 @@ emits_none {S} {O} held reading_faults writing_faults taken faults o ps failed =
 }
 
 -- a piece that was appended to the record
-pub emits_recorded : {S O : Type 0} (held : S → List ℕ → Option (List ℕ)) (reading_faults writing_faults : S → ℕ)
-    (taken : O → Option (List ℕ)) (faults : O → ℕ) (old new : Outlet S O) (bytes : List ℕ) (r : Result Unit Failed) →
-    old.failed ≡ false → new.failed ≡ is_err r → new.shelf.ghost_name ≡ old.shelf.ghost_name → new.out ≡ old.out →
-    new.name ≡ old.name →
-    OnOk r (Grows (held old.shelf.now old.name.now) (held new.shelf.now old.name.now) bytes) →
-    OnErr r (GrowsByFront (held old.shelf.now old.name.now) (held new.shelf.now old.name.now) bytes) →
-    OtherFiles old.name.now (held old.shelf.now) (held new.shelf.now) →
-    Counts (writing_faults old.shelf.now) (writing_faults new.shelf.now) r →
-    reading_faults new.shelf.now ≡ reading_faults old.shelf.now →
-    Emits (Gave held reading_faults writing_faults taken faults) old new (recorded bytes ∷ [])
-emits_recorded {S} {O} held reading_faults writing_faults taken faults old new bytes r fresh failed shelf out name ok
-    err others writing reading = record {
+pub emits_recorded : {S O : Type 0} (of_shelf : shelves.Ghosts S) (of_sink : sinks.Ghosts O) (old new : Outlet S O)
+    (bytes : List ℕ) (r : Result Unit Failed) → old.failed ≡ false → new.failed ≡ is_err r →
+    new.shelf.ghost_name ≡ old.shelf.ghost_name → new.out ≡ old.out → new.name ≡ old.name →
+    OnOk r (Grows (of_shelf.held old.shelf.now old.name.now) (of_shelf.held new.shelf.now old.name.now) bytes) →
+    OnErr r
+    (GrowsByFront (of_shelf.held old.shelf.now old.name.now) (of_shelf.held new.shelf.now old.name.now) bytes) →
+    OtherFiles old.name.now (of_shelf.held old.shelf.now) (of_shelf.held new.shelf.now) →
+    Counts (of_shelf.writing_faults old.shelf.now) (of_shelf.writing_faults new.shelf.now) r →
+    of_shelf.reading_faults new.shelf.now ≡ of_shelf.reading_faults old.shelf.now →
+    Emits (Gave of_shelf of_sink) old new (recorded bytes ∷ [])
+emits_recorded {S} {O} of_shelf of_sink old new bytes r fresh failed shelf out name ok err others writing reading =
+    record {
       more = λ first before gave.
-          let at = λ (x : Outlet S O). outside held reading_faults writing_faults taken faults x.shelf.now x.out.now in
+          let at = λ (x : Outlet S O). outside of_shelf of_sink x.shelf.now x.out.now in
           let same : old.name.now ≡ first.name.now = ap (λ (n : _). n.now) gave.name in
           let call : Appends r old.name.now bytes (at old) (at new) = record {
             ok = ok;
@@ -207,7 +208,7 @@ emits_recorded {S} {O} held reading_faults writing_faults taken faults old new b
             others = others;
             writing = writing;
             reading = reading;
-            output = ap (λ (o : _). output taken faults o.now) out;
+            output = ap (λ (o : _). output of_sink o.now) out;
           } in
           record {
             shelf = shelf ∙ gave.shelf;
@@ -223,23 +224,22 @@ emits_recorded {S} {O} held reading_faults writing_faults taken faults old new b
     }
 
 -- a piece that was put to the output
-pub emits_shown : {S O A : Type 0} (held : S → List ℕ → Option (List ℕ)) (reading_faults writing_faults : S → ℕ)
-    (taken : O → Option (List ℕ)) (faults : O → ℕ) (old new : Outlet S O) (bytes : List ℕ) (r : Result A Failed) →
-    old.failed ≡ false → new.failed ≡ is_err r → new.out.ghost_name ≡ old.out.ghost_name → new.shelf ≡ old.shelf →
-    new.name ≡ old.name →
-    OnOk r (Grows (taken old.out.now) (taken new.out.now) bytes) →
-    OnErr r (GrowsByFront (taken old.out.now) (taken new.out.now) bytes) →
-    Counts (faults old.out.now) (faults new.out.now) r →
-    Emits (Gave held reading_faults writing_faults taken faults) old new (shown bytes ∷ [])
-emits_shown {S} {O} {A} held reading_faults writing_faults taken faults old new bytes r fresh failed out shelf name ok
-    err counts = record {
+pub emits_shown : {S O A : Type 0} (of_shelf : shelves.Ghosts S) (of_sink : sinks.Ghosts O) (old new : Outlet S O)
+    (bytes : List ℕ) (r : Result A Failed) → old.failed ≡ false → new.failed ≡ is_err r →
+    new.out.ghost_name ≡ old.out.ghost_name → new.shelf ≡ old.shelf → new.name ≡ old.name →
+    OnOk r (Grows (of_sink.taken old.out.now) (of_sink.taken new.out.now) bytes) →
+    OnErr r (GrowsByFront (of_sink.taken old.out.now) (of_sink.taken new.out.now) bytes) →
+    Counts (of_sink.faults old.out.now) (of_sink.faults new.out.now) r →
+    Emits (Gave of_shelf of_sink) old new (shown bytes ∷ [])
+emits_shown {S} {O} {A} of_shelf of_sink old new bytes r fresh failed out shelf name ok err counts =
+    record {
       more = λ first before gave.
-          let at = λ (x : Outlet S O). outside held reading_faults writing_faults taken faults x.shelf.now x.out.now in
+          let at = λ (x : Outlet S O). outside of_shelf of_sink x.shelf.now x.out.now in
           let call : Shows r bytes (at old) (at new) = record {
             ok = ok;
             err = err;
             faults = counts;
-            files = ap (λ (s : _). files held reading_faults writing_faults s.now) shelf;
+            files = ap (λ (s : _). files of_shelf s.now) shelf;
           } in
           record {
             shelf = ap (λ (s : _). s.ghost_name) shelf ∙ gave.shelf;
@@ -280,19 +280,18 @@ pub Counts-since : (before mid now : ℕ) (r : Result Unit Failed) → mid ≡ b
 Counts-since before mid now r same counts = subst (λ (n : ℕ). Counts n now r) same counts
 
 -- an outlet to which nothing was given yet
-gave_start : {S O : Type 0} (held : S → List ℕ → Option (List ℕ)) (reading_faults writing_faults : S → ℕ)
-    (taken : O → Option (List ℕ)) (faults : O → ℕ) (o : Outlet S O) →
-    Gave held reading_faults writing_faults taken faults o o []
-gave_start held reading_faults writing_faults taken faults o = record {
+gave_start : {S O : Type 0} (of_shelf : shelves.Ghosts S) (of_sink : sinks.Ghosts O) (o : Outlet S O) →
+    Gave of_shelf of_sink o o []
+gave_start of_shelf of_sink o = record {
   shelf = refl;
   output = refl;
   name = refl;
   wrote = λ fresh.
-      let at = outside held reading_faults writing_faults taken faults o.shelf.now o.out.now in
+      let at = outside of_shelf of_sink o.shelf.now o.out.now in
       subst (λ (b : Bool). Writes b o.name.now at at []) (sym fresh) (record {
         wrote = record {
-          file = Grows-none (held o.shelf.now o.name.now);
-          output = Grows-none (taken o.out.now);
+          file = Grows-none (of_shelf.held o.shelf.now o.name.now);
+          output = Grows-none (of_sink.taken o.out.now);
           others = λ other apart. refl;
           reading = refl;
         };
@@ -301,12 +300,9 @@ gave_start held reading_faults writing_faults taken faults o = record {
 }
 
 -- what was given to an outlet from its start on
-pub gave_all : {S O : Type 0} {held : S → List ℕ → Option (List ℕ)} {reading_faults writing_faults : S → ℕ}
-    {taken : O → Option (List ℕ)} {faults : O → ℕ} {old new : Outlet S O} {pieces : List Piece} →
-    Emits (Gave held reading_faults writing_faults taken faults) old new pieces →
-    Gave held reading_faults writing_faults taken faults old new pieces
-gave_all {S} {O} {held} {reading_faults} {writing_faults} {taken} {faults} {old} {new} {pieces} emits =
-    emits.more old [] (gave_start held reading_faults writing_faults taken faults old)
+pub gave_all : {S O : Type 0} {of_shelf : shelves.Ghosts S} {of_sink : sinks.Ghosts O} {old new : Outlet S O}
+    {pieces : List Piece} → Emits (Gave of_shelf of_sink) old new pieces → Gave of_shelf of_sink old new pieces
+gave_all {S} {O} {of_shelf} {of_sink} {old} {new} {pieces} emits = emits.more old [] (gave_start of_shelf of_sink old)
 
 -- a piece of the record under another name
 pub recorded_as : {E : Type 0} {gave : E → E → List Piece → Type 0} {e f : E} {x y : List ℕ} → x ≡ y →

@@ -1,5 +1,7 @@
 -- What an outlet wrote.
-use Rattle.std.specs.Prelude.{ℕ, ◌≡◌, Bool, true, false, List, [], ◌∷◌, ◌++◌, take, Option}
+use Rattle.std.specs.Prelude.{ℕ, ◌≡◌, Bool, true, false, List, [], ◌∷◌, ◌++◌, take}
+use Rattle.outside_io.specs.declared.shelf.Shelf as shelves
+use Rattle.outside_io.specs.declared.sink.Sink as sinks
 use Rattle.outside_io.specs.Told.{Grows, Rose, OtherFiles}
 use Rattle.cloak_model.specs.Exchange.{Piece, recorded, shown, recorded_bytes, shown_bytes}
 use Rattle.program_parts.specs.Outside.{Outside, NothingRose, outside}
@@ -56,11 +58,11 @@ Writes true name before after pieces = WroteFront name before after pieces
 
 -- From an earlier state of an outlet to a later one these pieces were given to it: it writes to the same
 -- places, and wrote them.
-pub record Gave {S O : Type 0} (held : S → List ℕ → Option (List ℕ)) (reading_faults writing_faults : S → ℕ)
-    (taken : O → Option (List ℕ)) (faults : O → ℕ) (first now : Outlet S O) (pieces : List Piece) : Type 0 where
+pub record Gave {S O : Type 0} (of_shelf : shelves.Ghosts S) (of_sink : sinks.Ghosts O) (first now : Outlet S O)
+    (pieces : List Piece) : Type 0 where
   pub shelf : now.shelf.ghost_name ≡ first.shelf.ghost_name
   pub output : now.out.ghost_name ≡ first.out.ghost_name
   pub name : now.name ≡ first.name
   pub wrote : first.failed ≡ false → Writes now.failed first.name.now
-      (outside held reading_faults writing_faults taken faults first.shelf.now first.out.now)
-      (outside held reading_faults writing_faults taken faults now.shelf.now now.out.now) pieces
+      (outside of_shelf of_sink first.shelf.now first.out.now)
+      (outside of_shelf of_sink now.shelf.now now.out.now) pieces

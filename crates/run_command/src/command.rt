@@ -32,8 +32,7 @@ fn record_run<S: Shelf, O: Sink>(
     ensures { (b : Bundle) (stream : Random) (o : Opened) → opening b stream ≡ Ok o →
         placings_of machine ≡ map placing b.programs → StandsForMoment machine (first_moment b o.joint) →
         Records run.now.record_name.now
-        (outside S.held S.reading_faults S.writing_faults O.taken O.faults shelf.old out.old)
-        (outside S.held S.reading_faults S.writing_faults O.taken O.faults shelf.new out.new)
+        (outside S.Shelf O.Sink shelf.old out.old) (outside S.Shelf O.Sink shelf.new out.new)
         result (run_of b run.now.steps o) }
 {
     if shelf.begin(run.record_name).is_err() {
@@ -65,8 +64,7 @@ pub fn run_command<S: Shelf, O: Sink>(
     requires writing { S.writing_faults shelf.old < 2 ^ 64 - 1 }
     requires output { O.faults out.old < 2 ^ 64 - 1 }
     ensures answers { RunAnswers (asked_of_run run.now)
-        (outside S.held S.reading_faults S.writing_faults O.taken O.faults shelf.old out.old)
-        (outside S.held S.reading_faults S.writing_faults O.taken O.faults shelf.new out.new) result }
+        (outside S.Shelf O.Sink shelf.old out.old) (outside S.Shelf O.Sink shelf.new out.new) result }
     ensures kept { KeepsFiles (asked_of_run run.now) result (S.held shelf.old) (S.held shelf.new) }
 {
     match prepare_run(alloc, run.bundle, &run.randomness, shelf) {

@@ -45,7 +45,7 @@ fn append_item<S: Shelf>(
 impl<'s, 'n, 'o, S: Shelf, O: Sink> Emit for Outlet<'s, 'n, 'o, S, O> {
     ghost use Rattle.run_command.specs.Outlet.{Gave};
 
-    ghost gave = { Gave S.held S.reading_faults S.writing_faults O.taken O.faults };
+    ghost gave = { Gave S.Shelf O.Sink };
 
     // The most frequent items are appended where they are made, as pieces of a known length.
     #[inline(always)]
@@ -81,8 +81,7 @@ impl<'s, 'n, 'o, S: Shelf, O: Sink> Outlet<'s, 'n, 'o, S, O> {
     /// Appends an item to the record, by its bytes in the outlet's room.
     #[inline(never)]
     fn write(&mut self, i: &Item)
-        ensures { Emits (Gave S.held S.reading_faults S.writing_faults O.taken O.faults)
-            self.old self.new (recorded (item_bytes i.now) ∷ []) }
+        ensures { Emits (Gave S.Shelf O.Sink) self.old self.new (recorded (item_bytes i.now) ∷ []) }
     {
         if self.failed {
             return;
@@ -97,8 +96,7 @@ impl<'s, 'n, 'o, S: Shelf, O: Sink> Outlet<'s, 'n, 'o, S, O> {
     pub fn append(&mut self, bytes: &[u8])
         ensures same_shelf { self.new.shelf.ghost_name ≡ self.old.shelf.ghost_name }
         ensures same_out { self.new.out.ghost_name ≡ self.old.out.ghost_name }
-        ensures emits { Emits (Gave S.held S.reading_faults S.writing_faults O.taken O.faults)
-            self.old self.new (recorded bytes.now ∷ []) }
+        ensures emits { Emits (Gave S.Shelf O.Sink) self.old self.new (recorded bytes.now ∷ []) }
     {
         if self.failed {
             return;
@@ -110,8 +108,7 @@ impl<'s, 'n, 'o, S: Shelf, O: Sink> Outlet<'s, 'n, 'o, S, O> {
     pub fn show(&mut self, bytes: &[u8])
         ensures same_shelf { self.new.shelf.ghost_name ≡ self.old.shelf.ghost_name }
         ensures same_out { self.new.out.ghost_name ≡ self.old.out.ghost_name }
-        ensures emits { Emits (Gave S.held S.reading_faults S.writing_faults O.taken O.faults)
-            self.old self.new (shown bytes.now ∷ []) }
+        ensures emits { Emits (Gave S.Shelf O.Sink) self.old self.new (shown bytes.now ∷ []) }
     {
         if self.failed {
             return;
@@ -123,8 +120,7 @@ impl<'s, 'n, 'o, S: Shelf, O: Sink> Outlet<'s, 'n, 'o, S, O> {
     pub fn report(&mut self, end: &End)
         ensures same_shelf { self.new.shelf.ghost_name ≡ self.old.shelf.ghost_name }
         ensures same_out { self.new.out.ghost_name ≡ self.old.out.ghost_name }
-        ensures emits { Emits (Gave S.held S.reading_faults S.writing_faults O.taken O.faults)
-            self.old self.new (shown (end_report end.now) ∷ []) }
+        ensures emits { Emits (Gave S.Shelf O.Sink) self.old self.new (shown (end_report end.now) ∷ []) }
     {
         if self.failed {
             return;

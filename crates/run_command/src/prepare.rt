@@ -78,8 +78,7 @@ pub fn prepare_run<S: Shelf>(
     requires reading { S.reading_faults shelf.old < 2 ^ 64 - 1 }
     ensures prepares { (record_name : Option (List ℕ)) (steps : ℕ) → steps ≤ most_steps →
         Prepares (asked_run bundle_name.now record_name steps (randomness_of randomness.now))
-        (files S.held S.reading_faults S.writing_faults shelf.old)
-        (files S.held S.reading_faults S.writing_faults shelf.new) record_name steps result }
+        (files S.Shelf shelf.old) (files S.Shelf shelf.new) record_name steps result }
     ensures fresh { IfOk result (λ machine. steps_made machine ≡ 0) }
 {
     let bundle = match read_bundle(alloc, shelf, bundle_name) {

@@ -30,11 +30,10 @@ fn run_steps<S: Shelf, O: Sink>(
     requires few { steps ≤ most_steps }
     ensures same_shelf { outlet.new.shelf.ghost_name ≡ outlet.old.shelf.ghost_name }
     ensures same_out { outlet.new.out.ghost_name ≡ outlet.old.out.ghost_name }
-    ensures emits_some { EmitsSome (Gave S.held S.reading_faults S.writing_faults O.taken O.faults)
-        outlet.old outlet.new }
+    ensures emits_some { EmitsSome (Gave S.Shelf O.Sink) outlet.old outlet.new }
     ensures runs { (m : Moment) → StandsForMoment machine.old m →
         NoClashYet (joint_after m.joint (turns_from steps m)) →
-        RunsSteps (Gave S.held S.reading_faults S.writing_faults O.taken O.faults) outlet.new.failed
+        RunsSteps (Gave S.Shelf O.Sink) outlet.new.failed
         outlet.old outlet.new machine.new result m (turns_from steps m) }
 {
     for made in 0..steps {
@@ -69,12 +68,10 @@ fn write_end<S: Shelf, O: Sink>(
 ) -> Status
     ensures same_shelf { outlet.new.shelf.ghost_name ≡ outlet.old.shelf.ghost_name }
     ensures same_out { outlet.new.out.ghost_name ≡ outlet.old.out.ghost_name }
-    ensures emits_some { EmitsSome (Gave S.held S.reading_faults S.writing_faults O.taken O.faults)
-        outlet.old outlet.new }
+    ensures emits_some { EmitsSome (Gave S.Shelf O.Sink) outlet.old outlet.new }
     ensures some_stop { IsStatusOfStop result }
     ensures ends { (m : Moment) → StandsForMoment machine m →
-        EndsRun (Gave S.held S.reading_faults S.writing_faults O.taken O.faults)
-        outlet.old outlet.new result stop m.steps (closing m.joint) }
+        EndsRun (Gave S.Shelf O.Sink) outlet.old outlet.new result stop m.steps (closing m.joint) }
 {
     let end = machine.finish(stop, outlet);
     outlet.show(b"\n");
@@ -92,14 +89,12 @@ pub fn write_run<S: Shelf, O: Sink>(
     requires few { steps ≤ most_steps }
     ensures same_shelf { outlet.new.shelf.ghost_name ≡ outlet.old.shelf.ghost_name }
     ensures same_out { outlet.new.out.ghost_name ≡ outlet.old.out.ghost_name }
-    ensures emits_some { EmitsSome (Gave S.held S.reading_faults S.writing_faults O.taken O.faults)
-        outlet.old outlet.new }
+    ensures emits_some { EmitsSome (Gave S.Shelf O.Sink) outlet.old outlet.new }
     ensures some_stop { outlet.new.failed ≡ false → IsStatusOfStop result }
     ensures runs { (b : Bundle) (stream : Random) (o : Opened) → opening b stream ≡ Ok o →
         placings_of machine ≡ map placing b.programs → StandsForMoment machine (first_moment b o.joint) →
         NoClash (run_of b steps o) →
-        WritesRun (Gave S.held S.reading_faults S.writing_faults O.taken O.faults) outlet.new.failed
-        outlet.old outlet.new result (run_of b steps o) }
+        WritesRun (Gave S.Shelf O.Sink) outlet.new.failed outlet.old outlet.new result (run_of b steps o) }
 {
     let mut machine = machine;
     outlet.append(b"CLOAKREC");

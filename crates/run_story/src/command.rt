@@ -185,7 +185,7 @@ fn show_story<O: Sink>(alloc: Global, story: &Story, out: &mut O) -> Status
 
 /// Shows why there is no story.
 fn show_untold<O: Sink>(untold: Untold, out: &mut O) -> Status
-    ensures { ShowsUntold untold (output O.taken O.faults out.old) (output O.taken O.faults out.new) result }
+    ensures { ShowsUntold untold (output O.Sink out.old) (output O.Sink out.new) result }
 {
     match untold {
         Untold::NoMemory => refuse(out, &Refusal::NoMemory),
@@ -207,8 +207,7 @@ pub fn explain_command<S: Shelf, O: Sink>(
 ) -> Status
     requires settled { S.is_settled shelf.old }
     ensures answers { ExplainAnswers bundle_name.now record_name.now
-        (outside S.held S.reading_faults S.writing_faults O.taken O.faults shelf.old out.old)
-        (outside S.held S.reading_faults S.writing_faults O.taken O.faults shelf.new out.new) result }
+        (outside S.Shelf O.Sink shelf.old out.old) (outside S.Shelf O.Sink shelf.new out.new) result }
     ensures files { SameFiles (S.held shelf.old) (S.held shelf.new) }
     ensures writing { S.writing_faults shelf.new ≡ S.writing_faults shelf.old }
 {

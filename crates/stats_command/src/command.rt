@@ -27,7 +27,7 @@ fn count_and_show<O: Sink>(machine: Machine, steps: u32, out: &mut O) -> Status
     requires output { O.faults out.old < 2 ^ 64 - 1 }
     ensures { (b : Bundle) (stream : Random) (o : Opened) → opening b stream ≡ Ok o →
         StandsForMoment machine (first_moment b o.joint) →
-        ShowsStats b steps o (output O.taken O.faults out.old) (output O.taken O.faults out.new) result }
+        ShowsStats b steps o (output O.Sink out.old) (output O.Sink out.new) result }
 {
     let counted = count_run(machine, steps);
     match show_stats(out, &counted.stop, &counted.counts) {
@@ -48,8 +48,7 @@ pub fn stats_command<S: Shelf, O: Sink>(
     requires reading { S.reading_faults shelf.old < 2 ^ 64 - 1 }
     requires output { O.faults out.old < 2 ^ 64 - 1 }
     ensures answers { StatsAnswers (asked_of_stats stats.now)
-        (outside S.held S.reading_faults S.writing_faults O.taken O.faults shelf.old out.old)
-        (outside S.held S.reading_faults S.writing_faults O.taken O.faults shelf.new out.new) result }
+        (outside S.Shelf O.Sink shelf.old out.old) (outside S.Shelf O.Sink shelf.new out.new) result }
     ensures kept { SameFiles (S.held shelf.old) (S.held shelf.new) }
 {
     match prepare_run(alloc, stats.bundle, &stats.randomness, shelf) {

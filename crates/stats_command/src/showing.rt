@@ -1,5 +1,5 @@
 //! The lines of a run's counts.
-ghost use Rattle.outside_io.specs.Told.{Puts};
+ghost use Rattle.outside_io.specs.Sinks.{PutsTo};
 ghost use Rattle.stats_command.specs.Showing.{stats_lines};
 
 use cloak_base::{Failed, Stop};
@@ -9,8 +9,7 @@ use shadow_fold::ShadowCounts;
 
 /// Shows why a run ended, and its counts. One that failed has shown a front of it.
 pub fn show_stats<O: Sink>(out: &mut O, stop: &Stop, counts: &ShadowCounts) -> Result<(), Failed>
-    ensures { Puts (O.taken out.old) (O.taken out.new) (O.faults out.old) (O.faults out.new)
-        (stats_lines stop.now counts.now) result }
+    ensures { PutsTo O.Sink out.old out.new (stats_lines stop.now counts.now) result }
 {
     let so_far = put_stop_line(out, Ok(()), stop);
     let so_far = put_number(out, so_far, b"accesses ", counts.accesses);

@@ -19,8 +19,7 @@ use tool_words::{ShowRequest, ToolRequest, ToolWords, read_tool_words};
 fn show<S: Shelf, O: Sink>(show: &ShowRequest<'_>, shelf: &mut S, out: &mut O) -> Status
     requires { S.is_settled shelf.old }
     ensures { ToolAnswers (asked_of_show show.now)
-        (outside S.held S.reading_faults S.writing_faults O.taken O.faults shelf.old out.old)
-        (outside S.held S.reading_faults S.writing_faults O.taken O.faults shelf.new out.new) result }
+        (outside S.Shelf O.Sink shelf.old out.old) (outside S.Shelf O.Sink shelf.new out.new) result }
 {
     match selection_asked(show) {
         Some(selection) => show_command(show.record_name, &selection, shelf, out),
@@ -41,8 +40,7 @@ fn carry_out<S: Shelf, O: Sink>(
 ) -> Status
     requires { S.is_settled shelf.old }
     ensures { ToolAnswers (tool_asked_of request.now)
-        (outside S.held S.reading_faults S.writing_faults O.taken O.faults shelf.old out.old)
-        (outside S.held S.reading_faults S.writing_faults O.taken O.faults shelf.new out.new) result }
+        (outside S.Shelf O.Sink shelf.old out.old) (outside S.Shelf O.Sink shelf.new out.new) result }
 {
     match request {
         ToolRequest::Asm { text, words } => asm_command(alloc, text, words, shelf, out),
@@ -64,8 +62,7 @@ fn follow<S: Shelf, O: Sink>(
 ) -> Status
     requires { S.is_settled shelf.old }
     ensures { ReadAnswers read.now
-        (outside S.held S.reading_faults S.writing_faults O.taken O.faults shelf.old out.old)
-        (outside S.held S.reading_faults S.writing_faults O.taken O.faults shelf.new out.new) result }
+        (outside S.Shelf O.Sink shelf.old out.old) (outside S.Shelf O.Sink shelf.new out.new) result }
 {
     match read {
         ToolWords::Asks(request) => carry_out(alloc, request, shelf, out),
@@ -83,8 +80,7 @@ pub fn obey<S: Shelf, O: Sink>(
 ) -> Status
     requires { S.is_settled shelf.old }
     ensures { WordsAnswers (map string_bytes words.now.items)
-        (outside S.held S.reading_faults S.writing_faults O.taken O.faults shelf.old out.old)
-        (outside S.held S.reading_faults S.writing_faults O.taken O.faults shelf.new out.new) result }
+        (outside S.Shelf O.Sink shelf.old out.old) (outside S.Shelf O.Sink shelf.new out.new) result }
 {
     match read_tool_words(alloc, words.as_slice()) {
         Ok(read) => follow(alloc, &read, shelf, out),

@@ -19,8 +19,7 @@ fn answer<S: Shelf, O: Sink>(
 ) -> Status
     requires { S.is_settled shelf.old }
     ensures { LineAnswers line.now
-        (outside S.held S.reading_faults S.writing_faults O.taken O.faults shelf.old out.old)
-        (outside S.held S.reading_faults S.writing_faults O.taken O.faults shelf.new out.new) result }
+        (outside S.Shelf O.Sink shelf.old out.old) (outside S.Shelf O.Sink shelf.new out.new) result }
 {
     match line {
         CommandLine::Taken(words) => obey(alloc, words, shelf, out),
@@ -39,8 +38,7 @@ pub fn run_tools<S: Shelf, O: Sink>(
 ) -> Status
     requires { S.is_settled shelf.old }
     ensures exits { ToolsExit line.now
-        (outside S.held S.reading_faults S.writing_faults O.taken O.faults shelf.old out.old)
-        (outside S.held S.reading_faults S.writing_faults O.taken O.faults shelf.new out.new) result }
+        (outside S.Shelf O.Sink shelf.old out.old) (outside S.Shelf O.Sink shelf.new out.new) result }
     ensures files { result ≢ Status.WriteFault → S.is_settled shelf.new }
     ensures shown { result ≢ Status.WriteFault → O.is_settled out.new }
 {

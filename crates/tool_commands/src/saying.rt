@@ -7,7 +7,7 @@ use program_parts::Status;
 
 /// Shows a text, and answers a status, or the write fault.
 pub fn say<O: Sink>(out: &mut O, text: &[u8], status: Status) -> Status
-    ensures { ShowsText text.now status (output O.taken O.faults out.old) (output O.taken O.faults out.new) result }
+    ensures { ShowsText text.now status (output O.Sink out.old) (output O.Sink out.new) result }
 {
     match put_all(out, text) {
         Ok(()) => status,

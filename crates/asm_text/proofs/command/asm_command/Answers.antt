@@ -5,7 +5,7 @@ pub returns : goal.returns
 returns g c =
     record {
       made = c.words_of_file-made.result;
-      files = files g.S.Shelf.held g.S.Shelf.reading_faults g.S.Shelf.writing_faults c.words_of_file-made.new.shelf;
+      files = files g.S.Shelf c.words_of_file-made.new.shelf;
       reads = c.words_of_file-made.ensures;
       concludes = c.conclude.ensures;
     }

@@ -15,7 +15,7 @@ pub returns : goal.returns
 returns g c =
     let read = c.in-Ok.ensures in
     let told = g.S.Shelf.held c.args.shelf.now c.args.name.now in
-    let state = files g.S.Shelf.held g.S.Shelf.reading_faults g.S.Shelf.writing_faults in
+    let state = files g.S.Shelf in
     told_why (TellsTextFault c.args.name.now told) c.reason_of_fault.result (state c.args.shelf.now)
     (state c.read_front.new.shelf)
     (c.reason_of_fault.ensures told

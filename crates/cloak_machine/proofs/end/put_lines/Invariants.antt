@@ -7,6 +7,6 @@ use Rattle.cloak_machine.proofs.end.put_lines.Given as goal
 -- the lines so far were put
 abbrev pub invariant-loop-line : goal.invariant-loop-line
 invariant-loop-line g l =
-    PutsMore (putting g.O.Sink.taken g.O.Sink.faults l.initial.out l.initial.so_far)
-    (putting g.O.Sink.taken g.O.Sink.faults l.out l.so_far)
+    PutsMore (putting g.O.Sink l.initial.out l.initial.so_far)
+    (putting g.O.Sink l.out l.so_far)
     (concat (map line_text (take l.line-index l.lines)))

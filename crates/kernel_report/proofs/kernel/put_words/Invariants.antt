@@ -6,6 +6,6 @@ use Rattle.kernel_report.proofs.kernel.put_words.Given as goal
 -- the words so far were put
 abbrev pub invariant-loop-word : goal.invariant-loop-word
 invariant-loop-word g l =
-    PutsMore (putting g.O.Sink.taken g.O.Sink.faults l.initial.out l.initial.so_far)
-    (putting g.O.Sink.taken g.O.Sink.faults l.out l.so_far)
+    PutsMore (putting g.O.Sink l.initial.out l.initial.so_far)
+    (putting g.O.Sink l.out l.so_far)
     (words_text (take l.word-index l.words))

@@ -9,7 +9,7 @@ use Rattle.manifest.proofs.disk.place_files.Goals as goal
 pub loop-table-preserved : goal.loop-table-preserved
 loop-table-preserved g c =
     let held = g.S.Shelf.held in
-    let state = files held g.S.Shelf.reading_faults g.S.Shelf.writing_faults in
+    let state = files g.S.Shelf in
     let first = c.args.shelf.now in
     let manifest = c.args.manifest.now in
     let table = c.table-item.result in

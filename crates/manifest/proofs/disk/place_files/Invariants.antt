@@ -9,7 +9,7 @@ abbrev pub invariant-loop-table : goal.invariant-loop-table
 invariant-loop-table g l = record {
   stored : StoresFiles (g.S.Shelf.held l.fn.shelf) l.manifest (items_view (take l.table-index l.tables)) l.fn.disk l.disk;
   same_length : length l.disk ≡ length l.fn.disk;
-  read : OnlyRead (files g.S.Shelf.held g.S.Shelf.reading_faults g.S.Shelf.writing_faults l.fn.shelf)
-      (files g.S.Shelf.held g.S.Shelf.reading_faults g.S.Shelf.writing_faults l.shelf);
+  read : OnlyRead (files g.S.Shelf l.fn.shelf)
+      (files g.S.Shelf l.shelf);
   settled : g.S.Shelf.is_settled l.shelf;
 }

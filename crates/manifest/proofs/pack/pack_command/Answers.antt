@@ -5,7 +5,7 @@ pub returns : goal.returns
 returns g c =
     record {
       made = c.packed-made.result;
-      files = files g.S.Shelf.held g.S.Shelf.reading_faults g.S.Shelf.writing_faults c.packed-made.new.shelf;
+      files = files g.S.Shelf c.packed-made.new.shelf;
       reads = c.packed-made.ensures;
       concludes = c.conclude.ensures;
     }

@@ -12,7 +12,7 @@ invariant-loop-table g l = record {
   mean : EachMeans (IsProgramOf (g.S.Shelf.held l.fn.shelf) l.manifest) (items_view (take l.table-index l.tables)) l.programs.items;
   count : length l.programs.items ≡ l.table-index;
   in_image : All (IsProgramIn l.frames) l.programs.items;
-  read : OnlyRead (files g.S.Shelf.held g.S.Shelf.reading_faults g.S.Shelf.writing_faults l.fn.shelf)
-      (files g.S.Shelf.held g.S.Shelf.reading_faults g.S.Shelf.writing_faults l.shelf);
+  read : OnlyRead (files g.S.Shelf l.fn.shelf)
+      (files g.S.Shelf l.shelf);
   settled : g.S.Shelf.is_settled l.shelf;
 }

@@ -12,7 +12,7 @@ invariant-loop-table g l = record {
   mean : EachMeans (IsSegmentOf (g.S.Shelf.held l.fn.shelf) l.manifest) (items_view (take l.table-index l.tables)) l.segments.items;
   count : length l.segments.items ≡ l.table-index;
   in_ram : All (IsSegmentIn l.frames) l.segments.items;
-  read : OnlyRead (files g.S.Shelf.held g.S.Shelf.reading_faults g.S.Shelf.writing_faults l.fn.shelf)
-      (files g.S.Shelf.held g.S.Shelf.reading_faults g.S.Shelf.writing_faults l.shelf);
+  read : OnlyRead (files g.S.Shelf l.fn.shelf)
+      (files g.S.Shelf l.shelf);
   settled : g.S.Shelf.is_settled l.shelf;
 }

@@ -7,15 +7,13 @@ use Rattle.read_back.proofs.solo.solo_record.Goals as goal
 pub returns-in-Ok-clause-shows : goal.returns-in-Ok-clause-shows
 returns-in-Ok-clause-shows g c = λ d k p stands.
     let solos = c.read_program-ending.ensures.solos d k p stands in
-    solo_whole g.S.Shelf.held g.S.Shelf.reading_faults g.S.Shelf.writing_faults g.O.Sink.taken g.O.Sink.faults
-    _ _ solos
+    solo_whole g.S.Shelf g.O.Sink _ _ solos
     (c.in-Ok.ensures d k.schedule (domain_alone d k.schedule p solos.items) solos.stands solos.few
     (fits_whole (program_unfit d k p) solos.items c.read_program-ending.result solos.read.fits)) c.status.ensures
 
 pub returns-in-Err-clause-shows : goal.returns-in-Err-clause-shows
 returns-in-Err-clause-shows g c = λ d k p stands.
     let solos = c.read_program-ending.ensures.solos d k p stands in
-    solo_cut g.S.Shelf.held g.S.Shelf.reading_faults g.S.Shelf.writing_faults g.O.Sink.taken g.O.Sink.faults
-    _ _ solos
+    solo_cut g.S.Shelf g.O.Sink _ _ solos
     (c.in-Err.ensures d k.schedule (domain_alone d k.schedule p solos.items) solos.stands solos.few
     (fits_whole (program_unfit d k p) solos.items c.read_program-ending.result solos.read.fits))

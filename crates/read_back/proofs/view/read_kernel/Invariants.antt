@@ -12,7 +12,7 @@ use Rattle.read_back.proofs.view.read_kernel.Given as goal
 abbrev pub invariant-loop-screen : goal.invariant-loop-screen
 invariant-loop-screen g l = record {
   views : (k : KernelImage) → StandsForKernel l.fn.kernel k.schedule (opened_kernel k) →
-      KernelReads (GaveScreen g.O.Sink.taken g.O.Sink.faults) l.fn.screen l.screen k l.kernel
+      KernelReads (GaveScreen g.O.Sink) l.fn.screen l.screen k l.kernel
       (g.S.Shelf.held l.fn.shelf l.name) l.reader;
   named : l.reader.name.now ≡ l.name;
   same_out : l.screen.out.ghost_name ≡ l.fn.screen.out.ghost_name;

@@ -41,7 +41,7 @@ loop-so_far-preserved g c =
 pub returns-in-Err-clause-shows : goal.returns-in-Err-clause-shows
 returns-in-Err-clause-shows g c =
     let was = c.loop-so_far.invariant in
-    stops _ _ c.loop-so_far.reader _ _ _ (putting g.O.Sink.taken g.O.Sink.faults c.loop-so_far.out) c.loop-so_far.line
+    stops _ _ c.loop-so_far.reader _ _ _ (putting g.O.Sink c.loop-so_far.out) c.loop-so_far.line
     c.loop-so_far.so_far c.in-Err.failed c.in-Err.is was.reading was.shows
 
 pub returns-in-Ok-end_line-clause-shows : goal.returns-in-Ok-end_line-clause-shows
@@ -49,7 +49,7 @@ returns-in-Ok-end_line-clause-shows g c =
     let was = c.loop-so_far.invariant in
     let same = ap (λ n. g.S.Shelf.held c.loop-so_far.shelf n) was.named ∙ was.files c.args.name.now in
     let found = c.in-Err-next_item.ensures in
-    ends_well _ _ c.loop-so_far.reader c.next_item.new.reader _ _ _ _ (putting g.O.Sink.taken g.O.Sink.faults c.end_line.new.out)
+    ends_well _ _ c.loop-so_far.reader c.next_item.new.reader _ _ _ _ (putting g.O.Sink c.end_line.new.out)
     c.loop-so_far.line c.in-Err-next_item.ending c.end_line.result tt c.in-Ok-end_line.is was.shows
     (finds _ _ c.loop-so_far.reader c.next_item.new.reader (Err c.in-Err-next_item.ending) was.shows.items same found.next
     was.shows.stands) (reads_since _ _ _ c.in-Err-next_item.ending was.reading found.counts) c.end_line.ensures
@@ -59,7 +59,7 @@ returns-in-Err-end_line-clause-shows g c =
     let was = c.loop-so_far.invariant in
     let same = ap (λ n. g.S.Shelf.held c.loop-so_far.shelf n) was.named ∙ was.files c.args.name.now in
     let found = c.in-Err-next_item.ensures in
-    ends_ill _ _ c.loop-so_far.reader c.next_item.new.reader _ _ _ _ (putting g.O.Sink.taken g.O.Sink.faults c.end_line.new.out)
+    ends_ill _ _ c.loop-so_far.reader c.next_item.new.reader _ _ _ _ (putting g.O.Sink c.end_line.new.out)
     c.loop-so_far.line c.in-Err-next_item.ending c.end_line.result c.in-Err-end_line.failed c.in-Err-end_line.is was.shows
     (finds _ _ c.loop-so_far.reader c.next_item.new.reader (Err c.in-Err-next_item.ending) was.shows.items same found.next
     was.shows.stands) (reads_since _ _ _ c.in-Err-next_item.ending was.reading found.counts) c.end_line.ensures

@@ -9,7 +9,7 @@ use Rattle.record_text.proofs.showing.show_items.Given as goal
 abbrev pub invariant-loop-so_far : goal.invariant-loop-so_far
 invariant-loop-so_far g l = record {
   shows : ShownSoFar l.selection (g.S.Shelf.held l.fn.shelf l.name) l.reader
-      (putting g.O.Sink.taken g.O.Sink.faults l.fn.out (Ok tt)) (putting g.O.Sink.taken g.O.Sink.faults l.out l.so_far) l.line;
+      (putting g.O.Sink l.fn.out (Ok tt)) (putting g.O.Sink l.out l.so_far) l.line;
   named : l.reader.name.now ≡ l.name;
   files : SameFiles (g.S.Shelf.held l.fn.shelf) (g.S.Shelf.held l.shelf);
   reading : g.S.Shelf.reading_faults l.shelf ≡ g.S.Shelf.reading_faults l.fn.shelf;

@@ -30,7 +30,7 @@ loop-made-preserved g c = let given = gave_all c.step.ensures.emits_some.1 in re
 pub returns-then-outlet-clause-runs : goal.returns-then-outlet-clause-runs
 returns-then-outlet-clause-runs g c = λ m stands none.
     runs-failed _ _ _ _ _ _ _ c.loop-made.made m (c.loop-made.invariant.runs m stands none) c.if-outlet.true
-    (λ ps. emits_none _ _ _ _ _ _ ps c.if-outlet.true)
+    (λ ps. emits_none _ _ _ ps c.if-outlet.true)
 
 pub returns-in-Some-clause-runs : goal.returns-in-Some-clause-runs
 returns-in-Some-clause-runs g c = λ m stands none.

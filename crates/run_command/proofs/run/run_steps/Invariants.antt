@@ -14,10 +14,7 @@ invariant-loop-made g l = record {
   same_shelf : l.outlet.shelf.ghost_name ≡ l.fn.outlet.shelf.ghost_name;
   same_out : l.outlet.out.ghost_name ≡ l.fn.outlet.out.ghost_name;
   made : steps_made l.machine ≡ l.made;
-  some : EmitsSome
-      (Gave g.S.Shelf.held g.S.Shelf.reading_faults g.S.Shelf.writing_faults g.O.Sink.taken g.O.Sink.faults)
-      l.fn.outlet l.outlet;
+  some : EmitsSome (Gave g.S.Shelf g.O.Sink) l.fn.outlet l.outlet;
   runs : (m : Moment) → StandsForMoment l.fn.machine m → NoClashYet (joint_after m.joint (turns_from l.steps m)) →
-      GoesOn (Gave g.S.Shelf.held g.S.Shelf.reading_faults g.S.Shelf.writing_faults g.O.Sink.taken g.O.Sink.faults)
-      l.fn.outlet l.outlet l.machine l.made l.steps m;
+      GoesOn (Gave g.S.Shelf g.O.Sink) l.fn.outlet l.outlet l.machine l.made l.steps m;
 }

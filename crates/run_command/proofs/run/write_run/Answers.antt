@@ -10,7 +10,7 @@ returns-then-outlet-clause-runs g c = λ b stream o opens same stands none.
     let shows = c.opening.ensures.shows b stream o opens same stands in
     writes-front _ _ _ _ _ _ _ _ _ _ b _ o c.append.ensures.emits shows
     (c.run_steps-stopped.ensures.runs (first_moment b o.joint) shows.stands (run_unclashed b c.args.steps o none))
-    c.if-outlet.true (λ ps. emits_none _ _ _ _ _ _ ps c.if-outlet.true)
+    c.if-outlet.true (λ ps. emits_none _ _ _ ps c.if-outlet.true)
 
 pub returns-then-outlet-clause-emits_some : goal.returns-then-outlet-clause-emits_some
 returns-then-outlet-clause-emits_some g c =

@@ -7,15 +7,15 @@ use Rattle.run_story.proofs.command.explain_command.Goals as goal
 pub returns-in-Err-clause-answers : goal.returns-in-Err-clause-answers
 returns-in-Err-clause-answers g c =
     no_bundle c.args.bundle_name.now c.args.record_name.now
-    (outside g.S.Shelf.held g.S.Shelf.reading_faults g.S.Shelf.writing_faults g.O.Sink.taken g.O.Sink.faults c.args.shelf.now c.args.out.now)
-    (outside g.S.Shelf.held g.S.Shelf.reading_faults g.S.Shelf.writing_faults g.O.Sink.taken g.O.Sink.faults c.read_bundle.new.shelf
+    (outside g.S.Shelf g.O.Sink c.args.shelf.now c.args.out.now)
+    (outside g.S.Shelf g.O.Sink c.read_bundle.new.shelf
     c.refuse.new.out) c.in-Err.refusal c.refuse.result c.in-Err.ensures.bundle c.refuse.ensures
 
 pub returns-in-Ok-tell-clause-answers : goal.returns-in-Ok-tell-clause-answers
 returns-in-Ok-tell-clause-answers g c =
     shows_story c.args.bundle_name.now c.args.record_name.now
-    (outside g.S.Shelf.held g.S.Shelf.reading_faults g.S.Shelf.writing_faults g.O.Sink.taken g.O.Sink.faults c.args.shelf.now c.args.out.now)
-    (outside g.S.Shelf.held g.S.Shelf.reading_faults g.S.Shelf.writing_faults g.O.Sink.taken g.O.Sink.faults c.tell.new.shelf
+    (outside g.S.Shelf g.O.Sink c.args.shelf.now c.args.out.now)
+    (outside g.S.Shelf g.O.Sink c.tell.new.shelf
     c.show_story.new.out) c.show_story.result
     (tells_behind _ _ _ _ _ (Ok c.in-Ok-tell.story) (c.in-Ok.ensures.files c.args.record_name.now)
     c.in-Ok.ensures.bundle.0 c.in-Ok-tell.ensures.tells) c.show_story.ensures
@@ -23,8 +23,8 @@ returns-in-Ok-tell-clause-answers g c =
 pub returns-clause-answers : goal.returns-clause-answers
 returns-clause-answers g c =
     shows_untold c.args.bundle_name.now c.args.record_name.now
-    (outside g.S.Shelf.held g.S.Shelf.reading_faults g.S.Shelf.writing_faults g.O.Sink.taken g.O.Sink.faults c.args.shelf.now c.args.out.now)
-    (outside g.S.Shelf.held g.S.Shelf.reading_faults g.S.Shelf.writing_faults g.O.Sink.taken g.O.Sink.faults c.tell.new.shelf
+    (outside g.S.Shelf g.O.Sink c.args.shelf.now c.args.out.now)
+    (outside g.S.Shelf g.O.Sink c.tell.new.shelf
     c.show_untold.new.out) c.in-Err-tell.untold c.show_untold.result
     (lacks_since _ _ _ _ _ c.in-Err-tell.untold (c.in-Ok.ensures.files c.args.record_name.now)
     c.in-Ok.ensures.bundle.0 c.in-Err-tell.ensures.tells) c.show_untold.ensures

@@ -3,10 +3,10 @@ use Rattle.run_command.proofs.OutletFacts.{emits_none, emits_recorded, recorded_
 use Rattle.run_command.proofs.outlet.Outlet.write.Goals as goal
 
 pub returns-then-self : goal.returns-then-self
-returns-then-self g c = emits_none _ _ _ _ _ _ _ c.if-self.true
+returns-then-self g c = emits_none _ _ _ _ c.if-self.true
 
 pub returns : goal.returns
 returns g c = recorded_as c.write_item-n.ensures.front
-    (emits_recorded _ _ _ _ _ _ _ _ c.append_item.result c.if-self.false c.is_err-self.ensures.value refl refl refl
+    (emits_recorded _ _ _ _ _ c.append_item.result c.if-self.false c.is_err-self.ensures.value refl refl refl
     c.append_item.ensures.ok c.append_item.ensures.err c.append_item.ensures.others c.append_item.ensures.writing
     c.append_item.ensures.reading)

@@ -4,10 +4,10 @@ use Rattle.run_command.proofs.OutletFacts.{emits_none, emits_shown}
 use Rattle.run_command.proofs.outlet.OutletEmit.console.Goals as goal
 
 pub returns-then-self : goal.returns-then-self
-returns-then-self g c = emits_none _ _ _ _ _ _ _ c.if-self.true
+returns-then-self g c = emits_none _ _ _ _ c.if-self.true
 
 pub returns : goal.returns
-returns g c = emits_shown _ _ _ _ _ _ _ _ c.put.result c.if-self.false c.is_err-self.ensures.value refl refl refl
+returns g c = emits_shown _ _ _ _ _ c.put.result c.if-self.false c.is_err-self.ensures.value refl refl refl
     (put_one c.put.result _ _ c.args.b c.put.ensures.count c.put.ensures.progress c.put.ensures.ok)
     (put_none c.put.result _ _ (c.args.b ∷ []) c.put.ensures.err)
     c.put.ensures.faults
