@@ -83,6 +83,8 @@ impl Shelf for NeverShelf {
 
     ghost is_settled = { λ _. Unit {0} };
 
+    ghost is_last = { λ _ _. Unit {0} };
+
     fn size(&mut self, name: &str) -> Result<u64, Failed>
         ensures ok { result ≡ Ok (length (unwrap_or (handed_in self.old.files name.now) [])) }
         ensures same { self.new ≡ self.old }
@@ -120,6 +122,15 @@ impl Shelf for NeverShelf {
         self.forget(name);
         self.written.put(bytes);
         Ok(())
+    }
+
+    fn append_last(&mut self, name: &str, bytes: &[u8]) -> Result<(), Failed>
+        ensures ok { IsOk result }
+        ensures gone { handed_in self.new.files name.now ≡ None }
+        ensures others { OtherFiles name.now (handed_in self.old.files) (handed_in self.new.files) }
+        ensures sum { (before : List ℕ) → Sums self.old.written before → Sums self.new.written (before ++ bytes.now) }
+    {
+        self.append(name, bytes)
     }
 
     fn flush(&mut self) -> Result<(), Failed>

@@ -172,6 +172,8 @@ impl<R: Files + Drop> Shelf for FileShelf<R> {
 
     ghost is_settled = { λ s. s.gathered ≡ [] };
 
+    ghost is_last = { λ s name. IsOpen name s };
+
     /// A folder is no file, and has no size.
     fn size(&mut self, name: &str) -> Result<u64, Failed> {
         if !self.write_out() {
@@ -243,9 +245,28 @@ impl<R: Files + Drop> Shelf for FileShelf<R> {
         }
     }
 
+    #[inline(always)]
+    fn append_last(&mut self, name: &str, bytes: &[u8]) -> Result<(), Failed>
+        ensures taken { OnOk result (Takes (length bytes.now) bytes.now self.old.gathered self.new.gathered
+            self.old.written self.new.written) }
+        ensures kept { TakesFront bytes.now self.old.gathered self.new.gathered self.old.written self.new.written }
+        ensures file { SameFile self.old self.new }
+        ensures writing { Counts self.old.writing self.new.writing result }
+        ensures reading { self.new.reading ≡ self.old.reading }
+    {
+        let _ = name;
+        self.reader.close();
+        if self.write(bytes) {
+            Ok(())
+        } else {
+            self.fail_writing()
+        }
+    }
+
     fn flush(&mut self) -> Result<(), Failed>
         ensures all { OnOk result (self.new.gathered ≡ []) }
         ensures moved { MovesFront self.old.gathered self.new.gathered self.old.written self.new.written }
+        ensures file { SameFile self.old self.new }
         ensures writing { Counts self.old.writing self.new.writing result }
         ensures reading { self.new.reading ≡ self.old.reading }
     {

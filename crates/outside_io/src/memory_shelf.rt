@@ -85,6 +85,8 @@ impl Shelf for MemoryShelf {
 
     ghost is_settled = { λ _. Unit {0} };
 
+    ghost is_last = { λ _ _. Unit {0} };
+
     fn size(&mut self, name: &str) -> Result<u64, Failed>
         ensures size { IfOk result (λ n. n ≡ length (bytes_of self.old.files name.now)) }
         ensures listed { IsErr result ↔ Contains self.old.fails (one_more self.old.calls) }
@@ -167,6 +169,23 @@ impl Shelf for MemoryShelf {
             return Err(Failed);
         }
         Ok(())
+    }
+
+    /// As `append`.
+    fn append_last(&mut self, name: &str, bytes: &[u8]) -> Result<(), Failed>
+        ensures listed { Contains self.old.fails (one_more self.old.calls) → IsErr result }
+        ensures there { IsThere self.old.files name.now → bytes.now ≡ [] → IsErr result →
+            Contains self.old.fails (one_more self.old.calls) }
+        ensures after_ok { OnOk result (self.new ≡ record self.old {
+          files = insert self.old.files name.now (bytes_of self.old.files name.now ++ bytes.now);
+          calls = one_more self.old.calls;
+        }) }
+        ensures after_err { OnErr result (self.new ≡ record self.old {
+          calls = one_more self.old.calls;
+          writing_faults = one_more self.old.writing_faults;
+        }) }
+    {
+        self.append(name, bytes)
     }
 
     /// Nothing is gathered, so only a call that is listed fails.

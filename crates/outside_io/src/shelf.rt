@@ -20,6 +20,9 @@ pub trait Shelf {
     /// Nothing is gathered that is still to be written out.
     ghost is_settled: { Self → Type 0 };
 
+    /// The file of this name is the one that was begun or appended to last, where that did not fail.
+    ghost is_last: { Self → List ℕ → Type 0 };
+
     /// The number of the name's bytes.
     fn size(&mut self, name: &str) -> Result<u64, Failed>
         ensures size { IfOk result (λ n. IfSome (held self.old name.now) (λ bytes. n ≡ length bytes)) }
@@ -51,6 +54,7 @@ pub trait Shelf {
         ensures err { OnErr result
             ((held self.new name.now ≡ held self.old name.now) ⊎ Tells (held self.new name.now) []) }
         ensures others { OtherFiles name.now (held self.old) (held self.new) }
+        ensures last { OnOk result (is_last self.new name.now) }
         ensures writing { Counts (writing_faults self.old) (writing_faults self.new) result }
         ensures reading { reading_faults self.new ≡ reading_faults self.old };
 
@@ -59,6 +63,17 @@ pub trait Shelf {
         ensures ok { OnOk result (Grows (held self.old name.now) (held self.new name.now) bytes.now) }
         ensures err { OnErr result (GrowsByFront (held self.old name.now) (held self.new name.now) bytes.now) }
         ensures others { OtherFiles name.now (held self.old) (held self.new) }
+        ensures last { OnOk result (is_last self.new name.now) }
+        ensures writing { Counts (writing_faults self.old) (writing_faults self.new) result }
+        ensures reading { reading_faults self.new ≡ reading_faults self.old };
+
+    /// The same for the file that was begun or appended to last, whose name need not be looked at.
+    fn append_last(&mut self, name: &str, bytes: &[u8]) -> Result<(), Failed>
+        requires last { is_last self.old name.now }
+        ensures ok { OnOk result (Grows (held self.old name.now) (held self.new name.now) bytes.now) }
+        ensures err { OnErr result (GrowsByFront (held self.old name.now) (held self.new name.now) bytes.now) }
+        ensures others { OtherFiles name.now (held self.old) (held self.new) }
+        ensures last { OnOk result (is_last self.new name.now) }
         ensures writing { Counts (writing_faults self.old) (writing_faults self.new) result }
         ensures reading { reading_faults self.new ≡ reading_faults self.old };
 
@@ -66,6 +81,7 @@ pub trait Shelf {
     fn flush(&mut self) -> Result<(), Failed>
         ensures settled { OnOk result (is_settled self.new) }
         ensures files { SameFiles (held self.old) (held self.new) }
+        ensures last { (name : List ℕ) → is_last self.old name → is_last self.new name }
         ensures writing { Counts (writing_faults self.old) (writing_faults self.new) result }
         ensures reading { reading_faults self.new ≡ reading_faults self.old };
 }

@@ -12,6 +12,7 @@ begin-tells c =
       emptied = SetsFile-here c.result old.files new.files c.args.name.now [] sets;
       err = search rules;
       others = SetsFile-others c.result old.files new.files c.args.name.now [] sets;
+      last = search rules;
       writing = search rules;
       reading = search rules;
     }
@@ -27,6 +28,23 @@ append-tells c =
       err = search rules;
       others = SetsFile-others c.result old.files new.files c.args.name.now
           (bytes_of old.files c.args.name.now ++ c.args.bytes.now) sets;
+      last = search rules;
+      writing = search rules;
+      reading = search rules;
+    }
+
+pub append_last-tells : goal.append_last-tells
+append_last-tells c =
+    let old : MemoryFiles = c.args.self.now in
+    let new : MemoryFiles = c.new.self.now in
+    let sets = SetsFile-at c.result old new _ _ c.args.name.now
+    (bytes_of old.files c.args.name.now ++ c.args.bytes.now) c.ensures.after_ok c.ensures.after_err refl refl in
+    record {
+      ok = SetsFile-grows c.result old.files new.files c.args.name.now c.args.bytes.now sets;
+      err = search rules;
+      others = SetsFile-others c.result old.files new.files c.args.name.now
+          (bytes_of old.files c.args.name.now ++ c.args.bytes.now) sets;
+      last = search rules;
       writing = search rules;
       reading = search rules;
     }
