@@ -13,8 +13,8 @@ use Rattle.rv_isa.specs.Table.{instruction}
 use Rattle.rv_isa.specs.declared.instr.Instr.TheVariants as instr
 use Rattle.rv_asm.specs.declared.item.Item.{Item}
 use Rattle.rv_asm.specs.declared.item.Item.TheVariants.{Instruction, Data}
-use Rattle.rv_asm.specs.declared.fault.Kind.{Kind}
-use Rattle.rv_asm.specs.declared.fault.Kind.TheVariants as kinds
+use Rattle.rv_asm.specs.declared.fault.FaultKind.{FaultKind}
+use Rattle.rv_asm.specs.declared.fault.FaultKind.TheVariants as kinds
 use Rattle.rv_asm.specs.declared.fault.AsmFault.{AsmFault}
 use Rattle.rv_asm.specs.declared.fault.AsmFault.TheVariants.{UnknownWord, BadOperand, BadLabel, OutOfReach, TooLong, NoMemory}
 use Rattle.rv_asm.specs.declared.labels.Mark.{Mark}
@@ -34,7 +34,7 @@ lines_of (b ∷ bs) = if b == 10 then [] ∷ lines_of bs else onto_first b (line
 -- ---- labels
 
 -- how many words a line asks for; a faulty one asks for none
-abbrev pub size : Result Meaning Kind → ℕ
+abbrev pub size : Result Meaning FaultKind → ℕ
 size (Ok (Fixed items)) = length items
 size (Ok (Branch op rs1 rs2 name)) = 1
 size (Ok (Jump rd name)) = 1
@@ -44,7 +44,7 @@ size (Ok (Label name)) = 0
 size (Err k) = 0
 
 -- the label that a line defines, with its line and place
-abbrev pub mark : ℕ → ℕ → Result Meaning Kind → List (List ℕ × Mark)
+abbrev pub mark : ℕ → ℕ → Result Meaning FaultKind → List (List ℕ × Mark)
 mark line place (Ok (Label name)) = (name, record { line = line; place = place }) ∷ []
 mark line place _ = []
 
@@ -61,7 +61,7 @@ find_in labels name = lookup (bytes_eq name) labels
 -- ---- the words of a statement
 
 -- the bytes from one word to another, forward by fewer words than the reach, or back by at most as many
-unfoldable pub offset_between : ℕ → ℕ → ℕ → Result ℤ Kind
+unfoldable pub offset_between : ℕ → ℕ → ℕ → Result ℤ FaultKind
 offset_between reach here there =
     if nat_le here there
     then (if nat_lt (there - here) reach then Ok (pos (4 * (there - here))) else Err kinds.OutOfReach)
@@ -73,7 +73,7 @@ relative here there = (there + (2 ^ 30 - here % 2 ^ 30)) % 2 ^ 30 * 4
 
 -- what stands for the words of a statement, by its line and place. A branch reaches -4096 to 4094 bytes, a jump
 -- -1048576 to 1048574
-abbrev pub items_of_line : (List ℕ → Option Mark) → ℕ → ℕ → Meaning → Result (List Item) Kind
+abbrev pub items_of_line : (List ℕ → Option Mark) → ℕ → ℕ → Meaning → Result (List Item) FaultKind
 items_of_line find line here Nothing = Ok []
 items_of_line find line here (Label name) = do
   m ← ok_or (find name) kinds.BadLabel
@@ -94,13 +94,13 @@ items_of_line find line here (Address rd name) = do
 
 -- ---- a text
 
-abbrev pub fault_at : ℕ → Kind → AsmFault
+abbrev pub fault_at : ℕ → FaultKind → AsmFault
 fault_at line kinds.UnknownWord = UnknownWord line
 fault_at line kinds.BadOperand = BadOperand line
 fault_at line kinds.BadLabel = BadLabel line
 fault_at line kinds.OutOfReach = OutOfReach line
 
-abbrev pub at_line : {A : Type 0} → ℕ → Result A Kind → Result A AsmFault
+abbrev pub at_line : {A : Type 0} → ℕ → Result A FaultKind → Result A AsmFault
 at_line line (Ok x) = Ok x
 at_line line (Err kind) = Err (fault_at line kind)
 

@@ -20,8 +20,8 @@ use Rattle.rv_asm.specs.declared.operation.CsrOp.{CsrOp}
 use Rattle.rv_asm.specs.declared.operation.CsrImmediateOp.{CsrImmediateOp}
 use Rattle.rv_asm.specs.declared.item.Item.{Item}
 use Rattle.rv_asm.specs.declared.item.Item.TheVariants.{Instruction, Data}
-use Rattle.rv_asm.specs.declared.fault.Kind.{Kind}
-use Rattle.rv_asm.specs.declared.fault.Kind.TheVariants.{UnknownWord, BadOperand}
+use Rattle.rv_asm.specs.declared.fault.FaultKind.{FaultKind}
+use Rattle.rv_asm.specs.declared.fault.FaultKind.TheVariants.{UnknownWord, BadOperand}
 use Rattle.rv_asm.specs.declared.statement.Statement as code
 use Rattle.rv_asm.specs.declared.statement.Statement.TheVariants as shape
 use Rattle.rv_asm.specs.Words.{◌>>=◌, is_blank, cut, leading_word, sole_word, register_named, numeral, is_name}
@@ -252,13 +252,13 @@ label_word word = do
   if is_name name.0 && (length name.1 == 0) then Some name.0 else None
 
 -- a line by its first word, if that is a label or an operation, and the text behind it
-abbrev pub line_with : Option (List ℕ) → Option Operation → List ℕ → Result Meaning Kind
+abbrev pub line_with : Option (List ℕ) → Option Operation → List ℕ → Result Meaning FaultKind
 line_with (Some name) op text = if list_all is_blank text then Ok (Label name) else Err BadOperand
 line_with None (Some op) text = ok_or (statement_of op text) BadOperand
 line_with None None text = Err UnknownWord
 
 -- the statement of a line, whose comment begins at `#`
-unfoldable pub statement : List ℕ → Result Meaning Kind
+unfoldable pub statement : List ℕ → Result Meaning FaultKind
 statement line =
     let word = leading_word (before_first (λ b. b == 35) line) in
     if length word.0 == 0 then Ok Nothing else line_with (label_word word.0) (operation word.0) word.1
@@ -290,5 +290,5 @@ IsLineReady (shape.Jump rd to) = rd < 32
 IsLineReady (shape.Address rd to) = rd < 32
 
 -- what a function returned, seen by view, is what the definition gives
-abbrev pub Reads : {X Y : Type 0} → (X → Y) → Result X Kind → Result Y Kind → Type 0
+abbrev pub Reads : {X Y : Type 0} → (X → Y) → Result X FaultKind → Result Y FaultKind → Type 0
 Reads view result given = MatchResult result (λ x. given ≡ Ok (view x)) (λ e. given ≡ Err e)

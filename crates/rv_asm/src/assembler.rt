@@ -10,7 +10,7 @@ ghost use Rattle.rv_asm.specs.Assembly.{lines_of, offset_between, relative, item
 ghost use Rattle.rv_asm.specs.Assembly.{assembled, SpellsItem, AreWords, FailsAs, AnswersAs, table};
 ghost use Rattle.rv_asm.specs.Listing.{listed, AreItems};
 
-use crate::fault::{AsmFault, Kind, fault_at};
+use crate::fault::{AsmFault, FaultKind, fault_at};
 use crate::item::Item;
 use crate::labels::{Mark, find, labels};
 use crate::operation::branch_instruction;
@@ -30,7 +30,7 @@ pub enum Items {
 
 /// The bytes from one word to another, forward by fewer words than the reach, or back by at most as many.
 #[tactic(auto, unfolding(crate::specs::Assembly::offset_between))]
-fn offset(reach: u32, here: u64, there: u64) -> Result<i32, Kind>
+fn offset(reach: u32, here: u64, there: u64) -> Result<i32, FaultKind>
     requires { reach ≤ 262144 }
     ensures value { result ≡ offset_between reach here there }
     ensures even { IfOk result IsEven }
@@ -42,14 +42,14 @@ fn offset(reach: u32, here: u64, there: u64) -> Result<i32, Kind>
         if ahead < u64::from(reach) {
             Ok(4 * ahead as i32)
         } else {
-            Err(Kind::OutOfReach)
+            Err(FaultKind::OutOfReach)
         }
     } else {
         let back = here - there;
         if back <= u64::from(reach) {
             Ok(-(4 * back as i32))
         } else {
-            Err(Kind::OutOfReach)
+            Err(FaultKind::OutOfReach)
         }
     }
 }
@@ -68,7 +68,7 @@ fn resolve(
     line: u32,
     here: u64,
     statement: Statement<'_>,
-) -> Result<Items, Kind>
+) -> Result<Items, FaultKind>
     requires { IsLineReady statement }
     ensures value { Reads listed result (items_of_line (table marks.now) line here (read statement.entry)) }
     ensures ready { IfOk result AreItems }
@@ -80,7 +80,7 @@ fn resolve(
             if mark.line == line {
                 Ok(Items::None)
             } else {
-                Err(Kind::BadLabel)
+                Err(FaultKind::BadLabel)
             }
         }
         Statement::Single(item) => Ok(Items::One(item)),

@@ -39,7 +39,7 @@ impl<T: Drop> From<AllocFailed<T>> for AsmFault {
 
 /// What is wrong with a line.
 #[derive(Clone, Copy)]
-pub enum Kind {
+pub enum FaultKind {
     UnknownWord,
     BadOperand,
     BadLabel,
@@ -47,13 +47,13 @@ pub enum Kind {
 }
 
 /// The fault of a line.
-pub fn fault_at(line: u32, kind: Kind) -> AsmFault
+pub fn fault_at(line: u32, kind: FaultKind) -> AsmFault
     ensures { result ≡ fault_at line kind }
 {
     match kind {
-        Kind::UnknownWord => AsmFault::UnknownWord(line),
-        Kind::BadOperand => AsmFault::BadOperand(line),
-        Kind::BadLabel => AsmFault::BadLabel(line),
-        Kind::OutOfReach => AsmFault::OutOfReach(line),
+        FaultKind::UnknownWord => AsmFault::UnknownWord(line),
+        FaultKind::BadOperand => AsmFault::BadOperand(line),
+        FaultKind::BadLabel => AsmFault::BadLabel(line),
+        FaultKind::OutOfReach => AsmFault::OutOfReach(line),
     }
 }

@@ -4,13 +4,13 @@ ghost use Rattle.std.specs.Prelude.{◌≡◌, ℕ, List, ◌+◌, ◌<◌, ◌�
 ghost use Rattle.std.specs.Prelude.{None};
 ghost use Rattle.std.specs.Option.{ok_or};
 ghost use Rattle.std.specs.Str.{bytes_eq};
-ghost use Rattle.rv_asm.specs.declared.fault.Kind.TheVariants as kinds;
+ghost use Rattle.rv_asm.specs.declared.fault.FaultKind.TheVariants as kinds;
 ghost use Rattle.rv_asm.specs.declared.fault.AsmFault.TheVariants as faults;
 ghost use Rattle.rv_asm.specs.Operations.{or_else};
 ghost use Rattle.rv_asm.specs.Statements.{statement};
 ghost use Rattle.rv_asm.specs.Assembly.{lines_of, size, mark, labels_of, find_in, table};
 
-use crate::fault::{AsmFault, Kind};
+use crate::fault::{AsmFault, FaultKind};
 use crate::statement::{Statement, parse};
 use crate::words::{before, behind};
 use std::alloc::Global;
@@ -24,12 +24,12 @@ pub struct Mark {
 }
 
 /// The mark of a name.
-pub fn find(marks: &BTreeMap<&[u8], Mark>, name: &[u8]) -> Result<Mark, Kind>
+pub fn find(marks: &BTreeMap<&[u8], Mark>, name: &[u8]) -> Result<Mark, FaultKind>
     ensures { result ≡ ok_or (table marks.now name.now) kinds.BadLabel }
 {
     match marks.get(name) {
         Some(mark) => Ok(*mark),
-        None => Err(Kind::BadLabel),
+        None => Err(FaultKind::BadLabel),
     }
 }
 

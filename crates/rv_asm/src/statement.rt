@@ -9,7 +9,7 @@ ghost use Rattle.rv_asm.specs.Statements.{upper_part, lower_part, wrapped, bare_
 ghost use Rattle.rv_asm.specs.Statements.{jal_statement, j_statement, li_statement, la_statement, word_statement};
 ghost use Rattle.rv_asm.specs.Statements.{statement_of, label_word, statement, read, IsLineReady, Reads};
 
-use crate::fault::Kind;
+use crate::fault::FaultKind;
 use crate::form::{
     csr_form, csr_immediate_form, fence_form, immediate_form, load_form, register_form, shift_form,
     store_form, upper_form,
@@ -196,7 +196,7 @@ fn label_word(word: &[u8]) -> Option<&[u8]>
 
 /// The statement of a line.
 #[tactic(auto, unfolding(crate::specs::Statements::statement))]
-pub fn parse<'a>(line: &'a [u8]) -> Result<Statement<'a>, Kind>
+pub fn parse<'a>(line: &'a [u8]) -> Result<Statement<'a>, FaultKind>
     ensures value { Reads read result (statement line.now) }
     ensures ready { IfOk result IsLineReady }
 {
@@ -208,10 +208,10 @@ pub fn parse<'a>(line: &'a [u8]) -> Result<Statement<'a>, Kind>
         if is_all_blank(text) {
             return Ok(Statement::Label(name));
         }
-        return Err(Kind::BadOperand);
+        return Err(FaultKind::BadOperand);
     }
     let Some(op) = find_operation(word) else {
-        return Err(Kind::UnknownWord);
+        return Err(FaultKind::UnknownWord);
     };
-    statement_of(op, text).ok_or(Kind::BadOperand)
+    statement_of(op, text).ok_or(FaultKind::BadOperand)
 }
