@@ -8,5 +8,5 @@ abbrev pub with_values : {X : Type 0} → Cells X → List X → Cells X
 with_values c xs = record c { values = xs }
 
 -- the value at the index is the last one written through r
-abbrev pub lends_value : (R : RattleType) → MutBor (Cells R.Denot) → ℕ → MutBor R.Denot → Fml
-lends_value R c i r = Lends (the_row R) R c r (λ w. with_values c.now (slice_set c.now.values i w))
+abbrev pub LendsValue : (R : RattleType) → MutBor (Cells R.Denot) → ℕ → MutBor R.Denot → Fml
+LendsValue R c i r = Lends (the_row R) R c r (λ w. with_values c.now (slice_set c.now.values i w))

@@ -28,7 +28,7 @@ impl<N: Copy> Model for Block<N> {
 }
 
 impl<N: Copy> Block<N> {
-    ghost use Rattle.chain_arena.specs.BlockLends.{lends_item};
+    ghost use Rattle.chain_arena.specs.BlockLends.{LendsItem};
     ghost use Rattle.std.specs.Borrow.{sem};
 
     pub(crate) fn open(alloc: Global, count: usize, fill: N) -> Result<Self, AllocError>
@@ -59,7 +59,7 @@ impl<N: Copy> Block<N> {
 
     pub(crate) fn get_mut(&mut self, i: usize) -> &mut N
         requires { i < length self.old }
-        ensures* writes_back { sem 𝓛 (lends_item N.row self.entry i result) }
+        ensures* writes_back { sem 𝓛 (LendsItem N.row self.entry i result) }
         ensures value { slice_get self.old i ≡ Some result.now }
     {
         self.cells.get_mut(self.base, i)

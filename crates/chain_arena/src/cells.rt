@@ -59,7 +59,7 @@ impl<T, A: Allocator> Model for Deed<T, A> {
 }
 
 impl<T> Cells<T> {
-    ghost use Rattle.chain_arena.specs.Lends.{lends_value};
+    ghost use Rattle.chain_arena.specs.Lends.{LendsValue};
     ghost use Rattle.chain_arena.specs.Places.{HasPlaces, IsDeedOf};
 
     /// A block with this many places, none of them written.
@@ -125,7 +125,7 @@ impl<T> Cells<T> {
     /// The value in a place that is written, to be changed there.
     pub(crate) fn get_mut(&mut self, base: Base<T>, index: usize) -> &mut T
         requires place { (base.ptr ≡ self.old.at) × (index < length self.old.values) }
-        ensures* writes_back { sem 𝓛 (lends_value T.row self.entry index result) }
+        ensures* writes_back { sem 𝓛 (LendsValue T.row self.entry index result) }
         ensures value { slice_get self.old.values index ≡ Some result.now }
     {
         unsafe { &mut *base.ptr.add(index) }
