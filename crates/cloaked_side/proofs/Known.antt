@@ -1,6 +1,5 @@
 -- Where an access leads by a known translation, and how translations become known.
-use Rattle.std.proofs.Common.{◌≡◌, ◌∙◌, ◌⊎◌, ◌+◌, ◌/◌, ◌%◌, ◌<◌, ◌≤◌, ℕ, Bool, true, false, cond, List, [], ◌∷◌, length, ◌||◌, ◌&&◌, Option, Some, None, is_some, Result, Ok, Err, refl, sym, ap, subst, arith, nat_le, inl, inr, find}
-use Rattle.std.specs.List.{list_any}
+use Rattle.std.proofs.Common.{◌≡◌, ◌∙◌, ◌⊎◌, ◌+◌, ◌/◌, ◌%◌, ◌<◌, ◌≤◌, ℕ, Bool, true, false, cond, List, [], ◌∷◌, length, ◌&&◌, Option, Some, None, is_some, Result, Ok, Err, refl, sym, ap, subst, arith, nat_le, inl, inr, find}
 use Rattle.std.proofs.lemmas.Bool.{false≢true}
 use Rattle.std.specs.Prelude.{◌++◌, IfOk, IfSome}
 use Rattle.std.proofs.lemmas.Option.{none-some}
@@ -64,6 +63,7 @@ use Rattle.cloaked_side.proofs.Spending.{due_events, paid_is, maps_born, maps_lo
 use Rattle.shadow_fold.specs.Reads.{Spends, reads_due}
 use Rattle.shadow_fold.proofs.Keys.{is_for-key}
 use Rattle.shadow_fold.proofs.Agreeing.{found}
+use Rattle.shadow_fold.proofs.Finding.{is_some-find}
 use Rattle.shadow_law.proofs.Hits.{hit_is_led}
 use Rattle.cloak_pager.specs.State.{held_in}
 use Rattle.cloaked_side.specs.Holding.{frames_of}
@@ -135,29 +135,13 @@ found_agrees gave first now (Cloaked c) view page kind e sees is =
     let agrees = found (EntryAgrees p) (is_for view page kind) now.memory.now.shadows.live e sees.holds.agrees (sym is) in
     (agrees.0, agrees.1.first, agrees.1.second, target_holds p e e.cloaked agrees.1.target)
 
-any_found : (p : Entry → Bool) (xs : List Entry) (e : Entry) → Some e ≡ find p xs → list_any p xs ≡ true
-any_found p [] e is = absurd (none-some e (sym is))
-any_found p (x ∷ xs) e is = by (p x) is (any_found p xs e)
-  where
-    by : (b : Bool) → Some e ≡ (cond b (Some x) (find p xs)) → (Some e ≡ find p xs → list_any p xs ≡ true) → (b || list_any p xs) ≡ true
-    by true is rest = refl
-    by false is rest = rest is
-
-none_found : (p : Entry → Bool) (xs : List Entry) → None ≡ find p xs → list_any p xs ≡ false
-none_found p [] is = refl
-none_found p (x ∷ xs) is = by (p x) is (none_found p xs)
-  where
-    by : (b : Bool) → None ≡ (cond b (Some x) (find p xs)) → (None ≡ find p xs → list_any p xs ≡ false) → (b || list_any p xs) ≡ false
-    by true is rest = absurd (none-some x is)
-    by false is rest = rest is
-
 looked_known : (view v : ShadowView) (page n : ℕ) (kind k : Kind) (t : Table) → is_known v n k (looked view page kind t) ≡ is_known v n k t
 unfolding is_known looked
 looked_known view v page n kind k t = refl
 
 known_found : (view : ShadowView) (page : ℕ) (kind : Kind) (t : Table) (e : Entry) → Some e ≡ find (is_for view page kind) t.live → is_known view page kind t ≡ true
 unfolding is_known
-known_found view page kind t e is = any_found (is_for view page kind) t.live e is
+known_found view page kind t e is = sym (is_some-find (is_for view page kind) t.live) ∙ ap is_some (sym is)
 
 pub found_known : (view : ShadowView) (page : ℕ) (kind : Kind) (t u : Table) (e : Entry) → Some e ≡ find (is_for view page kind) t.live → u ≡ looked view page kind t
     → is_known view page kind u ≡ true
@@ -247,7 +231,7 @@ looks_found gave first old t view va kind e c sees viewed is there =
 
 unknown_missed : (view : ShadowView) (page : ℕ) (kind : Kind) (t : Table) → None ≡ find (is_for view page kind) t.live → is_known view page kind t ≡ false
 unfolding is_known
-unknown_missed view page kind t is = none_found (is_for view page kind) t.live is
+unknown_missed view page kind t is = sym (is_some-find (is_for view page kind) t.live) ∙ ap is_some (sym is)
 
 pub missed_unknown : (view : ShadowView) (page : ℕ) (kind : Kind) (t u : Table) → None ≡ find (is_for view page kind) t.live → u ≡ looked view page kind t
     → is_known view page kind u ≡ false

@@ -1,5 +1,6 @@
 pub mod Agreeing
 pub mod Counting
+pub mod Finding
 pub mod Follows
 pub mod Keys
 pub mod Rows

@@ -1,7 +1,7 @@
 use Rattle.std.proofs.Common.{is_some, sym, ap, subst, ◌∙◌}
 use Rattle.shadow_fold.specs.Entries.{is_for, IsWithin}
 use Rattle.shadow_fold.specs.Table.{is_known}
-use Rattle.multi_shadow.proofs.Searches.{is_some-find}
+use Rattle.shadow_fold.proofs.Finding.{is_some-find}
 use Rattle.multi_shadow.proofs.Tables.{look_known, looked_frames, room_frames}
 use Rattle.multi_shadow.proofs.tests.look.Goals as goal
 
