@@ -1,5 +1,5 @@
 -- Where an access of a side leads.
-use Rattle.std.specs.Prelude.{ℕ, ◌≡◌, ◌/◌, true, false, length, Option, Some, None, Result, Ok, Err, IfSome}
+use Rattle.std.specs.Prelude.{ℕ, Bool, ◌≡◌, ◌/◌, true, false, length, Option, Some, None, Result, Ok, Err, IfSome}
 use Rattle.cloak_base.specs.declared.names.Kind.{Kind}
 use Rattle.cloak_base.specs.declared.names.PageId.{PageId}
 use Rattle.cloak_model.specs.declared.access.Walked.{Walked}
@@ -35,6 +35,10 @@ asked_led view va kind = ask_led (satp_in view) (access_in view va kind)
 abbrev pub IsLive : Memory → ShadowView → ℕ → Kind → Option PageId → Led → Type 0
 IsLive memory view va kind cloaked led = led.walked ≡ None → memory.counting ≡ true →
     (is_known view (va / 4096) kind memory.shadows ≡ true) × (held_in memory.pager (frame_of led.pa) ≡ cloaked)
+
+-- where the look of an access missed, no translation of it is known
+abbrev pub IsUnknownIfMissed : Memory → ShadowView → ℕ → Kind → Bool → Type 0
+IsUnknownIfMissed memory view va kind missed = missed ≡ true → is_known view (va / 4096) kind memory.shadows ≡ false
 
 -- the address to which an access was led, or its fault
 abbrev pub place_in : Result Led ℕ → Result ℕ ℕ

@@ -1,5 +1,5 @@
 //! The questions of a cloaked program.
-ghost use Rattle.std.specs.Prelude.{◌≡◌, ◌<◌, ◌/◌, ◌%◌, ◌^◌, ◌*◌, ◌≤◌, ℕ, true, false, Ok};
+ghost use Rattle.std.specs.Prelude.{◌≡◌, ◌<◌, ◌%◌, ◌^◌, ◌*◌, ◌≤◌, ℕ, false, Ok};
 ghost use Rattle.cloak_model.specs.AskPages as inside;
 ghost use Rattle.cloak_model.specs.Effect.{IsWidth};
 
@@ -43,8 +43,7 @@ impl<'m, 'e, E: Emit> Side<'m, 'e, E> {
     ghost use Rattle.cloak_model.specs.AskPages.{reach_by_table, get_by_table, put_by_table};
     ghost use Rattle.cloak_pager.specs.State.{held_in, owed_at};
     ghost use Rattle.cloaked_side.specs.Holding.{HoldsNoOther, frames_of, domains_in};
-    ghost use Rattle.cloaked_side.specs.Leading.{IsLedSo, inside_view};
-    ghost use Rattle.shadow_fold.specs.Table.{is_known};
+    ghost use Rattle.cloaked_side.specs.Leading.{IsLedSo, IsUnknownIfMissed, inside_view};
     ghost use Rattle.cloaked_side.specs.Seeing.{Sees, Becomes, FollowsAlways, FollowsInside, Stays, StaysWithin, CanRead, CanWrite};
 
     /// Writes that a page is absent. Apart, since to build an item clears room for a page.
@@ -174,8 +173,7 @@ impl<'m, 'e, E: Emit> Side<'m, 'e, E> {
         requires inside { IsTrue (is_in_frames (frames_of self.old.memory.now) led.now.pa) }
         requires width { IsWidth width }
         requires aligned { led.now.pa % width ≡ 0 }
-        requires missed { led.now.missed ≡ true →
-            is_known view.now (va / 4096) Kind.Load self.old.memory.now.shadows ≡ false }
+        requires missed { IsUnknownIfMissed self.old.memory.now view.now va Kind.Load led.now.missed }
         ensures told { (first : _) (w : World) (s : AnySpace) → Sees E.gave first self.old w → self.old.space ≡ Some s →
             view.now ≡ inside_view self.old.view s → IsLedSo self.old.memory.now w view.now va Kind.Load None led.now →
             FollowsFrom (Sees E.gave first) self.new result (got va width (Ok led.now.pa) w) }
@@ -238,8 +236,7 @@ impl<'m, 'e, E: Emit> Side<'m, 'e, E> {
         requires inside { IsTrue (is_in_frames (frames_of self.old.memory.now) led.now.pa) }
         requires width { IsWidth width }
         requires aligned { led.now.pa % width ≡ 0 }
-        requires missed { led.now.missed ≡ true →
-            is_known view.now (va / 4096) Kind.Store self.old.memory.now.shadows ≡ false }
+        requires missed { IsUnknownIfMissed self.old.memory.now view.now va Kind.Store led.now.missed }
         ensures told { (first : _) (w : World) (s : AnySpace) → Sees E.gave first self.old w → self.old.space ≡ Some s →
             view.now ≡ inside_view self.old.view s → IsLedSo self.old.memory.now w view.now va Kind.Store None led.now →
             FollowsFrom (Sees E.gave first) self.new result (stored_inside va width v (Ok led.now.pa) w) }

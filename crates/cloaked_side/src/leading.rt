@@ -1,5 +1,5 @@
 //! Where an access leads: by a translation that is known, or else by a walk, which makes one known.
-ghost use Rattle.std.specs.Prelude.{◌≡◌, ◌≢◌, ◌<◌, ◌^◌, ◌/◌, ◌%◌, ℕ, [], ◌∷◌, true, false, IsTrue, IfOk, IfSome, Option, None, Some, Ok};
+ghost use Rattle.std.specs.Prelude.{◌≡◌, ◌≢◌, ◌<◌, ◌^◌, ◌/◌, ◌%◌, ℕ, [], ◌∷◌, false, IsTrue, IfOk, IfSome, Option, None, Some, Ok};
 ghost use Rattle.shadow_fold.specs.Agreement.{satp_in, access_in};
 
 use crate::side::Side;
@@ -107,7 +107,7 @@ impl<'m, 'e, E: Emit> Side<'m, 'e, E> {
     ghost use Rattle.cloak_model.specs.World.{World, is_clashed, noted};
     ghost use Rattle.cloak_pager.specs.State.{held_in};
     ghost use Rattle.cloaked_side.specs.Holding.{frames_of};
-    ghost use Rattle.cloaked_side.specs.Leading.{place_in, IsLedSo, IsEntryOf, IsReachedSo, IsViewIn, asked_led};
+    ghost use Rattle.cloaked_side.specs.Leading.{place_in, IsLedSo, IsEntryOf, IsReachedSo, IsUnknownIfMissed, IsViewIn, asked_led};
     ghost use Rattle.cloaked_side.specs.Seeing.{Sees, SeesWalking, StaysWithin};
     ghost use Rattle.shadow_fold.specs.Fold.{entry_in, is_own_table};
     ghost use Rattle.shadow_fold.specs.Table.{is_known};
@@ -227,8 +227,7 @@ impl<'m, 'e, E: Emit> Side<'m, 'e, E> {
         ensures inside { IfOk result (λ led. IsTrue (is_in_frames (frames_of self.old.memory.now) led.pa)) }
         ensures offset { IfOk result (λ led. led.pa % 4096 ≡ va % 4096) }
         ensures same_count { frames_of self.new.memory.now ≡ frames_of self.old.memory.now }
-        ensures missed { IfOk result (λ led. led.missed ≡ true →
-            is_known view.now (va / 4096) kind self.new.memory.now.shadows ≡ false) }
+        ensures missed { IfOk result (λ led. IsUnknownIfMissed self.new.memory.now view.now va kind led.missed) }
         ensures leads { IfOk result (λ led. (first : _) (w : World) → Sees E.gave first self.old w →
             IsViewIn self.old.space view.now → let told = asked_led view.now va kind w in is_clashed told.world ≡ false →
             IsLedSo self.new.memory.now told.world view.now va kind cloaked led) }
@@ -275,8 +274,7 @@ impl<'m, 'e, E: Emit> Side<'m, 'e, E> {
     #[inline(always)]
     pub(crate) fn settle_led(&mut self, view: &ShadowView, va: u32, kind: Kind, led: &Led)
         requires inside { IsTrue (is_in_frames (frames_of self.old.memory.now) led.now.pa) }
-        requires missed { led.now.missed ≡ true →
-            is_known view.now (va / 4096) kind self.old.memory.now.shadows ≡ false }
+        requires missed { IsUnknownIfMissed self.old.memory.now view.now va kind led.now.missed }
         ensures sees { (first : _) (w : World) → Sees E.gave first self.old w → IsViewIn self.old.space view.now →
             IsLedSo self.old.memory.now w view.now va kind None led.now →
             Sees E.gave first self.new (opened (satp_in view.now) (access_in view.now va kind) led.now.pa w) }
@@ -303,8 +301,7 @@ impl<'m, 'e, E: Emit> Side<'m, 'e, E> {
         pt0: Option<Frame>,
         missed: bool,
     )
-        requires unknown { missed ≡ true →
-            is_known view.now (va / 4096) kind self.old.memory.now.shadows ≡ false }
+        requires unknown { IsUnknownIfMissed self.old.memory.now view.now va kind missed }
         ensures sees { (first : _) (w : World) (satp : ℕ) (a : AnyAccess) (walked : AnyWalk) →
             let e : AnyEntry = record {
               view = view.now;
