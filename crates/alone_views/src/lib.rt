@@ -7,6 +7,9 @@
 //! state behind the item; of the kernel's, the byte that its console gains is emitted. Once an item was unfit nothing
 //! changes. `harts`, `frames`, `context` and `asked` tell what a machine is at a moment (what `asked` tells no clause says).
 //! `report` writes the machine's lines of the report. After the opening no call takes memory.
+//!
+//! `FlatRam` is the memory of a kernel alone: frames in which nothing is settled, over which the plain step and the walk are
+//! made as over any `Ram`.
 #![tactic(auto)]
 
 mod asked;
@@ -28,4 +31,5 @@ mod unfit;
 pub use asked::Asked;
 pub use domain::DomainAlone;
 pub use kernel::KernelAlone;
+pub use kernel_ram::FlatRam;
 pub use unfit::Unfit;

@@ -1,73 +1,11 @@
 //! Steps as tables: rows of the privileged manual ("Supervisor Interrupt Registers", "Supervisor Instructions"),
 //! and the host calls.
 
-ghost use Rattle.std.specs.Prelude.{◌<◌, ◌≤◌, length, IfSome};
-
-use cloak_base::{Frame, Mode, Shown};
-use cloak_model::Access;
-use host_calls::{Disk, Hart, Kernel, Ram, kernel_step, leave};
+use alone_views::FlatRam;
+use cloak_base::{Mode, Shown};
+use host_calls::{Disk, Hart, Kernel, kernel_step, leave};
 use rv_traps::Csrs;
 use std::test::Fail;
-
-/// Frames without paging. They stand for no world, since the rows compare what a step leaves.
-#[derive(Drop)]
-struct Bare {
-    frames: Vec<[u8; 4096]>,
-    ghost few: { length frames.items ≤ 4096 },
-}
-
-impl Bare {
-    /// The frame of an address, and its place there.
-    fn place_of(&self, pa: u32) -> Option<(usize, usize)>
-        ensures frame { IfSome result (λ at. at.0 < length self.now.frames.items) }
-        ensures place { IfSome result (λ at. at.1 < 4096) }
-    {
-        let frame = (pa.saturating_sub(0x8000_0000) / 4096) as usize;
-        if pa < 0x8000_0000 || frame >= self.frames.len() {
-            return None;
-        }
-        Some((frame, (pa % 4096) as usize))
-    }
-}
-
-impl Ram for Bare {
-    ghost use Rattle.std.specs.Prelude.{length};
-
-    ghost stands_for = { λ first side w. ⊥ };
-
-    ghost kept = { λ first side. Unit {0} };
-
-    ghost count = { λ side. length side.frames.items };
-
-    fn load(&mut self, _: u32, access: Access, _: u32) -> Result<u32, u32> {
-        let Some((frame, place)) = self.place_of(access.va) else {
-            return Err(1);
-        };
-        let page = &self.frames[frame];
-        let at = place / 4 * 4;
-        Ok(u32::from_le_bytes([page[at], page[at + 1], page[at + 2], page[at + 3]]))
-    }
-
-    fn store(&mut self, _: u32, access: Access, _: u32, v: u32) -> Result<(), u32> {
-        let Some((frame, place)) = self.place_of(access.va) else {
-            return Err(1);
-        };
-        self.frames[frame][place] = (v & 0xff) as u8;
-        Ok(())
-    }
-
-    fn frame(&mut self, f: Frame) -> &[u8; 4096] {
-        &self.frames[f.0 as usize]
-    }
-
-    fn fill(&mut self, f: Frame, b: &[u8; 4096]) {
-        self.frames[f.0 as usize] = *b;
-    }
-
-    fn frames(&self) -> u32 {
-        self.frames.len() as u32
-    }
-}
 
 /// Registers with these words in sstatus and sie, and with all traps to 0x80000800.
 fn registers(sstatus: u32, sie: u32) -> Csrs {
@@ -92,11 +30,11 @@ fn hart(mode: Mode, sstatus: u32, sie: u32) -> Hart {
 }
 
 /// Three frames with this word at 0x80000000.
-fn frames_with(rt: &HostRuntime, word: u32) -> Result<Bare, Fail> {
+fn frames_with(rt: &HostRuntime, word: u32) -> Result<FlatRam, Fail> {
     let mut page = [0; 4096];
     page[..4].copy_from_slice(&word.to_le_bytes());
     let frames = Vec::from_array(rt.alloc(), [page, [0; 4096], [0; 4096]])?;
-    Ok(Bare { frames })
+    Ok(FlatRam { frames })
 }
 
 const ADDI: u32 = 0x0010_0093; // addi x1, x0, 1

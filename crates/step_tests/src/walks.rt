@@ -1,28 +1,18 @@
 //! Walks as tables: the rules of the privileged manual, "Virtual Address Translation Process", one row each.
 
+use alone_views::FlatRam;
 use cloak_base::{Frame, Kind, Mode};
-use sv32_walk::{Walked, Words, walk};
+use std::test::Fail;
+use sv32_walk::{Walked, walk};
 
-/// A memory of 64 frames of zeros but for two words. It stands for no world, since the rows compare answers.
-#[derive(Drop)]
-struct Tables {
-    first: u32,
-    second: u32,
-}
-
-impl Words for Tables {
-    ghost stands_for = { λ first side w. ⊥ };
-
-    ghost kept = { λ first side. Unit {0} };
-
-    fn word(&mut self, pa: u64) -> Option<u32> {
-        match pa {
-            0x8000_1004 => Some(self.first),
-            0x8000_2004 => Some(self.second),
-            0x8000_0000..0x8004_0000 => Some(0),
-            _ => None,
-        }
-    }
+/// Three frames of zeros but for the two words of `VA`.
+fn tables(rt: &HostRuntime, first: u32, second: u32) -> Result<FlatRam, Fail> {
+    let mut level_1 = [0; 4096];
+    level_1[4..8].copy_from_slice(&first.to_le_bytes());
+    let mut level_0 = [0; 4096];
+    level_0[4..8].copy_from_slice(&second.to_le_bytes());
+    let frames = Vec::from_array(rt.alloc(), [[0; 4096], level_1, level_0])?;
+    Ok(FlatRam { frames })
 }
 
 /// The table of level 1 in frame 1.
@@ -237,18 +227,16 @@ static LEAVES: [(&str, u32, Mode, bool, bool, Kind, Result<Walked, u32>); 21] = 
 ];
 
 #[test]
-fn leaves_of_level_0(rt: HostRuntime) {
+fn leaves_of_level_0(rt: HostRuntime) -> Result<(), Fail> {
     for (name, leaf, mode, sum, mxr, kind, want) in LEAVES {
-        let mut tables = Tables {
-            first: POINTER,
-            second: leaf,
-        };
+        let mut m = tables(&rt, POINTER, leaf)?;
         assert_eq!(rt;
-            walk(SATP, mode, sum, mxr, VA, kind, &mut tables),
+            walk(SATP, mode, sum, mxr, VA, kind, &mut m),
             want,
             "{name}"
         );
     }
+    Ok(())
 }
 
 /// Entries of level 1, and what the walk over them answers.
@@ -293,16 +281,14 @@ static ENTRIES: [(&str, u32, u32, Kind, Result<Walked, u32>); 13] = [
 ];
 
 #[test]
-fn entries_of_level_1(rt: HostRuntime) {
+fn entries_of_level_1(rt: HostRuntime) -> Result<(), Fail> {
     for (name, satp, first, kind, want) in ENTRIES {
-        let mut tables = Tables {
-            first,
-            second: LEAF,
-        };
+        let mut m = tables(&rt, first, LEAF)?;
         assert_eq!(rt;
-            walk(satp, Mode::U, false, false, VA, kind, &mut tables),
+            walk(satp, Mode::U, false, false, VA, kind, &mut m),
             want,
             "{name}"
         );
     }
+    Ok(())
 }
