@@ -1,6 +1,5 @@
 -- What is answered to words, by what they ask for.
 use Rattle.std.proofs.Common.{◌≡◌, ◌<◌, ◌-◌, ◌^◌, ℕ, List, Option, refl, sym, ap, subst, inl, inr}
-use Rattle.outside_io.specs.Told.{SameFiles}
 use Rattle.command_words.specs.Command as spec
 use Rattle.program_parts.specs.declared.refusal.Refusal.TheVariants as refusal
 use Rattle.program_parts.specs.declared.status.Status.{Status}

@@ -1,5 +1,5 @@
 -- Where no call fails, each command's table of answers leaves what it comes to.
-use Rattle.std.proofs.Common.{◌≡◌, ◌⊎◌, ◌<◌, ◌-◌, ◌^◌, ℕ, inl, inr}
+use Rattle.std.proofs.Common.{◌<◌, ◌-◌, ◌^◌, inl, inr}
 use Rattle.command_words.specs.Command as spec
 use Rattle.completeness.specs.Complete.{IsComplete}
 use Rattle.completeness.proofs.Faults.{never_rose}
