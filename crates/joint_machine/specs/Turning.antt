@@ -33,7 +33,8 @@ use Rattle.joint_machine.specs.declared.stepping.Stepped.{Stepped}
 use Rattle.joint_machine.specs.Standing.{StandsForJoint, shown_byte}
 
 -- A step has come about, but for why it stops the run.
-pub record EndsTurn {E : Type 0} (gave : E → E → List Piece → Type 0) (e e' : E) (joint : Joint) (given : Ended) (t : Turn) : Type 0 where
+pub record EndsTurn {E : Type 0} (gave : E → E → List Piece → Type 0) (e e' : E) (joint : Joint)
+    (given : Ended) (t : Turn) : Type 0 where
   pub emits : Emits gave e e' (item_pieces t.items)
   pub console : shown_byte given.console ≡ t.console
   pub violation : given.violation ≡ t.violation
@@ -43,13 +44,15 @@ pub record EndsTurn {E : Type 0} (gave : E → E → List Piece → Type 0) (e e
 -- A hart outside.
 
 -- its plain step has come about
-pub record StepsPlainly {E : Type 0} (gave : E → E → List Piece → Type 0) (e e' : E) (joint : Joint) (given : Kernel) (j : model.Joint) (number : ℕ) (told : Told SteppedKernel) : Type 0 where
+pub record StepsPlainly {E : Type 0} (gave : E → E → List Piece → Type 0) (e e' : E) (joint : Joint)
+    (given : Kernel) (j : model.Joint) (number : ℕ) (told : Told SteppedKernel) : Type 0 where
   pub answer : given ≡ told.answer.ending
   pub emits : Emits gave e e' (item_pieces (items_of told.world))
   pub stands : StandsForJoint joint (after_kernel_step j number told)
 
 -- a resuming has come about
-pub record ResumesJoint {E : Type 0} (gave : E → E → List Piece → Type 0) (e e' : E) (joint : Joint) (given : Option Violation) (r : AfterResume) : Type 0 where
+pub record ResumesJoint {E : Type 0} (gave : E → E → List Piece → Type 0) (e e' : E) (joint : Joint)
+    (given : Option Violation) (r : AfterResume) : Type 0 where
   pub emits : Emits gave e e' (item_pieces r.items)
   pub violation : given ≡ r.violation
   pub stands : StandsForJoint joint r.joint
@@ -64,7 +67,9 @@ idle_space None = None
 idle_space (Some c) = if is_some c.on then None else Some c.space
 
 -- A resuming has come about in a program, which has this place, and in the recorded page tables.
-pub record ResumesIn {E : Type 0} (gave : E → E → List Piece → Type 0) (e e' : E) (domain : Domain) (roots : List (List (Option ℕ))) (given : Option Violation) (j : model.Joint) (d : ℕ) (r : AfterResume) : Type 0 where
+pub record ResumesIn {E : Type 0} (gave : E → E → List Piece → Type 0) (e e' : E) (domain : Domain)
+    (roots : List (List (Option ℕ))) (given : Option Violation) (j : model.Joint) (d : ℕ) (r : AfterResume) :
+    Type 0 where
   pub emits : Emits gave e e' (item_pieces r.items)
   pub violation : given ≡ r.violation
   pub after : program.Domain
@@ -99,7 +104,8 @@ begun m view slot d = record {
 }
 
 -- the step of a program has come about
-pub record StepsDomain {E : Type 0} (gave : E → E → List Piece → Type 0) (e e' : E) (memory : Memory) (domain : Domain) (given : Stepped) (told : Told DomainStepped) : Type 0 where
+pub record StepsDomain {E : Type 0} (gave : E → E → List Piece → Type 0) (e e' : E) (memory : Memory)
+    (domain : Domain) (given : Stepped) (told : Told DomainStepped) : Type 0 where
   pub went : given.went ≡ told.answer.went
   pub violation : given.violation ≡ violation_of told.world
   pub emits : Emits gave e e' (item_pieces (items_of told.world))
@@ -107,7 +113,9 @@ pub record StepsDomain {E : Type 0} (gave : E → E → List Piece → Type 0) (
   pub stands : StandsFor domain told.answer.domain
 
 -- The end of a program's step has come about in the hart and in the recorded page tables.
-pub record GoesOn {E : Type 0} (gave : E → E → List Piece → Type 0) (e e' : E) (h : Hart) (roots : List (List (Option ℕ))) (given : Option Violation) (j : model.Joint) (number : ℕ) (items : List Item) (t : Turn) : Type 0 where
+pub record GoesOn {E : Type 0} (gave : E → E → List Piece → Type 0) (e e' : E) (h : Hart)
+    (roots : List (List (Option ℕ))) (given : Option Violation) (j : model.Joint) (number : ℕ) (items : List Item)
+    (t : Turn) : Type 0 where
   pub more : List Item
   pub items_are : t.items ≡ items ++ more
   pub emits : Emits gave e e' (item_pieces more)
@@ -122,7 +130,9 @@ pub record GoesOn {E : Type 0} (gave : E → E → List Piece → Type 0) (e e' 
 
 -- A step of a hart inside has come about in the hart, in the program that has this place, in the recorded page tables
 -- and in memory.
-pub record TurnsIn {E : Type 0} (gave : E → E → List Piece → Type 0) (e e' : E) (h : Hart) (domain : Domain) (roots : List (List (Option ℕ))) (memory : Memory) (given : Option Violation) (j : model.Joint) (number d : ℕ) (t : Turn) : Type 0 where
+pub record TurnsIn {E : Type 0} (gave : E → E → List Piece → Type 0) (e e' : E) (h : Hart) (domain : Domain)
+    (roots : List (List (Option ℕ))) (memory : Memory) (given : Option Violation) (j : model.Joint) (number d : ℕ)
+    (t : Turn) : Type 0 where
   pub emits : Emits gave e e' (item_pieces t.items)
   pub violation : given ≡ t.violation
   pub console : t.console ≡ []
@@ -136,7 +146,8 @@ pub record TurnsIn {E : Type 0} (gave : E → E → List Piece → Type 0) (e e'
   pub holds : Holds memory t.joint.memory
 
 -- An interrupt has come about in the hart and in the program that has this place.
-pub record InterruptsIn {E : Type 0} (gave : E → E → List Piece → Type 0) (e e' : E) (h : Hart) (domain : Domain) (j : model.Joint) (number d : ℕ) (t : Turn) : Type 0 where
+pub record InterruptsIn {E : Type 0} (gave : E → E → List Piece → Type 0) (e e' : E) (h : Hart)
+    (domain : Domain) (j : model.Joint) (number d : ℕ) (t : Turn) : Type 0 where
   pub emits : Emits gave e e' (item_pieces t.items)
   pub violation : t.violation ≡ None
   pub console : t.console ≡ []
