@@ -53,14 +53,14 @@ pub record MetIn (d : Domain) (c : Context) (begun v : World) : Type 0 where
 abbrev pub EndsCalmOrMet : {A : Type 0} → (A → Type 0) → Domain → Context → World → Told A → Type 0
 EndsCalmOrMet stopped d c begun t = Calm t.world ⊎ (stopped t.answer × MetIn d c begun t.world)
 
-abbrev is_stopped_run : AfterInstruction → Type 0
-is_stopped_run made = made.ending ≡ ran.Stopped
+abbrev IsStoppedRun : AfterInstruction → Type 0
+IsStoppedRun made = made.ending ≡ ran.Stopped
 
-abbrev is_stopped_copy : Copy → Type 0
-is_stopped_copy made = made.ending ≡ copied.Stopped
+abbrev IsStoppedCopy : Copy → Type 0
+IsStoppedCopy made = made.ending ≡ copied.Stopped
 
-abbrev pub is_stopped_step : DomainStepped → Type 0
-is_stopped_step made = made.went ≡ went.Stopped
+abbrev pub IsStoppedStep : DomainStepped → Type 0
+IsStoppedStep made = made.went ≡ went.Stopped
 
 -- how a question ended that a step asked, by its answer and the memory after it
 abbrev Goes : Domain → Context → World → Answer → World → Type 0
@@ -97,7 +97,7 @@ get_view va width w calm =
 
 load_goes : (d : Domain) (c : Context) (begun : World) (q : PageId) (rd va width : ℕ) (is_signed : Bool) (a : Answer)
     (w : World) → Goes d c begun a w →
-    EndsCalmOrMet is_stopped_run d c begun (load_reached c q rd va width is_signed a w)
+    EndsCalmOrMet IsStoppedRun d c begun (load_reached c q rd va width is_signed a w)
 unfolding load_reached loaded_inside ask_read
 load_goes d c begun q rd va width is_signed a w (inl calm) = inl (calm_by a)
   where
@@ -112,7 +112,7 @@ load_goes d c begun q rd va width is_signed (told.Absent cause) w (inr met) = le
 load_goes d c begun q rd va width is_signed (told.Word value) w (inr met) = let is = met.0 in absurd cc
 
 store_goes : (d : Domain) (c : Context) (begun : World) (q : PageId) (va width value : ℕ) (a : Answer) (w : World) →
-    Goes d c begun a w → EndsCalmOrMet is_stopped_run d c begun (store_reached c q va width value a w)
+    Goes d c begun a w → EndsCalmOrMet IsStoppedRun d c begun (store_reached c q va width value a w)
 unfolding store_reached
 store_goes d c begun q va width value a w (inl calm) = inl (calm_by a)
   where
@@ -143,7 +143,7 @@ calms_store_put c va told.Stopped w = Calms-refl w
 
 load_meets : (d : Domain) (c : Context) (begun : World) (rd va width : ℕ) (is_signed : Bool) (o : Option PageId)
     (w : World) → pages_for d (Some c) va ≡ o → view_of w ≡ view_of begun → AsksAt d c begun va Load w → Calm w →
-    EndsCalmOrMet is_stopped_run d c begun (load_inside c rd va width is_signed o w)
+    EndsCalmOrMet IsStoppedRun d c begun (load_inside c rd va width is_signed o w)
 unfolding load_inside
 load_meets d c begun rd va width is_signed None w lies view asks calm =
     inl ((Calms-trans _ _ _ (calms_asks_get va width w) (calms_load_got c rd va width is_signed _ _)).by calm)
@@ -152,7 +152,7 @@ load_meets d c begun rd va width is_signed (Some q) w lies view asks calm =
 
 store_meets : (d : Domain) (c : Context) (begun : World) (va width value : ℕ) (o : Option PageId) (w : World) →
     pages_for d (Some c) va ≡ o → view_of w ≡ view_of begun → AsksAt d c begun va Store w → Calm w →
-    EndsCalmOrMet is_stopped_run d c begun (store_inside c va width value o w)
+    EndsCalmOrMet IsStoppedRun d c begun (store_inside c va width value o w)
 unfolding store_inside
 store_meets d c begun va width value None w lies view asks calm =
     inl ((Calms-trans _ _ _ (calms_asks_put va width value w) (calms_store_put c va _ _)).by calm)
@@ -169,7 +169,7 @@ calms_system c i w = Calms-refl w
 
 done_meets : (d : Domain) (c : Context) (begun : World) (i : Instr) (e : Effect) (w : World) →
     Executes d c begun i w → effect i c.regs c.pc ≡ e → view_of w ≡ view_of begun → Calm w →
-    EndsCalmOrMet is_stopped_run d c begun (done_inside d.control.number d.control.resources c i e w)
+    EndsCalmOrMet IsStoppedRun d c begun (done_inside d.control.number d.control.resources c i e w)
 unfolding done_inside
 done_meets d c begun i (does.Write rd value) w runs is view calm = inl calm
 done_meets d c begun i (does.Jump rd link target) w runs is view calm = inl calm
@@ -186,7 +186,7 @@ decoded_meets : (d : Domain) (c : Context) (begun : World) (q : PageId) (o : Opt
     c.phase ≡ Plain → pages_for d (Some c) c.pc ≡ Some q →
     ask_reach q c.pc Fetch begun ≡ record { answer = told.Ok; world = w } →
     instruction (value_in (plain_of w q) (c.pc % 4096) 4) ≡ o → view_of w ≡ view_of begun → Calm w →
-    EndsCalmOrMet is_stopped_run d c begun (decoded_inside d.control.number d.control.resources c o w)
+    EndsCalmOrMet IsStoppedRun d c begun (decoded_inside d.control.number d.control.resources c o w)
 unfolding decoded_inside
 decoded_meets d c begun q None w plain lies granted is view calm = inl calm
 decoded_meets d c begun q (Some i) w plain lies granted is view calm =
@@ -196,7 +196,7 @@ decoded_meets d c begun q (Some i) w plain lies granted is view calm =
 fetched_goes : (d : Domain) (c : Context) (begun : World) (q : PageId) (a : Answer) (w : World) → c.phase ≡ Plain →
     pages_for d (Some c) c.pc ≡ Some q → ask_reach q c.pc Fetch begun ≡ record { answer = a; world = w } →
     view_of w ≡ view_of begun → Goes d c begun a w →
-    EndsCalmOrMet is_stopped_run d c begun (fetched_inside d.control.number d.control.resources c q a w)
+    EndsCalmOrMet IsStoppedRun d c begun (fetched_inside d.control.number d.control.resources c q a w)
 unfolding fetched_inside executed_inside ask_read
 fetched_goes d c begun q told.Ok w plain lies granted view (inl calm) =
     decoded_meets d c begun q _ w plain lies granted refl view calm
@@ -210,7 +210,7 @@ fetched_goes d c begun q (told.Word value) w plain lies granted view (inr met) =
 
 fetch_meets : (d : Domain) (c : Context) (begun : World) (o : Option PageId) → c.phase ≡ Plain →
     pages_for d (Some c) c.pc ≡ o → Calm begun →
-    EndsCalmOrMet is_stopped_run d c begun (fetch d.control.number d.control.resources c o begun)
+    EndsCalmOrMet IsStoppedRun d c begun (fetch d.control.number d.control.resources c o begun)
 unfolding fetch
 fetch_meets d c begun None plain lies calm = inl calm
 fetch_meets d c begun (Some q) plain lies calm =
@@ -264,7 +264,7 @@ calms_hypercall Unknown slot c d w = Calms-refl w
 
 ran_meets : (slot : ℕ) (d : Domain) (c made : Context) (begun : World) (e : Ran) (w : World) →
     Calm w ⊎ ((e ≡ ran.Stopped) × MetIn d c begun w) →
-    EndsCalmOrMet is_stopped_step d c begun (instruction_ended slot d made e w)
+    EndsCalmOrMet IsStoppedStep d c begun (instruction_ended slot d made e w)
 unfolding instruction_ended
 ran_meets slot d c made begun ran.Stay w (inl calm) = inl calm
 ran_meets slot d c made begun (ran.Loaded address value) w (inl calm) = inl calm
@@ -288,7 +288,7 @@ calms_in_put c done byte (told.Word value) w = Calms-refl w
 calms_in_put c done byte told.Stopped w = Calms-refl w
 
 in_goes : (d : Domain) (c : Context) (begun : World) (q : PageId) (done : ℕ) (a : Answer) (w : World) →
-    Goes d c begun a w → EndsCalmOrMet is_stopped_copy d c begun (in_reached c q done a w)
+    Goes d c begun a w → EndsCalmOrMet IsStoppedCopy d c begun (in_reached c q done a w)
 unfolding in_reached ask_read
 in_goes d c begun q done told.Ok w (inl calm) =
     inl ((Calms-trans _ _ _ (calms_asks_put (byte_address (area c) done) 1 _ w) (calms_in_put c done _ _ _)).by calm)
@@ -304,7 +304,7 @@ in_meets : (d : Domain) (c : Context) (begun : World) (done : ℕ) (o : Option P
     c.phase ≡ CopyIn done → nat_le (call_length c) done ≡ false →
     pages_for d (Some c) (byte_address (buffer c) done) ≡ o →
     is_cloaked d.control.resources c (byte_address (area c) done) ≡ cloaked → Calm begun →
-    EndsCalmOrMet is_stopped_copy d c begun (in_placed c done o cloaked begun)
+    EndsCalmOrMet IsStoppedCopy d c begun (in_placed c done o cloaked begun)
 unfolding in_placed
 in_meets d c begun done None cloaked phase more lies is calm = inl calm
 in_meets d c begun done (Some q) true phase more lies is calm = inl calm
@@ -314,13 +314,13 @@ in_meets d c begun done (Some q) false phase more lies is calm =
 
 in_step_meets : (d : Domain) (c : Context) (begun : World) (done : ℕ) (all : Bool) → c.phase ≡ CopyIn done →
     nat_le (call_length c) done ≡ all → Calm begun →
-    EndsCalmOrMet is_stopped_copy d c begun (in_step all d.control.number d.control.resources c done begun)
+    EndsCalmOrMet IsStoppedCopy d c begun (in_step all d.control.number d.control.resources c done begun)
 unfolding in_step
 in_step_meets d c begun done true phase more calm = inl calm
 in_step_meets d c begun done false phase more calm = in_meets d c begun done _ _ phase more refl refl calm
 
 out_goes : (d : Domain) (c : Context) (begun : World) (q : PageId) (done total byte : ℕ) (a : Answer) (w : World) →
-    Goes d c begun a w → EndsCalmOrMet is_stopped_copy d c begun (out_reached c q done total byte a w)
+    Goes d c begun a w → EndsCalmOrMet IsStoppedCopy d c begun (out_reached c q done total byte a w)
 unfolding out_reached
 out_goes d c begun q done total byte told.Ok w (inl calm) =
     inl ((calms_writes q (byte_address (buffer c) done % 4096) 1 byte w).by calm)
@@ -338,7 +338,7 @@ got_goes : (d : Domain) (c : Context) (begun : World) (q : PageId) (done total :
     is_cloaked d.control.resources c (byte_address (area c) done) ≡ false →
     ask_get (byte_address (area c) done) 1 begun ≡ record { answer = a; world = w } →
     view_of w ≡ view_of begun → Calm w →
-    EndsCalmOrMet is_stopped_copy d c begun (out_got c q done total a w)
+    EndsCalmOrMet IsStoppedCopy d c begun (out_got c q done total a w)
 unfolding out_got
 got_goes d c begun q done total (told.Word byte) w phase more lies is got view calm =
     out_goes d c begun q done total byte _ _ (asks_goes d c begun w q (byte_address (buffer c) done) Store lies view
@@ -351,7 +351,7 @@ out_meets : (d : Domain) (c : Context) (begun : World) (done total : ℕ) (o : O
     c.phase ≡ CopyOut done total → nat_le total done ≡ false →
     pages_for d (Some c) (byte_address (buffer c) done) ≡ o →
     is_cloaked d.control.resources c (byte_address (area c) done) ≡ cloaked → Calm begun →
-    EndsCalmOrMet is_stopped_copy d c begun (out_placed c done total o cloaked begun)
+    EndsCalmOrMet IsStoppedCopy d c begun (out_placed c done total o cloaked begun)
 unfolding out_placed
 out_meets d c begun done total None cloaked phase more lies is calm = inl calm
 out_meets d c begun done total (Some q) true phase more lies is calm = inl calm
@@ -362,14 +362,14 @@ out_meets d c begun done total (Some q) false phase more lies is calm =
 
 out_step_meets : (d : Domain) (c : Context) (begun : World) (done total : ℕ) (all : Bool) →
     c.phase ≡ CopyOut done total → nat_le total done ≡ all → Calm begun →
-    EndsCalmOrMet is_stopped_copy d c begun (out_step all d.control.number d.control.resources c done total begun)
+    EndsCalmOrMet IsStoppedCopy d c begun (out_step all d.control.number d.control.resources c done total begun)
 unfolding out_step
 out_step_meets d c begun done total true phase more calm = inl calm
 out_step_meets d c begun done total false phase more calm = out_meets d c begun done total _ _ phase more refl refl calm
 
 copied_meets : (slot : ℕ) (d : Domain) (c made : Context) (begun : World) (e : Copied) (w : World) →
     Calm w ⊎ ((e ≡ copied.Stopped) × MetIn d c begun w) →
-    Calm w ⊎ (is_stopped_step (copy_ended slot d made e) × MetIn d c begun w)
+    Calm w ⊎ (IsStoppedStep (copy_ended slot d made e) × MetIn d c begun w)
 unfolding copy_ended
 copied_meets slot d c made begun e w (inl calm) = inl calm
 copied_meets slot d c made begun e w (inr met) =
@@ -378,7 +378,7 @@ copied_meets slot d c made begun e w (inr met) =
 -- A step.
 
 pub phase_meets : (p : Phase) (slot : ℕ) (d : Domain) (c : Context) (begun : World) → c.phase ≡ p → Calm begun →
-    EndsCalmOrMet is_stopped_step d c begun (phase_step p slot c d begun)
+    EndsCalmOrMet IsStoppedStep d c begun (phase_step p slot c d begun)
 unfolding phase_step instruction_inside copy_in_step copy_out_step
 phase_meets Plain slot d c begun is calm =
     ran_meets slot d c _ begun _ _ (fetch_meets d c begun _ is refl calm)
