@@ -4,5 +4,5 @@ use Rattle.cloak_model.specs.Exchange.{Piece}
 use Rattle.run_command.specs.declared.unheard.Unheard.{Unheard}
 
 -- whatever it is given, nothing is written
-abbrev pub gave_nothing : Unheard → Unheard → List Piece → Type 0
-gave_nothing first now pieces = Unit {0}
+abbrev pub GaveNothing : Unheard → Unheard → List Piece → Type 0
+GaveNothing first now pieces = Unit {0}

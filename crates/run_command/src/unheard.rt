@@ -7,9 +7,9 @@ use cloak_model::{Emit, Item};
 pub struct Unheard {}
 
 impl Emit for Unheard {
-    ghost use Rattle.run_command.specs.Unheard.{gave_nothing};
+    ghost use Rattle.run_command.specs.Unheard.{GaveNothing};
 
-    ghost gave = { gave_nothing };
+    ghost gave = { GaveNothing };
 
     fn item(&mut self, _: &Item) {}
 

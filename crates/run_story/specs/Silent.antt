@@ -4,5 +4,5 @@ use Rattle.cloak_model.specs.Exchange.{Piece}
 use Rattle.run_story.specs.declared.silent.Silent.{Silent}
 
 -- whatever it is given, nothing is written
-abbrev pub gave_silent : Silent → Silent → List Piece → Type 0
-gave_silent first now pieces = Unit {0}
+abbrev pub GaveSilent : Silent → Silent → List Piece → Type 0
+GaveSilent first now pieces = Unit {0}

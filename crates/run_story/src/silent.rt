@@ -7,9 +7,9 @@ use cloak_model::{Emit, Item};
 pub struct Silent {}
 
 impl Emit for Silent {
-    ghost use Rattle.run_story.specs.Silent.{gave_silent};
+    ghost use Rattle.run_story.specs.Silent.{GaveSilent};
 
-    ghost gave = { gave_silent };
+    ghost gave = { GaveSilent };
 
     fn item(&mut self, _: &Item) {}
 
