@@ -1,5 +1,5 @@
-//! Runs that were stopped, as they are told: one for each rule. The records are written by hand, from the code of the kernels
-//! and the rules of the record; what a frame shows is not enciphered, but the same byte throughout.
+//! Runs that were stopped, as they are told: one for each rule. The records are written by hand, from the code of the
+//! kernels and the rules of the record; what a frame shows is not enciphered, but the same byte throughout.
 
 use crate::explain_command;
 use outside_io::{MemoryShelf, MemorySink};
@@ -154,11 +154,14 @@ const CASES: [Case; 7] = [
         steps: 6,
         items: &[(5, RESUMED), (6, STOPPED)],
         status: Status::Done,
-        story: "The run was stopped at step 6. Context 0, on hart 0, fetched an instruction at 80008000, which is page 0 of resource 0 of program 0.
+        story: "The run was stopped at step 6. Context 0, on hart 0, fetched an instruction at 80008000, \
+            which is page 0 of resource 0 of program 0.
 The kernel's page table leads there to frame 8, and what that frame has is not what was last shown of the page.
-  opening: page 0 of resource 0 of program 0 was last shown, in frame 8, as ciphertext with the digest f302957da5220938a7e3e51a8718c79b9e00dc13ab2119e8cfc978f041720382
+  opening: page 0 of resource 0 of program 0 was last shown, in frame 8, as ciphertext with the digest \
+            f302957da5220938a7e3e51a8718c79b9e00dc13ab2119e8cfc978f041720382
   step 3: the kernel, on hart 0, stored to frame 8: byte 0 was 5a and became 01
-  step 6: the program asked for the page, and found in frame 8 bytes with the digest 811b2e289684edd620a0b9664c689ef496559b5513ba1d8d18b51ab17d8b8d88, which were never shown
+  step 6: the program asked for the page, and found in frame 8 bytes with the digest \
+            811b2e289684edd620a0b9664c689ef496559b5513ba1d8d18b51ab17d8b8d88, which were never shown
 The rule: a frame that the kernel presents for a cloaked page has exactly the bytes that were last shown of that page.
 ",
     },
@@ -170,11 +173,15 @@ The rule: a frame that the kernel presents for a cloaked page has exactly the by
         steps: 9,
         items: &[(8, RESUMED), (9, STOPPED)],
         status: Status::Done,
-        story: "The run was stopped at step 9. Context 0, on hart 0, fetched an instruction at 80008000, which is page 0 of resource 0 of program 0.
+        story: "The run was stopped at step 9. Context 0, on hart 0, fetched an instruction at 80008000, \
+            which is page 0 of resource 0 of program 0.
 The kernel's page table leads there to frame 8, and what that frame has is not what was last shown of the page.
-  opening: page 0 of resource 0 of program 0 was last shown, in frame 8, as ciphertext with the digest f302957da5220938a7e3e51a8718c79b9e00dc13ab2119e8cfc978f041720382
+  opening: page 0 of resource 0 of program 0 was last shown, in frame 8, as ciphertext with the digest \
+            f302957da5220938a7e3e51a8718c79b9e00dc13ab2119e8cfc978f041720382
   step 6: the kernel, on hart 0, read block 0 into frame 8
-  step 9: the program asked for the page, and found in frame 8 bytes with the digest 1eb6baec20bc9b85c225913476417d5356471a50effe0d77f5e94a033204ffa0, which were shown of page 1 of resource 0 of program 0 at the opening
+  step 9: the program asked for the page, and found in frame 8 bytes with the digest \
+            1eb6baec20bc9b85c225913476417d5356471a50effe0d77f5e94a033204ffa0, \
+            which were shown of page 1 of resource 0 of program 0 at the opening
 The rule: a frame that the kernel presents for a cloaked page has exactly the bytes that were last shown of that page.
 ",
     },
@@ -225,7 +232,8 @@ The rule: each space of a program is resumed under one page table, the first one
         steps: 2,
         items: &[],
         status: Status::Done,
-        story: "The run was not stopped by a violation: it has 2 steps, and ended by a halt, by its number of steps, or for want of randomness.
+        story: "The run was not stopped by a violation: it has 2 steps, and ended by a halt, \
+            by its number of steps, or for want of randomness.
 ",
     },
     Case {
