@@ -1,5 +1,7 @@
 //! Frames that are only read: words, walks by page tables, and instructions.
-ghost use Rattle.std.specs.Prelude.{◌<◌, IfSome, length};
+ghost use Rattle.std.specs.Prelude.{◌≡◌, ◌<◌, IfSome, length};
+ghost use Rattle.cloak_model.specs.Walk as spec;
+ghost use Rattle.run_story.specs.Leading.{frame_in, frame_led};
 
 use cloak_base::{Kind, Mode, RAM_START};
 use cloak_model::word_in;
@@ -15,23 +17,34 @@ struct Frames<'f> {
     frames: &'f [[u8; 4096]],
 }
 
+#[tactic(auto, unfolding(cloak_model::specs::Ask::ask_word))]
 impl<'f> Words for Frames<'f> {
-    // No world: what is read here is only told to a person.
-    ghost stands_for = { λ first side w. ⊥ };
+    ghost use Rattle.cloak_model.specs.World.{Flat};
+
+    ghost stands_for = { λ first side w. w ≡ Flat side.frames.now };
 
     ghost kept = { λ first side. Unit {0} };
 
     fn word(&mut self, pa: u64) -> Option<u32> {
-        let frame = frame_of(self.frames, pa)?;
-        Some(word_in(&self.frames[frame], (pa % 4096) as usize))
+        match frame_of(self.frames, pa) {
+            None => None,
+            Some(frame) => {
+                let place = (pa - RAM_START as u64) % 4096;
+                Some(word_in(&self.frames[frame], place as usize))
+            }
+        }
     }
 }
 
 /// The frame of a physical address, where it is one of RAM.
 fn frame_of(frames: &[[u8; 4096]], pa: u64) -> Option<usize>
-    ensures { IfSome result (λ f. f < length frames.now) }
+    ensures value { result ≡ frame_in frames.now pa }
+    ensures inside { IfSome result (λ f. f < length frames.now) }
 {
-    let frame = pa.checked_sub(RAM_START as u64)? / 4096;
+    if pa < RAM_START as u64 {
+        return None;
+    }
+    let frame = (pa - RAM_START as u64) / 4096;
     if frame < frames.len() as u64 {
         Some(frame as usize)
     } else {
@@ -64,7 +77,14 @@ pub fn frame_at(
     address: u32,
     kind: Kind,
 ) -> Option<usize>
-    ensures { IfSome result (λ f. f < length frames.now) }
+    ensures value { result ≡ frame_led frames.now (spec.walk frames.now tables.satp (record {
+      mode = mode;
+      sum = tables.sum;
+      mxr = tables.mxr;
+      va = address;
+      kind = kind;
+    })) }
+    ensures inside { IfSome result (λ f. f < length frames.now) }
 {
     let Tables { satp, sum, mxr } = tables;
     let mut memory = Frames { frames };
