@@ -23,7 +23,7 @@ use Rattle.shadow_law.specs.Misses.{StayOutsideBut}
 use Rattle.shadow_law.proofs.Changes.{settle_count, offer_count}
 use Rattle.shadow_law.proofs.Misses.{asked_walk, open_entry_agrees, page_entry_agrees, entry_within, keeps_birth}
 use Rattle.cloaked_side.specs.Holding.{HoldsNoMore, HoldsNoOther}
-use Rattle.cloaked_side.specs.Leading.{IsWalkOf, IsLedBy, IsLedSo, IsLive, IsReachedSo, IsViewIn, AreLedOutside, IsEntryOf, asked_led, entry_at, inside_view}
+use Rattle.cloaked_side.specs.Leading.{IsWalkOf, IsLedBy, IsLedSo, IsLive, IsReachedSo, IsViewIn, AreLedOutside, IsEntryOf, IsFoundSo, asked_led, entry_at, inside_view, place_in}
 use Rattle.cloaked_side.specs.Tracking.{Tracks, TracksBy, MapsBy, spent_in}
 use Rattle.cloaked_side.specs.declared.memory.Memory.{Memory}
 use Rattle.cloaked_side.proofs.Tracking.{birth_made, birth_never, birth_still, born_tracks, events_then, look_tracks, no_events, touches_still, tracks_on}
@@ -969,3 +969,14 @@ pub bare_follows : {E : Type 0} (gave : E → E → List Piece → Type 0) (firs
 unfolding ask_led
 bare_follows gave first now view va kind b w sees viewed uncounted off inside =
     bare_translates gave first now view va kind b _ (looks_uncounted gave first now view va kind w sees viewed uncounted) off inside
+
+-- what was found of an access, by the name that the question of a cloaked program has for it
+pub found_inside : {E : Type 0} (gave : E → E → List Piece → Type 0) (first now : Side E) (view : ShadowView) (va : ℕ) (kind : Kind)
+    (cloaked : Option PageId) (to : Result Led ℕ) (w : World) → ask_inside_address va kind w ≡ asked_led view va kind w
+    → (is_clashed (asked_led view va kind w).world ≡ false → IsFoundSo gave first now w view va kind cloaked (Some to))
+    → is_clashed (ask_inside_address va kind w).world ≡ false
+    → FollowsFrom (Sees gave first) now (place_in to) (ask_inside_address va kind w)
+    × IfOk to (IsLedSo now.memory.now (ask_inside_address va kind w).world view va kind cloaked)
+found_inside gave first now view va kind cloaked to w same so =
+    subst (λ (t : Told (Result ℕ ℕ)). is_clashed t.world ≡ false → FollowsFrom (Sees gave first) now (place_in to) t × IfOk to (IsLedSo now.memory.now t.world view va kind cloaked))
+    (sym same) so

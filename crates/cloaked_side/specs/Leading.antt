@@ -1,26 +1,34 @@
 -- Where an access of a side leads.
-use Rattle.std.specs.Prelude.{ℕ, Bool, ◌≡◌, ◌/◌, true, false, length, Option, Some, None, Result, Ok, Err, IfSome}
+use Rattle.std.specs.Prelude.{ℕ, Bool, ◌≡◌, ◌/◌, true, false, length, Option, Some, None, Result, Ok, Err, IfOk, IfSome, List, [], ◌∷◌}
 use Rattle.cloak_base.specs.declared.names.Kind.{Kind}
 use Rattle.cloak_base.specs.declared.names.PageId.{PageId}
 use Rattle.cloak_model.specs.declared.access.Walked.{Walked}
 use Rattle.cloak_base.specs.declared.names.SpaceId.{SpaceId}
 use Rattle.cloak_model.specs.Ask.{ask_led}
-use Rattle.cloak_model.specs.Asking.{Asking}
+use Rattle.cloak_model.specs.declared.answer.Answer.{Answer}
+use Rattle.cloak_model.specs.AskPages.{ask_inside_address, reach_by_table}
+use Rattle.cloak_model.specs.Asking.{Asking, FollowsFrom}
+use Rattle.cloak_model.specs.Events.{Look}
+use Rattle.cloak_model.specs.Exchange.{Piece}
 use Rattle.cloak_base.specs.Constants.{frame_of}
 use Rattle.cloak_model.specs.Memory.{is_in_ram}
 use Rattle.cloak_pager.specs.State.{held_in}
 use Rattle.shadow_fold.specs.Fold.{view_in}
 use Rattle.shadow_fold.specs.Table.{is_known}
 use Rattle.cloaked_side.specs.declared.memory.Memory.{Memory}
-use Rattle.cloak_model.specs.Walk.{walk}
-use Rattle.cloak_model.specs.World.{World, Flat, Cloaked, Alone}
+use Rattle.cloak_model.specs.Walk.{walk, access_fault}
+use Rattle.cloak_model.specs.World.{World, Flat, Cloaked, Alone, is_clashed, noted}
 use Rattle.shadow_fold.specs.Agreement.{EntryAgrees, satp_in, access_in}
 use Rattle.shadow_fold.specs.Entries.{IsWithin, is_table}
 use Rattle.shadow_fold.specs.declared.entry.Entry.{Entry}
 use Rattle.shadow_fold.specs.declared.entry.ShadowView.{ShadowView}
 use Rattle.shadow_fold.specs.declared.entry.ShadowView.TheVariants.{Inside}
 use Rattle.shadow_law.specs.Agreeing.{present, AreOutside}
+use Rattle.cloaked_side.specs.Seeing.{Sees, SeesWalking}
+use Rattle.cloaked_side.specs.declared.leading.Found.{Found}
+use Rattle.cloaked_side.specs.declared.leading.Found.TheVariants as found
 use Rattle.cloaked_side.specs.declared.leading.Led.{Led}
+use Rattle.cloaked_side.specs.declared.side.Side.{Side}
 use Rattle.cloak_model.specs.declared.view.View.{View}
 
 -- the view is that of accesses of a side whose context has this space, or of one outside
@@ -102,3 +110,36 @@ pub record IsReachedSo (memory : Memory) (w : World) (view : ShadowView) (va : �
 -- who translates for the questions of a cloaked program
 abbrev pub inside_view : View → SpaceId → ShadowView
 inside_view view space = Inside view.satp view.sum view.mxr space
+
+-- where an access leads of which this was found, or its fault; none where the look missed
+abbrev pub found_to : Kind → Found → Option (Result Led ℕ)
+found_to kind (found.Straight pa frame) = Some (Ok (record { pa = pa; walked = None; missed = false }))
+found_to kind (found.Other pa pt1 pt0) = Some (Ok (record { pa = pa; walked = Some (record { pa = pa; pt1 = pt1; pt0 = pt0 }); missed = false }))
+found_to kind found.Fault = Some (Err (access_fault kind))
+found_to kind found.Missed = None
+
+-- the frame that was found is that of the address
+abbrev pub IsAtFrame : Found → Type 0
+IsAtFrame (found.Straight pa frame) = frame.0 ≡ frame_of pa
+IsAtFrame (found.Other pa pt1 pt0) = Unit {0}
+IsAtFrame found.Fault = Unit {0}
+IsAtFrame found.Missed = Unit {0}
+
+-- Behind the look for an access a side stands so: the access was led there, or its walk begins.
+abbrev pub IsFoundSo : {E : Type 0} → (E → E → List Piece → Type 0) → Side E → Side E → World → ShadowView → ℕ → Kind → Option PageId
+    → Option (Result Led ℕ) → Type 0
+IsFoundSo gave first now w view va kind cloaked (Some to) =
+    FollowsFrom (Sees gave first) now (place_in to) (asked_led view va kind w)
+    × IfOk to (IsLedSo now.memory.now (asked_led view va kind w).world view va kind cloaked)
+IsFoundSo gave first now w view va kind cloaked None =
+    SeesWalking gave first now (noted (Look (satp_in view) (access_in view va kind) ∷ []) w)
+
+-- From a look on that found this, a question for a page is answered as the definition tells.
+abbrev pub Reaches : {E : Type 0} → (E → E → List Piece → Type 0) → Side E → Side E → Answer → PageId → ShadowView → ℕ → Kind
+    → Option (Result Led ℕ) → Type 0
+Reaches {E} gave old new given q view va kind to =
+    (first : Side E) (w : World) (s : SpaceId) → old.space ≡ Some s → view ≡ inside_view old.view s →
+    ask_inside_address va kind w ≡ asked_led view va kind w →
+    (is_clashed (asked_led view va kind w).world ≡ false → IsFoundSo gave first old w view va kind (Some q) to) →
+    is_clashed (reach_by_table q va kind w).world ≡ false →
+    FollowsFrom (Sees gave first) new given (reach_by_table q va kind w)

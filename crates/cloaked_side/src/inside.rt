@@ -1,14 +1,14 @@
 //! The questions of a cloaked program.
-ghost use Rattle.std.specs.Prelude.{◌≡◌, ◌<◌, ◌%◌, ◌^◌, ◌*◌, ◌≤◌, ℕ, false, Ok};
+ghost use Rattle.std.specs.Prelude.{◌≡◌, ◌<◌, ◌%◌, ◌^◌, ◌*◌, ◌≤◌, ◌/◌, ℕ, false, Ok, Err, None};
 ghost use Rattle.cloak_model.specs.AskPages as inside;
 ghost use Rattle.cloak_model.specs.Effect.{IsWidth};
 
 use crate::kept_items::{set_ok, set_put, set_word};
-use crate::leading::Led;
+use crate::leading::{Found, Led, handed_on};
 use crate::memory::{self, Offer};
 use crate::side::Side;
-use cloak_base::{Frame, Kind, PageId, SpaceId, Violation};
-use cloak_model::{Answer, Emit, Item};
+use cloak_base::{Frame, Kind, PageId, SpaceId, Violation, frame_of};
+use cloak_model::{Answer, Emit, Item, access_fault};
 use multi_shadow::ShadowView;
 
 /// The lowest bytes of a value.
@@ -43,7 +43,8 @@ impl<'m, 'e, E: Emit> Side<'m, 'e, E> {
     ghost use Rattle.cloak_model.specs.AskPages.{reach_by_table, get_by_table, put_by_table};
     ghost use Rattle.cloak_pager.specs.State.{held_in, owed_at};
     ghost use Rattle.cloaked_side.specs.Holding.{HoldsNoOther, frames_of, domains_in};
-    ghost use Rattle.cloaked_side.specs.Leading.{IsLedSo, IsUnknownIfMissed, inside_view};
+    ghost use Rattle.cloaked_side.specs.Leading.{IsLedSo, IsUnknownIfMissed, Reaches, inside_view};
+    ghost use Rattle.shadow_fold.specs.Table.{is_known};
     ghost use Rattle.cloaked_side.specs.Seeing.{Sees, Becomes, FollowsAlways, FollowsInside, Stays, StaysWithin, CanRead, CanWrite};
 
     /// Writes that a page is absent. Apart, since to build an item clears room for a page.
@@ -266,7 +267,16 @@ impl<'m, 'e, E: Emit> Side<'m, 'e, E> {
 
     /// Brings a page to where its access was led.
     #[inline(always)]
-    fn reached(&mut self, q: PageId, view: &ShadowView, va: u32, kind: Kind, led: &Led) -> Answer
+    fn reached(
+        &mut self,
+        q: PageId,
+        view: &ShadowView,
+        va: u32,
+        kind: Kind,
+        led: &Led,
+        g: Frame,
+    ) -> Answer
+        requires frame { g.0 ≡ frame_of led.now.pa }
         requires inside { IsTrue (is_in_frames (frames_of self.old.memory.now) led.now.pa) }
         requires domain { q.domain < domains_in self.old.memory.now }
         requires own { q.domain ≡ self.old.view.domain }
@@ -282,7 +292,6 @@ impl<'m, 'e, E: Emit> Side<'m, 'e, E> {
         ensures readable { result ≡ Answer.Ok → CanRead self.new q }
         ensures writable { result ≡ Answer.Ok → kind ≡ Kind.Store → CanWrite self.new q }
     {
-        let g = cloak_base::frame_of(led.pa);
         match self.memory.offer(q, g, is_store(kind), self.emitter) {
             Offer::Ready => {
                 self.learn_page(q, view, va, kind, led);
@@ -293,6 +302,104 @@ impl<'m, 'e, E: Emit> Side<'m, 'e, E> {
                 self.answer(Answer::Stopped)
             }
             Offer::Missed => self.answer(Answer::Stopped),
+        }
+    }
+
+    /// Brings a page to where its access was led, unless a draw was missing.
+    #[inline(always)]
+    fn reach_led(
+        &mut self,
+        q: PageId,
+        view: &ShadowView,
+        va: u32,
+        kind: Kind,
+        led: &Led,
+        g: Frame,
+    ) -> Answer
+        requires frame { g.0 ≡ frame_of led.now.pa }
+        requires inside { IsTrue (is_in_frames (frames_of self.old.memory.now) led.now.pa) }
+        requires domain { q.domain < domains_in self.old.memory.now }
+        requires own { q.domain ≡ self.old.view.domain }
+        requires resource { q.resource < 16 }
+        requires page { q.page < 1024 }
+        ensures told { Reaches E.gave self.old self.new result q view.now va kind (Some (Ok led.now)) }
+        ensures keeps { Keeps (Stays E.gave) self.old self.new }
+        ensures others { HoldsNoOther q self.old.memory.now.pager self.new.memory.now.pager }
+        ensures readable { result ≡ Answer.Ok → CanRead self.new q }
+        ensures writable { result ≡ Answer.Ok → kind ≡ Kind.Store → CanWrite self.new q }
+    {
+        if self.memory.missed {
+            return self.answer(Answer::Stopped);
+        }
+        self.reached(q, view, va, kind, led, g)
+    }
+
+    /// Answers the cause of the fault of an access of a page, unless a draw was missing.
+    fn reach_none(
+        &mut self,
+        q: PageId,
+        view: &ShadowView,
+        va: u32,
+        kind: Kind,
+        cause: u32,
+    ) -> Answer
+        ensures told { Reaches E.gave self.old self.new result q view.now va kind (Some (Err cause)) }
+        ensures keeps { Keeps (Stays E.gave) self.old self.new }
+        ensures others { HoldsNoOther q self.old.memory.now.pager self.new.memory.now.pager }
+        ensures readable { result ≡ Answer.Ok → CanRead self.new q }
+        ensures writable { result ≡ Answer.Ok → kind ≡ Kind.Store → CanWrite self.new q }
+    {
+        if self.memory.missed {
+            return self.answer(Answer::Stopped);
+        }
+        self.answer(Answer::Absent(cause))
+    }
+
+    /// Brings a page to where a translation of another page leads. Apart, so that a hit makes no room for a walk.
+    #[inline(never)]
+    fn reach_other(
+        &mut self,
+        q: PageId,
+        view: &ShadowView,
+        va: u32,
+        kind: Kind,
+        pa: u32,
+        pt1: Option<Frame>,
+        pt0: Option<Frame>,
+    ) -> Answer
+        requires inside { IsTrue (is_in_frames (frames_of self.old.memory.now) pa) }
+        requires domain { q.domain < domains_in self.old.memory.now }
+        requires own { q.domain ≡ self.old.view.domain }
+        requires resource { q.resource < 16 }
+        requires page { q.page < 1024 }
+        ensures told { Reaches E.gave self.old self.new result q view.now va kind
+            (Some (Ok (record { pa = pa; walked = Some (record { pa = pa; pt1 = pt1; pt0 = pt0 }); missed = false }))) }
+        ensures keeps { Keeps (Stays E.gave) self.old self.new }
+        ensures others { HoldsNoOther q self.old.memory.now.pager self.new.memory.now.pager }
+        ensures readable { result ≡ Answer.Ok → CanRead self.new q }
+        ensures writable { result ≡ Answer.Ok → kind ≡ Kind.Store → CanWrite self.new q }
+    {
+        let led = handed_on(pa, pt1, pt0);
+        self.reach_led(q, view, va, kind, &led, frame_of(pa))
+    }
+
+    /// Brings a page to where a walk leads, behind a look that missed. Apart, as `reach_other` is.
+    #[inline(never)]
+    fn reach_walking(&mut self, q: PageId, view: &ShadowView, va: u32, kind: Kind) -> Answer
+        requires unknown { is_known view.now (va / 4096) kind self.old.memory.now.shadows ≡ false }
+        requires domain { q.domain < domains_in self.old.memory.now }
+        requires own { q.domain ≡ self.old.view.domain }
+        requires resource { q.resource < 16 }
+        requires page { q.page < 1024 }
+        ensures told { Reaches E.gave self.old self.new result q view.now va kind None }
+        ensures keeps { Keeps (Stays E.gave) self.old self.new }
+        ensures others { HoldsNoOther q self.old.memory.now.pager self.new.memory.now.pager }
+        ensures readable { result ≡ Answer.Ok → CanRead self.new q }
+        ensures writable { result ≡ Answer.Ok → kind ≡ Kind.Store → CanWrite self.new q }
+    {
+        match self.led_by_walk(view, va, kind) {
+            Err(cause) => self.reach_none(q, view, va, kind, cause),
+            Ok(led) => self.reach_led(q, view, va, kind, &led, frame_of(led.pa)),
         }
     }
 
@@ -310,13 +417,18 @@ impl<'m, 'e, E: Emit> Side<'m, 'e, E> {
         ensures writable { result ≡ Answer.Ok → kind ≡ Kind.Store → CanWrite self.new q }
     {
         let view = self.inside_view();
-        let to = self.led(&view, va, kind, Some(q));
-        if self.memory.missed {
-            return self.answer(Answer::Stopped);
-        }
-        match to {
-            Err(cause) => self.answer(Answer::Absent(cause)),
-            Ok(led) => self.reached(q, &view, va, kind, &led),
+        match self.look(&view, va, kind, Some(q)) {
+            Found::Straight { pa, frame } => {
+                let led = Led {
+                    pa,
+                    walked: None,
+                    missed: false,
+                };
+                self.reach_led(q, &view, va, kind, &led, frame)
+            }
+            Found::Other { pa, pt1, pt0 } => self.reach_other(q, &view, va, kind, pa, pt1, pt0),
+            Found::Fault => self.reach_none(q, &view, va, kind, access_fault(kind)),
+            Found::Missed => self.reach_walking(q, &view, va, kind),
         }
     }
 }

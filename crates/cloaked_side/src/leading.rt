@@ -20,6 +20,28 @@ pub(crate) struct Led {
     pub missed: bool,
 }
 
+/// What a look for an access finds.
+#[derive(Clone, Copy)]
+pub(crate) enum Found {
+    /// The address in RAM to which it leads, with its frame: by a translation of its page, or of none where it is not
+    /// cloaked, or without paging.
+    Straight {
+        pa: u32,
+        frame: Frame,
+    },
+    /// The address in RAM to which it leads by a translation of another page, or of none where it is cloaked, with the
+    /// tables of its walk.
+    Other {
+        pa: u32,
+        pt1: Option<Frame>,
+        pt0: Option<Frame>,
+    },
+    /// It leads to no address in RAM.
+    Fault,
+    /// No translation is known: the look missed.
+    Missed,
+}
+
 fn satp_of(view: &ShadowView) -> u32
     ensures { result ≡ satp_in view.now }
 {
@@ -83,13 +105,16 @@ fn entry_of(
 /// Where an entry of another page leads, with its walk. Apart, so that no walk is made room for where there is none.
 #[cold]
 #[inline(never)]
-fn handed_on(pa: u64, pt1: Option<Frame>, pt0: Option<Frame>) -> Led
-    requires { pa < 2 ^ 32 }
+pub(crate) fn handed_on(pa: u32, pt1: Option<Frame>, pt0: Option<Frame>) -> Led
     ensures { result ≡ record { pa = pa; walked = Some (record { pa = pa; pt1 = pt1; pt0 = pt0 }); missed = false } }
 {
     Led {
-        pa: pa as u32,
-        walked: Some(Walked { pa, pt1, pt0 }),
+        pa,
+        walked: Some(Walked {
+            pa: pa as u64,
+            pt1,
+            pt0,
+        }),
         missed: false,
     }
 }
@@ -107,58 +132,83 @@ impl<'m, 'e, E: Emit> Side<'m, 'e, E> {
     ghost use Rattle.cloak_model.specs.World.{World, is_clashed, noted};
     ghost use Rattle.cloak_pager.specs.State.{held_in};
     ghost use Rattle.cloaked_side.specs.Holding.{frames_of};
-    ghost use Rattle.cloaked_side.specs.Leading.{place_in, IsLedSo, IsEntryOf, IsReachedSo, IsUnknownIfMissed, IsViewIn, asked_led};
+    ghost use Rattle.cloaked_side.specs.Leading.{place_in, found_to, IsFoundSo, IsAtFrame, IsLedSo, IsEntryOf, IsReachedSo, IsUnknownIfMissed, IsViewIn, asked_led};
     ghost use Rattle.cloaked_side.specs.Seeing.{Sees, SeesWalking, StaysWithin};
     ghost use Rattle.shadow_fold.specs.Fold.{entry_in, is_own_table};
     ghost use Rattle.shadow_fold.specs.Table.{is_known};
 
-    /// Where an access leads by a translation that is known, or the cause of its fault. Where that is of another page, or of
-    /// none, its walk is handed on, so that this access makes its own known. None where no translation is known: the look
-    /// missed.
+    /// What is found of an access without paging, where accesses are not counted.
     #[inline(always)]
-    fn led_by_entry(
+    fn look_bare(&mut self, view: &ShadowView, va: u32, kind: Kind) -> Found
+        requires bare { has_paging (satp_in view.now) ≡ false }
+        requires uncounted { self.old.memory.now.counting ≡ false }
+        ensures follows { IfSome (found_to kind result) (λ to. (first : _) (w : World) → Sees E.gave first self.old w →
+            IsViewIn self.old.space view.now →
+            FollowsFrom (Sees E.gave first) self.new (place_in to) (asked_led view.now va kind w)) }
+        ensures same { self.new ≡ self.old }
+        ensures found { result ≢ Found.Missed }
+        ensures frame { IsAtFrame result }
+        ensures inside { IfSome (found_to kind result) (λ to. IfOk to (λ led. IsTrue (is_in_frames (frames_of self.old.memory.now) led.pa))) }
+        ensures offset { IfSome (found_to kind result) (λ to. IfOk to (λ led. led.pa % 4096 ≡ va % 4096)) }
+        ensures walked { IfSome (found_to kind result) (λ to. IfOk to (λ led. led.walked ≡ None)) }
+    {
+        if self.memory.is_inside(va as u64) {
+            Found::Straight {
+                pa: va,
+                frame: frame_of(va),
+            }
+        } else {
+            Found::Fault
+        }
+    }
+
+    /// What is found of an access that is of this page, or not cloaked. Without paging it leads to its own address, and no
+    /// translation of it is looked for, unless accesses are counted.
+    #[inline(always)]
+    pub(crate) fn look(
         &mut self,
         view: &ShadowView,
         va: u32,
         kind: Kind,
         cloaked: Option<PageId>,
-    ) -> Option<Result<Led, u32>>
-        ensures follows { IfSome result (λ to. (first : _) (w : World) → Sees E.gave first self.old w →
-            IsViewIn self.old.space view.now →
-            FollowsFrom (Sees E.gave first) self.new (place_in to) (asked_led view.now va kind w)) }
-        ensures missed { result ≡ None → (first : _) (w : World) → Sees E.gave first self.old w →
-            IsViewIn self.old.space view.now →
-            SeesWalking E.gave first self.new (noted (Look (satp_in view.now) (access_in view.now va kind) ∷ []) w) }
-        ensures unknown { result ≡ None → is_known view.now (va / 4096) kind self.new.memory.now.shadows ≡ false }
-        ensures learnt { IfSome result (λ to. IfOk to (λ led. led.missed ≡ false)) }
+    ) -> Found
+        ensures found { (first : _) (w : World) → Sees E.gave first self.old w → IsViewIn self.old.space view.now →
+            IsFoundSo E.gave first self.new w view.now va kind cloaked (found_to kind result) }
+        ensures unknown { result ≡ Found.Missed → is_known view.now (va / 4096) kind self.new.memory.now.shadows ≡ false }
+        ensures frame { IsAtFrame result }
         ensures keeps { Keeps (StaysWithin E.gave) self.old self.new }
-        ensures inside { IfSome result (λ to. IfOk to (λ led. IsTrue (is_in_frames (frames_of self.old.memory.now) led.pa))) }
-        ensures offset { IfSome result (λ to. IfOk to (λ led. led.pa % 4096 ≡ va % 4096)) }
+        ensures inside { IfSome (found_to kind result) (λ to. IfOk to (λ led. IsTrue (is_in_frames (frames_of self.new.memory.now) led.pa))) }
+        ensures offset { IfSome (found_to kind result) (λ to. IfOk to (λ led. led.pa % 4096 ≡ va % 4096)) }
         ensures same_count { frames_of self.new.memory.now ≡ frames_of self.old.memory.now }
-        ensures leads { IfSome result (λ to. IfOk to (λ led. (first : _) (w : World) → Sees E.gave first self.old w →
-            IsViewIn self.old.space view.now →
-            IsLedSo self.new.memory.now (asked_led view.now va kind w).world view.now va kind cloaked led)) }
     {
-        let e = self.memory.shadows.find(view, va / 4096, kind)?;
+        if !self.memory.counting && !has_bit(satp_of(view), 31) {
+            return self.look_bare(view, va, kind);
+        }
+        let Some(e) = self.memory.shadows.find(view, va / 4096, kind) else {
+            return Found::Missed;
+        };
         let pa = RAM_START as u64 + 4096 * e.frame.0 as u64 + (va % 4096) as u64;
         if !self.memory.is_inside(pa) {
-            return Some(Err(access_fault(kind)));
+            return Found::Fault;
         }
         if e.cloaked == cloaked {
-            return Some(Ok(Led {
+            return Found::Straight {
                 pa: pa as u32,
-                walked: None,
-                missed: false,
-            }));
+                frame: e.frame,
+            };
         }
-        Some(Ok(handed_on(pa, e.pt1, e.pt0)))
+        Found::Other {
+            pa: pa as u32,
+            pt1: e.pt1,
+            pt0: e.pt0,
+        }
     }
 
     /// Where an access leads by a walk, or the cause of its fault, behind a look that missed. The walk reads at most the two
     /// words of page tables that the miss pays for.
     #[inline(never)]
     #[tactic(auto, using(cloak_model::proofs::Later::laters), unfolding(cloak_model::specs::Ask::ask_translate, cloak_model::specs::Ask::ask_inside))]
-    fn led_by_walk(&mut self, view: &ShadowView, va: u32, kind: Kind) -> Result<Led, u32>
+    pub(crate) fn led_by_walk(&mut self, view: &ShadowView, va: u32, kind: Kind) -> Result<Led, u32>
         requires unknown { is_known view.now (va / 4096) kind self.old.memory.now.shadows ≡ false }
         ensures follows { (first : _) (w : World) →
             SeesWalking E.gave first self.old (noted (Look (satp_in view.now) (access_in view.now va kind) ∷ []) w) →
@@ -186,32 +236,39 @@ impl<'m, 'e, E: Emit> Side<'m, 'e, E> {
         })
     }
 
-    /// Where an access leads without paging, or the cause of its fault, where accesses are not counted.
+    /// Where an access leads of which this was found, or the cause of its fault.
     #[inline(always)]
-    fn led_bare(&mut self, view: &ShadowView, va: u32, kind: Kind) -> Result<Led, u32>
-        requires bare { has_paging (satp_in view.now) ≡ false }
-        requires uncounted { self.old.memory.now.counting ≡ false }
-        ensures follows { (first : _) (w : World) → Sees E.gave first self.old w → IsViewIn self.old.space view.now →
+    fn led_from(&mut self, view: &ShadowView, va: u32, kind: Kind, found: Found) -> Result<Led, u32>
+        requires unknown { found ≡ Found.Missed → is_known view.now (va / 4096) kind self.old.memory.now.shadows ≡ false }
+        requires inside { IfSome (found_to kind found) (λ to. IfOk to (λ led. IsTrue (is_in_frames (frames_of self.old.memory.now) led.pa))) }
+        requires offset { IfSome (found_to kind found) (λ to. IfOk to (λ led. led.pa % 4096 ≡ va % 4096)) }
+        ensures follows { (first : _) (w : World) (cloaked : Option AnyPage) →
+            IsFoundSo E.gave first self.old w view.now va kind cloaked (found_to kind found) →
+            is_clashed (asked_led view.now va kind w).world ≡ false →
             FollowsFrom (Sees E.gave first) self.new (place_in result) (asked_led view.now va kind w) }
-        ensures same { self.new ≡ self.old }
+        ensures keeps { Keeps (StaysWithin E.gave) self.old self.new }
         ensures inside { IfOk result (λ led. IsTrue (is_in_frames (frames_of self.old.memory.now) led.pa)) }
         ensures offset { IfOk result (λ led. led.pa % 4096 ≡ va % 4096) }
-        ensures walked { IfOk result (λ led. led.walked ≡ None) }
-        ensures learnt { IfOk result (λ led. led.missed ≡ false) }
+        ensures same_count { frames_of self.new.memory.now ≡ frames_of self.old.memory.now }
+        ensures missed { IfOk result (λ led. IsUnknownIfMissed self.new.memory.now view.now va kind led.missed) }
+        ensures leads { IfOk result (λ led. (first : _) (w : World) (cloaked : Option AnyPage) →
+            IsFoundSo E.gave first self.old w view.now va kind cloaked (found_to kind found) →
+            let told = asked_led view.now va kind w in is_clashed told.world ≡ false →
+            IsLedSo self.new.memory.now told.world view.now va kind cloaked led) }
     {
-        if self.memory.is_inside(va as u64) {
-            Ok(Led {
-                pa: va,
+        match found {
+            Found::Straight { pa, .. } => Ok(Led {
+                pa,
                 walked: None,
                 missed: false,
-            })
-        } else {
-            Err(access_fault(kind))
+            }),
+            Found::Other { pa, pt1, pt0 } => Ok(handed_on(pa, pt1, pt0)),
+            Found::Fault => Err(access_fault(kind)),
+            Found::Missed => self.led_by_walk(view, va, kind),
         }
     }
 
-    /// Where an access leads that is of this page, or not cloaked, or the cause of its fault. Without paging it leads to its
-    /// own address, and nothing is kept, unless accesses are counted.
+    /// Where an access leads that is of this page, or not cloaked, or the cause of its fault.
     #[inline(always)]
     pub(crate) fn led(
         &mut self,
@@ -232,13 +289,8 @@ impl<'m, 'e, E: Emit> Side<'m, 'e, E> {
             IsViewIn self.old.space view.now → let told = asked_led view.now va kind w in is_clashed told.world ≡ false →
             IsLedSo self.new.memory.now told.world view.now va kind cloaked led) }
     {
-        if !self.memory.counting && !has_bit(satp_of(view), 31) {
-            return self.led_bare(view, va, kind);
-        }
-        match self.led_by_entry(view, va, kind, cloaked) {
-            Some(to) => to,
-            None => self.led_by_walk(view, va, kind),
-        }
+        let found = self.look(view, va, kind, cloaked);
+        self.led_from(view, va, kind, found)
     }
 
     /// Makes a translation known.

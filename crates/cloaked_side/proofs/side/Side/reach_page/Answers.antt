@@ -1,88 +1,109 @@
-use Rattle.std.proofs.Common.{◌∙◌, ◌<◌, ℕ, Some, Ok, Err, refl, ap, sym, subst}
-use Rattle.cloak_model.specs.AskPages.{reached, reach_by_table}
-use Rattle.cloak_model.proofs.PagesLater.{later_reached}
-use Rattle.cloaked_side.specs.Leading.{place_in}
-use Rattle.cloaked_side.proofs.Answering.{asked_drawn, asked_undrawn, reached_err}
-use Rattle.cloaked_side.proofs.Known.{inside_follows, led_behind, viewed_inside}
-use Rattle.cloaked_side.specs.Leading.{inside_view}
+use Rattle.std.proofs.Common.{◌∙◌, ◌<◌, ℕ, Some, Err, ap, sym, subst}
+use Rattle.cloaked_side.specs.Leading.{Reaches, asked_led, inside_view}
+use Rattle.cloaked_side.proofs.Known.{asked_inside, viewed_inside}
 use Rattle.cloaked_side.proofs.Sided.{stays_on, no_other_on, within_of}
 use Rattle.cloaked_side.proofs.side.Side.reach_page.Goals as goal
 
-pub returns-then-self-clause-follows : goal.returns-then-self-clause-follows
-unfolding reach_by_table
-returns-then-self-clause-follows g c first w s sees spaced unclashed =
-    asked_drawn g.E.Emit.gave first c.led-to.new.self _ _ c.args.va c.args.kind
-    (reached c.args.q c.args.va c.args.kind) (place_in c.led-to.result) w (later_reached c.args.q c.args.va c.args.kind) unclashed
-    (inside_follows g.E.Emit.gave first c.args.self.now c.led-to.new.self s c.inside_view-view.result c.args.va c.args.kind _ w sees
-    (c.inside_view-view.ensures s spaced) (c.led-to.ensures.follows first w sees (viewed_inside c.args.self.now.space s _ c.args.self.now.view spaced (c.inside_view-view.ensures s spaced)))) c.if-self.true
-    (λ v stands. c.answer.ensures.told first v stands)
-
-pub returns-in-Err-clause-follows : goal.returns-in-Err-clause-follows
-unfolding reach_by_table
-returns-in-Err-clause-follows g c first w s sees spaced unclashed =
-    asked_undrawn g.E.Emit.gave first c.led-to.new.self _ _ c.args.va c.args.kind
-    (reached c.args.q c.args.va c.args.kind) (Err c.in-Err.cause) w (later_reached c.args.q c.args.va c.args.kind) unclashed
-    (inside_follows g.E.Emit.gave first c.args.self.now c.led-to.new.self s c.inside_view-view.result c.args.va c.args.kind _ w sees
-    (c.inside_view-view.ensures s spaced) (c.in-Err.ensures.follows first w sees (viewed_inside c.args.self.now.space s _ c.args.self.now.view spaced (c.inside_view-view.ensures s spaced)))) c.if-self.false
-    (λ u stands clash. reached_err g.E.Emit.gave first _ c.args.q c.args.va c.args.kind c.in-Err.cause _ (Err c.in-Err.cause) _ refl
-    (c.answer-in-Err.ensures.told first _ stands))
-
-pub returns-in-Ok-clause-follows : goal.returns-in-Ok-clause-follows
-unfolding reach_by_table
-returns-in-Ok-clause-follows g c first w s sees spaced unclashed =
-    asked_undrawn g.E.Emit.gave first c.led-to.new.self _ _ c.args.va c.args.kind
-    (reached c.args.q c.args.va c.args.kind) (Ok c.in-Ok.led.pa) w (later_reached c.args.q c.args.va c.args.kind) unclashed
-    (inside_follows g.E.Emit.gave first c.args.self.now c.led-to.new.self s c.inside_view-view.result c.args.va c.args.kind _ w sees
-    (c.inside_view-view.ensures s spaced) (c.in-Ok.ensures.follows first w sees (viewed_inside c.args.self.now.space s _ c.args.self.now.view spaced (c.inside_view-view.ensures s spaced)))) c.if-self.false
-    (λ u stands clash.
-    let kept = (within_of g.E.Emit.gave c.args.self.now c.led-to.new.self c.led-to.ensures.keeps).stays in
+pub returns-in-Straight-clause-follows : goal.returns-in-Straight-clause-follows
+returns-in-Straight-clause-follows g c first w s sees spaced =
+    let gave = g.E.Emit.gave in
+    let old = c.args.self.now in
+    let kept = (within_of gave old c.look.new.self c.look.ensures.keeps).stays in
     let is = c.inside_view-view.ensures s spaced in
-    c.reached.ensures.told first _ s stands (kept.space ∙ spaced) (is ∙ ap (λ v. inside_view v s) (sym kept.view))
-    (led_behind g.E.Emit.gave first c.args.self.now c.led-to.new.self.memory.now s c.inside_view-view.result c.args.va c.args.kind (Some c.args.q) c.in-Ok.led w sees
-    is (c.in-Ok.ensures.leads first w sees (viewed_inside c.args.self.now.space s _ c.args.self.now.view spaced is)) u) clash)
+    c.reach_led.ensures.told first w s (kept.space ∙ spaced) (is ∙ ap (λ v. inside_view v s) (sym kept.view))
+    (asked_inside gave first old s c.args.va c.args.kind w sees ∙ ap (λ v. asked_led v c.args.va c.args.kind w) (sym is))
+    (λ u. c.in-Straight.ensures.found first w sees (viewed_inside old.space s _ old.view spaced is))
 
-pub returns-then-self-clause-keeps : goal.returns-then-self-clause-keeps
-returns-then-self-clause-keeps g c first stays =
-    let gave = g.E.Emit.gave in
-    let mid = c.led-to.new.self in
-    stays_on gave first mid _ c.answer.ensures.keeps (stays_on gave first c.args.self.now mid c.led-to.ensures.keeps stays)
+pub returns-in-Straight-clause-keeps : goal.returns-in-Straight-clause-keeps
+returns-in-Straight-clause-keeps g c first stays =
+    c.reach_led.ensures.keeps first (stays_on g.E.Emit.gave first c.args.self.now c.look.new.self c.look.ensures.keeps stays)
 
-pub returns-then-self-clause-others : goal.returns-then-self-clause-others
-returns-then-self-clause-others g c =
-    let gave = g.E.Emit.gave in
-    let mid = c.led-to.new.self in
-    let on = no_other_on gave mid _ c.args.q c.answer.ensures.keeps in
-    λ k p n e. no_other_on gave c.args.self.now mid c.args.q c.led-to.ensures.keeps k p n (on k p n e)
+pub returns-in-Straight-clause-others : goal.returns-in-Straight-clause-others
+returns-in-Straight-clause-others g c k p n e =
+    no_other_on g.E.Emit.gave c.args.self.now c.look.new.self c.args.q c.look.ensures.keeps k p n (c.reach_led.ensures.others k p n e)
 
-pub returns-in-Err-clause-keeps : goal.returns-in-Err-clause-keeps
-returns-in-Err-clause-keeps g c first stays =
-    let gave = g.E.Emit.gave in
-    let mid = c.led-to.new.self in
-    stays_on gave first mid _ c.answer-in-Err.ensures.keeps (stays_on gave first c.args.self.now mid c.led-to.ensures.keeps stays)
-
-pub returns-in-Err-clause-others : goal.returns-in-Err-clause-others
-returns-in-Err-clause-others g c =
-    let gave = g.E.Emit.gave in
-    let mid = c.led-to.new.self in
-    let on = no_other_on gave mid _ c.args.q c.answer-in-Err.ensures.keeps in
-    λ k p n e. no_other_on gave c.args.self.now mid c.args.q c.led-to.ensures.keeps k p n (on k p n e)
-
-pub returns-in-Ok-clause-keeps : goal.returns-in-Ok-clause-keeps
-returns-in-Ok-clause-keeps g c first stays =
-    c.reached.ensures.keeps first
-    (stays_on g.E.Emit.gave first c.args.self.now c.led-to.new.self c.led-to.ensures.keeps stays)
-
-pub returns-in-Ok-clause-others : goal.returns-in-Ok-clause-others
-returns-in-Ok-clause-others g c k p n e =
-    no_other_on g.E.Emit.gave c.args.self.now c.led-to.new.self c.args.q c.led-to.ensures.keeps
-    k p n (c.reached.ensures.others k p n e)
-
-pub reached-requires-clause-domain : goal.reached-requires-clause-domain
-reached-requires-clause-domain g c =
-    let kept = (within_of g.E.Emit.gave c.args.self.now c.led-to.new.self c.led-to.ensures.keeps).stays in
+pub reach_led-requires-clause-domain : goal.reach_led-requires-clause-domain
+reach_led-requires-clause-domain g c =
+    let kept = (within_of g.E.Emit.gave c.args.self.now c.look.new.self c.look.ensures.keeps).stays in
     subst (λ (n : ℕ). c.args.q.domain < n) (sym kept.size.domains) c.requires.domain
 
-pub reached-requires-clause-own : goal.reached-requires-clause-own
-reached-requires-clause-own g c =
-    let kept = (within_of g.E.Emit.gave c.args.self.now c.led-to.new.self c.led-to.ensures.keeps).stays in
+pub reach_led-requires-clause-own : goal.reach_led-requires-clause-own
+reach_led-requires-clause-own g c =
+    let kept = (within_of g.E.Emit.gave c.args.self.now c.look.new.self c.look.ensures.keeps).stays in
+    c.requires.own ∙ ap (λ v. v.domain) (sym kept.view)
+
+pub returns-in-Other-clause-follows : goal.returns-in-Other-clause-follows
+returns-in-Other-clause-follows g c first w s sees spaced =
+    let gave = g.E.Emit.gave in
+    let old = c.args.self.now in
+    let kept = (within_of gave old c.look.new.self c.look.ensures.keeps).stays in
+    let is = c.inside_view-view.ensures s spaced in
+    c.reach_other.ensures.told first w s (kept.space ∙ spaced) (is ∙ ap (λ v. inside_view v s) (sym kept.view))
+    (asked_inside gave first old s c.args.va c.args.kind w sees ∙ ap (λ v. asked_led v c.args.va c.args.kind w) (sym is))
+    (λ u. c.in-Other.ensures.found first w sees (viewed_inside old.space s _ old.view spaced is))
+
+pub returns-in-Other-clause-keeps : goal.returns-in-Other-clause-keeps
+returns-in-Other-clause-keeps g c first stays =
+    c.reach_other.ensures.keeps first (stays_on g.E.Emit.gave first c.args.self.now c.look.new.self c.look.ensures.keeps stays)
+
+pub returns-in-Other-clause-others : goal.returns-in-Other-clause-others
+returns-in-Other-clause-others g c k p n e =
+    no_other_on g.E.Emit.gave c.args.self.now c.look.new.self c.args.q c.look.ensures.keeps k p n (c.reach_other.ensures.others k p n e)
+
+pub reach_other-requires-clause-domain : goal.reach_other-requires-clause-domain
+reach_other-requires-clause-domain g c =
+    let kept = (within_of g.E.Emit.gave c.args.self.now c.look.new.self c.look.ensures.keeps).stays in
+    subst (λ (n : ℕ). c.args.q.domain < n) (sym kept.size.domains) c.requires.domain
+
+pub reach_other-requires-clause-own : goal.reach_other-requires-clause-own
+reach_other-requires-clause-own g c =
+    let kept = (within_of g.E.Emit.gave c.args.self.now c.look.new.self c.look.ensures.keeps).stays in
+    c.requires.own ∙ ap (λ v. v.domain) (sym kept.view)
+
+pub returns-in-Fault-clause-follows : goal.returns-in-Fault-clause-follows
+returns-in-Fault-clause-follows g c first w s sees spaced =
+    let gave = g.E.Emit.gave in
+    let old = c.args.self.now in
+    let kept = (within_of gave old c.look.new.self c.look.ensures.keeps).stays in
+    let is = c.inside_view-view.ensures s spaced in
+    let told = subst (λ cause. Reaches gave c.look.new.self c.reach_none.new.self c.reach_none.result c.args.q c.inside_view-view.result c.args.va c.args.kind (Some (Err cause)))
+    c.access_fault.ensures c.reach_none.ensures.told in
+    told first w s (kept.space ∙ spaced) (is ∙ ap (λ v. inside_view v s) (sym kept.view))
+    (asked_inside gave first old s c.args.va c.args.kind w sees ∙ ap (λ v. asked_led v c.args.va c.args.kind w) (sym is))
+    (λ u. c.in-Fault.ensures.found first w sees (viewed_inside old.space s _ old.view spaced is))
+
+pub returns-in-Fault-clause-keeps : goal.returns-in-Fault-clause-keeps
+returns-in-Fault-clause-keeps g c first stays =
+    c.reach_none.ensures.keeps first (stays_on g.E.Emit.gave first c.args.self.now c.look.new.self c.look.ensures.keeps stays)
+
+pub returns-in-Fault-clause-others : goal.returns-in-Fault-clause-others
+returns-in-Fault-clause-others g c k p n e =
+    no_other_on g.E.Emit.gave c.args.self.now c.look.new.self c.args.q c.look.ensures.keeps k p n (c.reach_none.ensures.others k p n e)
+
+pub returns-in-Missed-clause-follows : goal.returns-in-Missed-clause-follows
+returns-in-Missed-clause-follows g c first w s sees spaced =
+    let gave = g.E.Emit.gave in
+    let old = c.args.self.now in
+    let kept = (within_of gave old c.look.new.self c.look.ensures.keeps).stays in
+    let is = c.inside_view-view.ensures s spaced in
+    c.reach_walking.ensures.told first w s (kept.space ∙ spaced) (is ∙ ap (λ v. inside_view v s) (sym kept.view))
+    (asked_inside gave first old s c.args.va c.args.kind w sees ∙ ap (λ v. asked_led v c.args.va c.args.kind w) (sym is))
+    (λ u. c.in-Missed.ensures.found first w sees (viewed_inside old.space s _ old.view spaced is))
+
+pub returns-in-Missed-clause-keeps : goal.returns-in-Missed-clause-keeps
+returns-in-Missed-clause-keeps g c first stays =
+    c.reach_walking.ensures.keeps first (stays_on g.E.Emit.gave first c.args.self.now c.look.new.self c.look.ensures.keeps stays)
+
+pub returns-in-Missed-clause-others : goal.returns-in-Missed-clause-others
+returns-in-Missed-clause-others g c k p n e =
+    no_other_on g.E.Emit.gave c.args.self.now c.look.new.self c.args.q c.look.ensures.keeps k p n (c.reach_walking.ensures.others k p n e)
+
+pub reach_walking-requires-clause-domain : goal.reach_walking-requires-clause-domain
+reach_walking-requires-clause-domain g c =
+    let kept = (within_of g.E.Emit.gave c.args.self.now c.look.new.self c.look.ensures.keeps).stays in
+    subst (λ (n : ℕ). c.args.q.domain < n) (sym kept.size.domains) c.requires.domain
+
+pub reach_walking-requires-clause-own : goal.reach_walking-requires-clause-own
+reach_walking-requires-clause-own g c =
+    let kept = (within_of g.E.Emit.gave c.args.self.now c.look.new.self c.look.ensures.keeps).stays in
     c.requires.own ∙ ap (λ v. v.domain) (sym kept.view)

@@ -28,9 +28,9 @@ returns-in-Ready-clause-told g c first w s sees spaced is so unclashed =
     let q = c.args.q in
     let led = c.args.led.now in
     let view = c.args.view.now in
-    let at = c.frame_of-g.ensures in
-    reached_told gave first _ q c.args.va c.args.kind led.pa c.frame_of-g.result.0 _ w at unclashed (λ u.
-    asked_offer gave first old mid _ ended.Ready q c.args.va c.args.kind c.frame_of-g.result.0 c.is_store.result _ w c.is_store.ensures sees u
+    let at = c.requires.frame in
+    reached_told gave first _ q c.args.va c.args.kind led.pa c.args.g.0 _ w at unclashed (λ u.
+    asked_offer gave first old mid _ ended.Ready q c.args.va c.args.kind c.args.g.0 c.is_store.result _ w c.is_store.ensures sees u
     c.in-Ready.ensures.offers c.in-Ready.ensures.tracks c.in-Ready.ensures.spends c.in-Ready.ensures.maps refl refl refl
     (λ k k' there seen seen' is_memory same_view.
     let here = subst (λ (n : ℕ). held_in mid.memory.now.pager n ≡ Some q) at (c.in-Ready.ensures.held refl) in
@@ -40,7 +40,7 @@ returns-in-Ready-clause-told g c first w s sees spaced is so unclashed =
     (λ store. subst (λ (n : ℕ). owed_at mid.memory.now.pager n ≡ Some q) at (c.in-Ready.ensures.owed refl (c.is_store.ensures ∙ ap is_store store)))
     c.offer.ensures.same.frames c.offer.ensures.counting
     (λ held. c.offer.ensures.again (subst (λ (n : ℕ). held_in old.memory.now.pager n ≡ Some q) (sym at) held)) in
-    granted_told gave first c.learn_page.new.self _ q c.args.va c.args.kind c.frame_of-g.result.0 _ k'
+    granted_told gave first c.learn_page.new.self _ q c.args.va c.args.kind c.args.g.0 _ k'
     (known_inside gave first mid c.learn_page.new.self s view c.args.va c.args.kind (Some q) (Cloaked k') seen' is
     (c.learn_page.ensures.sees first (Cloaked k') seen' (viewed_inside old.space s view old.view spaced is) reached))
     (λ v stands. c.answer.ensures.told first v stands)))
@@ -53,13 +53,13 @@ returns-in-Mismatch-clause-told g c first w s sees spaced is so unclashed =
       memory = record old.memory { now = c.offer.new.self };
       emitter = record old.emitter { now = c.offer.new.e };
     } in
-    let at = c.frame_of-g.ensures in
-    let after = record mid { violation = Some (violation.Page c.args.q c.frame_of-g.result) } in
-    reached_told gave first _ c.args.q c.args.va c.args.kind c.args.led.now.pa c.frame_of-g.result.0 _ w at unclashed (λ u.
-    asked_offer gave first old mid _ ended.Mismatch c.args.q c.args.va c.args.kind c.frame_of-g.result.0 c.is_store.result _ w c.is_store.ensures sees u
+    let at = c.requires.frame in
+    let after = record mid { violation = Some (violation.Page c.args.q c.args.g) } in
+    reached_told gave first _ c.args.q c.args.va c.args.kind c.args.led.now.pa c.args.g.0 _ w at unclashed (λ u.
+    asked_offer gave first old mid _ ended.Mismatch c.args.q c.args.va c.args.kind c.args.g.0 c.is_store.result _ w c.is_store.ensures sees u
     c.in-Mismatch.ensures.offers c.in-Mismatch.ensures.tracks c.in-Mismatch.ensures.spends c.in-Mismatch.ensures.maps refl refl refl
     (λ k k' there seen seen' is_memory same_view.
-    mismatched_told gave first after _ c.args.q c.args.va c.args.kind c.frame_of-g.result.0 _ k'
+    mismatched_told gave first after _ c.args.q c.args.va c.args.kind c.args.g.0 _ k'
     (with_violation gave first mid after _ k' seen' refl refl refl refl refl)
     (λ v stands. c.answer-in-Mismatch.ensures.told first v stands)))
 
@@ -71,11 +71,11 @@ returns-in-Missed-clause-told g c first w s sees spaced is so unclashed =
       memory = record old.memory { now = c.offer.new.self };
       emitter = record old.emitter { now = c.offer.new.e };
     } in
-    reached_told gave first _ c.args.q c.args.va c.args.kind c.args.led.now.pa c.frame_of-g.result.0 _ w c.frame_of-g.ensures unclashed (λ u.
-    asked_offer gave first old mid _ ended.Missed c.args.q c.args.va c.args.kind c.frame_of-g.result.0 c.is_store.result _ w c.is_store.ensures sees u
+    reached_told gave first _ c.args.q c.args.va c.args.kind c.args.led.now.pa c.args.g.0 _ w c.requires.frame unclashed (λ u.
+    asked_offer gave first old mid _ ended.Missed c.args.q c.args.va c.args.kind c.args.g.0 c.is_store.result _ w c.is_store.ensures sees u
     c.in-Missed.ensures.offers c.in-Missed.ensures.tracks c.in-Missed.ensures.spends c.in-Missed.ensures.maps refl refl refl
     (λ k k' there seen seen' is_memory same_view.
-    missed_told gave first mid _ c.args.q c.args.va c.args.kind c.frame_of-g.result.0 _ k' seen'
+    missed_told gave first mid _ c.args.q c.args.va c.args.kind c.args.g.0 _ k' seen'
     (λ v stands. c.answer-in-Missed.ensures.told first v stands)))
 
 pub returns-in-Ready-clause-keeps : goal.returns-in-Ready-clause-keeps
@@ -97,7 +97,7 @@ returns-in-Mismatch-clause-keeps g c first stays =
     let mid = record old {
       memory = record old.memory { now = c.offer.new.self };
       emitter = record old.emitter { now = c.offer.new.e };
-      violation = Some (violation.Page c.args.q c.frame_of-g.result);
+      violation = Some (violation.Page c.args.q c.args.g);
     } in
     stays_on gave first mid _ c.answer-in-Mismatch.ensures.keeps
     (stays_offered gave first old mid c.args.q stays c.requires.own refl refl c.offer.ensures.emits_some c.offer.ensures.same refl refl c.offer.ensures.counting c.offer.ensures.others)
