@@ -1,5 +1,5 @@
 -- Where an access of a side leads.
-use Rattle.std.specs.Prelude.{ℕ, Bool, ◌≡◌, ◌/◌, true, false, length, Option, Some, None, Result, Ok, Err, IfOk, IfSome, List, [], ◌∷◌}
+use Rattle.std.specs.Prelude.{ℕ, Bool, ◌≡◌, ◌<◌, ◌^◌, ◌/◌, true, false, length, Option, Some, None, Result, Ok, Err, IfOk, IfSome, List, [], ◌∷◌}
 use Rattle.cloak_base.specs.declared.names.Kind.{Kind}
 use Rattle.cloak_base.specs.declared.names.PageId.{PageId}
 use Rattle.cloak_model.specs.declared.access.Walked.{Walked}
@@ -114,16 +114,16 @@ inside_view view space = Inside view.satp view.sum view.mxr space
 -- where an access leads of which this was found, or its fault; none where the look missed
 abbrev pub found_to : Kind → Found → Option (Result Led ℕ)
 found_to kind (found.Straight pa frame) = Some (Ok (record { pa = pa; walked = None; missed = false }))
-found_to kind (found.Other pa pt1 pt0) = Some (Ok (record { pa = pa; walked = Some (record { pa = pa; pt1 = pt1; pt0 = pt0 }); missed = false }))
+found_to kind (found.Other walked) = Some (Ok (record { pa = walked.pa; walked = Some walked; missed = false }))
 found_to kind found.Fault = Some (Err (access_fault kind))
 found_to kind found.Missed = None
 
--- the frame that was found is that of the address
-abbrev pub IsAtFrame : Found → Type 0
-IsAtFrame (found.Straight pa frame) = frame.0 ≡ frame_of pa
-IsAtFrame (found.Other pa pt1 pt0) = Unit {0}
-IsAtFrame found.Fault = Unit {0}
-IsAtFrame found.Missed = Unit {0}
+-- the frame that was found is that of the address, and an address fits its word
+abbrev pub IsPlaced : Found → Type 0
+IsPlaced (found.Straight pa frame) = frame.0 ≡ frame_of pa
+IsPlaced (found.Other walked) = walked.pa < 2 ^ 32
+IsPlaced found.Fault = Unit {0}
+IsPlaced found.Missed = Unit {0}
 
 -- Behind the look for an access a side stands so: the access was led there, or its walk begins.
 abbrev pub IsFoundSo : {E : Type 0} → (E → E → List Piece → Type 0) → Side E → Side E → World → ShadowView → ℕ → Kind → Option PageId

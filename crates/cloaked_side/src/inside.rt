@@ -363,10 +363,11 @@ impl<'m, 'e, E: Emit> Side<'m, 'e, E> {
         view: &ShadowView,
         va: u32,
         kind: Kind,
-        pa: u32,
+        pa: u64,
         pt1: Option<Frame>,
         pt0: Option<Frame>,
     ) -> Answer
+        requires low { pa < 2 ^ 32 }
         requires inside { IsTrue (is_in_frames (frames_of self.old.memory.now) pa) }
         requires domain { q.domain < domains_in self.old.memory.now }
         requires own { q.domain ≡ self.old.view.domain }
@@ -380,7 +381,7 @@ impl<'m, 'e, E: Emit> Side<'m, 'e, E> {
         ensures writable { result ≡ Answer.Ok → kind ≡ Kind.Store → CanWrite self.new q }
     {
         let led = handed_on(pa, pt1, pt0);
-        self.reach_led(q, view, va, kind, &led, frame_of(pa))
+        self.reach_led(q, view, va, kind, &led, frame_of(led.pa))
     }
 
     /// Brings a page to where a walk leads, behind a look that missed. Apart, as `reach_other` is.
@@ -426,7 +427,9 @@ impl<'m, 'e, E: Emit> Side<'m, 'e, E> {
                 };
                 self.reach_led(q, &view, va, kind, &led, frame)
             }
-            Found::Other { pa, pt1, pt0 } => self.reach_other(q, &view, va, kind, pa, pt1, pt0),
+            Found::Other(walked) => {
+                self.reach_other(q, &view, va, kind, walked.pa, walked.pt1, walked.pt0)
+            }
             Found::Fault => self.reach_none(q, &view, va, kind, access_fault(kind)),
             Found::Missed => self.reach_walking(q, &view, va, kind),
         }

@@ -25,17 +25,9 @@ pub(crate) struct Led {
 pub(crate) enum Found {
     /// The address in RAM to which it leads, with its frame: by a translation of its page, or of none where it is not
     /// cloaked, or without paging.
-    Straight {
-        pa: u32,
-        frame: Frame,
-    },
-    /// The address in RAM to which it leads by a translation of another page, or of none where it is cloaked, with the
-    /// tables of its walk.
-    Other {
-        pa: u32,
-        pt1: Option<Frame>,
-        pt0: Option<Frame>,
-    },
+    Straight { pa: u32, frame: Frame },
+    /// The walk of a translation of another page, or of none where it is cloaked, which leads to an address in RAM.
+    Other(Walked),
     /// It leads to no address in RAM.
     Fault,
     /// No translation is known: the look missed.
@@ -105,16 +97,13 @@ fn entry_of(
 /// Where an entry of another page leads, with its walk. Apart, so that no walk is made room for where there is none.
 #[cold]
 #[inline(never)]
-pub(crate) fn handed_on(pa: u32, pt1: Option<Frame>, pt0: Option<Frame>) -> Led
+pub(crate) fn handed_on(pa: u64, pt1: Option<Frame>, pt0: Option<Frame>) -> Led
+    requires { pa < 2 ^ 32 }
     ensures { result ≡ record { pa = pa; walked = Some (record { pa = pa; pt1 = pt1; pt0 = pt0 }); missed = false } }
 {
     Led {
-        pa,
-        walked: Some(Walked {
-            pa: pa as u64,
-            pt1,
-            pt0,
-        }),
+        pa: pa as u32,
+        walked: Some(Walked { pa, pt1, pt0 }),
         missed: false,
     }
 }
@@ -132,25 +121,33 @@ impl<'m, 'e, E: Emit> Side<'m, 'e, E> {
     ghost use Rattle.cloak_model.specs.World.{World, is_clashed, noted};
     ghost use Rattle.cloak_pager.specs.State.{held_in};
     ghost use Rattle.cloaked_side.specs.Holding.{frames_of};
-    ghost use Rattle.cloaked_side.specs.Leading.{place_in, found_to, IsFoundSo, IsAtFrame, IsLedSo, IsEntryOf, IsReachedSo, IsUnknownIfMissed, IsViewIn, asked_led};
+    ghost use Rattle.cloaked_side.specs.Leading.{place_in, found_to, IsFoundSo, IsPlaced, IsLedSo, IsEntryOf, IsReachedSo, IsUnknownIfMissed, IsViewIn, asked_led};
     ghost use Rattle.cloaked_side.specs.Seeing.{Sees, SeesWalking, StaysWithin};
     ghost use Rattle.shadow_fold.specs.Fold.{entry_in, is_own_table};
     ghost use Rattle.shadow_fold.specs.Table.{is_known};
+
+    /// Without paging an access leads to its own address, and no translation is looked for, unless accesses are counted.
+    #[inline(always)]
+    fn is_bare(&self, view: &ShadowView) -> bool
+        ensures bare { IsTrue result → has_paging (satp_in view.now) ≡ false }
+        ensures uncounted { IsTrue result → self.now.memory.now.counting ≡ false }
+    {
+        !self.memory.counting && !has_bit(satp_of(view), 31)
+    }
 
     /// What is found of an access without paging, where accesses are not counted.
     #[inline(always)]
     fn look_bare(&mut self, view: &ShadowView, va: u32, kind: Kind) -> Found
         requires bare { has_paging (satp_in view.now) ≡ false }
         requires uncounted { self.old.memory.now.counting ≡ false }
-        ensures follows { IfSome (found_to kind result) (λ to. (first : _) (w : World) → Sees E.gave first self.old w →
+        ensures found { (first : _) (w : World) (cloaked : Option AnyPage) → Sees E.gave first self.old w →
             IsViewIn self.old.space view.now →
-            FollowsFrom (Sees E.gave first) self.new (place_in to) (asked_led view.now va kind w)) }
+            IsFoundSo E.gave first self.new w view.now va kind cloaked (found_to kind result) }
         ensures same { self.new ≡ self.old }
-        ensures found { result ≢ Found.Missed }
-        ensures frame { IsAtFrame result }
-        ensures inside { IfSome (found_to kind result) (λ to. IfOk to (λ led. IsTrue (is_in_frames (frames_of self.old.memory.now) led.pa))) }
+        ensures known { result ≢ Found.Missed }
+        ensures placed { IsPlaced result }
+        ensures inside { IfSome (found_to kind result) (λ to. IfOk to (λ led. IsTrue (is_in_frames (frames_of self.new.memory.now) led.pa))) }
         ensures offset { IfSome (found_to kind result) (λ to. IfOk to (λ led. led.pa % 4096 ≡ va % 4096)) }
-        ensures walked { IfSome (found_to kind result) (λ to. IfOk to (λ led. led.walked ≡ None)) }
     {
         if self.memory.is_inside(va as u64) {
             Found::Straight {
@@ -162,28 +159,18 @@ impl<'m, 'e, E: Emit> Side<'m, 'e, E> {
         }
     }
 
-    /// What is found of an access that is of this page, or not cloaked. Without paging it leads to its own address, and no
-    /// translation of it is looked for, unless accesses are counted.
+    /// What is found of an access that is of this page, or not cloaked, among the translations that are known.
     #[inline(always)]
-    pub(crate) fn look(
-        &mut self,
-        view: &ShadowView,
-        va: u32,
-        kind: Kind,
-        cloaked: Option<PageId>,
-    ) -> Found
+    fn look_up(&mut self, view: &ShadowView, va: u32, kind: Kind, cloaked: Option<PageId>) -> Found
         ensures found { (first : _) (w : World) → Sees E.gave first self.old w → IsViewIn self.old.space view.now →
             IsFoundSo E.gave first self.new w view.now va kind cloaked (found_to kind result) }
         ensures unknown { result ≡ Found.Missed → is_known view.now (va / 4096) kind self.new.memory.now.shadows ≡ false }
-        ensures frame { IsAtFrame result }
+        ensures placed { IsPlaced result }
         ensures keeps { Keeps (StaysWithin E.gave) self.old self.new }
         ensures inside { IfSome (found_to kind result) (λ to. IfOk to (λ led. IsTrue (is_in_frames (frames_of self.new.memory.now) led.pa))) }
         ensures offset { IfSome (found_to kind result) (λ to. IfOk to (λ led. led.pa % 4096 ≡ va % 4096)) }
         ensures same_count { frames_of self.new.memory.now ≡ frames_of self.old.memory.now }
     {
-        if !self.memory.counting && !has_bit(satp_of(view), 31) {
-            return self.look_bare(view, va, kind);
-        }
         let Some(e) = self.memory.shadows.find(view, va / 4096, kind) else {
             return Found::Missed;
         };
@@ -197,11 +184,35 @@ impl<'m, 'e, E: Emit> Side<'m, 'e, E> {
                 frame: e.frame,
             };
         }
-        Found::Other {
-            pa: pa as u32,
+        Found::Other(Walked {
+            pa,
             pt1: e.pt1,
             pt0: e.pt0,
+        })
+    }
+
+    /// What is found of an access that is of this page, or not cloaked.
+    #[inline(always)]
+    pub(crate) fn look(
+        &mut self,
+        view: &ShadowView,
+        va: u32,
+        kind: Kind,
+        cloaked: Option<PageId>,
+    ) -> Found
+        ensures found { (first : _) (w : World) → Sees E.gave first self.old w → IsViewIn self.old.space view.now →
+            IsFoundSo E.gave first self.new w view.now va kind cloaked (found_to kind result) }
+        ensures unknown { result ≡ Found.Missed → is_known view.now (va / 4096) kind self.new.memory.now.shadows ≡ false }
+        ensures placed { IsPlaced result }
+        ensures keeps { Keeps (StaysWithin E.gave) self.old self.new }
+        ensures inside { IfSome (found_to kind result) (λ to. IfOk to (λ led. IsTrue (is_in_frames (frames_of self.new.memory.now) led.pa))) }
+        ensures offset { IfSome (found_to kind result) (λ to. IfOk to (λ led. led.pa % 4096 ≡ va % 4096)) }
+        ensures same_count { frames_of self.new.memory.now ≡ frames_of self.old.memory.now }
+    {
+        if self.is_bare(view) {
+            return self.look_bare(view, va, kind);
         }
+        self.look_up(view, va, kind, cloaked)
     }
 
     /// Where an access leads by a walk, or the cause of its fault, behind a look that missed. The walk reads at most the two
@@ -240,6 +251,7 @@ impl<'m, 'e, E: Emit> Side<'m, 'e, E> {
     #[inline(always)]
     fn led_from(&mut self, view: &ShadowView, va: u32, kind: Kind, found: Found) -> Result<Led, u32>
         requires unknown { found ≡ Found.Missed → is_known view.now (va / 4096) kind self.old.memory.now.shadows ≡ false }
+        requires placed { IsPlaced found }
         requires inside { IfSome (found_to kind found) (λ to. IfOk to (λ led. IsTrue (is_in_frames (frames_of self.old.memory.now) led.pa))) }
         requires offset { IfSome (found_to kind found) (λ to. IfOk to (λ led. led.pa % 4096 ≡ va % 4096)) }
         ensures follows { (first : _) (w : World) (cloaked : Option AnyPage) →
@@ -262,13 +274,14 @@ impl<'m, 'e, E: Emit> Side<'m, 'e, E> {
                 walked: None,
                 missed: false,
             }),
-            Found::Other { pa, pt1, pt0 } => Ok(handed_on(pa, pt1, pt0)),
+            Found::Other(walked) => Ok(handed_on(walked.pa, walked.pt1, walked.pt0)),
             Found::Fault => Err(access_fault(kind)),
             Found::Missed => self.led_by_walk(view, va, kind),
         }
     }
 
-    /// Where an access leads that is of this page, or not cloaked, or the cause of its fault.
+    /// Where an access leads that is of this page, or not cloaked, or the cause of its fault. It is not led from a `look`, so
+    /// that each of its two ways stays short.
     #[inline(always)]
     pub(crate) fn led(
         &mut self,
@@ -289,7 +302,11 @@ impl<'m, 'e, E: Emit> Side<'m, 'e, E> {
             IsViewIn self.old.space view.now → let told = asked_led view.now va kind w in is_clashed told.world ≡ false →
             IsLedSo self.new.memory.now told.world view.now va kind cloaked led) }
     {
-        let found = self.look(view, va, kind, cloaked);
+        if self.is_bare(view) {
+            let found = self.look_bare(view, va, kind);
+            return self.led_from(view, va, kind, found);
+        }
+        let found = self.look_up(view, va, kind, cloaked);
         self.led_from(view, va, kind, found)
     }
 

@@ -1,5 +1,5 @@
 use Rattle.std.proofs.Common.{subst}
-use Rattle.cloaked_side.specs.Leading.{IsFoundSo, found_to}
+use Rattle.cloaked_side.specs.Leading.{IsFoundSo, IsPlaced, found_to}
 use Rattle.cloaked_side.proofs.Known.{if_led}
 use Rattle.cloaked_side.proofs.side.Side.led_from.Goals as goal
 
@@ -16,3 +16,6 @@ returns-in-Missed-clause-leads g c =
     leads first w cloaked
     (subst (λ f. IsFoundSo g.E.Emit.gave first c.args.self.now w c.args.view.now c.args.va kind cloaked (found_to kind f)) c.in-Missed.is so) unclashed)
     c.led_by_walk.ensures.leads
+
+pub handed_on-requires : goal.handed_on-requires
+handed_on-requires g c = subst IsPlaced c.in-Other.is c.requires.placed
