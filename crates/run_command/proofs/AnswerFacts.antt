@@ -75,16 +75,17 @@ answers_no_run {S} {O} {asked} {r} {before} {after} {given} none low (inr front)
 
 -- an outlet over a record that was begun, and what it wrote, under the names that the shelf and the output have
 -- afterwards
-abbrev at : {S O : Type 0} → shelves.Ghosts S → sinks.Ghosts O → Outlet S O → Outside S O
-at of_shelf of_sink o = outside of_shelf of_sink o.shelf.now o.out.now
+abbrev at : {S O : Type 0} (of_shelf : shelves.Ghosts S) → sinks.Ghosts O → Outlet S O of_shelf → Outside S O
+at of_shelf of_sink o = outside of_shelf of_sink o.pen.shelf.now o.out.now
 
 records_at : {S O : Type 0} (of_shelf : shelves.Ghosts S) (of_sink : sinks.Ghosts O) (name : List ℕ)
-    (before : Outside S O) (now : Outlet S O) (s' : S) (o' : O) (given : Status) (r : Run) →
-    s' ≡ now.shelf.now → o' ≡ now.out.now → Records name before (at of_shelf of_sink now) given r →
+    (before : Outside S O) (now : Outlet S O of_shelf) (s' : S) (o' : O) (given : Status) (r : Run) →
+    s' ≡ now.pen.shelf.now → o' ≡ now.out.now → Records name before (at of_shelf of_sink now) given r →
     Records name before (outside of_shelf of_sink s' o') given r
 records_at {S} {O} of_shelf of_sink name before now s' o' given r same_shelf same_out records =
     subst (λ (x : S). Records name before (outside of_shelf of_sink x o') given r) (sym same_shelf)
-    (subst (λ (x : O). Records name before (outside of_shelf of_sink now.shelf.now x) given r) (sym same_out) records)
+    (subst (λ (x : O). Records name before (outside of_shelf of_sink now.pen.shelf.now x) given r) (sym same_out)
+    records)
 
 -- where writing failed, seen from before the record was begun
 failed_since : {S O : Type 0} (piece : Piece) (before mid after : Outside S O) →
@@ -151,46 +152,50 @@ records_all {S} {O} name before mid after given r pieces w all some answer empty
       });
     }
 
-pub recorded_front : {S O : Type 0} {of_shelf : shelves.Ghosts S} {of_sink : sinks.Ghosts O} {first now : Outlet S O}
-    {pieces : List Piece} (old s' : S) (o' : O) (r : Run) → Gave of_shelf of_sink first now pieces →
-    (NoClash r → Gave of_shelf of_sink first now (due r)) → first.failed ≡ false → now.failed ≡ true →
-    s' ≡ now.shelf.now → o' ≡ now.out.now →
-    Tells (of_shelf.held first.shelf.now first.name.now) [] →
-    OtherFiles first.name.now (of_shelf.held old) (of_shelf.held first.shelf.now) →
-    of_shelf.reading_faults first.shelf.now ≡ of_shelf.reading_faults old →
-    of_shelf.writing_faults first.shelf.now ≡ of_shelf.writing_faults old →
-    Records first.name.now (outside of_shelf of_sink old first.out.now) (outside of_shelf of_sink s' o')
+pub recorded_front : {S O : Type 0} {of_shelf : shelves.Ghosts S} {of_sink : sinks.Ghosts O}
+    {first now : Outlet S O of_shelf} {pieces : List Piece} (old s' : S) (o' : O) (r : Run) →
+    Gave of_shelf of_sink first now pieces →
+    (NoClash r → Gave of_shelf of_sink first now (due r)) → first.pen.failed ≡ false → now.pen.failed ≡ true →
+    s' ≡ now.pen.shelf.now → o' ≡ now.out.now →
+    Tells (of_shelf.held first.pen.shelf.now first.pen.name.now) [] →
+    OtherFiles first.pen.name.now (of_shelf.held old) (of_shelf.held first.pen.shelf.now) →
+    of_shelf.reading_faults first.pen.shelf.now ≡ of_shelf.reading_faults old →
+    of_shelf.writing_faults first.pen.shelf.now ≡ of_shelf.writing_faults old →
+    Records first.pen.name.now (outside of_shelf of_sink old first.out.now) (outside of_shelf of_sink s' o')
     status.WriteFault r
 recorded_front {S} {O} {of_shelf} {of_sink} {first} {now} {pieces} old s' o' r gave all fresh
     broken same_shelf same_out empty others same_reading same_writing =
     let before = outside of_shelf of_sink old first.out.now in
     let mid = at of_shelf of_sink first in
     let after = at of_shelf of_sink now in
-    records_at of_shelf of_sink first.name.now before now s' o' status.WriteFault r same_shelf same_out
-    (records_front first.name.now before mid after r pieces
-    (subst (λ (b : Bool). Writes b first.name.now mid after pieces) broken (gave.wrote fresh))
-    (λ none. let g = all none in subst (λ (b : Bool). Writes b first.name.now mid after (due r)) broken (g.wrote fresh))
+    records_at of_shelf of_sink first.pen.name.now before now s' o' status.WriteFault r same_shelf same_out
+    (records_front first.pen.name.now before mid after r pieces
+    (subst (λ (b : Bool). Writes b first.pen.name.now mid after pieces) broken (gave.wrote fresh))
+    (λ none. let g = all none in
+    subst (λ (b : Bool). Writes b first.pen.name.now mid after (due r)) broken (g.wrote fresh))
     empty others same_reading same_writing refl)
 
-pub recorded_all : {S O : Type 0} {of_shelf : shelves.Ghosts S} {of_sink : sinks.Ghosts O} {first now : Outlet S O}
-    {pieces : List Piece} (old s' : S) (o' : O) (given : Status) (r : Run) → Gave of_shelf of_sink first now pieces →
-    (NoClash r → Gave of_shelf of_sink first now (due r)) → first.failed ≡ false →
-    now.failed ≡ false → s' ≡ now.shelf.now → o' ≡ now.out.now → IsStatusOfStop given →
+pub recorded_all : {S O : Type 0} {of_shelf : shelves.Ghosts S} {of_sink : sinks.Ghosts O}
+    {first now : Outlet S O of_shelf} {pieces : List Piece} (old s' : S) (o' : O) (given : Status) (r : Run) →
+    Gave of_shelf of_sink first now pieces →
+    (NoClash r → Gave of_shelf of_sink first now (due r)) → first.pen.failed ≡ false →
+    now.pen.failed ≡ false → s' ≡ now.pen.shelf.now → o' ≡ now.out.now → IsStatusOfStop given →
     (NoClash r → given ≡ status_of r.stop) →
-    Tells (of_shelf.held first.shelf.now first.name.now) [] →
-    OtherFiles first.name.now (of_shelf.held old) (of_shelf.held first.shelf.now) →
-    of_shelf.reading_faults first.shelf.now ≡ of_shelf.reading_faults old →
-    of_shelf.writing_faults first.shelf.now ≡ of_shelf.writing_faults old →
-    Records first.name.now (outside of_shelf of_sink old first.out.now) (outside of_shelf of_sink s' o') given r
+    Tells (of_shelf.held first.pen.shelf.now first.pen.name.now) [] →
+    OtherFiles first.pen.name.now (of_shelf.held old) (of_shelf.held first.pen.shelf.now) →
+    of_shelf.reading_faults first.pen.shelf.now ≡ of_shelf.reading_faults old →
+    of_shelf.writing_faults first.pen.shelf.now ≡ of_shelf.writing_faults old →
+    Records first.pen.name.now (outside of_shelf of_sink old first.out.now) (outside of_shelf of_sink s' o') given r
 recorded_all {S} {O} {of_shelf} {of_sink} {first} {now} {pieces} old s' o' given r gave all fresh
     well same_shelf same_out some answer empty others same_reading same_writing =
     let before = outside of_shelf of_sink old first.out.now in
     let mid = at of_shelf of_sink first in
     let after = at of_shelf of_sink now in
-    records_at of_shelf of_sink first.name.now before now s' o' given r same_shelf same_out
-    (records_all first.name.now before mid after given r pieces
-    (subst (λ (b : Bool). Writes b first.name.now mid after pieces) well (gave.wrote fresh))
-    (λ none. let g = all none in subst (λ (b : Bool). Writes b first.name.now mid after (due r)) well (g.wrote fresh))
+    records_at of_shelf of_sink first.pen.name.now before now s' o' given r same_shelf same_out
+    (records_all first.pen.name.now before mid after given r pieces
+    (subst (λ (b : Bool). Writes b first.pen.name.now mid after pieces) well (gave.wrote fresh))
+    (λ none. let g = all none in
+    subst (λ (b : Bool). Writes b first.pen.name.now mid after (due r)) well (g.wrote fresh))
     some answer empty others same_reading same_writing refl)
 
 -- A run over a machine that was prepared.

@@ -6,11 +6,12 @@ use Rattle.std.proofs.lemmas.List.{append-nil}
 use Rattle.cloak_base.specs.declared.causes.Failed.{Failed}
 use Rattle.outside_io.specs.declared.shelf.Shelf as shelves
 use Rattle.outside_io.specs.declared.sink.Sink as sinks
-use Rattle.outside_io.specs.Told.{Tells, Puts, Grows, GrowsByFront, Counts, OtherFiles}
+use Rattle.outside_io.specs.Told.{Tells, Puts, Grows, GrowsByFront, Counts, SameFiles, OtherFiles}
 use Rattle.outside_io.proofs.ToldFacts.{Grows-none, Grows-append, GrowsByFront-whole, Rose-after}
 use Rattle.cloak_model.specs.Exchange.{Piece, recorded, shown, recorded_bytes, shown_bytes, Emits}
 use Rattle.run_command.specs.declared.outlet.Outlet.{Outlet}
 use Rattle.program_parts.specs.Outside.{FilesOutside, Output, Outside, files, output, outside}
+use Rattle.run_command.specs.Adding.{Adds}
 use Rattle.run_command.specs.Outlet.{Wrote, WroteAll, WroteFront, Writes, Gave}
 
 -- Bytes of pieces.
@@ -57,16 +58,6 @@ fixed_front None (Some y) piece front =
 
 -- The calls.
 
--- what an append to this file did
-pub record Appends {S O : Type 0} (r : Result Unit Failed) (name bytes : List ℕ) (mid after : Outside S O) : Type 0
-  where
-    pub ok : OnOk r (Grows (mid.files.held name) (after.files.held name) bytes)
-    pub err : OnErr r (GrowsByFront (mid.files.held name) (after.files.held name) bytes)
-    pub others : OtherFiles name mid.files.held after.files.held
-    pub writing : Counts mid.files.writing after.files.writing r
-    pub reading : after.files.reading ≡ mid.files.reading
-    pub output : after.output ≡ mid.output
-
 -- what putting to the output did
 pub record Shows {S O A : Type 0} (r : Result A Failed) (bytes : List ℕ) (mid after : Outside S O) : Type 0 where
   pub ok : OnOk r (Grows mid.output.taken after.output.taken bytes)
@@ -104,27 +95,26 @@ wrote_shown {S} {O} name before mid after ps bytes w grows files = record {
   reading = ap (λ (f : FilesOutside S). f.reading) files ∙ w.reading;
 }
 
-writes_recorded : {S O : Type 0} (r : Result Unit Failed) (name : List ℕ) (before mid after : Outside S O)
-    (ps : List Piece) (bytes : List ℕ) →
-    WroteAll name before mid ps → Appends r name bytes mid after →
-    Writes (is_err r) name before after (ps ++ recorded bytes ∷ [])
-writes_recorded {S} {O} (Ok u) name before mid after ps bytes w call = record {
-  wrote = wrote_recorded name before mid after ps bytes w.wrote call.ok call.others call.reading call.output;
+writes_recorded : {S O : Type 0} (failed : Bool) (name : List ℕ) (before mid after : Outside S O) (ps : List Piece)
+    (bytes : List ℕ) → WroteAll name before mid ps → Adds failed name mid.files after.files bytes →
+    after.output ≡ mid.output → Writes failed name before after (ps ++ recorded bytes ∷ [])
+writes_recorded {S} {O} false name before mid after ps bytes w adds output = record {
+  wrote = wrote_recorded name before mid after ps bytes w.wrote (adds.whole refl) adds.others adds.reading output;
   nothing_rose = record {
-    reading = call.reading ∙ w.nothing_rose.reading;
-    writing = call.writing ∙ w.nothing_rose.writing;
-    faults = ap (λ (o : Output O). o.faults) call.output ∙ w.nothing_rose.faults;
+    reading = adds.reading ∙ w.nothing_rose.reading;
+    writing = adds.no_fault refl ∙ w.nothing_rose.writing;
+    faults = ap (λ (o : Output O). o.faults) output ∙ w.nothing_rose.faults;
   };
 }
-writes_recorded {S} {O} (Err e) name before mid after ps bytes w call =
-    let front = fixed_front _ _ bytes call.err in
+writes_recorded {S} {O} true name before mid after ps bytes w adds output =
+    let front = fixed_front _ _ bytes (adds.front refl) in
     record {
       cut = record { whole = ps; piece = recorded bytes; rest = []; place = refl; bytes = front.0 };
-      wrote = wrote_recorded name before mid after ps (take front.0 bytes) w.wrote front.1 call.others call.reading
-          call.output;
+      wrote = wrote_recorded name before mid after ps (take front.0 bytes) w.wrote front.1 adds.others adds.reading
+          output;
       fault = (
-        Rose-after _ _ _ w.nothing_rose.writing call.writing,
-        ap (λ (o : Output O). o.faults) call.output ∙
+        Rose-after _ _ _ w.nothing_rose.writing (adds.fault refl),
+        ap (λ (o : Output O). o.faults) output ∙
             w.nothing_rose.faults,
       );
     }
@@ -167,66 +157,98 @@ writes_none name before after ps qs w = record {
   fault = w.fault;
 }
 
+-- The pen.
+
+-- a piece that was appended, by the answer of the call
+pub adds_piece : {S : Type 0} (failed : Bool) (name : List ℕ) (before after : FilesOutside S) (piece : List ℕ)
+    (r : Result Unit Failed) → failed ≡ is_err r → OnOk r (Grows (before.held name) (after.held name) piece) →
+    OnErr r (GrowsByFront (before.held name) (after.held name) piece) → OtherFiles name before.held after.held →
+    Counts before.writing after.writing r → after.reading ≡ before.reading → Adds failed name before after piece
+adds_piece failed name before after piece (Ok u) is ok err others writing reading = record {
+  whole = λ well. ok;
+  front = λ ill. absurd (let clash : true ≡ false = sym ill ∙ is in cc);
+  others = others;
+  no_fault = λ well. writing;
+  fault = λ ill. absurd (let clash : true ≡ false = sym ill ∙ is in cc);
+  reading = reading;
+}
+adds_piece failed name before after piece (Err e) is ok err others writing reading = record {
+  whole = λ well. absurd (let clash : true ≡ false = sym is ∙ well in cc);
+  front = λ ill. err;
+  others = others;
+  no_fault = λ well. absurd (let clash : true ≡ false = sym is ∙ well in cc);
+  fault = λ ill. writing;
+  reading = reading;
+}
+
+on_ok : {A : Type 0} (r : Result Unit Failed) → A → OnOk r A
+on_ok (Ok u) a = a
+on_ok (Err e) a = tt
+
+on_err : {A : Type 0} (r : Result Unit Failed) → A → OnErr r A
+on_err (Ok u) a = tt
+on_err (Err e) a = a
+
+-- a piece that was appended before all is written out: it stays whole
+pub adds_flushed : {S : Type 0} (was failed : Bool) (name : List ℕ) (before mid after : FilesOutside S)
+    (piece : List ℕ) (r : Result Unit Failed) → Adds was name before mid piece → was ≡ false → failed ≡ is_err r →
+    SameFiles mid.held after.held → Counts mid.writing after.writing r → after.reading ≡ mid.reading →
+    Adds failed name before after piece
+adds_flushed was failed name before mid after piece r adds well is same writing reading =
+    let whole =
+    subst (λ (t : Option (List ℕ)). Grows (before.held name) t piece) (sym (same name)) (adds.whole well) in
+    adds_piece failed name before after piece r is (on_ok r whole)
+    (on_err r (GrowsByFront-whole (before.held name) (after.held name) piece whole))
+    (λ other apart. same other ∙ adds.others other apart)
+    (subst (λ (n : ℕ). Counts n after.writing r) (adds.no_fault well) writing) (reading ∙ adds.reading)
+
 -- The outlet.
 
 -- an outlet that failed takes pieces and does nothing
-pub emits_none : {S O : Type 0} (of_shelf : shelves.Ghosts S) (of_sink : sinks.Ghosts O) (o : Outlet S O)
-    (ps : List Piece) → o.failed ≡ true → Emits (Gave of_shelf of_sink) o o ps
+pub emits_none : {S O : Type 0} (of_shelf : shelves.Ghosts S) (of_sink : sinks.Ghosts O) (o : Outlet S O of_shelf)
+    (ps : List Piece) → o.pen.failed ≡ true → Emits (Gave of_shelf of_sink) o o ps
 emits_none {S} {O} of_shelf of_sink o ps failed = record {
   more = λ first before gave.
-      let at = λ (x : Outlet S O). outside of_shelf of_sink x.shelf.now x.out.now in
+      let at = λ (x : Outlet S O of_shelf). outside of_shelf of_sink x.pen.shelf.now x.out.now in
       record {
         shelf = gave.shelf;
         output = gave.output;
         name = gave.name;
         wrote = λ fresh.
-            subst (λ (b : Bool). Writes b first.name.now (at first) (at o) (before ++ ps)) (sym failed)
-            (writes_none first.name.now (at first) (at o) before ps
-            (subst (λ (b : Bool). Writes b first.name.now (at first) (at o) before) failed (gave.wrote fresh)));
+            subst (λ (b : Bool). Writes b first.pen.name.now (at first) (at o) (before ++ ps)) (sym failed)
+            (writes_none first.pen.name.now (at first) (at o) before ps
+            (subst (λ (b : Bool). Writes b first.pen.name.now (at first) (at o) before) failed (gave.wrote fresh)));
       };
 }
 
--- a piece that was appended to the record
-pub emits_recorded : {S O : Type 0} (of_shelf : shelves.Ghosts S) (of_sink : sinks.Ghosts O) (old new : Outlet S O)
-    (bytes : List ℕ) (r : Result Unit Failed) → old.failed ≡ false → new.failed ≡ is_err r →
-    new.shelf.ghost_name ≡ old.shelf.ghost_name → new.out ≡ old.out → new.name ≡ old.name →
-    OnOk r (Grows (of_shelf.held old.shelf.now old.name.now) (of_shelf.held new.shelf.now old.name.now) bytes) →
-    OnErr r
-    (GrowsByFront (of_shelf.held old.shelf.now old.name.now) (of_shelf.held new.shelf.now old.name.now) bytes) →
-    OtherFiles old.name.now (of_shelf.held old.shelf.now) (of_shelf.held new.shelf.now) →
-    Counts (of_shelf.writing_faults old.shelf.now) (of_shelf.writing_faults new.shelf.now) r →
-    of_shelf.reading_faults new.shelf.now ≡ of_shelf.reading_faults old.shelf.now →
+-- a piece that was added to the record
+pub emits_recorded : {S O : Type 0} (of_shelf : shelves.Ghosts S) (of_sink : sinks.Ghosts O)
+    (old new : Outlet S O of_shelf) (bytes : List ℕ) → old.pen.failed ≡ false →
+    new.pen.shelf.ghost_name ≡ old.pen.shelf.ghost_name → new.out ≡ old.out → new.pen.name ≡ old.pen.name →
+    Adds new.pen.failed old.pen.name.now (files of_shelf old.pen.shelf.now) (files of_shelf new.pen.shelf.now) bytes →
     Emits (Gave of_shelf of_sink) old new (recorded bytes ∷ [])
-emits_recorded {S} {O} of_shelf of_sink old new bytes r fresh failed shelf out name ok err others writing reading =
+emits_recorded {S} {O} of_shelf of_sink old new bytes fresh shelf out name adds =
     record {
       more = λ first before gave.
-          let at = λ (x : Outlet S O). outside of_shelf of_sink x.shelf.now x.out.now in
-          let same : old.name.now ≡ first.name.now = ap (λ (n : _). n.now) gave.name in
-          let call : Appends r old.name.now bytes (at old) (at new) = record {
-            ok = ok;
-            err = err;
-            others = others;
-            writing = writing;
-            reading = reading;
-            output = ap (λ (o : _). output of_sink o.now) out;
-          } in
+          let at = λ (x : Outlet S O of_shelf). outside of_shelf of_sink x.pen.shelf.now x.out.now in
+          let same : old.pen.name.now ≡ first.pen.name.now = ap (λ (n : _). n.now) gave.name in
           record {
             shelf = shelf ∙ gave.shelf;
             output = ap (λ (o : _). o.ghost_name) out ∙ gave.output;
             name = name ∙ gave.name;
             wrote = λ begun.
-                subst (λ (b : Bool). Writes b first.name.now (at first) (at new) (before ++ recorded bytes ∷ []))
-                (sym failed)
-                (writes_recorded r first.name.now (at first) (at old) (at new) before bytes
-                (subst (λ (b : Bool). Writes b first.name.now (at first) (at old) before) fresh (gave.wrote begun))
-                (subst (λ (n : List ℕ). Appends r n bytes (at old) (at new)) same call));
+                writes_recorded new.pen.failed first.pen.name.now (at first) (at old) (at new) before bytes
+                (subst (λ (b : Bool). Writes b first.pen.name.now (at first) (at old) before) fresh (gave.wrote begun))
+                (subst (λ (n : List ℕ). Adds new.pen.failed n (at old).files (at new).files bytes) same adds)
+                (ap (λ (o : _). output of_sink o.now) out);
           };
     }
 
 -- a piece that was put to the output
-pub emits_shown : {S O A : Type 0} (of_shelf : shelves.Ghosts S) (of_sink : sinks.Ghosts O) (old new : Outlet S O)
-    (bytes : List ℕ) (r : Result A Failed) → old.failed ≡ false → new.failed ≡ is_err r →
-    new.out.ghost_name ≡ old.out.ghost_name → new.shelf ≡ old.shelf → new.name ≡ old.name →
+pub emits_shown : {S O A : Type 0} (of_shelf : shelves.Ghosts S) (of_sink : sinks.Ghosts O)
+    (old new : Outlet S O of_shelf) (bytes : List ℕ) (r : Result A Failed) → old.pen.failed ≡ false →
+    new.pen.failed ≡ is_err r → new.out.ghost_name ≡ old.out.ghost_name → new.pen.shelf ≡ old.pen.shelf →
+    new.pen.name ≡ old.pen.name →
     OnOk r (Grows (of_sink.taken old.out.now) (of_sink.taken new.out.now) bytes) →
     OnErr r (GrowsByFront (of_sink.taken old.out.now) (of_sink.taken new.out.now) bytes) →
     Counts (of_sink.faults old.out.now) (of_sink.faults new.out.now) r →
@@ -234,7 +256,7 @@ pub emits_shown : {S O A : Type 0} (of_shelf : shelves.Ghosts S) (of_sink : sink
 emits_shown {S} {O} {A} of_shelf of_sink old new bytes r fresh failed out shelf name ok err counts =
     record {
       more = λ first before gave.
-          let at = λ (x : Outlet S O). outside of_shelf of_sink x.shelf.now x.out.now in
+          let at = λ (x : Outlet S O of_shelf). outside of_shelf of_sink x.pen.shelf.now x.out.now in
           let call : Shows r bytes (at old) (at new) = record {
             ok = ok;
             err = err;
@@ -246,10 +268,10 @@ emits_shown {S} {O} {A} of_shelf of_sink old new bytes r fresh failed out shelf 
             output = out ∙ gave.output;
             name = name ∙ gave.name;
             wrote = λ begun.
-                subst (λ (b : Bool). Writes b first.name.now (at first) (at new) (before ++ shown bytes ∷ []))
+                subst (λ (b : Bool). Writes b first.pen.name.now (at first) (at new) (before ++ shown bytes ∷ []))
                 (sym failed)
-                (writes_shown r first.name.now (at first) (at old) (at new) before bytes
-                (subst (λ (b : Bool). Writes b first.name.now (at first) (at old) before) fresh (gave.wrote begun))
+                (writes_shown r first.pen.name.now (at first) (at old) (at new) before bytes
+                (subst (λ (b : Bool). Writes b first.pen.name.now (at first) (at old) before) fresh (gave.wrote begun))
                 call);
           };
     }
@@ -261,36 +283,18 @@ pub Puts-parts : (old new : Option (List ℕ)) (before now : ℕ) (text : List �
 Puts-parts old new before now text (Ok u) puts = (puts.0, tt, puts.1)
 Puts-parts old new before now text (Err e) puts = (tt, puts.0, puts.1)
 
--- A piece that was appended, before all is written out: it stays whole.
-
-pub flushed_whole : (r : Result Unit Failed) (old mid new : Option (List ℕ)) (piece : List ℕ) → Grows old mid piece →
-    new ≡ mid → OnOk r (Grows old new piece)
-flushed_whole (Ok u) old mid new piece grows same =
-    subst (λ (t : Option (List ℕ)). Grows old t piece) (sym same) grows
-flushed_whole (Err e) old mid new piece grows same = tt
-
-pub flushed_front : (r : Result Unit Failed) (old mid new : Option (List ℕ)) (piece : List ℕ) → Grows old mid piece →
-    new ≡ mid → OnErr r (GrowsByFront old new piece)
-flushed_front (Ok u) old mid new piece grows same = tt
-flushed_front (Err e) old mid new piece grows same =
-    GrowsByFront-whole old new piece (subst (λ (t : Option (List ℕ)). Grows old t piece) (sym same) grows)
-
-pub Counts-since : (before mid now : ℕ) (r : Result Unit Failed) → mid ≡ before → Counts mid now r →
-    Counts before now r
-Counts-since before mid now r same counts = subst (λ (n : ℕ). Counts n now r) same counts
-
 -- an outlet to which nothing was given yet
-gave_start : {S O : Type 0} (of_shelf : shelves.Ghosts S) (of_sink : sinks.Ghosts O) (o : Outlet S O) →
+gave_start : {S O : Type 0} (of_shelf : shelves.Ghosts S) (of_sink : sinks.Ghosts O) (o : Outlet S O of_shelf) →
     Gave of_shelf of_sink o o []
 gave_start of_shelf of_sink o = record {
   shelf = refl;
   output = refl;
   name = refl;
   wrote = λ fresh.
-      let at = outside of_shelf of_sink o.shelf.now o.out.now in
-      subst (λ (b : Bool). Writes b o.name.now at at []) (sym fresh) (record {
+      let at = outside of_shelf of_sink o.pen.shelf.now o.out.now in
+      subst (λ (b : Bool). Writes b o.pen.name.now at at []) (sym fresh) (record {
         wrote = record {
-          file = Grows-none (of_shelf.held o.shelf.now o.name.now);
+          file = Grows-none (of_shelf.held o.pen.shelf.now o.pen.name.now);
           output = Grows-none (of_sink.taken o.out.now);
           others = λ other apart. refl;
           reading = refl;
@@ -300,7 +304,7 @@ gave_start of_shelf of_sink o = record {
 }
 
 -- what was given to an outlet from its start on
-pub gave_all : {S O : Type 0} {of_shelf : shelves.Ghosts S} {of_sink : sinks.Ghosts O} {old new : Outlet S O}
+pub gave_all : {S O : Type 0} {of_shelf : shelves.Ghosts S} {of_sink : sinks.Ghosts O} {old new : Outlet S O of_shelf}
     {pieces : List Piece} → Emits (Gave of_shelf of_sink) old new pieces → Gave of_shelf of_sink old new pieces
 gave_all {S} {O} {of_shelf} {of_sink} {old} {new} {pieces} emits = emits.more old [] (gave_start of_shelf of_sink old)
 

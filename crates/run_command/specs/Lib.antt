@@ -1,3 +1,4 @@
+pub mod Adding
 pub mod Outlet
 pub mod Running
 pub mod Recording

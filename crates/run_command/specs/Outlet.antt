@@ -58,11 +58,11 @@ Writes true name before after pieces = WroteFront name before after pieces
 
 -- From an earlier state of an outlet to a later one these pieces were given to it: it writes to the same
 -- places, and wrote them.
-pub record Gave {S O : Type 0} (of_shelf : shelves.Ghosts S) (of_sink : sinks.Ghosts O) (first now : Outlet S O)
-    (pieces : List Piece) : Type 0 where
-  pub shelf : now.shelf.ghost_name ≡ first.shelf.ghost_name
+pub record Gave {S O : Type 0} (of_shelf : shelves.Ghosts S) (of_sink : sinks.Ghosts O)
+    (first now : Outlet S O of_shelf) (pieces : List Piece) : Type 0 where
+  pub shelf : now.pen.shelf.ghost_name ≡ first.pen.shelf.ghost_name
   pub output : now.out.ghost_name ≡ first.out.ghost_name
-  pub name : now.name ≡ first.name
-  pub wrote : first.failed ≡ false → Writes now.failed first.name.now
-      (outside of_shelf of_sink first.shelf.now first.out.now)
-      (outside of_shelf of_sink now.shelf.now now.out.now) pieces
+  pub name : now.pen.name ≡ first.pen.name
+  pub wrote : first.pen.failed ≡ false → Writes now.pen.failed first.pen.name.now
+      (outside of_shelf of_sink first.pen.shelf.now first.out.now)
+      (outside of_shelf of_sink now.pen.shelf.now now.out.now) pieces

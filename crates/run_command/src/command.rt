@@ -12,6 +12,7 @@ ghost use Rattle.run_command.specs.Answering.{KeepsFiles, RunAnswers};
 ghost use Rattle.run_command.specs.Recording.{Records};
 
 use crate::outlet::Outlet;
+use crate::pen::RecordPen;
 use crate::prepare::prepare_run;
 use crate::run::write_run;
 use cloak_machine::Machine;
@@ -39,14 +40,16 @@ fn record_run<S: Shelf, O: Sink>(
         return Status::WriteFault;
     }
     let mut outlet = Outlet {
-        shelf,
-        name: run.record_name,
+        pen: RecordPen {
+            shelf,
+            name: run.record_name,
+            failed: false,
+        },
         out,
-        failed: false,
         piece: [0; LONGEST],
     };
     let status = write_run(machine, run.steps, &mut outlet);
-    if outlet.failed {
+    if outlet.pen.failed {
         return Status::WriteFault;
     }
     status

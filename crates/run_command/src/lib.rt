@@ -8,6 +8,7 @@
 
 mod command;
 mod outlet;
+mod pen;
 mod prepare;
 mod run;
 mod unheard;

@@ -28,17 +28,17 @@ fn run_steps<S: Shelf, O: Sink>(
 ) -> Option<Stop>
     requires fresh { steps_made machine.old ≡ 0 }
     requires few { steps ≤ most_steps }
-    ensures same_shelf { outlet.new.shelf.ghost_name ≡ outlet.old.shelf.ghost_name }
+    ensures same_shelf { outlet.new.pen.shelf.ghost_name ≡ outlet.old.pen.shelf.ghost_name }
     ensures same_out { outlet.new.out.ghost_name ≡ outlet.old.out.ghost_name }
     ensures emits_some { EmitsSome (Gave S.Shelf O.Sink) outlet.old outlet.new }
     ensures runs { (m : Moment) → StandsForMoment machine.old m →
         NoClashYet (joint_after m.joint (turns_from steps m)) →
-        RunsSteps (Gave S.Shelf O.Sink) outlet.new.failed
+        RunsSteps (Gave S.Shelf O.Sink) outlet.new.pen.failed
         outlet.old outlet.new machine.new result m (turns_from steps m) }
 {
     for made in 0..steps {
         let _ = made;
-        if outlet.failed {
+        if outlet.pen.failed {
             return None;
         }
         if let Some(stop) = machine.step(outlet) {
@@ -66,7 +66,7 @@ fn write_end<S: Shelf, O: Sink>(
     stop: Stop,
     outlet: &mut Outlet<'_, '_, '_, S, O>,
 ) -> Status
-    ensures same_shelf { outlet.new.shelf.ghost_name ≡ outlet.old.shelf.ghost_name }
+    ensures same_shelf { outlet.new.pen.shelf.ghost_name ≡ outlet.old.pen.shelf.ghost_name }
     ensures same_out { outlet.new.out.ghost_name ≡ outlet.old.out.ghost_name }
     ensures emits_some { EmitsSome (Gave S.Shelf O.Sink) outlet.old outlet.new }
     ensures some_stop { IsStatusOfStop result }
@@ -87,20 +87,20 @@ pub fn write_run<S: Shelf, O: Sink>(
 ) -> Status
     requires fresh { steps_made machine ≡ 0 }
     requires few { steps ≤ most_steps }
-    ensures same_shelf { outlet.new.shelf.ghost_name ≡ outlet.old.shelf.ghost_name }
+    ensures same_shelf { outlet.new.pen.shelf.ghost_name ≡ outlet.old.pen.shelf.ghost_name }
     ensures same_out { outlet.new.out.ghost_name ≡ outlet.old.out.ghost_name }
     ensures emits_some { EmitsSome (Gave S.Shelf O.Sink) outlet.old outlet.new }
-    ensures some_stop { outlet.new.failed ≡ false → IsStatusOfStop result }
+    ensures some_stop { outlet.new.pen.failed ≡ false → IsStatusOfStop result }
     ensures runs { (b : Bundle) (stream : Random) (o : Opened) → opening b stream ≡ Ok o →
         placings_of machine ≡ map placing b.programs → StandsForMoment machine (first_moment b o.joint) →
         NoClash (run_of b steps o) →
-        WritesRun (Gave S.Shelf O.Sink) outlet.new.failed outlet.old outlet.new result (run_of b steps o) }
+        WritesRun (Gave S.Shelf O.Sink) outlet.new.pen.failed outlet.old outlet.new result (run_of b steps o) }
 {
     let mut machine = machine;
     outlet.append(b"CLOAKREC");
     machine.opening(outlet);
     let stopped = run_steps(&mut machine, steps, outlet);
-    if outlet.failed {
+    if outlet.pen.failed {
         return Status::WriteFault;
     }
     write_end(machine, stopped.unwrap_or(Stop::Budget), outlet)

@@ -20,6 +20,11 @@ returns-then-is_err g c = λ b stream o opens same stands.
       }));
     }
 
+pub invariant_of-outlet : goal.invariant_of-outlet
+invariant_of-outlet g c =
+    let well = sym c.is_err.ensures.value ∙ c.if-is_err.false in
+    record { last = ∣ (λ fresh. succeeded c.begin.result _ well c.begin.ensures.last) ∣₁ }
+
 pub returns-then-outlet : goal.returns-then-outlet
 returns-then-outlet g c = λ b stream o opens same stands.
     let well = sym c.is_err.ensures.value ∙ c.if-is_err.false in

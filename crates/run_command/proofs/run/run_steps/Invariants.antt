@@ -11,7 +11,7 @@ use Rattle.run_command.proofs.run.run_steps.Given as goal
 -- the steps so far were emitted, and none stopped the run
 abbrev pub invariant-loop-made : goal.invariant-loop-made
 invariant-loop-made g l = record {
-  same_shelf : l.outlet.shelf.ghost_name ≡ l.fn.outlet.shelf.ghost_name;
+  same_shelf : l.outlet.pen.shelf.ghost_name ≡ l.fn.outlet.pen.shelf.ghost_name;
   same_out : l.outlet.out.ghost_name ≡ l.fn.outlet.out.ghost_name;
   made : steps_made l.machine ≡ l.made;
   some : EmitsSome (Gave g.S.Shelf g.O.Sink) l.fn.outlet l.outlet;

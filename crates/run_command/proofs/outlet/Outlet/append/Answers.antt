@@ -1,11 +1,11 @@
-use Rattle.std.proofs.Common.{refl}
+use Rattle.std.proofs.Common.{refl, sym, ◌∙◌}
 use Rattle.run_command.proofs.OutletFacts.{emits_none, emits_recorded}
 use Rattle.run_command.proofs.outlet.Outlet.append.Goals as goal
 
-pub returns-then-self-clause-emits : goal.returns-then-self-clause-emits
-returns-then-self-clause-emits g c = emits_none _ _ _ _ c.if-self.true
+pub returns-then-has_failed-clause-emits : goal.returns-then-has_failed-clause-emits
+returns-then-has_failed-clause-emits g c = emits_none _ _ _ _ (sym c.has_failed.ensures.failed ∙ c.if-has_failed.true)
 
 pub returns-clause-emits : goal.returns-clause-emits
 returns-clause-emits g c =
-    emits_recorded _ _ _ _ _ c.append.result c.if-self.false c.is_err-self.ensures.value refl refl refl
-    c.append.ensures.ok c.append.ensures.err c.append.ensures.others c.append.ensures.writing c.append.ensures.reading
+    let fresh = sym c.has_failed.ensures.failed ∙ c.if-has_failed.false in
+    emits_recorded _ _ _ _ _ fresh c.append.ensures.same_shelf refl c.append.ensures.same_name c.append.ensures.adds

@@ -1,12 +1,19 @@
-use Rattle.std.proofs.Common.{refl}
+use Rattle.std.proofs.Common.{refl, sym, ◌∙◌}
 use Rattle.run_command.proofs.OutletFacts.{emits_none, emits_recorded, recorded_as}
 use Rattle.run_command.proofs.outlet.Outlet.write.Goals as goal
 
-pub returns-then-self : goal.returns-then-self
-returns-then-self g c = emits_none _ _ _ _ c.if-self.true
+pub returns-then-has_failed : goal.returns-then-has_failed
+returns-then-has_failed g c = emits_none _ _ _ _ (sym c.has_failed.ensures.failed ∙ c.if-has_failed.true)
 
-pub returns : goal.returns
-returns g c = recorded_as c.write_item-n.ensures.front
-    (emits_recorded _ _ _ _ _ c.append_item.result c.if-self.false c.is_err-self.ensures.value refl refl refl
-    c.append_item.ensures.ok c.append_item.ensures.err c.append_item.ensures.others c.append_item.ensures.writing
-    c.append_item.ensures.reading)
+pub returns-then-matches : goal.returns-then-matches
+returns-then-matches g c =
+    let fresh = sym c.has_failed.ensures.failed ∙ c.if-has_failed.false in
+    recorded_as c.write_item-n.ensures.front
+    (emits_recorded _ _ _ _ _ fresh c.append_end.ensures.same_shelf refl c.append_end.ensures.same_name
+    c.append_end.ensures.adds)
+
+pub returns-else-matches : goal.returns-else-matches
+returns-else-matches g c =
+    let fresh = sym c.has_failed.ensures.failed ∙ c.if-has_failed.false in
+    recorded_as c.write_item-n.ensures.front
+    (emits_recorded _ _ _ _ _ fresh c.append.ensures.same_shelf refl c.append.ensures.same_name c.append.ensures.adds)

@@ -1,11 +1,12 @@
-use Rattle.std.proofs.Common.{refl}
+use Rattle.std.proofs.Common.{refl, sym, ◌∙◌}
 use Rattle.run_command.proofs.OutletFacts.{emits_none, emits_recorded, recorded_as}
 use Rattle.run_command.proofs.outlet.OutletEmit.cipher.Goals as goal
 
-pub returns-then-self : goal.returns-then-self
-returns-then-self g c = emits_none _ _ _ _ c.if-self.true
+pub returns-then-has_failed : goal.returns-then-has_failed
+returns-then-has_failed g c = emits_none _ _ _ _ (sym c.has_failed.ensures.failed ∙ c.if-has_failed.true)
 
 pub returns : goal.returns
-returns g c = recorded_as c.write_cipher-n.ensures.front
-    (emits_recorded _ _ _ _ _ c.append.result c.if-self.false c.is_err-self.ensures.value refl refl refl
-    c.append.ensures.ok c.append.ensures.err c.append.ensures.others c.append.ensures.writing c.append.ensures.reading)
+returns g c =
+    let fresh = sym c.has_failed.ensures.failed ∙ c.if-has_failed.false in
+    recorded_as c.write_cipher-n.ensures.front
+    (emits_recorded _ _ _ _ _ fresh c.append.ensures.same_shelf refl c.append.ensures.same_name c.append.ensures.adds)
