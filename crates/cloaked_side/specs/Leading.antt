@@ -1,5 +1,6 @@
 -- Where an access of a side leads.
-use Rattle.std.specs.Prelude.{ℕ, Bool, ◌≡◌, ◌<◌, ◌^◌, ◌/◌, true, false, length, Option, Some, None, Result, Ok, Err, IfOk, IfSome, List, [], ◌∷◌}
+use Rattle.std.specs.Prelude.{ℕ, Bool, ◌≡◌, ◌<◌, ◌^◌, ◌/◌, true, false, length, List, [], ◌∷◌}
+use Rattle.std.specs.Prelude.{Option, Some, None, Result, Ok, Err, IfOk, IfSome}
 use Rattle.cloak_base.specs.declared.names.Kind.{Kind}
 use Rattle.cloak_base.specs.declared.names.PageId.{PageId}
 use Rattle.cloak_model.specs.declared.access.Walked.{Walked}
@@ -126,17 +127,17 @@ IsPlaced found.Fault = Unit {0}
 IsPlaced found.Missed = Unit {0}
 
 -- Behind the look for an access a side stands so: the access was led there, or its walk begins.
-abbrev pub IsFoundSo : {E : Type 0} → (E → E → List Piece → Type 0) → Side E → Side E → World → ShadowView → ℕ → Kind → Option PageId
-    → Option (Result Led ℕ) → Type 0
+abbrev pub IsFoundSo : {E : Type 0} → (E → E → List Piece → Type 0) → Side E → Side E → World → ShadowView → ℕ → Kind →
+    Option PageId → Option (Result Led ℕ) → Type 0
 IsFoundSo gave first now w view va kind cloaked (Some to) =
     FollowsFrom (Sees gave first) now (place_in to) (asked_led view va kind w)
     × IfOk to (IsLedSo now.memory.now (asked_led view va kind w).world view va kind cloaked)
 IsFoundSo gave first now w view va kind cloaked None =
     SeesWalking gave first now (noted (Look (satp_in view) (access_in view va kind) ∷ []) w)
 
--- From a look on that found this, a question for a page is answered as the definition tells.
-abbrev pub Reaches : {E : Type 0} → (E → E → List Piece → Type 0) → Side E → Side E → Answer → PageId → ShadowView → ℕ → Kind
-    → Option (Result Led ℕ) → Type 0
+-- On from a look that found this, the question for a page is answered as the definition tells.
+abbrev pub Reaches : {E : Type 0} → (E → E → List Piece → Type 0) → Side E → Side E → Answer → PageId → ShadowView →
+    ℕ → Kind → Option (Result Led ℕ) → Type 0
 Reaches {E} gave old new given q view va kind to =
     (first : Side E) (w : World) (s : SpaceId) → old.space ≡ Some s → view ≡ inside_view old.view s →
     ask_inside_address va kind w ≡ asked_led view va kind w →

@@ -121,12 +121,13 @@ impl<'m, 'e, E: Emit> Side<'m, 'e, E> {
     ghost use Rattle.cloak_model.specs.World.{World, is_clashed, noted};
     ghost use Rattle.cloak_pager.specs.State.{held_in};
     ghost use Rattle.cloaked_side.specs.Holding.{frames_of};
-    ghost use Rattle.cloaked_side.specs.Leading.{place_in, found_to, IsFoundSo, IsPlaced, IsLedSo, IsEntryOf, IsReachedSo, IsUnknownIfMissed, IsViewIn, asked_led};
+    ghost use Rattle.cloaked_side.specs.Leading.{place_in, found_to, IsFoundSo, IsPlaced, IsLedSo, IsEntryOf};
+    ghost use Rattle.cloaked_side.specs.Leading.{IsReachedSo, IsUnknownIfMissed, IsViewIn, asked_led};
     ghost use Rattle.cloaked_side.specs.Seeing.{Sees, SeesWalking, StaysWithin};
     ghost use Rattle.shadow_fold.specs.Fold.{entry_in, is_own_table};
     ghost use Rattle.shadow_fold.specs.Table.{is_known};
 
-    /// Without paging an access leads to its own address, and no translation is looked for, unless accesses are counted.
+    /// No translation is looked for: without paging an access leads to its own address, unless accesses are counted.
     #[inline(always)]
     fn is_bare(&self, view: &ShadowView) -> bool
         ensures bare { IsTrue result → has_paging (satp_in view.now) ≡ false }
@@ -146,7 +147,8 @@ impl<'m, 'e, E: Emit> Side<'m, 'e, E> {
         ensures same { self.new ≡ self.old }
         ensures known { result ≢ Found.Missed }
         ensures placed { IsPlaced result }
-        ensures inside { IfSome (found_to kind result) (λ to. IfOk to (λ led. IsTrue (is_in_frames (frames_of self.new.memory.now) led.pa))) }
+        ensures inside { IfSome (found_to kind result) (λ to. IfOk to (λ led.
+            IsTrue (is_in_frames (frames_of self.new.memory.now) led.pa))) }
         ensures offset { IfSome (found_to kind result) (λ to. IfOk to (λ led. led.pa % 4096 ≡ va % 4096)) }
     {
         if self.memory.is_inside(va as u64) {
@@ -164,10 +166,12 @@ impl<'m, 'e, E: Emit> Side<'m, 'e, E> {
     fn look_up(&mut self, view: &ShadowView, va: u32, kind: Kind, cloaked: Option<PageId>) -> Found
         ensures found { (first : _) (w : World) → Sees E.gave first self.old w → IsViewIn self.old.space view.now →
             IsFoundSo E.gave first self.new w view.now va kind cloaked (found_to kind result) }
-        ensures unknown { result ≡ Found.Missed → is_known view.now (va / 4096) kind self.new.memory.now.shadows ≡ false }
+        ensures unknown { result ≡ Found.Missed →
+            is_known view.now (va / 4096) kind self.new.memory.now.shadows ≡ false }
         ensures placed { IsPlaced result }
         ensures keeps { Keeps (StaysWithin E.gave) self.old self.new }
-        ensures inside { IfSome (found_to kind result) (λ to. IfOk to (λ led. IsTrue (is_in_frames (frames_of self.new.memory.now) led.pa))) }
+        ensures inside { IfSome (found_to kind result) (λ to. IfOk to (λ led.
+            IsTrue (is_in_frames (frames_of self.new.memory.now) led.pa))) }
         ensures offset { IfSome (found_to kind result) (λ to. IfOk to (λ led. led.pa % 4096 ≡ va % 4096)) }
         ensures same_count { frames_of self.new.memory.now ≡ frames_of self.old.memory.now }
     {
@@ -202,10 +206,12 @@ impl<'m, 'e, E: Emit> Side<'m, 'e, E> {
     ) -> Found
         ensures found { (first : _) (w : World) → Sees E.gave first self.old w → IsViewIn self.old.space view.now →
             IsFoundSo E.gave first self.new w view.now va kind cloaked (found_to kind result) }
-        ensures unknown { result ≡ Found.Missed → is_known view.now (va / 4096) kind self.new.memory.now.shadows ≡ false }
+        ensures unknown { result ≡ Found.Missed →
+            is_known view.now (va / 4096) kind self.new.memory.now.shadows ≡ false }
         ensures placed { IsPlaced result }
         ensures keeps { Keeps (StaysWithin E.gave) self.old self.new }
-        ensures inside { IfSome (found_to kind result) (λ to. IfOk to (λ led. IsTrue (is_in_frames (frames_of self.new.memory.now) led.pa))) }
+        ensures inside { IfSome (found_to kind result) (λ to. IfOk to (λ led.
+            IsTrue (is_in_frames (frames_of self.new.memory.now) led.pa))) }
         ensures offset { IfSome (found_to kind result) (λ to. IfOk to (λ led. led.pa % 4096 ≡ va % 4096)) }
         ensures same_count { frames_of self.new.memory.now ≡ frames_of self.old.memory.now }
     {
@@ -250,9 +256,11 @@ impl<'m, 'e, E: Emit> Side<'m, 'e, E> {
     /// Where an access leads of which this was found, or the cause of its fault.
     #[inline(always)]
     fn led_from(&mut self, view: &ShadowView, va: u32, kind: Kind, found: Found) -> Result<Led, u32>
-        requires unknown { found ≡ Found.Missed → is_known view.now (va / 4096) kind self.old.memory.now.shadows ≡ false }
+        requires unknown { found ≡ Found.Missed →
+            is_known view.now (va / 4096) kind self.old.memory.now.shadows ≡ false }
         requires placed { IsPlaced found }
-        requires inside { IfSome (found_to kind found) (λ to. IfOk to (λ led. IsTrue (is_in_frames (frames_of self.old.memory.now) led.pa))) }
+        requires inside { IfSome (found_to kind found) (λ to. IfOk to (λ led.
+            IsTrue (is_in_frames (frames_of self.old.memory.now) led.pa))) }
         requires offset { IfSome (found_to kind found) (λ to. IfOk to (λ led. led.pa % 4096 ≡ va % 4096)) }
         ensures follows { (first : _) (w : World) (cloaked : Option AnyPage) →
             IsFoundSo E.gave first self.old w view.now va kind cloaked (found_to kind found) →
@@ -280,8 +288,8 @@ impl<'m, 'e, E: Emit> Side<'m, 'e, E> {
         }
     }
 
-    /// Where an access leads that is of this page, or not cloaked, or the cause of its fault. It is not led from a `look`, so
-    /// that each of its two ways stays short.
+    /// Where an access leads that is of this page, or not cloaked, or the cause of its fault. There is a way with paging and
+    /// one without, in place of one behind a `look`, so that each stays short.
     #[inline(always)]
     pub(crate) fn led(
         &mut self,
