@@ -153,6 +153,19 @@ impl<'m, 'e, E: Emit> Side<'m, 'e, E> {
         a
     }
 
+    /// Answers that a question met what stops the run. Apart, so that a question that is granted stays short.
+    #[cold]
+    #[inline(never)]
+    fn stop(&mut self) -> Answer
+        ensures told { FollowsAlways E.gave self.old self.new result (replies Answer.Stopped) }
+        ensures keeps { Keeps (StaysWithin E.gave) self.old self.new }
+        ensures same { self.new.memory ≡ self.old.memory }
+        ensures view { self.new.view ≡ self.old.view }
+        ensures value { result ≡ Answer.Stopped }
+    {
+        self.answer(Answer::Stopped)
+    }
+
     /// Answers with the value at a settled address, unless a draw was missing.
     fn get_settled(&mut self, pa: u32, width: u32) -> Answer
         requires inside { IsTrue (is_in_frames (frames_of self.old.memory.now) pa) }
@@ -299,9 +312,9 @@ impl<'m, 'e, E: Emit> Side<'m, 'e, E> {
             }
             Offer::Mismatch => {
                 self.violation = Some(Violation::Page { page: q, frame: g });
-                self.answer(Answer::Stopped)
+                self.stop()
             }
-            Offer::Missed => self.answer(Answer::Stopped),
+            Offer::Missed => self.stop(),
         }
     }
 
@@ -329,7 +342,7 @@ impl<'m, 'e, E: Emit> Side<'m, 'e, E> {
         ensures writable { result ≡ Answer.Ok → kind ≡ Kind.Store → CanWrite self.new q }
     {
         if self.memory.missed {
-            return self.answer(Answer::Stopped);
+            return self.stop();
         }
         self.reached(q, view, va, kind, led, g)
     }

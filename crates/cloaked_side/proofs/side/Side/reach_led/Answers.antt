@@ -12,7 +12,7 @@ returns-then-self-clause-told g c first w s spaced is same so unclashed =
     asked_drawn g.E.Emit.gave first c.args.self.now _ _ c.args.va c.args.kind
     (reached c.args.q c.args.va c.args.kind) (Ok c.args.led.now.pa) w (later_reached c.args.q c.args.va c.args.kind) unclashed
     (λ u. (found_inside g.E.Emit.gave first c.args.self.now c.args.view.now c.args.va c.args.kind (Some c.args.q) (Ok c.args.led.now) w same so u).0) c.if-self.true
-    (λ v stands. c.answer.ensures.told first v stands)
+    (λ v stands. c.stop.ensures.told first v stands)
 
 pub returns-clause-told : goal.returns-clause-told
 unfolding reach_by_table
@@ -25,4 +25,4 @@ returns-clause-told g c first w s spaced is same so unclashed =
 
 pub returns-then-self-clause-keeps : goal.returns-then-self-clause-keeps
 returns-then-self-clause-keeps g c first stays =
-    stays_on g.E.Emit.gave first c.args.self.now _ c.answer.ensures.keeps stays
+    stays_on g.E.Emit.gave first c.args.self.now _ c.stop.ensures.keeps stays

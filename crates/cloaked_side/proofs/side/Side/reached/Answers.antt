@@ -61,7 +61,7 @@ returns-in-Mismatch-clause-told g c first w s sees spaced is so unclashed =
     (λ k k' there seen seen' is_memory same_view.
     mismatched_told gave first after _ c.args.q c.args.va c.args.kind c.args.g.0 _ k'
     (with_violation gave first mid after _ k' seen' refl refl refl refl refl)
-    (λ v stands. c.answer-in-Mismatch.ensures.told first v stands)))
+    (λ v stands. c.stop.ensures.told first v stands)))
 
 pub returns-in-Missed-clause-told : goal.returns-in-Missed-clause-told
 returns-in-Missed-clause-told g c first w s sees spaced is so unclashed =
@@ -76,7 +76,7 @@ returns-in-Missed-clause-told g c first w s sees spaced is so unclashed =
     c.in-Missed.ensures.offers c.in-Missed.ensures.tracks c.in-Missed.ensures.spends c.in-Missed.ensures.maps refl refl refl
     (λ k k' there seen seen' is_memory same_view.
     missed_told gave first mid _ c.args.q c.args.va c.args.kind c.args.g.0 _ k' seen'
-    (λ v stands. c.answer-in-Missed.ensures.told first v stands)))
+    (λ v stands. c.stop-in-Missed.ensures.told first v stands)))
 
 pub returns-in-Ready-clause-keeps : goal.returns-in-Ready-clause-keeps
 returns-in-Ready-clause-keeps g c first stays =
@@ -99,7 +99,7 @@ returns-in-Mismatch-clause-keeps g c first stays =
       emitter = record old.emitter { now = c.offer.new.e };
       violation = Some (violation.Page c.args.q c.args.g);
     } in
-    stays_on gave first mid _ c.answer-in-Mismatch.ensures.keeps
+    stays_on gave first mid _ c.stop.ensures.keeps
     (stays_offered gave first old mid c.args.q stays c.requires.own refl refl c.offer.ensures.emits_some c.offer.ensures.same refl refl c.offer.ensures.counting c.offer.ensures.others)
 
 pub returns-in-Missed-clause-keeps : goal.returns-in-Missed-clause-keeps
@@ -110,5 +110,5 @@ returns-in-Missed-clause-keeps g c first stays =
       memory = record old.memory { now = c.offer.new.self };
       emitter = record old.emitter { now = c.offer.new.e };
     } in
-    stays_on gave first mid _ c.answer-in-Missed.ensures.keeps
+    stays_on gave first mid _ c.stop-in-Missed.ensures.keeps
     (stays_offered gave first old mid c.args.q stays c.requires.own refl refl c.offer.ensures.emits_some c.offer.ensures.same refl refl c.offer.ensures.counting c.offer.ensures.others)
