@@ -63,11 +63,11 @@ unfolding ending
 after_ending frames ends r A B counts now =
     ap (λ l. table_of frames l counts) (live_left ends r A B (left_lying ends A B now))
 
-pub kept_ending : (s : Inside) (ends : Entry → Bool) (r : Recent) (B : Arena Entry) → AreKept s
+pub kept_ending : (s : Inside) (ends : Entry → Bool) (r : Recent) (B : Arena Entry) (hits pause : ℕ) → AreKept s
     → r ≡ left_of ends s.recent → ArePlaced B → B.heads ≡ s.arena.heads → EndsJust ends s.arena B
-    → AreKept (let t : Inside = record s { arena = B; recent = r } in t)
-kept_ending s ends r B kept is placed heads now =
-    subst (λ (r : Recent). AreKept (let t : Inside = record s { arena = B; recent = r } in t)) (sym is) (record {
+    → AreKept (let t : Inside = record s { arena = B; recent = r; hits = hits; pause = pause } in t)
+kept_ending s ends r B hits pause kept is placed heads now =
+    subst (λ (r : Recent). AreKept (let t : Inside = record s { arena = B; recent = r; hits = hits; pause = pause } in t)) (sym is) (record {
       slots = now.long ∙ kept.slots;
       heads = kept.heads ∙ sym heads;
       some = kept.some;

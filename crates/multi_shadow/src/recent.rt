@@ -44,16 +44,18 @@ fn end_target_in(place: &mut Option<Entry>, f: Frame)
     }
 }
 
-/// Empties a place whose entry has this table frame.
+/// Empties a place whose entry has this table frame, and answers whether there was one.
 #[inline(always)]
-fn end_dependent_in(place: &mut Option<Entry>, f: Frame)
+fn end_dependent_in(place: &mut Option<Entry>, f: Frame) -> bool
     ensures { place.new ≡ left_in (entries.is_table f) place.old }
 {
     if let Some(e) = place {
         if is_table(f, e) {
             *place = None;
+            return true;
         }
     }
+    false
 }
 
 /// Empties a place whose entry is of a view of this space.
@@ -139,14 +141,15 @@ impl Recent {
         end_target_in(&mut self.store, f);
     }
 
-    /// Ends the entries of which this is a table frame.
+    /// Ends the entries of which this is a table frame, and answers whether there was one.
     #[inline(always)]
-    pub(crate) fn end_dependents(&mut self, f: Frame)
+    pub(crate) fn end_dependents(&mut self, f: Frame) -> bool
         ensures { self.new ≡ left_of (entries.is_table f) self.old }
     {
-        end_dependent_in(&mut self.fetch, f);
-        end_dependent_in(&mut self.load, f);
-        end_dependent_in(&mut self.store, f);
+        let fetch = end_dependent_in(&mut self.fetch, f);
+        let load = end_dependent_in(&mut self.load, f);
+        let store = end_dependent_in(&mut self.store, f);
+        fetch | load | store
     }
 
     /// Ends the entries of the views of this space.

@@ -17,6 +17,9 @@ use std::marker::Model;
 /// How many entries may be live. The arena has a slot for each.
 const ROOM: u32 = 1024;
 
+/// For how many misses nothing is to be learnt where what was learnt was ended before a look found it.
+const PAUSE: u8 = 15;
+
 /// What lies in a slot that is not in use.
 const NO_ENTRY: Entry = Entry {
     view: ShadowView::Outside {
@@ -41,6 +44,10 @@ pub struct Shadows {
     arena: ChainArena<Entry>,
     recent: Recent,
     counts: ShadowCounts,
+    /// How many looks had found an entry when a recent one was last ended through its tables. The view does not show it.
+    hits: u64,
+    /// For how many misses more it is not worth it to learn. The view does not show it.
+    pause: u8,
 }
 
 impl Model for Shadows {
@@ -70,6 +77,19 @@ fn power_from(number: u32) -> Result<u32, NoMemory>
     Ok(1 << places)
 }
 
+/// A recent entry was ended through its tables, or none was. Where no look has found an entry since one was last ended so,
+/// what is learnt is not found, and nothing is to be learnt for the next misses.
+#[inline(always)]
+fn note_end(ended: bool, counts: &ShadowCounts, hits: &mut u64, pause: &mut u8) {
+    if ended {
+        let now = counts.accesses.saturating_sub(counts.misses);
+        if now == *hits {
+            *pause = PAUSE;
+        }
+        *hits = now;
+    }
+}
+
 impl Shadows {
     /// No entry is live. The one call that takes memory: there is room for 1024 entries.
     pub fn open(alloc: Global, frames: u32) -> Result<Shadows, NoMemory>
@@ -88,6 +108,8 @@ impl Shadows {
             arena,
             recent: Recent::empty(),
             counts,
+            hits: 0,
+            pause: 0,
         })
     }
 
@@ -146,6 +168,19 @@ impl Shadows {
         }
     }
 
+    /// Whether it is worth it to learn an entry of which a look has missed. Where the last ones were ended through their
+    /// tables before a look found one, it is not, for some misses. A hint: no clause rests on it.
+    #[inline(always)]
+    pub fn is_worth_learning(&mut self) -> bool
+        ensures { self.new ≡ self.old }
+    {
+        if self.pause == 0 {
+            return true;
+        }
+        self.pause -= 1;
+        false
+    }
+
     /// The entry becomes live. Where 1024 are live, all of them end first, and a flush is counted.
     #[inline(always)]
     pub(crate) fn insert(&mut self, e: Entry)
@@ -201,7 +236,8 @@ impl Shadows {
     pub fn kill_dependents(&mut self, f: Frame)
         ensures { self.new ≡ ending (is_table f) self.old }
     {
-        self.recent.end_dependents(f);
+        let ended = self.recent.end_dependents(f);
+        note_end(ended, &self.counts, &mut self.hits, &mut self.pause);
         prune_frame(&mut self.arena, self.heads, Chain::First, f);
         prune_frame(&mut self.arena, self.heads, Chain::Second, f);
     }

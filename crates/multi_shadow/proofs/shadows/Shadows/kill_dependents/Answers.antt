@@ -23,13 +23,13 @@ pub invariant_of-self : goal.invariant_of-self
 invariant_of-self c =
     let s = c.self.inside in let B = c.prune_frame.new.arena in let C = c.prune_frame-2.new.arena in
     let one = c.prune_frame.ensures in let two = c.prune_frame-2.ensures in
-    kept_ending s (is_table c.args.f) c.end_dependents.new.self C c.self.invariant c.end_dependents.ensures two.placed
+    kept_ending s (is_table c.args.f) c.end_dependents-ended.new.self C c.note_end.new.hits c.note_end.new.pause c.self.invariant c.end_dependents-ended.ensures two.placed
     (two.heads ∙ one.heads) (dependents_end c.args.f s.arena.heads B.heads s.arena B C one.ends two.ends)
 
 pub returns : goal.returns
 returns c =
     let s = c.self.inside in let B = c.prune_frame.new.arena in let C = c.prune_frame-2.new.arena in
-    ap (λ r. table_of s.frames (live_of r C) s.counts) c.end_dependents.ensures
+    ap (λ r. table_of s.frames (live_of r C) s.counts) c.end_dependents-ended.ensures
     ∙ after_ending s.frames (is_table c.args.f) s.recent s.arena C s.counts
     (dependents_end c.args.f s.arena.heads B.heads s.arena B C c.prune_frame.ensures.ends c.prune_frame-2.ensures.ends)
     ∙ ap (ending (is_table c.args.f)) c.self.view_is

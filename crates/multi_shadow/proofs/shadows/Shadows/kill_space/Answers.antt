@@ -8,7 +8,7 @@ use Rattle.multi_shadow.proofs.shadows.Shadows.kill_space.Goals as goal
 pub invariant_of-self : goal.invariant_of-self
 invariant_of-self c =
     let s = c.self.inside in let B = c.prune_all.new.arena in let now = c.prune_all.ensures in
-    kept_ending s (is_of_space c.args.s) c.end_space.new.self B c.self.invariant c.end_space.ensures now.placed
+    kept_ending s (is_of_space c.args.s) c.end_space.new.self B s.hits s.pause c.self.invariant c.end_space.ensures now.placed
     now.heads (ends_like _ (is_of_space c.args.s) s.arena B (λ e. refl) now.ends)
 
 pub returns : goal.returns

@@ -9,7 +9,7 @@ pub invariant_of-self : goal.invariant_of-self
 unfolding is_target
 invariant_of-self c =
     let s = c.self.inside in let B = c.prune_frame.new.arena in let now = c.prune_frame.ensures in
-    kept_ending s (is_target c.args.f) c.end_target.new.self B c.self.invariant c.end_target.ensures now.placed
+    kept_ending s (is_target c.args.f) c.end_target.new.self B s.hits s.pause c.self.invariant c.end_target.ensures now.placed
     now.heads (ends_like _ (is_target c.args.f) s.arena B (λ e. refl) now.ends)
 
 pub returns : goal.returns
