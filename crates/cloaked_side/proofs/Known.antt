@@ -380,6 +380,16 @@ learns gave first old t e satp a walked cloaked (Cloaked c) sees is same other b
     (spends_still old.memory.now (record old.memory.now { shadows = t }) refl (birth_misses _ e old.memory.now.shadows t made))
     (maps_born old.memory.now (record old.memory.now { shadows = t }) old.space satp a walked cloaked _ e same made)
 
+-- where accesses are not counted, nothing needs to be learnt
+pub unlearnt : {E : Type 0} (gave : E → E → List Piece → Type 0) (first old : Side E) (t : Table) (satp : ℕ) (a : Access) (walked : Walked)
+    (cloaked : Option PageId) (w : World) → old.memory.now.counting ≡ false → t ≡ old.memory.now.shadows → Sees gave first old w
+    → Sees gave first (with_table old t) (noted (Born satp a walked cloaked ∷ []) w)
+unlearnt gave first old t satp a walked cloaked w uncounted same sees =
+    subst (λ (x : Table). Sees gave first (with_table old x) (noted (Born satp a walked cloaked ∷ []) w)) (sym same)
+    (sees_noted gave first old _ w
+    (born_tracks old.space satp a walked cloaked old.memory.now.counting old.memory.now.shadows old.memory.now.shadows (held_in old.memory.now.pager)
+    (λ counts. absurd (false≢true (sym uncounted ∙ counts)))) sees)
+
 -- The walk of an access that led somewhere.
 
 pub walk_of : {E : Type 0} (gave : E → E → List Piece → Type 0) (first old mid : Side E) (view : ShadowView) (va : ℕ) (kind : Kind)

@@ -366,7 +366,8 @@ impl<'m, 'e, E: Emit> Side<'m, 'e, E> {
         }
     }
 
-    /// Makes known the translation of a walk to a frame that is not cloaked. Apart, as `learn_walked_page` is.
+    /// Makes known the translation of a walk to a frame that is not cloaked. Apart, as `learn_walked_page` is. Where accesses
+    /// are not counted, the table need not follow the fold: nothing is learnt of what would be ended before it is found.
     #[inline(never)]
     fn learn_walk(
         &mut self,
@@ -406,7 +407,9 @@ impl<'m, 'e, E: Emit> Side<'m, 'e, E> {
             cloaked: None,
         };
         if missed {
-            self.learn_missed(e);
+            if self.memory.counting || self.memory.shadows.is_worth_learning() {
+                self.learn_missed(e);
+            }
         } else {
             self.learn(e);
         }
