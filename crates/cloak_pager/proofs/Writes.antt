@@ -1,5 +1,5 @@
 -- What a store does to the bytes of a frame, over plain variables.
-use Rattle.std.proofs.Common.{◌≡◌, ◌≢◌, ◌<◌, ◌≤◌, ◌+◌, ◌%◌, ℕ, zero, suc, Bool, false, List, [], Option, None, Some}
+use Rattle.std.proofs.Common.{◌≡◌, ◌<◌, ◌≤◌, ◌+◌, ◌%◌, ℕ, zero, suc, Bool, false, List, [], Option, None, Some}
 use Rattle.std.proofs.Common.{length, get_or, slice_get, slice_set, take, refl, ap, sym, ◌∙◌, subst, inl, inr, arith}
 use Rattle.std.specs.Prelude.{All}
 use Rattle.std.specs.Int.{w32, to_le_bytes}
@@ -18,10 +18,9 @@ use Rattle.cloak_model.specs.PageMoves.{with_newest}
 use Rattle.frame_store.specs.Rights.{Holding}
 use Rattle.protect_meta.specs.declared.meta.Meta.{Meta}
 use Rattle.protect_meta.specs.Table.{meta_at}
-use Rattle.cloak_pager.specs.Homes.{HomeTable, home_at}
-use Rattle.cloak_pager.specs.State.{PagerState, IsWholePager, IsWholeWithHomes, Names, page_of, owed_under, right_at}
+use Rattle.cloak_pager.specs.State.{PagerState, IsWholePager, Names, page_of, owed_under, right_at}
 use Rattle.cloak_pager.specs.State.{bytes_in, held_in, owed_at}
-use Rattle.cloak_pager.specs.Turns.{frame_numbered, HasBytes}
+use Rattle.cloak_pager.specs.Turns.{HasBytes}
 use Rattle.cloak_pager.specs.Relation.{StandsForMemory, FrameStands, PageStands}
 use Rattle.cloak_pager.specs.Asking.{FollowsCallStill, PageWrite, with_write, after_write_plain, after_write_outside}
 use Rattle.cloak_pager.specs.Asking.{after_fill_outside, ReadsNewest}
@@ -138,23 +137,6 @@ whole_now p now view w = subst IsWholePager view w
 
 -- Plain bytes.
 
--- a page that a frame holds is noted there
-pub noted_at : (p now : PagerState) (homes : HomeTable) (q : PageId) → p ≡ now → IsWholeWithHomes p homes → (g : ℕ) →
-    held_in now g ≡ Some q → home_at homes q ≡ Some (frame_numbered g)
-noted_at p now homes q view kept g held = kept.noted g q (rw (← view) at held)
-
--- the frame that holds a page is the one that was noted
-pub noted_is : (p now : PagerState) (homes : HomeTable) (q : PageId) (f : Frame) → p ≡ now → IsWholeWithHomes p homes →
-    home_at homes q ≡ Some f → (g : ℕ) → held_in now g ≡ Some q → f.0 ≡ g
-noted_is p now homes q f view kept there g held =
-    let one : f ≡ frame_numbered g = (let both = sym there ∙ noted_at p now homes q view kept g held in cc) in
-    ap (λ (x : Frame). x.0) one
-
-pub noted_there : (p now : PagerState) (homes : HomeTable) (q : PageId) → p ≡ now → IsWholeWithHomes p homes →
-    home_at homes q ≡ None → (g : ℕ) → held_in now g ≢ Some q
-noted_there p now homes q view kept none g held =
-    absurd (let both = sym none ∙ noted_at p now homes q view kept g held in cc)
-
 -- a right by which a frame is owed a page
 pub changed_if : (h : Held) (q : PageId) → owed_under h ≡ Some q → (r : Holding) × (h ≡ Changed r) × (r.page ≡ q)
 changed_if (Outside r) q e = absurd (cc)
@@ -162,7 +144,7 @@ changed_if (Clean r) q e = absurd (cc)
 changed_if (Changed r) q e = (r, refl, (cc))
 changed_if Spent q e = absurd (cc)
 
--- what is known of the frame that was noted for a page which a frame is owed
+-- what is known of a frame that is owed a page
 pub record Owing (p : PagerState) (q : PageId) (f : ℕ) : Type 0 where
   pub right : Holding
   pub has : HasRight p f (Changed right)
@@ -174,14 +156,9 @@ owing_here p w q f owes =
     let within : f < length p.rights = held_within p.rights f q (owed_held (right_at p f) q owes) in
     record { right = c.0; has = record { whole = w; inside = rw (← w.count) within; at = c.1 }; page = c.2 }
 
-pub owing : (p now : PagerState) (homes : HomeTable) (q : PageId) (f : Frame) → p ≡ now → IsWholeWithHomes p homes →
-    home_at homes q ≡ Some f → (g : ℕ) × (owed_at now g ≡ Some q) → Owing p q f.0
-owing p now homes q f view kept there owed =
-    let owes : owed_at p owed.0 ≡ Some q = rw (← view) at owed.1 in
-    let is : f.0 ≡ owed.0 =
-    noted_is p now homes q f view kept there owed.0 (owed_held (right_at now owed.0) q owed.1) in
-    let O : ℕ → Type 0 = λ x. Owing p q x in
-    subst O (sym is) (owing_here p kept.whole q owed.0 owes)
+-- the same, by what the pager's callers know
+pub owing : (p now : PagerState) (q : PageId) (f : ℕ) → p ≡ now → IsWholePager p → owed_at now f ≡ Some q → Owing p q f
+owing p now q f view w owes = owing_here p w q f (rw (← view) at owes)
 
 -- the right that is seen at a place
 pub seen_right : (p : PagerState) (f : ℕ) (seen : Held) → IsWholePager p → f < length p.frames →
@@ -210,19 +187,17 @@ pub frame_there : {p : PagerState} {q : PageId} {f : ℕ} (seen : Held) (r : Hol
     seen ≡ get_or p.rights f seen → seen ≡ Changed r → r.frame.0 < length p.frames
 frame_there seen r o e is = rw (frame_is seen r o e is) o.has.inside
 
-pub put_plain : (p now : PagerState) (homes : HomeTable) (q : PageId) (f : Frame) (seen : Held) (r : Holding)
-    (old bytes' : List ℕ) (change : List ℕ → List ℕ) →
-    p ≡ now → IsWholeWithHomes p homes → home_at homes q ≡ Some f → Owing p q f.0 → seen ≡ get_or p.rights f.0 seen →
-    seen ≡ Changed r → slice_get p.frames r.frame.0 ≡ Some old → bytes' ≡ change old → (g : ℕ) →
-    owed_at now g ≡ Some q →
-    HasBytes now (record p { frames = slice_set p.frames r.frame.0 bytes' }) g (change (bytes_in now g))
-put_plain p now homes q f seen r old bytes' change view kept noted o e is there same g owes =
-    let is_g : f.0 ≡ g = noted_is p now homes q f view kept noted g (owed_held (right_at now g) q owes) in
-    let at_g : r.frame.0 ≡ g = frame_is seen r o e is ∙ is_g in
+pub put_plain : (p now : PagerState) (q : PageId) (f : ℕ) (seen : Held) (r : Holding) (old bytes' : List ℕ)
+    (change : List ℕ → List ℕ) →
+    p ≡ now → IsWholePager p → seen ≡ get_or p.rights f seen → seen ≡ Changed r →
+    slice_get p.frames r.frame.0 ≡ Some old → bytes' ≡ change old → owed_at now f ≡ Some q →
+    HasBytes now (record p { frames = slice_set p.frames r.frame.0 bytes' }) f (change (bytes_in now f))
+put_plain p now q f seen r old bytes' change view w e is there same owes =
+    let at_f : r.frame.0 ≡ f = frame_is seen r (owing p now q f view w owes) e is in
     let S : ℕ → Type 0 = λ k. slice_get p.frames k ≡ Some old in
-    let here : bytes_in p g ≡ old = get_or_from_slice_get p.frames g old [] (subst S at_g there) in
-    let now_here : bytes_in now g ≡ old = ap (λ (x : PagerState). bytes_in x g) (sym view) ∙ here in
-    puts_bytes p now g r.frame.0 (change (bytes_in now g)) bytes' view at_g (same ∙ ap change (sym now_here))
+    let here : bytes_in p f ≡ old = get_or_from_slice_get p.frames f old [] (subst S at_f there) in
+    let now_here : bytes_in now f ≡ old = ap (λ (x : PagerState). bytes_in x f) (sym view) ∙ here in
+    puts_bytes p now f r.frame.0 (change (bytes_in now f)) bytes' view at_f (same ∙ ap change (sym now_here))
 
 four_bytes : (v : ℕ) → All {X = ℕ} (λ x. x < 256) (to_le_bytes w32 v)
 four_bytes v zero d h = omega arith
@@ -326,25 +301,23 @@ stands_written p p' q f x whole t owes fits w m s =
       drained = s.drained;
     })
 
-pub follows_plain : (p p' : PagerState) (q : PageId) (x : PageWrite) → IsWholePager p →
-    ((f : ℕ) → owed_at p f ≡ Some q → HasBytes p p' f (with_write x (bytes_in p f))) →
-    (f : ℕ) × (owed_at p f ≡ Some q) → IsWidth x.width → x.at % x.width ≡ 0 → x.at < 4096 →
-    FollowsCallStill {A = Unit {0}} p p' tt (after_write_plain q x)
-follows_plain p p' q x whole t owed wide even low w m s = record {
+pub follows_plain : (p p' : PagerState) (q : PageId) (f : ℕ) (x : PageWrite) → IsWholePager p →
+    HasBytes p p' f (with_write x (bytes_in p f)) → owed_at p f ≡ Some q → IsWidth x.width → x.at % x.width ≡ 0 →
+    x.at < 4096 → FollowsCallStill {A = Unit {0}} p p' tt (after_write_plain q x)
+follows_plain p p' q f x whole t owes wide even low w m s = record {
   answer = refl;
-  stands = stands_written p p' q owed.0 x whole (t owed.0 owed.1) owed.1 (fits_page x wide even low) w m s;
+  stands = stands_written p p' q f x whole t owes (fits_page x wide even low) w m s;
   drawn = refl;
 }
 
 -- Reading.
 
--- the frame that was noted for a page which a frame holds is one of the frames
-pub reading : (p now : PagerState) (homes : HomeTable) (q : PageId) (f : Frame) → p ≡ now → IsWholeWithHomes p homes →
-    home_at homes q ≡ Some f → (g : ℕ) × (held_in now g ≡ Some q) → f.0 < length p.frames
-reading p now homes q f view kept there held =
-    let is : f.0 ≡ held.0 = noted_is p now homes q f view kept there held.0 held.1 in
-    let at : held_in p held.0 ≡ Some q = rw (← view) at held.1 in
-    rw (is, ← kept.whole.count) (held_within p.rights held.0 q at)
+-- a frame that holds a page is one of the frames, by what the pager's callers know
+pub reading : (p now : PagerState) (q : PageId) (f : ℕ) → p ≡ now → IsWholePager p → held_in now f ≡ Some q →
+    f < length p.frames
+reading p now q f view w held =
+    let at : held_in p f ≡ Some q = rw (← view) at held in
+    rw (← w.count) (held_within p.rights f q at)
 
 -- the frame of a right, by its kind
 abbrev pub number_of : Held → ℕ
@@ -360,23 +333,19 @@ number_named p f (Changed r) n = n.0
 number_named p f Spent n = absurd n
 
 -- the bytes that the body of a read sees are those of the frame that holds the page
-pub read_value : (p now : PagerState) (homes : HomeTable) (q : PageId) (f : Frame) (seen h : Held) (k : ℕ)
-    (bytes : List ℕ) (read : List ℕ → ℕ) (value : ℕ) →
-    p ≡ now → IsWholeWithHomes p homes → home_at homes q ≡ Some f → seen ≡ get_or p.rights f.0 seen → seen ≡ h →
-    number_of h ≡ k → slice_get p.frames k ≡ Some bytes → value ≡ read bytes → (g : ℕ) → held_in now g ≡ Some q →
-    value ≡ read (bytes_in now g)
-read_value p now homes q f seen h k bytes read value view kept noted e is number there value_is g held =
-    let inside = reading p now homes q f view kept noted (g, held) in
-    let right : HasRight p f.0 h =
-    subst (λ (x : Held). HasRight p f.0 x) is (seen_right p f.0 seen kept.whole inside e) in
-    let at_f : number_of h ≡ f.0 = number_named p f.0 h (named_as right) in
-    let at_g : k ≡ g = sym number ∙ (at_f ∙ noted_is p now homes q f view kept noted g held) in
+pub read_value : (p now : PagerState) (q : PageId) (f : ℕ) (seen h : Held) (k : ℕ) (bytes : List ℕ) (read : List ℕ → ℕ)
+    (value : ℕ) →
+    p ≡ now → IsWholePager p → seen ≡ get_or p.rights f seen → seen ≡ h → number_of h ≡ k →
+    slice_get p.frames k ≡ Some bytes → value ≡ read bytes → held_in now f ≡ Some q → value ≡ read (bytes_in now f)
+read_value p now q f seen h k bytes read value view w e is number there value_is held =
+    let inside = reading p now q f view w held in
+    let right : HasRight p f h = subst (λ (x : Held). HasRight p f x) is (seen_right p f seen w inside e) in
+    let at_f : k ≡ f = sym number ∙ number_named p f h (named_as right) in
     let S : ℕ → Type 0 = λ x. slice_get p.frames x ≡ Some bytes in
-    let here : bytes_in p g ≡ bytes = get_or_from_slice_get p.frames g bytes [] (subst S at_g there) in
-    value_is ∙ ap read (sym (ap (λ (x : PagerState). bytes_in x g) (sym view) ∙ here))
+    let here : bytes_in p f ≡ bytes = get_or_from_slice_get p.frames f bytes [] (subst S at_f there) in
+    value_is ∙ ap read (sym (ap (λ (x : PagerState). bytes_in x f) (sym view) ∙ here))
 
-pub read_newest : (p : PagerState) (q : PageId) (at width value : ℕ) →
-    ((g : ℕ) → held_in p g ≡ Some q → value ≡ value_in (bytes_in p g) at width) → (g : ℕ) × (held_in p g ≡ Some q) →
-    ReadsNewest p q at width value
-read_newest p q at width value reads held w m s kept =
-    reads held.0 held.1 ∙ ap (λ (x : List ℕ). value_in x at width) (held_newest p w m s held.0 q held.1 kept)
+pub read_newest : (p : PagerState) (q : PageId) (f at width value : ℕ) → value ≡ value_in (bytes_in p f) at width →
+    held_in p f ≡ Some q → ReadsNewest p q at width value
+read_newest p q f at width value reads held w m s kept =
+    reads ∙ ap (λ (x : List ℕ). value_in x at width) (held_newest p w m s f q held kept)

@@ -28,7 +28,37 @@ impl Pager {
     ghost use Rattle.cloak_pager.specs.Asking.{after_offer, answer_of, after_place};
 
     /// Gives the page to the frame, for reading or for writing.
+    #[inline(always)]
     pub fn offer(&mut self, q: PageId, g: Frame, write: bool) -> Offered
+        requires inside { g.0 < length self.old.frames }
+        requires page { IsIn (domains_of self.old.table) q }
+        requires room { (held_in self.old g.0 ≡ None) ⊎ (held_in self.old g.0 ≡ Some q) }
+        requires alone { (k : ℕ) → held_in self.old k ≡ Some q → k ≡ g.0 }
+        ensures exact_cause { result ≡
+            end_of_offer (right_at self.old g.0) (meta_at self.old.table q) (bytes_in self.old g.0) }
+        ensures state { OfferedTurns result (right_at self.old g.0) (meta_at self.old.table q) write
+            self.old self.new q g.0 }
+        ensures stays { StaysBut g.0 self.old self.new }
+        ensures held { result ≡ Offered.Ready → held_in self.new g.0 ≡ Some q }
+        ensures owed { result ≡ Offered.Ready → IsTrue write → owed_at self.new g.0 ≡ Some q }
+        ensures model { FollowsCallUnclashed self.old self.new (answer_of result) (after_offer q g.0 write) }
+    {
+        let held = &self.rights[g.0 as usize];
+        if let Held::Changed(_) = held {
+            return Offered::Ready;
+        }
+        if !write {
+            if let Held::Clean(_) = held {
+                return Offered::Ready;
+            }
+        }
+        self.offer_anew(q, g, write)
+    }
+
+    /// The same, whatever the frame holds.
+    #[cold]
+    #[inline(never)]
+    fn offer_anew(&mut self, q: PageId, g: Frame, write: bool) -> Offered
         requires inside { g.0 < length self.old.frames }
         requires page { IsIn (domains_of self.old.table) q }
         requires room { (held_in self.old g.0 ≡ None) ⊎ (held_in self.old g.0 ≡ Some q) }

@@ -270,7 +270,7 @@ impl Run {
             return Seen::Unmet;
         }
         match self.pager.home(q) {
-            Some(_) => Seen::Word(self.pager.read_plain(q, 0, 4)),
+            Some(f) => Seen::Word(self.pager.read_plain(q, f, 0, 4)),
             None => Seen::Unmet,
         }
     }
@@ -281,7 +281,7 @@ impl Run {
         }
         match self.pager.home(q) {
             Some(f) if f.0 < 64 && self.pager.owed(f) => {
-                self.pager.write_plain(q, 0, 4, v);
+                self.pager.write_plain(q, f, 0, 4, v);
                 Seen::Done
             }
             _ => Seen::Unmet,
