@@ -38,7 +38,8 @@ use Rattle.cloak_model.specs.Asking.{Told}
 use Rattle.cloak_base.specs.Constants.{frame_of}
 use Rattle.cloak_model.specs.PageMoves.{with_newest}
 use Rattle.cloak_pager.specs.Asking.{ReadsNewest, FollowsCallStill, after_write_plain}
-use Rattle.cloaked_side.specs.Seeing.{Sees, SeesCloak}
+use Rattle.cloaked_side.specs.Seeing.{Sees, SeesCloak, StaysWithin}
+use Rattle.cloak_base.specs.declared.names.Frame.{Frame}
 use Rattle.cloaked_side.specs.declared.side.Side.{Side}
 
 -- the domain that is answered
@@ -237,6 +238,39 @@ with_violation gave first mid after v c sees memory emitter view space violated 
   spends = subst (λ x. Spends 0 (reads_due (asked_by after.space c)) (spent_in first.memory.now) (spent_in x.now)) (sym memory) sees.spends;
   maps = subst (λ x. MapsBy first.memory.now x.now after.space c.events) (sym memory)
       (maps_of first.memory.now mid.memory.now mid.space after.space c.events space sees.maps);
+}
+
+-- Where a page was reached is no matter of the world.
+
+pub with_reached : {E : Type 0} (gave : E → E → List Piece → Type 0) (first mid : Side E) (f : Frame) (w : World) →
+    Sees gave first mid w → Sees gave first (record mid { reached = f }) w
+with_reached gave first mid f (Flat ram) sees = absurd sees
+with_reached gave first mid f (Alone handed) sees = absurd sees
+with_reached gave first mid f (Cloaked c) sees =
+    with_violation gave first mid (record mid { reached = f }) c.violation c sees refl refl refl refl sees.violation
+
+pub reached_follows : {E : Type 0} (gave : E → E → List Piece → Type 0) (first mid : Side E) (f : Frame) (a : Answer)
+    (told : Told Answer) → FollowsFrom (Sees gave first) mid a told →
+    FollowsFrom (Sees gave first) (record mid { reached = f }) a told
+reached_follows gave first mid f a told follows = record {
+  answer = follows.answer;
+  stands = with_reached gave first mid f told.world follows.stands;
+}
+
+pub reached_within : {E : Type 0} (gave : E → E → List Piece → Type 0) (first mid : Side E) (f : Frame) →
+    StaysWithin gave first mid → StaysWithin gave first (record mid { reached = f })
+reached_within gave first mid f within = let s = within.stays in record {
+  stays = record {
+    same_memory = s.same_memory;
+    same_emitter = s.same_emitter;
+    emits_some = s.emits_some;
+    size = s.size;
+    view = s.view;
+    space = s.space;
+    counting = s.counting;
+    others = s.others;
+  };
+  no_more = within.no_more;
 }
 
 -- What follows of an offer, by how it ended.

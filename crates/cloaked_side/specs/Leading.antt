@@ -3,18 +3,19 @@ use Rattle.std.specs.Prelude.{ℕ, Bool, ◌≡◌, ◌<◌, ◌^◌, ◌/◌, t
 use Rattle.std.specs.Prelude.{Option, Some, None, Result, Ok, Err, IfOk, IfSome}
 use Rattle.cloak_base.specs.declared.names.Kind.{Kind}
 use Rattle.cloak_base.specs.declared.names.PageId.{PageId}
+use Rattle.cloak_model.specs.declared.access.Access.{Access}
 use Rattle.cloak_model.specs.declared.access.Walked.{Walked}
 use Rattle.cloak_base.specs.declared.names.SpaceId.{SpaceId}
 use Rattle.cloak_model.specs.Ask.{ask_led}
 use Rattle.cloak_model.specs.declared.answer.Answer.{Answer}
 use Rattle.cloak_model.specs.AskPages.{ask_inside_address, reach_by_table}
 use Rattle.cloak_model.specs.Asking.{Asking, FollowsFrom}
-use Rattle.cloak_model.specs.Events.{Look}
+use Rattle.cloak_model.specs.Events.{Look, Born}
 use Rattle.cloak_model.specs.Exchange.{Piece}
 use Rattle.cloak_base.specs.Constants.{frame_of}
 use Rattle.cloak_model.specs.Memory.{is_in_ram}
 use Rattle.cloak_pager.specs.State.{held_in}
-use Rattle.shadow_fold.specs.Fold.{view_in}
+use Rattle.shadow_fold.specs.Fold.{entry_in, view_in}
 use Rattle.shadow_fold.specs.Table.{is_known}
 use Rattle.cloaked_side.specs.declared.memory.Memory.{Memory}
 use Rattle.cloak_model.specs.Walk.{walk, access_fault}
@@ -86,6 +87,12 @@ entry_at view va kind pa walked cloaked = record {
   pt0 = walked.pt0;
   cloaked = cloaked;
 }
+
+-- a side stands for what follows where a walk to memory that is not cloaked makes this entry
+abbrev pub LearnsWalk : {E : Type 0} → (E → E → List Piece → Type 0) → Side E → Side E → Entry → Type 0
+LearnsWalk {E} gave old new e = (first : Side E) (w : World) (satp : ℕ) (a : Access) (walked : Walked) →
+    Sees gave first old w → IsEntryOf w (held_in old.memory.now.pager) e → entry_in old.space satp a walked None ≡ e →
+    Sees gave first new (noted (Born satp a walked None ∷ []) w)
 
 -- Where an access was led, and what is so of the memory then: by the walk there was, through tables that are outside, or by
 -- a translation that is known.

@@ -143,21 +143,21 @@ pub record StaysWalking {E : Type 0} (gave : E → E → List Piece → Type 0) 
 abbrev pub served : {E : Type 0} → Side E → ℕ
 served side = if nat_lt side.view.domain (domains_in side.memory.now) then side.view.domain else 2 ^ 32
 
--- The page can be read: some frame holds it, and no draw is missing.
+-- The page can be read: the frame that was reached last holds it, and no draw is missing.
 pub record CanRead {E : Type 0} (side : Side E) (q : PageId) : Type 0 where
   pub domain : q.domain < domains_in side.memory.now
   pub resource : q.resource < 16
   pub page : q.page < 1024
   pub drawn : side.memory.now.missed ≡ false
-  pub held : (f : ℕ) × (held_in side.memory.now.pager f ≡ Some q)
+  pub held : held_in side.memory.now.pager side.reached.0 ≡ Some q
 
--- The page can be written: some frame is owed it, and no draw is missing.
+-- The page can be written: the frame that was reached last is owed it, and no draw is missing.
 pub record CanWrite {E : Type 0} (side : Side E) (q : PageId) : Type 0 where
   pub domain : q.domain < domains_in side.memory.now
   pub resource : q.resource < 16
   pub page : q.page < 1024
   pub drawn : side.memory.now.missed ≡ false
-  pub owed : (f : ℕ) × (owed_at side.memory.now.pager f ≡ Some q)
+  pub owed : owed_at side.memory.now.pager side.reached.0 ≡ Some q
 
 -- There is resource r, and no frame is owed a page of it.
 pub record IsCleared {E : Type 0} (side : Side E) (r : ℕ) : Type 0 where

@@ -3,7 +3,7 @@ ghost use Rattle.std.specs.Prelude.{◌≡◌, ◌<◌, ◌%◌, ◌^◌, ◌*�
 ghost use Rattle.cloak_model.specs.AskPages as inside;
 ghost use Rattle.cloak_model.specs.Effect.{IsWidth};
 
-use crate::kept_items::{set_ok, set_put, set_word};
+use crate::kept_items::set_put;
 use crate::leading::{Found, Led, handed_on};
 use crate::memory::{self, Offer};
 use crate::side::Side;
@@ -81,8 +81,8 @@ impl<'m, 'e, E: Emit> Side<'m, 'e, E> {
         ensures same { self.new.memory ≡ self.old.memory }
         ensures view { self.new.view ≡ self.old.view }
     {
-        set_ok(&mut self.items.ok, self.view.domain);
-        self.emitter.item(&self.items.ok);
+        let domain = self.view.domain;
+        self.emitter.item(&Item::Ok { domain });
     }
 
     /// Writes a value that was asked for.
@@ -93,8 +93,8 @@ impl<'m, 'e, E: Emit> Side<'m, 'e, E> {
         ensures same { self.new.memory ≡ self.old.memory }
         ensures view { self.new.view ≡ self.old.view }
     {
-        set_word(&mut self.items.word, self.view.domain, value);
-        self.emitter.item(&self.items.word);
+        let domain = self.view.domain;
+        self.emitter.item(&Item::Word { domain, value });
     }
 
     /// Writes an answer.
@@ -278,6 +278,20 @@ impl<'m, 'e, E: Emit> Side<'m, 'e, E> {
         }
     }
 
+    /// Answers that a page was reached in this frame.
+    #[inline(always)]
+    fn grant(&mut self, g: Frame) -> Answer
+        ensures told { FollowsAlways E.gave self.old self.new result (replies Answer.Ok) }
+        ensures keeps { Keeps (StaysWithin E.gave) self.old self.new }
+        ensures same { self.new.memory ≡ self.old.memory }
+        ensures value { result ≡ Answer.Ok }
+        ensures reached { self.new.reached ≡ g }
+    {
+        let a = self.answer(Answer::Ok);
+        self.reached = g;
+        a
+    }
+
     /// Brings a page to where its access was led.
     #[inline(always)]
     fn reached(
@@ -308,7 +322,7 @@ impl<'m, 'e, E: Emit> Side<'m, 'e, E> {
         match self.memory.offer(q, g, is_store(kind), self.emitter) {
             Offer::Ready => {
                 self.learn_page(q, view, va, kind, led);
-                self.answer(Answer::Ok)
+                self.grant(g)
             }
             Offer::Mismatch => {
                 self.violation = Some(Violation::Page { page: q, frame: g });

@@ -122,7 +122,7 @@ impl<'m, 'e, E: Emit> Side<'m, 'e, E> {
     ghost use Rattle.cloak_pager.specs.State.{held_in};
     ghost use Rattle.cloaked_side.specs.Holding.{frames_of};
     ghost use Rattle.cloaked_side.specs.Leading.{place_in, found_to, IsFoundSo, IsPlaced, IsLedSo, IsEntryOf};
-    ghost use Rattle.cloaked_side.specs.Leading.{IsReachedSo, IsUnknownIfMissed, IsViewIn, asked_led};
+    ghost use Rattle.cloaked_side.specs.Leading.{IsReachedSo, IsUnknownIfMissed, IsViewIn, LearnsWalk, asked_led};
     ghost use Rattle.cloaked_side.specs.Seeing.{Sees, SeesWalking, StaysWithin};
     ghost use Rattle.shadow_fold.specs.Fold.{entry_in, is_own_table};
     ghost use Rattle.shadow_fold.specs.Table.{is_known};
@@ -366,9 +366,9 @@ impl<'m, 'e, E: Emit> Side<'m, 'e, E> {
         }
     }
 
-    /// Makes known the translation of a walk to a frame that is not cloaked. Apart, as `learn_walked_page` is. Where accesses
-    /// are not counted, the table need not follow the fold: nothing is learnt of what would be ended before it is found.
-    #[inline(never)]
+    /// Makes known the translation of a walk to a frame that is not cloaked. Where accesses are not counted, the table need not
+    /// follow the fold: nothing is learnt of what would be ended before it is found.
+    #[inline(always)]
     fn learn_walk(
         &mut self,
         view: &ShadowView,
@@ -380,19 +380,47 @@ impl<'m, 'e, E: Emit> Side<'m, 'e, E> {
         missed: bool,
     )
         requires unknown { IsUnknownIfMissed self.old.memory.now view.now va kind missed }
-        ensures sees { (first : _) (w : World) (satp : ℕ) (a : AnyAccess) (walked : AnyWalk) →
-            let e : AnyEntry = record {
-              view = view.now;
-              page = va / 4096;
-              kind = kind;
-              frame = f;
-              pt1 = pt1;
-              pt0 = pt0;
-              cloaked = None;
-            } in
-            Sees E.gave first self.old w → IsEntryOf w (held_in self.old.memory.now.pager) e →
-            entry_in self.old.space satp a walked None ≡ e →
-            Sees E.gave first self.new (noted (Born satp a walked None ∷ []) w) }
+        ensures sees { LearnsWalk E.gave self.old self.new (record {
+          view = view.now;
+          page = va / 4096;
+          kind = kind;
+          frame = f;
+          pt1 = pt1;
+          pt0 = pt0;
+          cloaked = None;
+        }) }
+        ensures keeps { Keeps (StaysWithin E.gave) self.old self.new }
+        ensures same_pager { self.new.memory.now.pager ≡ self.old.memory.now.pager }
+        ensures same_missed { self.new.memory.now.missed ≡ self.old.memory.now.missed }
+    {
+        if missed && !self.memory.counting && !self.memory.shadows.is_worth_learning() {
+            return;
+        }
+        self.keep_walk(view, va, kind, f, pt1, pt0, missed);
+    }
+
+    /// The same, whether it is worth it or not. Apart, as `learn_walked_page` is.
+    #[inline(never)]
+    fn keep_walk(
+        &mut self,
+        view: &ShadowView,
+        va: u32,
+        kind: Kind,
+        f: Frame,
+        pt1: Option<Frame>,
+        pt0: Option<Frame>,
+        missed: bool,
+    )
+        requires unknown { IsUnknownIfMissed self.old.memory.now view.now va kind missed }
+        ensures sees { LearnsWalk E.gave self.old self.new (record {
+          view = view.now;
+          page = va / 4096;
+          kind = kind;
+          frame = f;
+          pt1 = pt1;
+          pt0 = pt0;
+          cloaked = None;
+        }) }
         ensures keeps { Keeps (StaysWithin E.gave) self.old self.new }
         ensures same_pager { self.new.memory.now.pager ≡ self.old.memory.now.pager }
         ensures same_missed { self.new.memory.now.missed ≡ self.old.memory.now.missed }
@@ -407,9 +435,7 @@ impl<'m, 'e, E: Emit> Side<'m, 'e, E> {
             cloaked: None,
         };
         if missed {
-            if self.memory.counting || self.memory.shadows.is_worth_learning() {
-                self.learn_missed(e);
-            }
+            self.learn_missed(e);
         } else {
             self.learn(e);
         }

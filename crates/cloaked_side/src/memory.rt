@@ -92,14 +92,24 @@ impl Memory {
         }
     }
 
-    /// Whether the frame holds the page.
-    #[inline(always)]
-    fn is_held(&self, q: PageId, g: Frame) -> bool
+    /// Whether the frame holds the page. Apart, since the pager answers at once for a frame that is ready.
+    #[inline(never)]
+    fn holds(&self, q: PageId, g: Frame) -> bool
         requires { g.0 < frames_of self.now }
         ensures held { IsTrue result → held_in self.now.pager g.0 ≡ Some q }
         ensures not_held { result ≡ false → held_in self.now.pager g.0 ≢ Some q }
     {
         self.pager.holds(g) == Some(q)
+    }
+
+    /// Whether the frame holds the page, be it ready for an access or not.
+    #[inline(always)]
+    fn is_held(&self, q: PageId, g: Frame, write: bool) -> bool
+        requires { g.0 < frames_of self.now }
+        ensures held { IsTrue result → held_in self.now.pager g.0 ≡ Some q }
+        ensures not_held { result ≡ false → held_in self.now.pager g.0 ≢ Some q }
+    {
+        self.pager.is_ready(q, g, write) || self.holds(q, g)
     }
 
     /// The page whose newest bytes a frame has yet to show.
@@ -116,6 +126,7 @@ impl Memory {
 
     /// Settles what is to be before this page comes into this frame, which does not hold it: the frame, and the frame that
     /// holds the page. Whether no draw was missing.
+    #[inline(never)]
     fn make_room<E: Emit>(&mut self, q: PageId, g: Frame, e: &mut E) -> bool
         requires inside { g.0 < frames_of self.old }
         requires domain { q.domain < domains_in self.old }
@@ -176,7 +187,7 @@ impl Memory {
         ensures owed { result ≡ Offer.Ready → IsTrue write → owed_at self.new.pager g.0 ≡ Some q }
         ensures drawn { result ≡ Offer.Ready → self.new.missed ≡ false }
     {
-        if self.is_held(q, g) {
+        if self.is_held(q, g, write) {
             self.pager.whole();
             return match self.pager.offer(q, g, write) {
                 Offered::Ready => Offer::Ready,

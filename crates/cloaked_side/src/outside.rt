@@ -14,6 +14,7 @@ ghost use Rattle.cloaked_side.specs.Tracking.{GoesBy};
 use crate::kept_items::KeptItems;
 use crate::memory::Memory;
 use crate::side::Side;
+use cloak_base::Frame;
 use cloak_model::{Emit, View};
 use host_calls::{Disk, Hart, Kernel, kernel_step};
 
@@ -60,6 +61,7 @@ pub fn outside_step<E: Emit>(
         violation: None,
         view,
         space: None,
+        reached: Frame(0),
     };
     let ending = kernel_step(h, d, &mut side);
     // No effect at run time. The proof reads what was lent from these uses.

@@ -41,12 +41,14 @@ impl<'m, 'e, E: Emit> PageSide for Side<'m, 'e, E> {
         self.reach_page(q, va, kind)
     }
 
+    #[inline(always)]
     fn read(&mut self, q: PageId, at: u32, width: u32) -> u32 {
-        self.memory.pager.read_plain(q, at, width)
+        self.memory.pager.read_plain(q, self.reached, at, width)
     }
 
+    #[inline(always)]
     fn write(&mut self, q: PageId, at: u32, width: u32, v: u32) {
-        self.memory.pager.write_plain(q, at, width, v)
+        self.memory.pager.write_plain(q, self.reached, at, width, v)
     }
 
     fn get(&mut self, va: u32, width: u32) -> Answer {

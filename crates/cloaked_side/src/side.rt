@@ -21,6 +21,8 @@ pub struct Side<'m, 'e, E: Emit> {
     pub view: View,
     /// The space of the context that asks; none outside.
     pub space: Option<SpaceId>,
+    /// The frame that was reached last for a page of the context.
+    pub reached: Frame,
 }
 
 impl<'m, 'e, E: Emit> Side<'m, 'e, E> {

@@ -22,7 +22,7 @@ ghost use Rattle.joint_machine.specs.Turning.{AreRoots, HoldsNoFree, HoldsNoOthe
 use crate::ended::Ended;
 use crate::going::{go_on, leave_context};
 use crate::joint::Joint;
-use crate::stepping::step_domain;
+use crate::stepping::{Stepped, step_domain};
 use cloak_base::{SpaceId, Violation};
 use cloak_model::{Emit, Item, Went};
 use cloaked_side::{KeptItems, Memory, view_of};
@@ -121,7 +121,11 @@ fn step_context<E: Emit>(
         domain: d as u32,
         number: space,
     };
-    let stepped = step_domain(domain, slot, view, space, memory, items, e);
+    let mut stepped = Stepped {
+        went: Went::Stay,
+        violation: None,
+    };
+    step_domain(domain, slot, view, space, memory, items, e, &mut stepped);
     end_space(memory, d as u32, &stepped.went);
     go_on(h, d as u32, roots, &stepped, e)
 }

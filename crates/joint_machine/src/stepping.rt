@@ -1,5 +1,5 @@
 //! The step of a program over the machine's memory.
-ghost use Rattle.std.specs.Prelude.{◌≡◌, ◌≢◌, ◌<◌, ℕ, false, [], Some, IsSome};
+ghost use Rattle.std.specs.Prelude.{◌≡◌, ◌≢◌, ◌<◌, ℕ, false, [], None, Some, IsSome};
 ghost use Rattle.cloak_model.specs.Cloaking.{CloakedMemory};
 ghost use Rattle.cloak_model.specs.Contexts.{context_at};
 ghost use Rattle.cloak_model.specs.DomainState as model;
@@ -11,7 +11,7 @@ ghost use Rattle.cloaked_side.specs.Tracking.{GoesBy};
 ghost use Rattle.hypercalls.specs.Standing.{StandsFor, control_of, number_of};
 ghost use Rattle.joint_machine.specs.Turning.{HoldsNoFree, HoldsNoOthers, StepsDomain, begun};
 
-use cloak_base::{SpaceId, Violation};
+use cloak_base::{Frame, SpaceId, Violation};
 use cloak_model::{Emit, View, Went};
 use cloaked_side::{KeptItems, Memory, Side};
 use hypercalls::Domain;
@@ -24,18 +24,8 @@ pub struct Stepped {
     pub violation: Option<Violation>,
 }
 
-/// The same. Where the context stays, one word of it is moved, and not the room of what a leave shows.
-#[inline(always)]
-fn moved(went: Went) -> Went
-    ensures { result ≡ went }
-{
-    match went {
-        Went::Stay => Went::Stay,
-        other => other,
-    }
-}
-
-/// Makes one step of the context of a slot, which runs in this space on a hart that sees memory so.
+/// Makes one step of the context of a slot, which runs in this space on a hart that sees memory so. How it ended is written
+/// to `stepped`, of which nothing is moved where the context stays.
 pub fn step_domain<E: Emit>(
     domain: &mut Domain,
     slot: u32,
@@ -44,7 +34,9 @@ pub fn step_domain<E: Emit>(
     memory: &mut Memory,
     items: &mut KeptItems,
     e: &mut E,
-) -> Stepped
+    stepped: &mut Stepped,
+)
+    requires staying { stepped.old ≡ record { went = Went.Stay; violation = None } }
     requires runs { IsSome (context_at (control_of domain.old).contexts slot) }
     requires number { number_of domain.old ≡ view.domain }
     requires there { view.domain < domains_in memory.old }
@@ -57,7 +49,8 @@ pub fn step_domain<E: Emit>(
     ensures unused { HoldsNoFree view.domain (control_of domain.new).resources memory.new.pager }
     ensures steps { (m : CloakedMemory) (d : model.Domain) → Holds memory.old m → StandsFor domain.old d →
         is_clashed (domain_step slot d (Cloaked (begun m view slot d))).world ≡ false →
-        StepsDomain E.gave e.old e.new memory.new domain.new result (domain_step slot d (Cloaked (begun m view slot d))) }
+        StepsDomain E.gave e.old e.new memory.new domain.new stepped.new
+        (domain_step slot d (Cloaked (begun m view slot d))) }
     ensures goes { (m : CloakedMemory) (d : model.Domain) → Holds memory.old m → StandsFor domain.old d →
         let told = domain_step slot d (Cloaked (begun m view slot d)) in is_clashed told.world ≡ false →
         GoesBy memory.old memory.new
@@ -70,8 +63,9 @@ pub fn step_domain<E: Emit>(
         violation: None,
         view,
         space: Some(space),
+        reached: Frame(0),
     };
-    let went = domain.step(slot, &mut side);
+    domain.step(slot, &mut side, &mut stepped.went);
     // No effect at run time. The proof reads what was lent from these uses.
     let Side {
         memory,
@@ -81,8 +75,5 @@ pub fn step_domain<E: Emit>(
     } = side;
     let _ = &*memory;
     let _ = &*emitter;
-    Stepped {
-        went: moved(went),
-        violation,
-    }
+    stepped.violation = violation;
 }

@@ -17,7 +17,7 @@ returns-then-due-clause-turns g c j number was stands holds are unclashed =
     (λ none. turns_interrupted g.E.Emit.gave _ _ c.args.h.now _ _ _ _ _ j number c.args.d c.args.slot was refl holds are (c.take_interrupt.ensures.interrupts j number was stands)) unclashed
 
 pub returns-clause-emits_some : goal.returns-clause-emits_some
-returns-clause-emits_some g c = some_then g.E.Emit.gave _ c.step_domain-stepped.new.e _ c.step_domain-stepped.ensures.emits_some c.go_on.ensures.emits_some
+returns-clause-emits_some g c = some_then g.E.Emit.gave _ c.step_domain.new.e _ c.step_domain.ensures.emits_some c.go_on.ensures.emits_some
 
 pub returns-clause-turns : goal.returns-clause-turns
 returns-clause-turns g c j number was stands holds are unclashed =
@@ -26,9 +26,9 @@ returns-clause-turns g c j number was stands holds are unclashed =
     let view = c.view_of-view.result in
     let begins = begun_is j.memory view c.args.slot was c.args.h.now c.args.d v.satp v.sum v.mxr v.domain in
     turns_now g.E.Emit.gave _ _ c.args.h.now _ _ _ _ _ j number c.args.d c.args.slot was _ false due
-    (turns_stepping g.E.Emit.gave _ _ _ c.args.h.now _ _ c.args.roots.now _ c.end_space.new.memory c.step_domain-stepped.result _ j number c.args.d c.args.slot was view begins are
-    (λ u. steps_on g.E.Emit.gave _ _ c.step_domain-stepped.new.memory c.end_space.new.memory _ _ _ c.end_space.ensures.holds
-    (c.step_domain-stepped.ensures.steps j.memory was holds stands u)) (λ after w met same. c.go_on.ensures.goes_on after number w met same)) unclashed
+    (turns_stepping g.E.Emit.gave _ _ _ c.args.h.now _ _ c.args.roots.now _ c.end_space.new.memory c.step_domain.new.stepped _ j number c.args.d c.args.slot was view begins are
+    (λ u. steps_on g.E.Emit.gave _ _ c.step_domain.new.memory c.end_space.new.memory _ _ _ c.end_space.ensures.holds
+    (c.step_domain.ensures.steps j.memory was holds stands u)) (λ after w met same. c.go_on.ensures.goes_on after number w met same)) unclashed
 
 pub returns-in_default-clause-turns : goal.returns-in_default-clause-turns
 returns-in_default-clause-turns g c j number was stands holds are unclashed =
@@ -49,9 +49,9 @@ returns-clause-goes g c j number was stands holds unclashed =
     let view = c.view_of-view.result in
     let begins = begun_is j.memory view c.args.slot was c.args.h.now c.args.d v.satp v.sum v.mxr v.domain in
     let there = taken_slot c.args.domain.now was c.args.slot c.context.result _ stands c.context.ensures.value c.in-Some.is in
-    goes_stepped c.args.memory.now c.step_domain-stepped.new.memory c.end_space.new.memory _ j number c.args.h.now c.args.d c.args.slot was there.0 _ view c.step_domain-stepped.result.went
+    goes_stepped c.args.memory.now c.step_domain.new.memory c.end_space.new.memory _ j number c.args.h.now c.args.d c.args.slot was there.0 _ view c.step_domain.new.stepped.went
     due there.1.0 (ap (λ (n : ℕ). let s : SpaceId = record { domain = c.args.d; number = n } in s) there.1.1) begins
-    (λ u. ((c.step_domain-stepped.ensures.steps j.memory was holds stands u).went, c.step_domain-stepped.ensures.goes j.memory was holds stands u))
+    (λ u. ((c.step_domain.ensures.steps j.memory was holds stands u).went, c.step_domain.ensures.goes j.memory was holds stands u))
     c.end_space.ensures.goes unclashed
 
 pub returns-in_default-clause-goes : goal.returns-in_default-clause-goes

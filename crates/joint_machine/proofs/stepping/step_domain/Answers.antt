@@ -9,50 +9,50 @@ use Rattle.joint_machine.proofs.stepping.step_domain.Goals as goal
 
 pub returns-clause-size : goal.returns-clause-size
 returns-clause-size g c =
-    let kept = c.step-went.ensures.keeps _ (stays_self g.E.Emit.gave _) in
+    let kept = c.step.ensures.keeps _ (stays_self g.E.Emit.gave _) in
     let lent = sym kept.same_memory in
-    size_back c.args.memory.now _ c.step-went.new.m.memory.now (search rules) kept.size
+    size_back c.args.memory.now _ c.step.new.m.memory.now (search rules) kept.size
 
 pub returns-clause-emits_some : goal.returns-clause-emits_some
 returns-clause-emits_some g c =
-    let kept = c.step-went.ensures.keeps _ (stays_self g.E.Emit.gave _) in
+    let kept = c.step.ensures.keeps _ (stays_self g.E.Emit.gave _) in
     let lent = sym kept.same_emitter in
-    some_back g.E.Emit.gave c.args.e.now _ c.step-went.new.m.emitter.now (search rules) kept.emits_some
+    some_back g.E.Emit.gave c.args.e.now _ c.step.new.m.emitter.now (search rules) kept.emits_some
 
 pub returns-clause-others : goal.returns-clause-others
 returns-clause-others g c =
-    let kept = c.step-went.ensures.keeps _ (stays_self g.E.Emit.gave _) in
+    let kept = c.step.ensures.keeps _ (stays_self g.E.Emit.gave _) in
     let lent = sym kept.same_memory in
-    others_back c.args.view.domain c.args.memory.now.pager _ c.step-went.new.m.memory.now.pager (search rules) kept.others
+    others_back c.args.view.domain c.args.memory.now.pager _ c.step.new.m.memory.now.pager (search rules) kept.others
 
 pub returns-clause-unused : goal.returns-clause-unused
 returns-clause-unused g c =
-    let kept = c.step-went.ensures.keeps _ (stays_self g.E.Emit.gave _) in
+    let kept = c.step.ensures.keeps _ (stays_self g.E.Emit.gave _) in
     let lent = sym kept.same_memory in
-    unused_back c.step-went.new.m _ c.args.view _ (search rules) kept.view c.step-went.ensures.unused
+    unused_back c.step.new.m _ c.args.view _ (search rules) kept.view c.step.ensures.unused
 
 pub returns-clause-steps : goal.returns-clause-steps
 returns-clause-steps g c m d holds stands unclashed =
-    let kept = c.step-went.ensures.keeps _ (stays_self g.E.Emit.gave _) in
+    let kept = c.step.ensures.keeps _ (stays_self g.E.Emit.gave _) in
     let memory_lent = sym kept.same_memory in
     let emitter_lent = sym kept.same_emitter in
     let cloak = begun m c.args.view c.args.slot d in
     let sees = sees_first g.E.Emit.gave _ cloak holds refl refl refl refl in
-    steps_told g.E.Emit.gave _ c.step-went.new.m c.step-went.new.self _ _ _ _ _ (search rules) (search rules) refl c.moved.ensures
-    (c.step-went.ensures.steps _ d stands (Cloaked cloak) (pages_begun m c.args.view c.args.slot d _ stands.control) (sees, (c.args.space, refl)) unclashed)
+    steps_told g.E.Emit.gave _ c.step.new.m c.step.new.self _ _ _ _ _ (search rules) (search rules) refl refl
+    (c.step.ensures.steps _ d stands (Cloaked cloak) (pages_begun m c.args.view c.args.slot d _ stands.control) (sees, (c.args.space, refl)) unclashed)
 
 pub returns-clause-counting : goal.returns-clause-counting
 returns-clause-counting g c =
-    let kept = c.step-went.ensures.keeps _ (stays_self g.E.Emit.gave _) in
+    let kept = c.step.ensures.keeps _ (stays_self g.E.Emit.gave _) in
     let lent = sym kept.same_memory in
-    counting_back c.args.memory.now _ c.step-went.new.m.memory.now (returns-clause-size g c) (search rules) kept.counting
+    counting_back c.args.memory.now _ c.step.new.m.memory.now (returns-clause-size g c) (search rules) kept.counting
 
 pub returns-clause-goes : goal.returns-clause-goes
 returns-clause-goes g c m d holds stands unclashed =
-    let kept = c.step-went.ensures.keeps _ (stays_self g.E.Emit.gave _) in
+    let kept = c.step.ensures.keeps _ (stays_self g.E.Emit.gave _) in
     let lent = sym kept.same_memory in
     let cloak = begun m c.args.view c.args.slot d in
     let sees = sees_first g.E.Emit.gave _ cloak holds refl refl refl refl in
-    let steps = c.step-went.ensures.steps _ d stands (Cloaked cloak) (pages_begun m c.args.view c.args.slot d _ stands.control) (sees, (c.args.space, refl)) unclashed in
-    goes_back _ _ c.step-went.new.m.memory.now _ (returns-clause-size g c) (search rules)
-    (goes_world g.E.Emit.gave _ c.step-went.new.m (Some c.args.space) (domain_step c.args.slot d (Cloaked cloak)).world kept.space steps.world_stands.0)
+    let steps = c.step.ensures.steps _ d stands (Cloaked cloak) (pages_begun m c.args.view c.args.slot d _ stands.control) (sees, (c.args.space, refl)) unclashed in
+    goes_back _ _ c.step.new.m.memory.now _ (returns-clause-size g c) (search rules)
+    (goes_world g.E.Emit.gave _ c.step.new.m (Some c.args.space) (domain_step c.args.slot d (Cloaked cloak)).world kept.space steps.world_stands.0)

@@ -13,8 +13,7 @@ use Rattle.cloaked_side.proofs.page_side.SidePageSide.write.Goals as goal
 
 pub returns-clause-follows : goal.returns-clause-follows
 returns-clause-follows g c first w sees unclashed =
-    let owed = c.requires.writable.owed in
-    let state = c.write_plain.ensures.state owed.0 owed.1 in
+    let state = c.write_plain.ensures.state in
     wrap_inside g.E.Emit.gave first c.args.self.now _ _ _ refl sees.1
     (plain_stored g.E.Emit.gave first c.args.self.now _ c.args.q c.args.at c.args.width c.args.v w
     (record { stream = refl; draws = refl; missed = refl; emitter = refl; violation = refl; view = refl; space = refl }) refl
@@ -26,30 +25,24 @@ returns-clause-follows g c first w sees unclashed =
 
 pub returns-clause-keeps : goal.returns-clause-keeps
 returns-clause-keeps g c first stays =
-    let owed = c.requires.writable.owed in
-    let state = c.write_plain.ensures.state owed.0 owed.1 in
+    let state = c.write_plain.ensures.state in
     stays_repaged g.E.Emit.gave first c.args.self.now _ stays refl refl (written_size _ _ _ _ state) refl refl refl
     (no_more_rights _ _ state.rights_are)
 
 pub returns-clause-writable : goal.returns-clause-writable
 returns-clause-writable g c =
     let r = c.requires.writable in
-    let state = c.write_plain.ensures.state r.owed.0 r.owed.1 in
+    let state = c.write_plain.ensures.state in
     record {
       domain = subst (λ (n : ℕ). c.args.q.domain < n) (sym state.domains_stay) r.domain;
       resource = r.resource;
       page = r.page;
       drawn = r.drawn;
-      owed = (
-        r.owed.0,
-        ap (λ (rs : List Held). owed_under (slice_index_or rs r.owed.0 Spent)) state.rights_are
-            ∙ r.owed.1,
-      );
+      owed = ap (λ (rs : List Held). owed_under (slice_index_or rs c.args.self.now.reached.0 Spent)) state.rights_are ∙ r.owed;
     }
 
 pub returns-clause-unused : goal.returns-clause-unused
 returns-clause-unused g c n unused =
-    let owed = c.requires.writable.owed in
     let old = c.args.self.now in
     let new = record old {
       memory =
@@ -57,15 +50,14 @@ returns-clause-unused g c n unused =
     } in
     unused_still old new n refl
     (no_more_rights old.memory.now.pager c.write_plain.new.self
-    (c.write_plain.ensures.state owed.0 owed.1).rights_are) unused
+    (c.write_plain.ensures.state).rights_are) unused
 
 pub returns-clause-same_domain : goal.returns-clause-same_domain
 returns-clause-same_domain g c =
-    let owed = c.requires.writable.owed in
     let old = c.args.self.now in
     let new = record old {
       memory =
           record old.memory { now = record old.memory.now { pager = c.write_plain.new.self } };
     } in
-    served_same old new (written_size old.memory.now new.memory.now _ _ (c.write_plain.ensures.state owed.0 owed.1))
+    served_same old new (written_size old.memory.now new.memory.now _ _ (c.write_plain.ensures.state))
     refl

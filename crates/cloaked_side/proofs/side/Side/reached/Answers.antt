@@ -43,7 +43,7 @@ returns-in-Ready-clause-told g c first w s sees spaced is so unclashed =
     granted_told gave first c.learn_page.new.self _ q c.args.va c.args.kind c.args.g.0 _ k'
     (known_inside gave first mid c.learn_page.new.self s view c.args.va c.args.kind (Some q) (Cloaked k') seen' is
     (c.learn_page.ensures.sees first (Cloaked k') seen' (viewed_inside old.space s view old.view spaced is) reached))
-    (λ v stands. c.answer.ensures.told first v stands)))
+    (λ v stands. c.grant.ensures.told first v stands)))
 
 pub returns-in-Mismatch-clause-told : goal.returns-in-Mismatch-clause-told
 returns-in-Mismatch-clause-told g c first w s sees spaced is so unclashed =
@@ -86,7 +86,7 @@ returns-in-Ready-clause-keeps g c first stays =
       memory = record old.memory { now = c.offer.new.self };
       emitter = record old.emitter { now = c.offer.new.e };
     } in
-    stays_on gave first c.learn_page.new.self _ c.answer.ensures.keeps
+    stays_on gave first c.learn_page.new.self _ c.grant.ensures.keeps
     (stays_on gave first mid c.learn_page.new.self c.learn_page.ensures.keeps
     (stays_offered gave first old mid c.args.q stays c.requires.own refl refl c.offer.ensures.emits_some c.offer.ensures.same refl refl c.offer.ensures.counting c.offer.ensures.others))
 

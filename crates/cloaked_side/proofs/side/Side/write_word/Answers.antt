@@ -1,7 +1,4 @@
-use Rattle.std.proofs.Common.{refl, subst, [], ◌∷◌}
-use Rattle.cloak_model.specs.declared.item.Item.{Item}
-use Rattle.cloak_model.specs.declared.item.Item.TheVariants as item
-use Rattle.cloak_model.specs.Exchange.{Emits, item_pieces}
+use Rattle.std.proofs.Common.{refl}
 use Rattle.cloaked_side.proofs.Holders.{no_more_self}
 use Rattle.cloaked_side.proofs.Sided.{sees_written, within_more, same_size}
 use Rattle.cloaked_side.proofs.side.Side.write_word.Goals as goal
@@ -13,6 +10,4 @@ returns-clause-keeps g c first stays =
 
 pub returns-clause-sees : goal.returns-clause-sees
 returns-clause-sees g c first w sees =
-    let old = c.args.self.now in
-    sees_written g.E.Emit.gave first old _ (item.Word c.args.self.now.view.domain c.args.value) w refl refl refl refl
-    (subst (λ (i : Item). Emits g.E.Emit.gave old.emitter.now c.item.new.self (item_pieces (i ∷ []))) c.set_word.ensures c.item.ensures) sees
+    sees_written g.E.Emit.gave first c.args.self.now _ _ w refl refl refl refl c.item.ensures sees
