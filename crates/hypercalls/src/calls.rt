@@ -252,7 +252,9 @@ impl Control {
         }
     }
 
-    /// Makes the hypercall that the context of a slot is at.
+    /// Makes the hypercall that the context of a slot is at. Apart, so that an instruction that goes on stays short.
+    #[cold]
+    #[inline(never)]
     #[tactic(auto, unfolding(cloak_model::specs::Hypercalls::hypercall))]
     pub fn hypercall<M: PageSide>(&mut self, slot: u32, m: &mut M) -> Went
         requires used { IsSome (context_at self.old.contexts slot) }
