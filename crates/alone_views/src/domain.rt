@@ -17,7 +17,7 @@ use crate::asked::Asked;
 use crate::side::{HandedSide, Handing};
 use crate::unfit::Unfit;
 use cloak_base::{Failed, HartId, NoMemory};
-use cloak_model::{Answer, Item, KernelImage, Program};
+use cloak_model::{Answer, Item, KernelImage, Program, Went};
 use hypercalls::Domain;
 use outside_io::{Sink, put_all};
 use std::alloc::Global;
@@ -316,7 +316,8 @@ impl DomainAlone {
         ensures stays { StaysBeside self.old self.new }
     {
         if self.domain.context(slot).is_some() {
-            self.domain.step(slot, &mut self.side);
+            let mut went = Went::Stay;
+            self.domain.step(slot, &mut self.side, &mut went);
         }
     }
 
