@@ -142,6 +142,7 @@ fn answers_each_question(rt: HostRuntime) -> Result<(), Fail> {
             domain: 0,
             number: 0,
         }),
+        reached: Frame(0),
     };
     assert_eq!(rt; ask_each(&mut side), Some((Answer::Word(0x3344), 77)));
     assert!(rt; load(&mut side, CLOAKED) != Some(77));
