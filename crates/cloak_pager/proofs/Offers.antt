@@ -20,7 +20,8 @@ use Rattle.page_states.specs.Opening.{IsPlain}
 use Rattle.protect_meta.specs.declared.meta.Meta.{Meta}
 use Rattle.protect_meta.specs.Table.{meta_at, domains_of}
 use Rattle.protect_meta.specs.Pages.{IsIn}
-use Rattle.cloak_pager.specs.State.{PagerState, IsWholePager, page_of, owed_under, right_at, bytes_in, held_in, owed_at}
+use Rattle.cloak_pager.specs.State.{PagerState, IsWholePager, Names}
+use Rattle.cloak_pager.specs.State.{page_of, owed_under, right_at, bytes_in, held_in, owed_at}
 use Rattle.cloak_pager.specs.Turns.{holding, HoldsNow, OfferTurns, OfferedTurns, end_of_offer, shown_by_digest}
 use Rattle.cloak_pager.specs.Turns.{ShownTurns}
 use Rattle.cloak_pager.proofs.Turned.{same_digest, other_digest}
@@ -31,7 +32,7 @@ use Rattle.cloak_pager.specs.declared.held.Held.TheVariants.{Outside, Clean, Cha
 use Rattle.cloak_pager.specs.declared.offering.Offered.{Offered}
 use Rattle.cloak_pager.specs.declared.offering.Offered.TheVariants.{Ready, Mismatch}
 use Rattle.cloak_base.proofs.Pages.{same_page-self, same_page-decides}
-use Rattle.cloak_pager.proofs.Keeping.{HasRight, whole_turned}
+use Rattle.cloak_pager.proofs.Keeping.{HasRight, named_as, whole_turned}
 use Rattle.cloak_pager.proofs.Stands.{stands_turned, owed_by_right, owed_held, page_stays}
 use Rattle.cloak_pager.proofs.Touches.{page_is, owed_nothing, settle_none}
 
@@ -406,6 +407,26 @@ pub record MayOffer (p : PagerState) (q : PageId) (g : ℕ) : Type 0 where
   pub page : IsIn (domains_of p.table) q
   pub room : (held_in p g ≡ None) ⊎ (held_in p g ≡ Some q)
   pub alone : (k : ℕ) → held_in p k ≡ Some q → k ≡ g
+
+-- one of the page that the frame holds
+pub may_again : {p : PagerState} {g : ℕ} {h : Held} → HasRight p g h → (q : PageId) → page_of h ≡ Some q →
+    MayOffer p q g
+may_again {p} {g} {h} right q is =
+    let was : held_in p g ≡ Some q = ap page_of right.at ∙ is in
+    record {
+      inside = right.inside;
+      page = in_by h (named_as right) is;
+      room = inr was;
+      alone = λ k held. right.whole.one_home k g q held was;
+    }
+  where
+    in_by : (h : Held) → Names p.table g h → page_of h ≡ Some q → IsIn (domains_of p.table) q
+    in_by (Outside r) named is = absurd (let no : None ≡ Some q = is in cc)
+    in_by (Clean r) named is = (let same : r.page ≡ q = (let e : Some r.page ≡ Some q = is in cc) in
+        subst (λ (x : PageId). IsIn (domains_of p.table) x) same named.1)
+    in_by (Changed r) named is = (let same : r.page ≡ q = (let e : Some r.page ≡ Some q = is in cc) in
+        subst (λ (x : PageId). IsIn (domains_of p.table) x) same named.1)
+    in_by Spent named is = absurd named
 
 -- An offer does what the rules of cloaking tell of it.
 pub offer_follows : (p p' : PagerState) (q : PageId) (g : ℕ) (write : Bool) (result : Offered) → MayOffer p q g →

@@ -92,24 +92,14 @@ impl Memory {
         }
     }
 
-    /// Whether the frame holds the page. Apart, since the pager answers at once for a frame that is ready.
-    #[inline(never)]
-    fn holds(&self, q: PageId, g: Frame) -> bool
+    /// Whether the frame holds the page.
+    #[inline(always)]
+    fn is_held(&self, q: PageId, g: Frame) -> bool
         requires { g.0 < frames_of self.now }
         ensures held { IsTrue result → held_in self.now.pager g.0 ≡ Some q }
         ensures not_held { result ≡ false → held_in self.now.pager g.0 ≢ Some q }
     {
         self.pager.holds(g) == Some(q)
-    }
-
-    /// Whether the frame holds the page, be it ready for an access or not.
-    #[inline(always)]
-    fn is_held(&self, q: PageId, g: Frame, write: bool) -> bool
-        requires { g.0 < frames_of self.now }
-        ensures held { IsTrue result → held_in self.now.pager g.0 ≡ Some q }
-        ensures not_held { result ≡ false → held_in self.now.pager g.0 ≢ Some q }
-    {
-        self.pager.is_ready(q, g, write) || self.holds(q, g)
     }
 
     /// The page whose newest bytes a frame has yet to show.
@@ -187,7 +177,40 @@ impl Memory {
         ensures owed { result ≡ Offer.Ready → IsTrue write → owed_at self.new.pager g.0 ≡ Some q }
         ensures drawn { result ≡ Offer.Ready → self.new.missed ≡ false }
     {
-        if self.is_held(q, g, write) {
+        if self.pager.is_ready(q, g, write) {
+            return Offer::Ready;
+        }
+        self.offer_anew(q, g, write, e)
+    }
+
+    /// The same, whatever the frame holds. Apart, since a page that is hit is ready.
+    #[cold]
+    #[inline(never)]
+    fn offer_anew<E: Emit>(&mut self, q: PageId, g: Frame, write: bool, e: &mut E) -> Offer
+        requires inside { g.0 < frames_of self.old }
+        requires domain { q.domain < domains_in self.old }
+        requires resource { q.resource < 16 }
+        requires page { q.page < 1024 }
+        requires drawn { self.old.missed ≡ false }
+        ensures same { SameSize self.old self.new }
+        ensures emits_some { EmitsSome E.gave e.old e.new }
+        ensures offers { (m : CloakedMemory) → Holds self.old m →
+            (offer q g.0 write m).memory.ledger.clashed ≡ false →
+            Offers E.gave e.old e.new self.new result (offer q g.0 write m) }
+        ensures tracks { (m : CloakedMemory) → Holds self.old m →
+            (offer q g.0 write m).memory.ledger.clashed ≡ false → (space : Option SpaceId) →
+            TracksBy self.old self.new (after_events space (offer_events q g.0 m (offer q g.0 write m).answer)) }
+        ensures spends { (m : CloakedMemory) → Holds self.old m →
+            Spends 0 (length (offer q g.0 write m).ciphers) (spent_in self.old) (spent_in self.new) }
+        ensures maps { MapsStill self.old self.new }
+        ensures again { held_in self.old.pager g.0 ≡ Some q → self.new.shadows ≡ self.old.shadows }
+        ensures counting { self.new.counting ≡ self.old.counting }
+        ensures held { result ≡ Offer.Ready → held_in self.new.pager g.0 ≡ Some q }
+        ensures others { HoldsNoOther q self.old.pager self.new.pager }
+        ensures owed { result ≡ Offer.Ready → IsTrue write → owed_at self.new.pager g.0 ≡ Some q }
+        ensures drawn { result ≡ Offer.Ready → self.new.missed ≡ false }
+    {
+        if self.is_held(q, g) {
             self.pager.whole();
             return match self.pager.offer(q, g, write) {
                 Offered::Ready => Offer::Ready,
