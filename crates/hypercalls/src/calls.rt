@@ -252,9 +252,7 @@ impl Control {
         }
     }
 
-    /// Makes the hypercall that the context of a slot is at. Apart, so that an instruction that goes on stays short.
-    #[cold]
-    #[inline(never)]
+    /// Makes the hypercall that the context of a slot is at.
     #[tactic(auto, unfolding(cloak_model::specs::Hypercalls::hypercall))]
     pub fn hypercall<M: PageSide>(&mut self, slot: u32, m: &mut M) -> Went
         requires used { IsSome (context_at self.old.contexts slot) }
