@@ -24,6 +24,17 @@ pub struct Stepped {
     pub violation: Option<Violation>,
 }
 
+/// Keeps what was presented in place of what is recorded. Where nothing was, nothing is moved.
+#[inline(always)]
+fn keep(into: &mut Option<Violation>, violation: Option<Violation>)
+    requires { into.old ≡ None }
+    ensures { into.new ≡ violation }
+{
+    if violation.is_some() {
+        *into = violation;
+    }
+}
+
 /// Makes one step of the context of a slot, which runs in this space on a hart that sees memory so. How it ended is written
 /// to `stepped`, of which nothing is moved where the context stays.
 pub fn step_domain<E: Emit>(
@@ -75,5 +86,5 @@ pub fn step_domain<E: Emit>(
     } = side;
     let _ = &*memory;
     let _ = &*emitter;
-    stepped.violation = violation;
+    keep(&mut stepped.violation, violation);
 }

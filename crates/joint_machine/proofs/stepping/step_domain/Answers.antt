@@ -38,7 +38,7 @@ returns-clause-steps g c m d holds stands unclashed =
     let emitter_lent = sym kept.same_emitter in
     let cloak = begun m c.args.view c.args.slot d in
     let sees = sees_first g.E.Emit.gave _ cloak holds refl refl refl refl in
-    steps_told g.E.Emit.gave _ c.step.new.m c.step.new.self _ _ _ _ _ (search rules) (search rules) refl refl
+    steps_told g.E.Emit.gave _ c.step.new.m c.step.new.self _ _ _ _ _ (search rules) (search rules) c.keep.ensures refl
     (c.step.ensures.steps _ d stands (Cloaked cloak) (pages_begun m c.args.view c.args.slot d _ stands.control) (sees, (c.args.space, refl)) unclashed)
 
 pub returns-clause-counting : goal.returns-clause-counting
