@@ -3,8 +3,8 @@
 //! `Memory` settles frames and offers pages, and emits what the kernel is shown on the way. A `Side` is made of it for
 //! one step. It answers what the plain step asks (`Words` of `sv32_walk`, `Ram` of `host_calls`), each time settling
 //! the frame first, and what the step of a cloaked program asks (`PageSide` of `cloak_model`), and writes each answer.
-//! It holds no page and copies none. `outside_step` is the plain step over it. The items of answers are kept from step to
-//! step (`KeptItems`), and lent to the side.
+//! It holds no page and copies none. `outside_step` is the plain step over it. The item of stores is kept from step to step
+//! (`KeptItems`), and lent to the side.
 //!
 //! The layer above may rely on this: for every joint world that a side stands for (`specs/Seeing`), each call answers
 //! what the definition tells, the emitter was given exactly the items that the world has written since, and the side
