@@ -16,6 +16,3 @@ pub use command::asm_command;
 pub use fault::TextFault;
 pub use making::{Reason, conclude, reason_of};
 pub use telling::{FaultyText, shown_text};
-
-#[cfg(test)]
-mod tests;

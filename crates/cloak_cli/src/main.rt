@@ -1,29 +1,11 @@
 //! The program `cloak`: runs guest images, reads the records of runs back, and makes guest images.
 //!
-//! `command::cloak` reads the words and hands them to the command that they name: `run` (`run_command`), `view` and `solo`
-//! (`read_back`), `gen` and `demo` (`image_commands`), `stats` (`stats_command`). The program exits with the number of the
-//! command's status.
-//! `program::run_program` is all of it over any words, files and output; its clause `exits` gives each status its cause
-//! and each command what it writes. `program::sentence` says why a status came, and `main` shows that on standard error.
+//! `cloak_commands::run_program` is all of it over any words, files and output. The program exits with the number of the
+//! answer's status, and says on standard error why it came.
 #![tactic(auto)]
 
-mod command;
-#[cfg(test)]
-mod image_tests;
-#[cfg(test)]
-mod images;
-mod program;
-#[cfg(test)]
-mod program_tests;
-#[cfg(test)]
-mod reports;
-#[cfg(test)]
-mod tests;
-mod words;
-
-use crate::program::{run_program, sentence};
-use crate::words::Words;
 use cloak_base::NoMemory;
+use cloak_commands::{Words, run_program, sentence};
 use outside_io::{FileShelf, StdSink};
 use program_parts::Status;
 use std::fs::{File, OpenOptions};

@@ -45,17 +45,6 @@ fn fits(r: &Resources, c: &Contexts, space: u32) -> Result<(), MapFault>
     }
 }
 
-/// There is room for a fork by the context of a slot.
-pub fn fork_fits(r: &Resources, c: &Contexts, slot: u32) -> Result<(), MapFault>
-    requires used { IsSome (context_at c.now slot) }
-    requires in_use { ForSome (context_at c.now slot) (λ x. IsInUse r.now x.space) }
-    ensures as_defined { IfSome (context_at c.now slot) (λ x. result ≡ spec.fork_fits x.space r.now c.now) }
-    ensures only_full { IfErr result (λ fault. fault ≡ MapFault.Full) }
-{
-    let caller = context(c, slot);
-    fits(r, c, caller.space)
-}
-
 /// The pages of a space's private resources are copied to free numbers, once the frames that are owed them are settled.
 fn copy_pages<M: PageSide>(r: &Resources, domain: u32, space: u32, m: &mut M)
     requires domain { domain ≡ M.serves m.old }

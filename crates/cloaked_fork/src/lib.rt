@@ -13,4 +13,4 @@ mod slots;
 
 pub use cloak_model::{Ended, MapFault};
 pub use ending::end_context;
-pub use forking::{fork_fits, fork_space};
+pub use forking::fork_space;

@@ -5,7 +5,7 @@ use std::alloc::Global;
 use std::test::Fail;
 
 /// The words of a text that is not very long.
-fn assembled(alloc: Global, text: &str) -> Option<Vec<u32>> {
+pub fn assembled(alloc: Global, text: &str) -> Option<Vec<u32>> {
     if text.len() > 100_000 {
         return None;
     }

@@ -4,11 +4,17 @@
 #[cfg(test)]
 mod code;
 #[cfg(test)]
+mod demo_text;
+#[cfg(test)]
 mod domain_alone;
+#[cfg(test)]
+mod generated;
 #[cfg(test)]
 mod images;
 #[cfg(test)]
 mod kernel_alone;
+#[cfg(test)]
+mod kernel_text;
 #[cfg(test)]
 mod openings;
 #[cfg(test)]

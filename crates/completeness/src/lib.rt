@@ -2,7 +2,7 @@
 //! answers gives (`run_command`, `stats_command`, `read_back`, `image_commands`) leave one answer then, or want of memory
 //! before anything is begun: so no body can answer a fault that did not come.
 //!
-//! No body turns a law, so there is no wrong body to refuse here; `cloak_cli` has edits for its clause. These changed
+//! No body turns a law, so there is no wrong body to refuse here; `cloak_commands` has edits for its clause. These changed
 //! definitions were tried on a copy, and with none of them did the proof of its law go through. Of runs: the line for a
 //! key that is missing is that for the draw of a page. Of views: `solo` shows a record as one that was not read to its
 //! end. Of images: `gen` never lacks memory. Of reading back: `view` shows the parts that the run began with.

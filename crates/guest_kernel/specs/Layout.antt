@@ -2,8 +2,8 @@
 use Rattle.std.specs.Prelude.{ℕ, ◌+◌, ◌*◌, List}
 use Rattle.cloak_base.specs.Constants.{ram_start}
 use Rattle.cloak_base.specs.declared.names.Start.{Start}
-use Rattle.guest_kernel.specs.declared.kernel_words.TheConstants.{KERNEL}
-use Rattle.guest_kernel.specs.declared.demo_words.TheConstants.{DEMO}
+use Rattle.guest_kernel.specs.declared.kernel_table.TheConstants.{KERNEL}
+use Rattle.guest_kernel.specs.declared.demo_table.TheConstants.{DEMO}
 
 -- the words of the kernel's text
 unfoldable pub kernel_words : List ℕ

@@ -4,7 +4,7 @@ ghost use Rattle.cloak_model.specs.Bundle.{bundle_bytes};
 ghost use Rattle.guest_kernel.specs.Generated.{generated};
 
 use crate::drawing::programs;
-use crate::kernel_words::kernel_words;
+use crate::kernel_table::kernel_words;
 
 /// How many bytes the file of a number's image has: header, schedule, two segments, the disk and the programs.
 pub fn file_length(n: u64) -> u64

@@ -4,30 +4,25 @@
 //! copies of the demo program, a schedule, and the rounds of each. The layer above may rely on this: the bundle is the
 //! one of its number, it is in the grammar of bundles, and `file_length` is the length of its file.
 //!
-//! Kernel and demo are assembler texts (`kernel_text`, `demo_text`) with the table of their words beside each, which
-//! is what images are made of: nothing is assembled when the program runs. That the assembler makes the table of
-//! its text is tested. Nothing that cloaking promises rests on the kernel.
+//! Kernel and demo are tables of words, which is what images are made of: nothing is assembled when the program runs. Their
+//! assembler texts stand in `command_tests` (`kernel_text`, `demo_text`), where a test shows that the assembler makes each
+//! table of its text. Nothing that cloaking promises rests on the kernel.
 #![tactic(auto)]
 
-mod demo_words;
+mod demo_table;
 mod drawing;
 mod generating;
-mod kernel_words;
+mod kernel_table;
 mod laws;
 mod length;
 mod programs;
 mod segments;
 mod summary;
 
+pub use demo_table::demo_words;
 pub use generating::generate;
+pub use kernel_table::kernel_words;
 pub use laws::law_of_generated_images;
 pub use length::file_length;
 pub use segments::put_words;
 pub use summary::put_summary;
-
-#[cfg(test)]
-mod demo_text;
-#[cfg(test)]
-mod kernel_text;
-#[cfg(test)]
-mod tests;

@@ -3,7 +3,7 @@ ghost use Rattle.std.specs.Prelude.{◌≡◌, ◌<◌, IfOk};
 ghost use Rattle.guest_kernel.specs.Drawing.{AreDrawn};
 ghost use Rattle.guest_kernel.specs.Generated.{demo_code, demo_program, demo_programs};
 
-use crate::demo_words::demo_words;
+use crate::demo_table::demo_words;
 use crate::drawing::{DRAWN, programs, rounds};
 use crate::segments::{demo_frame, put_words};
 use cloak_base::{NoMemory, Start};

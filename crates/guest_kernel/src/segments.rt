@@ -6,7 +6,7 @@ ghost use Rattle.guest_kernel.specs.Layout.{demo_frame};
 ghost use Rattle.guest_kernel.specs.Generated.{boot_table, segments_of};
 
 use crate::drawing::{harts, programs};
-use crate::kernel_words::kernel_words;
+use crate::kernel_table::kernel_words;
 use cloak_base::{NoMemory, RAM_START};
 use cloak_model::{Segment, Sequence};
 use std::alloc::Global;

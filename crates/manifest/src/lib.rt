@@ -20,6 +20,3 @@ mod telling;
 pub use fault::{PackError, PackFault, Wrong};
 pub use key::{Key, Part};
 pub use pack::pack_command;
-
-#[cfg(test)]
-mod tests;

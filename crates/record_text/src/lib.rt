@@ -21,6 +21,3 @@ pub use command::show_command;
 pub use kinds::Kinds;
 pub use reading::next_item;
 pub use selection::Selection;
-
-#[cfg(test)]
-mod tests;

@@ -19,6 +19,3 @@ mod untold;
 mod watch;
 
 pub use command::explain_command;
-
-#[cfg(test)]
-mod tests;

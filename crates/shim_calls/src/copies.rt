@@ -9,10 +9,9 @@ ghost use Rattle.cloak_model.specs.Contexts as context;
 ghost use Rattle.cloak_model.specs.Calls as spec;
 ghost use Rattle.shim_calls.specs.Copying.{IsMisplaced, NoLongerFits, next_copy};
 
-use crate::pages::page_at;
 use cloak_base::{Kind, PageId};
 use cloak_model::{Answer, Copied, PageSide, Phase};
-use resource_map::Resources;
+use resource_map::{Resources, page_at};
 use thread_context::Context;
 
 /// The space's regions do not fit the call any more: it is over.

@@ -17,6 +17,3 @@ mod sentences;
 pub use exiting::run_tools;
 pub use line::CommandLine;
 pub use sentences::sentence;
-
-#[cfg(test)]
-mod tests;

@@ -1,0 +1,62 @@
+-- What the program answers as it ends.
+use Rattle.std.specs.Prelude.{◌≡◌, ◌⊎◌, map, string_bytes, Option, Some, None}
+use Rattle.outside_io.specs.Told.{Rose, SameFiles}
+use Rattle.command_words.specs.declared.usage_fault.UsageFault.TheVariants.{WrongWords}
+use Rattle.command_words.specs.Command as spec
+use Rattle.program_parts.specs.declared.refusal.Refusal.TheVariants as refusal
+use Rattle.program_parts.specs.declared.status.Status.{Status}
+use Rattle.program_parts.specs.declared.status.Status.TheVariants as status
+use Rattle.cloak_commands.specs.declared.words.Words.{Words}
+use Rattle.cloak_commands.specs.declared.words.Words.TheVariants as words
+use Rattle.cloak_commands.specs.Answering.{Answers, KeepsOthers}
+use Rattle.program_parts.specs.Outside.{Outside, NothingRose}
+use Rattle.program_parts.specs.Refusing.{Refuses}
+use Rattle.status_sentence.specs.declared.Sentence.{Sentence}
+use Rattle.status_sentence.specs.Sentence.{sentence}
+use Rattle.status_sentence.specs.Showing.{sentence_text}
+
+-- the status comes by its cause, and no file is changed that the words do not name to be written
+pub record AnswersAsked {S O : Type 0} (asked : spec.Asked) (before after : Outside S O) (answer : Status) : Type 0
+  where
+    pub answers : Answers asked before after answer
+    pub kept : KeepsOthers asked answer before.files.held after.files.held
+
+-- what these words ask for, where there was memory to take them
+abbrev pub asked_by : Words → Option spec.Asked
+asked_by (words.Taken texts) = Some (spec.words_of (map string_bytes texts.items))
+asked_by words.NotText = Some (spec.Faulty WrongWords)
+asked_by words.NoMemory = None
+
+-- The sentence of a status, by what the words ask for; or, where there was no memory to read them again, without names.
+abbrev pub TellsWhy : Words → Status → Sentence → Type 0
+TellsWhy given_words given told =
+    (sentence_text told ≡ sentence (asked_by given_words) given) ⊎ (sentence_text told ≡ sentence None given)
+
+-- the line of want of memory was shown, and no file was asked for anything
+pub record WantsMemory {S O : Type 0} (before after : Outside S O) (answer : Status) : Type 0 where
+  pub line : Refuses before.output after.output refusal.NoMemory answer
+  pub untouched : after.files ≡ before.files
+
+-- What was answered to these words. One that is no text makes them faulty.
+abbrev pub AnswersWords : {S O : Type 0} → Words → Outside S O → Outside S O → Status → Type 0
+AnswersWords (words.Taken texts) before after answer =
+    AnswersAsked (spec.words_of (map string_bytes texts.items)) before after answer
+AnswersWords words.NotText before after answer = AnswersAsked (spec.Faulty WrongWords) before after answer
+AnswersWords words.NoMemory before after answer = WantsMemory before after answer
+
+-- a call that writes out what is gathered failed
+abbrev pub FlushFailed : {S O : Type 0} → Outside S O → Outside S O → Type 0
+FlushFailed before after =
+    Rose before.files.writing after.files.writing ⊎ Rose before.output.faults after.output.faults
+
+-- What was done by the words, and what was answered; then what is gathered was written out, and the answer is given,
+-- or,
+-- where that failed, the write fault.
+pub record Exits {S O : Type 0} (given_words : Words) (before after : Outside S O) (given : Status) : Type 0 where
+  pub done : Outside S O
+  pub answer : Status
+  pub answers : AnswersWords given_words before done answer
+  pub held : SameFiles done.files.held after.files.held
+  pub taken : after.output.taken ≡ done.output.taken
+  pub reading : after.files.reading ≡ done.files.reading
+  pub outcome : ((given ≡ answer) × NothingRose done after) ⊎ ((given ≡ status.WriteFault) × FlushFailed done after)

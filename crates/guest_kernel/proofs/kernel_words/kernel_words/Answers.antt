@@ -1,7 +1,0 @@
-use Rattle.std.proofs.Common.{refl}
-use Rattle.guest_kernel.specs.Layout.{kernel_words}
-use Rattle.guest_kernel.proofs.kernel_words.kernel_words.Goals as goal
-
-pub returns : goal.returns
-unfolding kernel_words
-returns c = refl

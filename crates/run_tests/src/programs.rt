@@ -1,0 +1,186 @@
+//! Runs of a guest image with one program, of one page in frame 8.
+
+use crate::calls::{Left, called};
+use crate::images::image;
+use crate::reports::{EMPTY, Outcome, report};
+use cloak_commands::{Words, sentence};
+use program_parts::Status;
+use std::alloc::Global;
+use std::test::*;
+
+/// The run of an image for 100 steps under a stream of so many bytes: 0, 1, 2 and so on.
+fn ran(alloc: Global, bundle: &[u8], bytes: u8) -> Result<Left, Fail> {
+    let mut stream = Vec::new(alloc);
+    for byte in 0..bytes {
+        stream.push(byte)?;
+    }
+    let line = "run a.b a.r --steps 100 --stream other";
+    called(alloc, line, bundle, stream.as_slice(), (0, 0))
+}
+
+/// Sets the trap's vector to the handler behind it, and resumes context 0.
+const START: &str = "la x6, handler\ncsrrw x0, 0x105, x6\nlui x17, 0x4F560\necall\nhandler:";
+
+const HALTS: &str = "addi x17, x0, 4\necall";
+
+/// Flips a bit of frame 8 and resumes.
+const FLIPS: &str = "
+    auipc x6, 8
+    lw x7, 0(x6)
+    xori x7, x7, 1
+    sw x7, 0(x6)
+    lui x17, 0x4F560
+    ecall
+";
+
+/// Writes 0x00400000 to satp and resumes.
+const REMAPS: &str = "lui x6, 0x400\ncsrrw x0, 0x180, x6\nlui x17, 0x4F560\necall";
+
+/// Resumes what left.
+const RESUMES_AGAIN: &str = "lui x17, 0x4F560\necall";
+
+const RESUMES_CONTEXT_3: &str = "addi x5, x0, 3\nlui x17, 0x4F560\necall";
+
+/// Stores 7, loads it, and calls number 9.
+const CALLS: &str = "
+    addi x10, x0, 7
+    sw x10, 0(x2)
+    lw x11, 0(x2)
+    addi x16, x0, 9
+    lui x17, 0x4F560
+    addi x17, x17, 8
+    ecall
+";
+
+/// Ends its context.
+const EXITS: &str = "lui x17, 0x4F560\naddi x17, x17, 7\necall";
+
+const CALLED: Outcome = Outcome {
+    ends: ("halt 7", 14, 2),
+    console: ("", EMPTY),
+    ram: "2da50ffcd931d216d4839fe1c98ec2c33929a52a7ef3ed3e96ca928ca971d80a",
+    disk: EMPTY,
+    harts: &[(
+        "S pc 8000001c inside -",
+        &[
+            (10, 7),
+            (11, 7),
+            (17, 4),
+            (0x105, 0x8000_0014),
+            (0x141, 0x1000),
+            (0x142, 8),
+        ],
+    )],
+};
+
+/// The line of the program in that report.
+const CALLED_LINE: &str =
+    "domain 0 state 57f402f27d52d0ab34baac3ab1c5a3062548b040812cf8c40e61e161f4c6d610 \
+    loads 1 3bc4fec69186869eae2e7a3fbd93442330a26866e505d5eae0d9342ad904819c\n";
+
+/// The status, the first lines behind the console's where these are not the whole report, and the length of the record
+/// of runs by the bytes of their stream.
+static ENDS: [(u8, Status, Option<&str>, usize); 6] = [
+    (48, Status::Done, None, 8355),
+    (255, Status::Done, None, 8355),
+    (
+        47,
+        Status::NoRandom,
+        Some("\nstop norandom\nsteps 14\ndraws 1\n"),
+        8355,
+    ),
+    (31, Status::NoRandom, Some("random: opening\n"), 0),
+    (16, Status::NoRandom, Some("random: opening\n"), 0),
+    (15, Status::NoRandom, Some("random: no key\n"), 0),
+];
+
+#[test]
+fn streams_that_end(rt: HostRuntime) -> Result<(), Fail> {
+    let kernel = format!(in rt.alloc(); "{START}\n{HALTS}")?;
+    let bundle = image(rt.alloc(), &[0], &[kernel.as_str()], 0, CALLS)?;
+    let mut shown = report(rt.alloc(), CALLED)?;
+    shown.push_str(CALLED_LINE)?;
+    for (bytes, status, begins, record) in ENDS {
+        let begins = match begins {
+            Some(text) => text.as_bytes(),
+            None => shown.as_bytes(),
+        };
+        let left = ran(rt.alloc(), bundle.as_slice(), bytes)?;
+        assert_eq!(rt; left.status, status, "{bytes} bytes");
+        assert!(rt; left.sink.taken().starts_with(begins), "{bytes} bytes");
+        assert_eq!(rt; left.shelf.bytes("a.r").len(), record, "{bytes} bytes");
+    }
+    Ok(())
+}
+
+/// Turns, the two parts of a kernel, programs, and what the line `stop` says behind `violation`, with lines behind it.
+static VIOLATIONS: [(&[u8], &str, &str, &str, &str); 5] = [
+    (
+        &[0],
+        START,
+        FLIPS,
+        CALLS,
+        "page domain 0 resource 0 page 0 frame 8\nsteps 19\ndraws 2",
+    ),
+    (&[0], START, REMAPS, CALLS, "mapping 0 root 00400000"),
+    (&[0], START, RESUMES_AGAIN, EXITS, "context 0"),
+    (&[0], "", RESUMES_CONTEXT_3, CALLS, "context 3"),
+    (&[0, 1], START, HALTS, CALLS, "context 0"),
+];
+
+#[test]
+fn violations(rt: HostRuntime) -> Result<(), Fail> {
+    for (turns, start, handler, program, said) in VIOLATIONS {
+        let kernel = format!(in rt.alloc(); "{start}\n{handler}")?;
+        let bundle = image(rt.alloc(), turns, &[kernel.as_str()], 0, program)?;
+        let left = ran(rt.alloc(), bundle.as_slice(), 255)?;
+        let begins = format!(in rt.alloc(); "\nstop violation {said}\n")?;
+        assert_eq!(rt; left.status, Status::Violation, "{said}");
+        assert!(rt; left.sink.taken().starts_with(begins.as_bytes()), "{said}");
+    }
+    Ok(())
+}
+
+/// What is said of a status, with the names of the files that these words name.
+static SENTENCES: [(&str, Status, &str); 6] = [
+    ("demo 9 --steps 10", Status::Done, ""),
+    (
+        "run a.b a.r --steps 10 --number 7",
+        Status::ReadFault,
+        "cloak: the bundle `a.b` cannot be read\n",
+    ),
+    (
+        "run a.b a.r --steps 10 --stream s",
+        Status::NoRandom,
+        "cloak: the stream `s` has too few bytes for this run\n",
+    ),
+    (
+        "solo 3 a.b a.r",
+        Status::Usage,
+        "cloak: program 3 is not in the bundle `a.b`\n",
+    ),
+    (
+        "view a.b a.r",
+        Status::BadRecord,
+        "cloak: the record `a.r` is damaged, or is none of the bundle `a.b`, and the line `record` says where\n",
+    ),
+    (
+        "gen 9 a.b",
+        Status::WriteFault,
+        "cloak: the bundle `a.b` or the output cannot be written, and what was written before stands\n",
+    ),
+];
+
+#[test]
+fn sentences(rt: HostRuntime) -> Result<(), Fail> {
+    for (line, status, said) in SENTENCES {
+        let mut words = Vec::new(rt.alloc());
+        for word in line.split_whitespace() {
+            words.push(String::from_str(rt.alloc(), word)?)?;
+        }
+        let words = Words::Taken(words);
+        let told = sentence(rt.alloc(), &words, status).to_string(rt.alloc())?;
+        assert_eq!(rt; told.as_str(), said, "{line}");
+    }
+    Ok(())
+}

@@ -1,0 +1,30 @@
+//! A run over files and an output on which no call fails: so that no status of a fault can come.
+
+use crate::images::image;
+use cloak_commands::{Words, run_program};
+use never_fails::{NeverShelf, NeverSink};
+use program_parts::Status;
+use std::test::*;
+
+/// The SHA-256 digest of the 34 bytes of the smallest run's record.
+const RECORD_DIGEST: [u8; 32] = [
+    0x1d, 0x7e, 0x1e, 0x91, 0xb3, 0x1d, 0xd3, 0xfc, 0xcf, 0x62, 0x2c, 0x0c, 0x6d, 0x7e, 0xb1, 0x02,
+    0xb8, 0x9b, 0x1f, 0x44, 0x77, 0x44, 0xd8, 0xa7, 0xf7, 0xd5, 0xec, 0xa7, 0x74, 0xf4, 0x5c, 0xb0,
+];
+
+#[test]
+fn the_smallest_run_where_no_call_fails(rt: HostRuntime) -> Result<(), Fail> {
+    let code = "addi x10, x0, 65\necall\naddi x17, x0, 4\necall";
+    let bundle = image(rt.alloc(), &[0], &[code], 0, "")?;
+    let mut shelf = NeverShelf::open(rt.alloc());
+    shelf.add("a.b", bundle.as_slice())?;
+    let mut sink = NeverSink::open();
+    let mut words = Vec::new(rt.alloc());
+    for word in "run a.b a.r --steps 10 --number 0".split_whitespace() {
+        words.push(String::from_str(rt.alloc(), word)?)?;
+    }
+    let status = run_program(rt.alloc(), &Words::Taken(words), &mut shelf, &mut sink);
+    assert_eq!(rt; status, Status::Done);
+    assert_eq!(rt; shelf.sum(), (34, RECORD_DIGEST));
+    Ok(())
+}

@@ -1,0 +1,14 @@
+//! Tests of the tools: texts that are assembled, manifests, records as they are shown, runs that are explained, and the words
+//! that ask for each.
+#![tactic(auto)]
+
+#[cfg(test)]
+mod assembling;
+#[cfg(test)]
+mod lines;
+#[cfg(test)]
+mod manifests;
+#[cfg(test)]
+mod records;
+#[cfg(test)]
+mod stories;

@@ -1,0 +1,72 @@
+//! Lines over a text, a manifest and a record, from the words to the files and the output.
+
+use outside_io::{MemoryShelf, MemorySink};
+use program_parts::Status;
+use std::alloc::Global;
+use std::test::*;
+use tool_commands::{CommandLine, run_tools};
+
+/// What a line left.
+#[derive(Drop)]
+struct Left {
+    status: Status,
+    shelf: MemoryShelf,
+    sink: MemorySink,
+}
+
+/// A record of two steps with nothing in them.
+const RECORD: &[u8] = b"CLOAKREC\x10\x01\0\0\0\x10\x02\0\0\0\x11\x02\0\0\0\x12";
+
+/// Runs the tools with words that are separated by spaces.
+fn called(alloc: Global, line: &str) -> Result<Left, Fail> {
+    let mut shelf = MemoryShelf::open(alloc, Vec::new(alloc));
+    let mut sink = MemorySink::open(alloc, Vec::new(alloc));
+    let manifest = b"[[segment]]\naddress = 0x80000000\ntext = \"k.s\"\n";
+    let files: [(&str, &[u8]); 3] = [("k.s", b"ecall\n"), ("k.toml", manifest), ("a.r", RECORD)];
+    for (name, bytes) in files {
+        if shelf.add(name, bytes).is_err() {
+            return Err(Fail::from("no memory"));
+        }
+    }
+    let mut words = Vec::new(alloc);
+    for word in line.split(' ') {
+        words.push(String::from_str(alloc, word)?)?;
+    }
+    let status = run_tools(alloc, &CommandLine::Taken(words), &mut shelf, &mut sink);
+    Ok(Left {
+        status,
+        shelf,
+        sink,
+    })
+}
+
+#[test]
+fn each_command_does_its_own(rt: HostRuntime) -> Result<(), Fail> {
+    let left = called(rt.alloc(), "tools asm k.s k.w")?;
+    assert_eq!(rt; left.status, Status::Done);
+    assert_eq!(rt; left.shelf.bytes("k.w"), [0x73, 0, 0, 0].as_slice());
+    // The bundle has 40 bytes in front, one turn, a segment's eight bytes, and the word.
+    let left = called(rt.alloc(), "tools pack k.toml k.b")?;
+    assert_eq!(rt; left.status, Status::Done);
+    assert_eq!(rt; left.shelf.bytes("k.b").len(), 53);
+    let left = called(rt.alloc(), "tools explain k.b a.r")?;
+    assert_eq!(rt; left.status, Status::BadBundle);
+    assert_eq!(rt; left.sink.taken(), b"bundle: short at 0\n".as_slice());
+    Ok(())
+}
+
+#[test]
+fn what_is_shown_by_the_words(rt: HostRuntime) -> Result<(), Fail> {
+    for (line, status, front) in [
+        ("tools show a.r --from 1 --to 1", Status::Done, "step 1\n"),
+        ("tools show a.r --only leave,put", Status::Done, ""),
+        ("tools show a.r --only leaves", Status::Usage, "error: "),
+        ("tools show a.r --from x", Status::Usage, "error: "),
+        ("tools --version", Status::Done, "tools 1.0\n"),
+    ] {
+        let left = called(rt.alloc(), line)?;
+        assert_eq!(rt; left.status, status, "{line}");
+        assert!(rt; left.sink.taken().starts_with(front.as_bytes()), "{line}");
+    }
+    Ok(())
+}
