@@ -1,0 +1,269 @@
+-- A call to the kernel, as it begins, as its bytes are copied one a step, and as it is answered.
+use Rattle.std.proofs.Common.{◌≡◌, ◌≢◌, ◌⊎◌, inl, inr, ℕ, ◌+◌, ◌^◌, ◌<◌, ◌≤◌, Bool, true, false, cond, List, Option, Some, None, Result, Ok, Err, refl, ◌∙◌, arith}
+use Rattle.std.specs.Prelude.{◌==◌, ◌&&◌, nat_le}
+use Rattle.std.proofs.lemmas.Bool.{eqb-true, leb-true, leb-false, and_cases, and_parts, or_cases}
+use Rattle.std.proofs.lemmas.List.{get_or-set_other}
+use Rattle.cloak_base.specs.Registers.{register, with_register}
+use Rattle.cloak_base.specs.declared.names.PageId.{PageId}
+use Rattle.cloak_model.specs.declared.answer.Answer.{Answer}
+use Rattle.cloak_model.specs.declared.answer.Answer.TheVariants as told
+use Rattle.cloak_model.specs.declared.context.Phase.{Phase}
+use Rattle.cloak_model.specs.declared.context.Phase.TheVariants.{Plain, CopyIn, Waiting, CopyOut}
+use Rattle.cloak_model.specs.declared.inside.Begun.{Begun}
+use Rattle.cloak_model.specs.declared.inside.Begun.TheVariants as begun
+use Rattle.cloak_model.specs.declared.inside.Copied.{Copied}
+use Rattle.cloak_model.specs.declared.inside.Copied.TheVariants as copied
+use Rattle.cloak_model.specs.declared.resource.MapFault.{MapFault}
+use Rattle.cloak_model.specs.Calls.{call_number, call_length, buffer, area, takes_bytes, gives_bytes, is_in_bounds, is_good, BeginsCall, waiting, copy_begin, call_begin, begin_call, Copy, copy_refused, in_put, in_reached, in_placed, in_step, copy_in_step, out_reached, out_got, out_placed, out_step, copy_out_step, finish_call}
+use Rattle.cloak_model.specs.Contexts.{Context, set_word, in_phase, has_buffer}
+use Rattle.cloak_model.specs.Resources.{Resources}
+use Rattle.cloak_model.specs.World.{World}
+use Rattle.limit_law.specs.Limits.{IsCall, IsCopyIn, IsCopyOut, IsPhase, WaitsOnNoHart, IsSteady}
+use Rattle.limit_law.proofs.Contexts.{with_register_length, with_register_zero}
+
+-- The same context in another phase, and with an answer.
+
+phase_steady : (c : Context) (phase : Phase) → IsSteady c → IsPhase c.regs phase → IsSteady (in_phase phase c)
+phase_steady c phase s here =
+    record { registers = s.registers; zero_register = s.zero_register; aligned = s.aligned; phase = here }
+
+answered_steady : (c : Context) (phase : Phase) (v : ℕ) → IsSteady c → IsPhase (with_register c.regs 10 v) phase →
+    IsSteady (in_phase phase (set_word c 10 v))
+answered_steady c phase v s here = record {
+  registers = with_register_length c.regs 10 v s.registers;
+  zero_register = with_register_zero c.regs 10 v s.zero_register;
+  aligned = s.aligned;
+  phase = here;
+}
+
+-- x10 is no register of a call's shape
+kept : (regs : List ℕ) (v k : ℕ) → k ≢ 10 → register (with_register regs 10 v) k ≡ register regs k
+kept regs v k other = get_or-set_other regs 10 k v 0 other
+
+call_kept : (regs : List ℕ) (v : ℕ) → IsCall regs → IsCall (with_register regs 10 v)
+call_kept regs v call =
+    let x = kept regs v 11 (λ e. cc) in
+    let y = kept regs v 12 (λ e. cc) in
+    let z = kept regs v 13 (λ e. cc) in
+    record {
+      few = omega (arith, y, call.few);
+      buffer = omega (arith, x, y, call.buffer);
+      area = omega (arith, z, y, call.area);
+    }
+
+-- What a copying step leaves. If it goes on inside, its context does not wait on a hart.
+
+abbrev pub StaysIdle : Copied → Context → Type 0
+StaysIdle copied.Going c = WaitsOnNoHart c.phase c.on
+StaysIdle copied.CallReady c = Unit {0}
+StaysIdle copied.Done c = WaitsOnNoHart c.phase c.on
+StaysIdle (copied.Absent cause address) c = Unit {0}
+StaysIdle copied.Stopped c = Unit {0}
+StaysIdle copied.Refused c = WaitsOnNoHart c.phase c.on
+StaysIdle (copied.Loaded address byte) c = WaitsOnNoHart c.phase c.on
+
+pub record AfterCopy (c : Context) (k : Copy) : Type 0 where
+  pub steady : IsSteady k.context
+  pub space : k.context.space ≡ c.space
+  pub on : k.context.on ≡ c.on
+  pub idle : StaysIdle k.ending k.context
+
+module _ (c : Context) (s : IsSteady c) where
+  absent : (cause address : ℕ) → AfterCopy c (record { context = c; ending = copied.Absent cause address })
+  absent cause address = record { steady = s; space = refl; on = refl; idle = tt }
+
+  stopped : AfterCopy c (record { context = c; ending = copied.Stopped })
+  stopped = record { steady = s; space = refl; on = refl; idle = tt }
+
+  refused : (w : World) → AfterCopy c (copy_refused c w).answer
+  refused w = record { steady = answered_steady c Plain _ s tt; space = refl; on = refl; idle = tt }
+
+  module _ (done : ℕ) (p : IsCopyIn c.regs done) where
+    in_put_one : (byte : ℕ) (a : Answer) (w : World) → done < register c.regs 12 →
+        AfterCopy c (in_put c done byte a w).answer
+    unfolding in_put
+    in_put_one byte told.Ok w low = record {
+      steady = phase_steady c (CopyIn (done + 1)) s (record {
+        number = p.number;
+        part = omega (arith, low);
+        call = p.call;
+      });
+      space = refl;
+      on = refl;
+      idle = tt;
+    }
+    in_put_one byte (told.Absent cause) w low = absent _ _
+    in_put_one byte (told.Word value) w low = stopped
+    in_put_one byte told.Stopped w low = stopped
+
+    in_reached_one : (q : PageId) (a : Answer) (w : World) → done < register c.regs 12 →
+        AfterCopy c (in_reached c q done a w).answer
+    unfolding in_reached
+    in_reached_one q told.Ok w low = in_put_one _ _ _ low
+    in_reached_one q (told.Absent cause) w low = absent _ _
+    in_reached_one q (told.Word value) w low = stopped
+    in_reached_one q told.Stopped w low = stopped
+
+    in_placed_one : (place : Option PageId) (cloaked : Bool) (w : World) → done < register c.regs 12 →
+        AfterCopy c (in_placed c done place cloaked w).answer
+    unfolding in_placed
+    in_placed_one None cloaked w low = refused w
+    in_placed_one (Some q) true w low = refused w
+    in_placed_one (Some q) false w low = in_reached_one q _ _ low
+
+    in_step_one : (t : Bool) (domain : ℕ) (r : Resources) (w : World) → nat_le (call_length c) done ≡ t →
+        AfterCopy c (in_step t domain r c done w).answer
+    unfolding in_step
+    in_step_one true domain r w is =
+        record { steady = phase_steady c Waiting s (λ a b. p.call); space = refl; on = refl; idle = tt }
+    in_step_one false domain r w is = in_placed_one _ _ w (leb-false _ _ is)
+
+    pub copy_in_one : (domain : ℕ) (r : Resources) (w : World) → AfterCopy c (copy_in_step domain r c done w).answer
+    unfolding copy_in_step
+    copy_in_one domain r w = in_step_one _ domain r w refl
+
+  module _ (done total : ℕ) (p : IsCopyOut c.regs done total) where
+    out_reached_one : (q : PageId) (byte : ℕ) (a : Answer) (w : World) → done < total →
+        AfterCopy c (out_reached c q done total byte a w).answer
+    unfolding out_reached
+    out_reached_one q byte told.Ok w low = record {
+      steady = phase_steady c (CopyOut (done + 1) total) s (record {
+        number = p.number;
+        part = omega (arith, low);
+        whole = p.whole;
+        call = p.call;
+      });
+      space = refl;
+      on = refl;
+      idle = tt;
+    }
+    out_reached_one q byte (told.Absent cause) w low = absent _ _
+    out_reached_one q byte (told.Word value) w low = stopped
+    out_reached_one q byte told.Stopped w low = stopped
+
+    out_got_one : (q : PageId) (a : Answer) (w : World) → done < total → AfterCopy c (out_got c q done total a w).answer
+    unfolding out_got
+    out_got_one q (told.Word byte) w low = out_reached_one q _ _ _ low
+    out_got_one q (told.Absent cause) w low = absent _ _
+    out_got_one q told.Ok w low = stopped
+    out_got_one q told.Stopped w low = stopped
+
+    out_placed_one : (place : Option PageId) (cloaked : Bool) (w : World) → done < total →
+        AfterCopy c (out_placed c done total place cloaked w).answer
+    unfolding out_placed
+    out_placed_one None cloaked w low = refused w
+    out_placed_one (Some q) true w low = refused w
+    out_placed_one (Some q) false w low = out_got_one q _ _ low
+
+    out_step_one : (t : Bool) (domain : ℕ) (r : Resources) (w : World) → nat_le total done ≡ t →
+        AfterCopy c (out_step t domain r c done total w).answer
+    unfolding out_step
+    out_step_one true domain r w is =
+        record { steady = phase_steady c Plain s tt; space = refl; on = refl; idle = tt }
+    out_step_one false domain r w is = out_placed_one _ _ w (leb-false _ _ is)
+
+    pub copy_out_one : (domain : ℕ) (r : Resources) (w : World) →
+        AfterCopy c (copy_out_step domain r c done total w).answer
+    unfolding copy_out_step
+    copy_out_one domain r w = out_step_one _ domain r w refl
+
+-- How a call begins. One that is refused leaves the context.
+
+abbrev pub BegunIdle : Context → Result Begun MapFault → Context → Type 0
+BegunIdle c (Err f) c' = c' ≡ c
+BegunIdle c (Ok begun.Copying) c' = WaitsOnNoHart c'.phase c'.on
+BegunIdle c (Ok begun.Leave) c' = Unit {0}
+
+pub record AfterBegin (c : Context) (b : BeginsCall) : Type 0 where
+  pub steady : IsSteady b.context
+  pub space : b.context.space ≡ c.space
+  pub on : b.context.on ≡ c.on
+  pub idle : BegunIdle c b.answer b.context
+
+in_bounds : (c : Context) → is_in_bounds c ≡ true → IsCall c.regs
+in_bounds c is =
+    let few = nat_le (call_length c) 4096 in
+    let low = nat_le (buffer c + call_length c) (2 ^ 32) in
+    let high = nat_le (area c + call_length c) (2 ^ 32) in
+    let parts = and_parts few (low && high) is in
+    let rest = and_parts low high parts.1 in
+    record { few = leb-true _ _ parts.0; buffer = leb-true _ _ rest.0; area = leb-true _ _ rest.1 }
+
+good_in_bounds : (t : Bool) (r : Resources) (c : Context) → is_good t r c ≡ true → t ≡ true
+unfolding is_good
+good_in_bounds true r c is = refl
+good_in_bounds false r c is = absurd cc
+
+takes : (n : ℕ) → takes_bytes n ≡ true → (n ≡ 1) ⊎ (n ≡ 2)
+takes n is = elim (or_cases (n == 1) (n == 2) is) [
+  | inl one ↦ inl (eqb-true n 1 one)
+  | inr two ↦ inr (eqb-true n 2 two)
+]
+
+module _ (c : Context) (s : IsSteady c) where
+  waits : IsPhase c.regs Waiting → AfterBegin c (waiting c)
+  waits here = record { steady = phase_steady c Waiting s here; space = refl; on = refl; idle = tt }
+
+  begin_either : (t : Bool) → takes_bytes (call_number c) ≡ t → IsCall c.regs →
+      AfterBegin c (cond t (record { answer = Ok begun.Copying; context = in_phase (CopyIn 0) c }) (waiting c))
+  begin_either true is call = record {
+    steady = phase_steady c (CopyIn 0) s (record { number = takes _ is; part = omega arith; call = call });
+    space = refl;
+    on = refl;
+    idle = tt;
+  }
+  begin_either false is call = waits (λ a b. call)
+
+  copy_begin_one : (t : Bool) → (t ≡ true → IsCall c.regs) → AfterBegin c (copy_begin t c)
+  unfolding copy_begin
+  copy_begin_one false call = record { steady = s; space = refl; on = refl; idle = refl }
+  copy_begin_one true call = begin_either _ refl (call refl)
+
+  no_buffer : (n : ℕ) → has_buffer n ≡ false → 1 ≤ n → n ≤ 3 → ⊥
+  no_buffer n is low high = elim (and_cases (nat_le 1 n) (nat_le n 3) is) [
+    | inl below ↦ let x = leb-false 1 n below in absurd (omega (arith, x, low))
+    | inr above ↦ let x = leb-false n 3 above in absurd (omega (arith, x, high))
+  ]
+
+  call_begin_one : (t : Bool) (r : Resources) → has_buffer (call_number c) ≡ t → AfterBegin c (call_begin t r c)
+  unfolding call_begin
+  call_begin_one false r is = waits (λ a b. absurd (no_buffer _ is a b))
+  call_begin_one true r is = copy_begin_one _ (λ good. in_bounds c (good_in_bounds _ r c good))
+
+  pub begin_one : (r : Resources) → AfterBegin c (begin_call r c)
+  unfolding begin_call
+  begin_one r = call_begin_one _ r refl
+
+  -- An answer to one that waits.
+
+  pub record AfterFinish (k : Context) : Type 0 where
+    pub steady : IsSteady k
+    pub space : k.space ≡ c.space
+    pub on : k.on ≡ c.on
+    pub idle : (on : _) → WaitsOnNoHart k.phase on
+
+  finish_by : (t : Bool) (answer : ℕ) → IsPhase c.regs Waiting →
+      (gives_bytes (call_number c) && nat_le answer (call_length c)) ≡ t →
+      AfterFinish (cond t (in_phase (CopyOut 0 answer) (set_word c 10 answer)) (in_phase Plain (set_word c 10 answer)))
+  finish_by false answer call is =
+      record { steady = answered_steady c Plain answer s tt; space = refl; on = refl; idle = λ on. tt }
+  finish_by true answer call is =
+      let parts = and_parts (gives_bytes (call_number c)) (nat_le answer (call_length c)) is in
+      let three : register c.regs 16 ≡ 3 = eqb-true _ 3 parts.0 in
+      let most = leb-true _ _ parts.1 in
+      let y = kept c.regs answer 12 (λ e. cc) in
+      record {
+        steady = answered_steady c (CopyOut 0 answer) answer s (record {
+          number = kept c.regs answer 16 (λ e. cc) ∙ three;
+          part = omega arith;
+          whole = omega (arith, y, most);
+          call = call_kept c.regs answer (call (omega (arith, three)) (omega (arith, three)));
+        });
+        space = refl;
+        on = refl;
+        idle = λ on. tt;
+      }
+
+  pub finish_one : (answer : ℕ) → IsPhase c.regs Waiting → AfterFinish (finish_call answer c)
+  unfolding finish_call
+  finish_one answer call = finish_by _ answer call refl

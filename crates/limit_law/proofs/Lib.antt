@@ -1,0 +1,17 @@
+pub mod Contexts
+pub mod Copies
+pub mod Resources
+pub mod Hypercalls
+pub mod Steps
+pub mod Moments
+pub mod Openings
+pub mod Programs
+pub mod Turns
+pub mod Runs
+pub mod Owed
+pub mod OwedRuns
+pub mod Roots
+pub mod RootRuns
+pub mod Words
+pub mod Files
+pub mod FileRuns

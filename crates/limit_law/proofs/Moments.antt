@@ -1,0 +1,50 @@
+-- What holds as a run begins, and is kept by each step of the joint machine, holds at every moment of the run.
+use Rattle.std.proofs.Common.{◌≡◌, ℕ, zero, suc, List, take, Option, Some, None, Ok, refl}
+use Rattle.cloak_base.specs.Random.{Random}
+use Rattle.cloak_base.specs.declared.causes.Stop.{Stop}
+use Rattle.cloak_model.specs.declared.image.Bundle.{Bundle}
+use Rattle.cloak_model.specs.Joint.{Moment, Turn, joint_step, after_turn, stop_of}
+use Rattle.cloak_model.specs.Opening.{Opened, opening}
+use Rattle.cloak_model.specs.Parts.{Joint}
+use Rattle.cloak_model.specs.Run.{Run, joint_run, unless_stopped, turns_from, joint_after, first_moment, run_of}
+use Rattle.kernel_isolation.specs.Isolation.{joint_until}
+use Rattle.kernel_isolation.proofs.Isolated.{of_opened}
+
+-- a step of a run under this schedule keeps the property
+abbrev pub IsKept : (Joint → Type 0) → List ℕ → Type 0
+IsKept P schedule = (m : Moment) → m.schedule ≡ schedule → P m.joint → P (joint_step m).joint
+
+module _ (P : Joint → Type 0) (schedule : List ℕ) (kept : IsKept P schedule) where
+  -- the steps that follow one
+  following : (stop : Option Stop) (later : Moment → List Turn) (m : Moment) (n : ℕ) → P m.joint →
+      P (joint_after m.joint (take n (later m))) → P (joint_after m.joint (take n (unless_stopped stop later m)))
+  unfolding joint_after
+  following None later m n here rest = rest
+  following (Some cause) later m zero here rest = here
+  following (Some cause) later m (suc n) here rest = here
+
+  after_steps : (budget n : ℕ) (m : Moment) → m.schedule ≡ schedule → P m.joint →
+      P (joint_after m.joint (take n (turns_from budget m)))
+  unfolding turns_from joint_after
+  after_steps zero zero m same here = here
+  after_steps zero (suc n) m same here = here
+  after_steps (suc budget) zero m same here = here
+  after_steps (suc budget) (suc n) m same here =
+      let t : Turn = joint_step m in
+      let next = kept m same here in
+      following (stop_of t) (turns_from budget) (after_turn m t) n next
+      (after_steps budget n (after_turn m t) same next)
+
+abbrev AtAll : (Joint → Type 0) → Run → Type 0
+AtAll P r = (n : ℕ) → P (joint_until n r)
+
+opened_run : (P : Joint → Type 0) (b : Bundle) (budget : ℕ) (o : Opened) → IsKept P b.kernel.schedule → P o.joint →
+    AtAll P (run_of b budget o)
+unfolding run_of
+opened_run P b budget o kept here n = after_steps P b.kernel.schedule kept budget n (first_moment b o.joint) refl here
+
+pub at_every_moment : (P : Joint → Type 0) (b : Bundle) (stream : Random) (budget : ℕ) (r : Run) →
+    ((o : Opened) → opening b stream ≡ Ok o → P o.joint) → IsKept P b.kernel.schedule →
+    joint_run b stream budget ≡ Ok r → (n : ℕ) → P (joint_until n r)
+at_every_moment P b stream budget r begins kept is =
+    of_opened b budget (AtAll P) (opening b stream) r is (λ o opens. opened_run P b budget o kept (begins o opens))

@@ -1,0 +1,340 @@
+-- Page tables are recorded of spaces in use alone: over each step of the joint machine, and in a run.
+use Rattle.std.proofs.Common.{◌≡◌, ◌∙◌, ℕ, zero, suc, Bool, true, false, cond, List, [], ◌∷◌, find, slice_get, slice_set, Option, Some, None, IfSome, Result, Ok, Err, refl, sym, ap, subst}
+use Rattle.std.specs.Prelude.{IsSomeAnd, is_some, nat_eq}
+use Rattle.std.proofs.lemmas.Bool.{false≢true, and_from, and_parts, eqb-true, eq-eqb}
+use Rattle.cloak_base.specs.Random.{Random}
+use Rattle.cloak_base.specs.declared.names.PageId.{PageId}
+use Rattle.cloak_base.specs.declared.names.SpaceId.{SpaceId}
+use Rattle.cloak_model.specs.declared.context.ResumeFault.{ResumeFault}
+use Rattle.cloak_model.specs.declared.context.ResumeFault.TheVariants as fault
+use Rattle.cloak_model.specs.declared.image.Bundle.{Bundle}
+use Rattle.cloak_model.specs.declared.inside.Went.{Went}
+use Rattle.cloak_model.specs.declared.inside.Went.TheVariants as went
+use Rattle.cloak_model.specs.declared.item.Item.{Item}
+use Rattle.cloak_model.specs.declared.outcome.Kernel.{Kernel}
+use Rattle.cloak_model.specs.declared.outcome.Kernel.TheVariants.{Stay, Put, Halt, Resume}
+use Rattle.cloak_model.specs.Ahead.{settle_while, settle_found, settle_touched, settled_step, made_after, is_owed}
+use Rattle.cloak_model.specs.Asking.{Told}
+use Rattle.cloak_model.specs.Bundle.{IsInGrammar}
+use Rattle.cloak_model.specs.Cloaking.{CloakedMemory, AfterSettling, settle}
+use Rattle.cloak_model.specs.Contexts.{Context, Admitted, admit, is_root, context_at, domain_of, slot_of, same_space, with_space, resume_if, resume_at}
+use Rattle.cloak_model.specs.DomainState.{Control, Domain}
+use Rattle.cloak_model.specs.DomainStep.{DomainStepped, domain_step, interrupt_if, interrupt, answer_taken, resume_told, resume_slot}
+use Rattle.cloak_model.specs.Hart.{Hart}
+use Rattle.cloak_model.specs.Hypercalls.{Stepped}
+use Rattle.cloak_model.specs.Joint.{Moment, next_hart, cloak_of, cloak_outside, memory_of, outside_ended, after_outside, outside_step, domain_ended, after_domain_step, pages_for, interrupt_ended, after_interrupt, by_interrupt, inside_step, turn_of, joint_step}
+use Rattle.cloak_model.specs.KernelStep.{ticked}
+use Rattle.cloak_model.specs.Opening.{Opened, opening, started_joint, started_ledger, started_memory}
+use Rattle.cloak_model.specs.PageMoves.{place_with}
+use Rattle.cloak_model.specs.Parts.{Joint}
+use Rattle.cloak_model.specs.Resources.{Resources}
+use Rattle.cloak_model.specs.Resuming.{space_of, by_root, by_context, by_domain, resume}
+use Rattle.cloak_model.specs.World.{World, Flat, Cloaked, Alone}
+use Rattle.resource_map.specs.Kept.{IsInUse}
+use Rattle.script_fold.specs.Tables.{recorded_tables}
+use Rattle.script_fold.proofs.Rooted.{settle_root, rooted_domain_step}
+use Rattle.limit_law.specs.Limits.{IsContext, KeepsLimits}
+use Rattle.limit_law.specs.Roots.{RootsAreOfSpacesInUse}
+use Rattle.limit_law.proofs.Roots.{LeavesUsed, step_uses}
+use Rattle.limit_law.proofs.Turns.{Keeps, AllKeep}
+use Rattle.limit_law.proofs.Moments.{IsKept, at_every_moment}
+use Rattle.limit_law.proofs.Openings.{begins_by_memory}
+use Rattle.limit_law.proofs.Runs.{JointKeeps, opened_keep, limits_are_kept}
+
+abbrev HasSpace : ℕ → Domain → Type 0
+HasSpace k d = IsInUse d.control.resources k
+
+abbrev Rooted : (SpaceId → Option ℕ) → List Domain → Type 0
+Rooted root domains =
+    (s : SpaceId) → is_some (root s) ≡ true → IsSomeAnd (slice_get domains s.domain) (HasSpace s.number)
+
+abbrev JointRooted : Joint → Type 0
+JointRooted j = Rooted j.memory.ledger.root j.domains
+
+-- A program changes.
+
+there_set : (domains : List Domain) (i d k : ℕ) (was new : Domain) → slice_get domains i ≡ Some was →
+    (d ≡ i → HasSpace k was → HasSpace k new) → IsSomeAnd (slice_get domains d) (HasSpace k) →
+    IsSomeAnd (slice_get (slice_set domains i new) d) (HasSpace k)
+there_set [] i d k was new is used here = here
+there_set (x ∷ domains) zero zero k was new is used here =
+    let same : x ≡ was = cc in used refl (subst (HasSpace k) same here)
+there_set (x ∷ domains) zero (suc d) k was new is used here = here
+there_set (x ∷ domains) (suc i) zero k was new is used here = here
+there_set (x ∷ domains) (suc i) (suc d) k was new is used here =
+    there_set domains i d k was new is (λ e. used (ap suc e)) here
+
+set_here : (domains : List Domain) (i k : ℕ) (was new : Domain) → slice_get domains i ≡ Some was → HasSpace k new →
+    IsSomeAnd (slice_get (slice_set domains i new) i) (HasSpace k)
+set_here [] i k was new is here = absurd cc
+set_here (x ∷ domains) zero k was new is here = here
+set_here (x ∷ domains) (suc i) k was new is here = set_here domains i k was new is here
+
+rooted_set : (root : SpaceId → Option ℕ) (domains : List Domain) (i : ℕ) (was new : Domain) →
+    slice_get domains i ≡ Some was → ((k : ℕ) → HasSpace k was → HasSpace k new) → Rooted root domains →
+    Rooted root (slice_set domains i new)
+rooted_set root domains i was new is used rooted s some =
+    there_set domains i s.domain s.number was new is (λ e. used s.number) (rooted s some)
+
+-- Resuming.
+
+record_by : (t : Bool) (old : Option ℕ) (satp : ℕ) (P : Type 0) → (t ≡ true → P) → (is_some old ≡ true → P) →
+    is_some (cond t (Some satp) old) ≡ true → P
+record_by true old satp P here there some = here refl
+record_by false old satp P here there some = there some
+
+rooted_recorded : (root : SpaceId → Option ℕ) (domains : List Domain) (i k satp : ℕ) (was new : Domain) →
+    slice_get domains i ≡ Some was → ((n : ℕ) → HasSpace n was → HasSpace n new) → HasSpace k was →
+    Rooted root domains →
+    Rooted (with_space root (record { domain = i; number = k }) (Some satp)) (slice_set domains i new)
+rooted_recorded root domains i k satp was new is used here rooted s some =
+    record_by (same_space s (record { domain = i; number = k })) (root s) satp
+    (IsSomeAnd (slice_get (slice_set domains i new) s.domain) (HasSpace s.number)) (λ t.
+    let parts = and_parts (nat_eq s.domain i) (nat_eq s.number k) t in
+    let own : s.domain ≡ i = eqb-true s.domain i parts.0 in
+    let number : s.number ≡ k = eqb-true s.number k parts.1 in
+    subst (λ (d : ℕ). IsSomeAnd (slice_get (slice_set domains i new) d) (HasSpace s.number)) (sym own)
+    (set_here domains i s.number was new is (used s.number (subst (λ (n : ℕ). HasSpace n was) (sym number) here))))
+    (λ old. rooted_set root domains i was new is used rooted s old) some
+
+admit_by : (t : Bool) (root root' : SpaceId → Option ℕ) (j : Joint) (satp ctx reply : ℕ) (was : Domain)
+    (control : Control) → JointRooted j → Rooted root' (slice_set j.domains (domain_of ctx) (record was { control = control })) →
+    (let a : Admitted = cond t (record { answer = Ok tt; root = root' }) (record { answer = Err fault.WrongRoot; root = root }) in
+    JointRooted (by_root j satp ctx reply was control a a.answer).joint)
+unfolding by_root
+admit_by true root root' j satp ctx reply was control rooted here = here
+admit_by false root root' j satp ctx reply was control rooted here = rooted
+
+taken_same : (slot answer : ℕ) (o : Option Context) (d : Control) →
+    (answer_taken slot answer o d).resources ≡ d.resources
+unfolding answer_taken
+taken_same slot answer None d = refl
+taken_same slot answer (Some c) d = refl
+
+told_same : (slot answer : ℕ) (a : Result (Unit {0}) ResumeFault) (d : Control) →
+    (resume_told slot answer a d).control.resources ≡ d.resources
+unfolding resume_told
+told_same slot answer (Err f) d = refl
+told_same slot answer (Ok done) d = taken_same slot answer _ d
+
+pub slot_same : (slot hart answer : ℕ) (d : Control) → (resume_slot slot hart answer d).control.resources ≡ d.resources
+unfolding resume_slot
+slot_same slot hart answer d = told_same slot answer _ _
+
+-- if it went well, there is such a context
+resumes_there : (slot hart answer : ℕ) (d : Control) (u : Unit {0}) → KeepsLimits d →
+    (resume_slot slot hart answer d).answer ≡ Ok u → IsInUse d.resources (space_of (context_at d.contexts slot))
+unfolding resume_slot resume_told resume_at resume_if
+resumes_there slot hart answer d u keeps is = by_slot (context_at d.contexts slot) (keeps.contexts slot) is where
+  by_slot : (o : Option Context) → IfSome o (IsContext d.resources) →
+      (resume_told slot answer (resume_if slot hart o d.contexts).answer
+      (record d { contexts = (resume_if slot hart o d.contexts).contexts })).answer ≡ Ok u →
+      IsInUse d.resources (space_of o)
+  by_slot None here is = absurd cc
+  by_slot (Some c) here is = here.space
+
+context_rooted : (j : Joint) (satp ctx reply : ℕ) (was : Domain) (control : Control)
+    (answer : Result (Unit {0}) ResumeFault) → slice_get j.domains (domain_of ctx) ≡ Some was →
+    control.resources ≡ was.control.resources →
+    ((u : Unit {0}) → answer ≡ Ok u →
+    IsInUse was.control.resources (space_of (context_at was.control.contexts (slot_of ctx)))) → JointRooted j →
+    JointRooted (by_context j satp ctx reply was control answer).joint
+unfolding by_context admit
+context_rooted j satp ctx reply was control (Err f) is same there rooted = rooted
+context_rooted j satp ctx reply was control (Ok done) is same there rooted =
+    let k = space_of (context_at was.control.contexts (slot_of ctx)) in
+    let root = j.memory.ledger.root in
+    admit_by (is_root satp (root (record { domain = domain_of ctx; number = k }))) root
+    (with_space root (record { domain = domain_of ctx; number = k }) (Some satp)) j satp ctx reply was control rooted
+    (rooted_recorded root j.domains (domain_of ctx) k satp was (record was { control = control }) is
+    (λ n used. subst (λ (r : Resources). IsInUse r n) (sym same) used) (there done refl) rooted)
+
+domain_rooted : (j : Joint) (hart satp ctx reply : ℕ) (found : Option Domain) →
+    slice_get j.domains (domain_of ctx) ≡ found → IfSome found Keeps → JointRooted j →
+    JointRooted (by_domain j hart satp ctx reply found).joint
+unfolding by_domain
+domain_rooted j hart satp ctx reply None is keeps rooted = rooted
+domain_rooted j hart satp ctx reply (Some was) is keeps rooted =
+    context_rooted j satp ctx reply was _ _ is (slot_same (slot_of ctx) hart reply was.control)
+    (λ u ok. resumes_there (slot_of ctx) hart reply was.control u keeps ok) rooted
+
+resume_rooted : (j : Joint) (hart satp ctx reply : ℕ) → AllKeep j.domains → JointRooted j →
+    JointRooted (resume j hart satp ctx reply).joint
+unfolding resume
+resume_rooted j hart satp ctx reply all rooted =
+    domain_rooted j hart satp ctx reply _ refl (all (domain_of ctx)) rooted
+
+-- A hart outside.
+
+ended_rooted : (j : Joint) (number : ℕ) (items : List Item) (e : Kernel) → AllKeep j.domains → JointRooted j →
+    JointRooted (outside_ended j number items e).joint
+unfolding outside_ended
+ended_rooted j number items Stay all rooted = rooted
+ended_rooted j number items (Put b) all rooted = rooted
+ended_rooted j number items (Halt value) all rooted = rooted
+ended_rooted j number items (Resume ctx reply) all rooted = resume_rooted j number _ ctx reply all rooted
+
+found_root : (o : Option ℕ) (next : CloakedMemory → AfterSettling) (m : CloakedMemory) →
+    ((x : CloakedMemory) → (next x).memory.ledger.root ≡ x.ledger.root) →
+    (settle_found o next m).memory.ledger.root ≡ m.ledger.root
+found_root None next m later = refl
+found_root (Some f) next m later = later (settle f m).memory ∙ settle_root f m
+
+while_root : (frames : List (List ℕ) → List ℕ) (n : ℕ) (m : CloakedMemory) →
+    (settle_while frames n m).memory.ledger.root ≡ m.ledger.root
+unfolding settle_while
+while_root frames zero m = refl
+while_root frames (suc n) m = found_root (find (is_owed m) (frames m.ram)) (settle_while frames n) m (while_root frames n)
+
+touched_root : (h : Hart) (disk : List ℕ) (m : CloakedMemory) →
+    (settle_touched h disk m).memory.ledger.root ≡ m.ledger.root
+unfolding settle_touched
+touched_root h disk m = while_root _ _ m
+
+outside_by : (j : Joint) (number : ℕ) (h : Hart) (s : AfterSettling) → s.memory.ledger.root ≡ j.memory.ledger.root →
+    AllKeep j.domains → JointRooted j →
+    JointRooted (after_outside j number (made_after h j.disk (cloak_outside j.memory h) s)).joint
+unfolding after_outside made_after
+outside_by j number h s same all rooted =
+    ended_rooted _ number _ _ all (subst (λ (root : SpaceId → Option ℕ). Rooted root j.domains) (sym same) rooted)
+
+kernel_rooted : (j : Joint) (number : ℕ) (h : Hart) → AllKeep j.domains → JointRooted j →
+    JointRooted (outside_step j number h).joint
+unfolding outside_step settled_step
+kernel_rooted j number h all rooted = outside_by j number h _ (touched_root h j.disk j.memory) all rooted
+
+-- A hart inside.
+
+memory_root : (w : World) (m : CloakedMemory) → recorded_tables w ≡ m.ledger.root → (memory_of w m).ledger.root ≡ m.ledger.root
+memory_root (Flat ram) m same = refl
+memory_root (Cloaked c) m same = same
+memory_root (Alone h) m same = refl
+
+forget_by : (t : Bool) (old : Option ℕ) (P : Type 0) → (t ≡ false → is_some old ≡ true → P) →
+    is_some (cond t None old) ≡ true → P
+forget_by true old P there some = absurd (false≢true some)
+forget_by false old P there some = there refl some
+
+went_rooted : (j : Joint) (number : ℕ) (h : Hart) (d : ℕ) (w : World) (how : Went) (domains : List Domain)
+    (was new : Domain) → j.domains ≡ slice_set domains d new → slice_get domains d ≡ Some was →
+    LeavesUsed was.control.resources how new.control.resources → Rooted j.memory.ledger.root domains →
+    JointRooted (domain_ended j number h d w how).joint
+unfolding domain_ended
+went_rooted j number h d w went.Stay domains was new set is used rooted =
+    subst (Rooted j.memory.ledger.root) (sym set) (rooted_set j.memory.ledger.root domains d was new is used rooted)
+went_rooted j number h d w went.Stopped domains was new set is used rooted =
+    subst (Rooted j.memory.ledger.root) (sym set) (rooted_set j.memory.ledger.root domains d was new is used rooted)
+went_rooted j number h d w (went.Remapped space) domains was new set is used rooted =
+    subst (Rooted j.memory.ledger.root) (sym set) (rooted_set j.memory.ledger.root domains d was new is used rooted)
+went_rooted j number h d w (went.Leave s) domains was new set is used rooted =
+    subst (Rooted j.memory.ledger.root) (sym set) (rooted_set j.memory.ledger.root domains d was new is used rooted)
+went_rooted j number h d w (went.SpaceGone space s) domains was new set is used rooted =
+    subst (Rooted (with_space j.memory.ledger.root (record { domain = d; number = space }) None)) (sym set)
+    (λ x some. forget_by (same_space x (record { domain = d; number = space })) (j.memory.ledger.root x)
+    (IsSomeAnd (slice_get (slice_set domains d new) x.domain) (HasSpace x.number))
+    (λ other old. there_set domains d x.domain x.number was new is
+    (λ own here. used x.number (λ number. false≢true (sym other
+    ∙ and_from (nat_eq x.domain d) (nat_eq x.number space) (eq-eqb x.domain d own) (eq-eqb x.number space number))) here)
+    (rooted x old)) some)
+
+stepped_rooted : (j : Joint) (number : ℕ) (h : Hart) (d : ℕ) (told : Told DomainStepped) (was : Domain) →
+    slice_get j.domains d ≡ Some was →
+    LeavesUsed was.control.resources told.answer.went told.answer.domain.control.resources →
+    recorded_tables told.world ≡ j.memory.ledger.root → JointRooted j →
+    JointRooted (after_domain_step j number h d told).joint
+unfolding after_domain_step
+stepped_rooted j number h d told was is used same rooted =
+    went_rooted _ number h d told.world told.answer.went j.domains was told.answer.domain refl is used
+    (subst (λ (root : SpaceId → Option ℕ). Rooted root j.domains) (sym (memory_root told.world j.memory same)) rooted)
+
+interrupted_rooted : (j : Joint) (number : ℕ) (h : Hart) (items : List Item) (how : Went) → JointRooted j →
+    JointRooted (interrupt_ended j number h items how).joint
+unfolding interrupt_ended
+interrupted_rooted j number h items went.Stay rooted = rooted
+interrupted_rooted j number h items went.Stopped rooted = rooted
+interrupted_rooted j number h items (went.Remapped space) rooted = rooted
+interrupted_rooted j number h items (went.Leave s) rooted = rooted
+interrupted_rooted j number h items (went.SpaceGone space s) rooted = rooted
+
+pub interrupt_same : (o : Option Context) (slot : ℕ) (d : Control) → (interrupt_if o slot d).control.resources ≡ d.resources
+unfolding interrupt_if
+interrupt_same None slot d = refl
+interrupt_same (Some c) slot d = refl
+
+left_rooted : (j : Joint) (number : ℕ) (h : Hart) (d : ℕ) (was : Domain) (step : Stepped) →
+    slice_get j.domains d ≡ Some was → step.control.resources ≡ was.control.resources → JointRooted j →
+    JointRooted (after_interrupt j number h d was step).joint
+unfolding after_interrupt
+left_rooted j number h d was step is same rooted =
+    interrupted_rooted _ number h _ step.went
+    (rooted_set j.memory.ledger.root j.domains d was (record was { control = step.control }) is
+    (λ k used. subst (λ (r : Resources). IsInUse r k) (sym same) used) rooted)
+
+due_rooted : (due : Bool) (j : Joint) (number : ℕ) (h : Hart) (d slot : ℕ) (was : Domain) →
+    slice_get j.domains d ≡ Some was → Keeps was → JointRooted j →
+    JointRooted (by_interrupt due j number h d slot was).joint
+unfolding by_interrupt interrupt
+due_rooted true j number h d slot was is keeps rooted =
+    left_rooted j number h d was _ is (interrupt_same _ slot was.control) rooted
+due_rooted false j number h d slot was is keeps rooted =
+    let w = Cloaked (cloak_of j.memory h d (pages_for was (context_at was.control.contexts slot))) in
+    stepped_rooted j number h d (domain_step slot was w) was is (step_uses slot was w keeps).used
+    (rooted_domain_step slot was w).root rooted
+
+inside_rooted : (j : Joint) (number : ℕ) (h : Hart) (d slot : ℕ) (found : Option Domain) →
+    slice_get j.domains d ≡ found → IfSome found Keeps → JointRooted j →
+    JointRooted (inside_step j number h d slot found).joint
+unfolding inside_step
+inside_rooted j number h d slot None is keeps rooted = rooted
+inside_rooted j number h d slot (Some was) is keeps rooted = due_rooted _ j number h d slot was is keeps rooted
+
+turn_rooted : (j : Joint) (number : ℕ) (h : Hart) (inside : Option ℕ) → AllKeep j.domains → JointRooted j →
+    JointRooted (turn_of j number h inside).joint
+unfolding turn_of
+turn_rooted j number h None all rooted = kernel_rooted j number h all rooted
+turn_rooted j number h (Some ctx) all rooted =
+    inside_rooted j number (ticked h) (domain_of ctx) (slot_of ctx) _ refl (all (domain_of ctx)) rooted
+
+step_rooted : (m : Moment) → AllKeep m.joint.domains → JointRooted m.joint → JointRooted (joint_step m).joint
+unfolding joint_step
+step_rooted m all rooted = turn_rooted m.joint (next_hart m) _ _ all rooted
+
+-- The opening: no page table is recorded.
+
+abbrev NoRoot : CloakedMemory → Type 0
+NoRoot m = (s : SpaceId) → m.ledger.root s ≡ None
+
+place_none : (q : PageId) (f : ℕ) (bytes : List ℕ) (draw : Option (List ℕ × Random)) (m : CloakedMemory) → NoRoot m →
+    IfSome (place_with q f bytes draw m) NoRoot
+unfolding place_with
+place_none q f bytes None m none = tt
+place_none q f bytes (Some draw) m none = none
+
+started_none : (b : Bundle) (key : List ℕ) (stream : Random) → NoRoot (started_memory b.kernel key stream)
+unfolding started_memory started_ledger
+started_none b key stream s = refl
+
+joint_rooted : (b : Bundle) (m : CloakedMemory) → NoRoot m → JointRooted (started_joint b m)
+unfolding started_joint
+joint_rooted b m none s some = absurd (false≢true (ap is_some (sym (none s)) ∙ some))
+
+opened_rooted : (b : Bundle) (stream : Random) (o : Opened) → opening b stream ≡ Ok o → JointRooted o.joint
+opened_rooted b stream = begins_by_memory NoRoot JointRooted b stream place_none (started_none b) (joint_rooted b)
+
+-- The run.
+
+record IsFit (j : Joint) : Type 0 where
+  keep : JointKeeps j
+  rooted : JointRooted j
+
+roots_are_kept : (b : Bundle) → IsInGrammar b → IsKept IsFit b.kernel.schedule
+roots_are_kept b grammar m same here = record {
+  keep = limits_are_kept b grammar m same here.keep;
+  rooted = step_rooted m here.keep here.rooted;
+}
+
+pub roots_are_of_spaces_in_use : RootsAreOfSpacesInUse
+roots_are_of_spaces_in_use b stream budget r grammar is n =
+    (at_every_moment IsFit b stream budget r
+    (λ o opens. record { keep = opened_keep b stream grammar o opens; rooted = opened_rooted b stream o opens })
+    (roots_are_kept b grammar) is n).rooted

@@ -1,0 +1,203 @@
+-- A step of a program, an interrupt and a resuming, whatever is answered.
+use Rattle.std.proofs.Common.{◌≡◌, ◌⊎◌, inl, inr, ℕ, zero, suc, ◌<◌, Bool, true, false, cond, List, [], ◌∷◌, slice_set, slice_index_or, Option, Some, None, Ok, Err, refl, sym, ap, subst}
+use Rattle.std.specs.Prelude.{IfSome, is_some}
+use Rattle.std.proofs.lemmas.List.{set-set}
+use Rattle.cloak_base.specs.declared.names.HartId.{HartId}
+use Rattle.cloak_model.specs.declared.context.Phase.{Phase}
+use Rattle.cloak_model.specs.declared.context.Phase.TheVariants.{Plain, CopyIn, Waiting, CopyOut}
+use Rattle.cloak_model.specs.declared.context.ResumeFault.{ResumeFault}
+use Rattle.cloak_model.specs.declared.context.ResumeFault.TheVariants as fault
+use Rattle.cloak_model.specs.declared.inside.Copied.{Copied}
+use Rattle.cloak_model.specs.declared.inside.Copied.TheVariants as copied
+use Rattle.cloak_model.specs.declared.inside.Ran.{Ran}
+use Rattle.cloak_model.specs.declared.inside.Ran.TheVariants as ran
+use Rattle.cloak_model.specs.Calls.{Copy, finish_call}
+use Rattle.cloak_model.specs.Contexts.{Context, with_context, Resumed, resume_if, resume_at}
+use Rattle.cloak_model.specs.DomainState.{Control, Domain}
+use Rattle.cloak_model.specs.DomainStep.{instruction_ended, copy_ended, phase_step, step_if, domain_step, interrupt_if, interrupt, answer_in, answer_taken, resume_told, resume_slot}
+use Rattle.cloak_model.specs.InsideStep.{AfterInstruction}
+use Rattle.cloak_model.specs.Resources.{Resources}
+use Rattle.cloak_model.specs.World.{World}
+use Rattle.resource_map.specs.Kept.{IsInUse}
+use Rattle.limit_law.specs.Limits.{IsPhase, WaitsOnNoHart, IsSteady, IsContext, KeepsLimits}
+use Rattle.limit_law.proofs.Contexts.{AfterOne, instruction_one}
+use Rattle.limit_law.proofs.Copies.{StaysIdle, AfterCopy, copy_in_one, copy_out_one, finish_one}
+use Rattle.limit_law.proofs.Hypercalls.{IsRunning, runs, stays_kept, leaves_kept, idle_plain, slot_kept, hypercall_kept}
+
+moved : (r : Resources) (c k : Context) → IsRunning r c → IsSteady k → k.space ≡ c.space → k.on ≡ c.on → IsRunning r k
+moved r c k here s space on = record {
+  steady = s;
+  hart = subst (λ (o : Option HartId). IfSome o (λ hart. hart.0 < 4)) (sym on) here.hart;
+  space = subst (IsInUse r) (sym space) here.space;
+}
+
+ended_kept : (slot : ℕ) (d : Domain) (c : Context) (a : AfterInstruction) (e : Ran) (w : World) → a.ending ≡ e →
+    AfterOne c a → KeepsLimits d.control → IsRunning d.control.resources c →
+    KeepsLimits (instruction_ended slot d a.context e w).answer.domain.control
+unfolding instruction_ended
+ended_kept slot d c a ran.Stay w is one keeps here =
+    stays_kept slot a.context d.control keeps (moved _ c a.context here one.steady one.space one.on)
+    (idle_plain a.context one.phase)
+ended_kept slot d c a (ran.Loaded address value) w is one keeps here =
+    stays_kept slot a.context d.control keeps (moved _ c a.context here one.steady one.space one.on)
+    (idle_plain a.context one.phase)
+ended_kept slot d c a (ran.Trap cause address) w is one keeps here =
+    leaves_kept slot a.context d.control keeps (moved _ c a.context here one.steady one.space one.on)
+ended_kept slot d c a ran.Ecall w is one keeps here =
+    hypercall_kept _ slot a.context d.control w one.phase keeps
+    (moved _ c a.context here one.steady one.space one.on)
+ended_kept slot d c a ran.Stopped w is one keeps here = keeps
+
+copied_kept : (slot : ℕ) (d : Domain) (c k : Context) (e : Copied) → IsRunning d.control.resources k → StaysIdle e k →
+    KeepsLimits d.control → KeepsLimits (copy_ended slot d k e).domain.control
+unfolding copy_ended
+copied_kept slot d c k copied.Going here idle keeps = stays_kept slot k d.control keeps here idle
+copied_kept slot d c k copied.CallReady here idle keeps = leaves_kept slot k d.control keeps here
+copied_kept slot d c k copied.Done here idle keeps = stays_kept slot k d.control keeps here idle
+copied_kept slot d c k (copied.Absent cause address) here idle keeps = leaves_kept slot k d.control keeps here
+copied_kept slot d c k copied.Stopped here idle keeps = keeps
+copied_kept slot d c k copied.Refused here idle keeps = stays_kept slot k d.control keeps here idle
+copied_kept slot d c k (copied.Loaded address byte) here idle keeps = stays_kept slot k d.control keeps here idle
+
+copy_kept : (slot : ℕ) (d : Domain) (c : Context) (k : Copy) → AfterCopy c k → KeepsLimits d.control →
+    IsRunning d.control.resources c → KeepsLimits (copy_ended slot d k.context k.ending).domain.control
+copy_kept slot d c k one keeps here =
+    copied_kept slot d c k.context k.ending (moved _ c k.context here one.steady one.space one.on) one.idle keeps
+
+at_phase : (c : Context) (phase : Phase) → c.phase ≡ phase → IsSteady c → IsPhase c.regs phase
+at_phase c phase is s = subst (IsPhase c.regs) is s.phase
+
+phase_kept : (phase : Phase) (slot : ℕ) (c : Context) (d : Domain) (w : World) → c.phase ≡ phase →
+    KeepsLimits d.control → IsContext d.control.resources c →
+    KeepsLimits (phase_step phase slot c d w).answer.domain.control
+unfolding phase_step
+phase_kept Plain slot c d w is keeps here =
+    ended_kept slot d c _ _ _ refl (instruction_one c is here.steady _ _ w) keeps (runs _ c here)
+phase_kept (CopyIn done) slot c d w is keeps here =
+    copy_kept slot d c _ (copy_in_one c here.steady done (at_phase c (CopyIn done) is here.steady) _ _ w) keeps (runs _ c here)
+phase_kept Waiting slot c d w is keeps here = stays_kept slot c d.control keeps (runs _ c here) here.waiting
+phase_kept (CopyOut done total) slot c d w is keeps here =
+    copy_kept slot d c _
+    (copy_out_one c here.steady done total (at_phase c (CopyOut done total) is here.steady) _ _ w) keeps (runs _ c here)
+
+step_if_kept : (o : Option Context) (slot : ℕ) (d : Domain) (w : World) → KeepsLimits d.control →
+    IfSome o (IsContext d.control.resources) → KeepsLimits (step_if o slot d w).answer.domain.control
+unfolding step_if
+step_if_kept None slot d w keeps here = keeps
+step_if_kept (Some c) slot d w keeps here = phase_kept c.phase slot c d w refl keeps here
+
+pub step_kept : (slot : ℕ) (d : Domain) (w : World) → KeepsLimits d.control →
+    KeepsLimits (domain_step slot d w).answer.domain.control
+unfolding domain_step
+step_kept slot d w keeps = step_if_kept _ slot d w keeps (keeps.contexts slot)
+
+interrupt_if_kept : (o : Option Context) (slot : ℕ) (d : Control) → KeepsLimits d →
+    IfSome o (IsContext d.resources) → KeepsLimits (interrupt_if o slot d).control
+unfolding interrupt_if
+interrupt_if_kept None slot d keeps here = keeps
+interrupt_if_kept (Some c) slot d keeps here = leaves_kept slot c d keeps (runs _ c here)
+
+pub interrupt_kept : (slot : ℕ) (d : Control) → KeepsLimits d → KeepsLimits (interrupt slot d).control
+unfolding interrupt
+interrupt_kept slot d keeps = interrupt_if_kept _ slot d keeps (keeps.contexts slot)
+
+-- Resuming. In its middle a context that waits is on a hart, so its two changes are taken together.
+
+answer_is_context : (phase : Phase) (answer : ℕ) (r : Resources) (c : Context) → c.phase ≡ phase → IsRunning r c →
+    IsContext r (answer_in phase answer c)
+unfolding answer_in
+answer_is_context Plain answer r c is here = record {
+  steady = here.steady;
+  waiting = subst (λ (p : Phase). WaitsOnNoHart p c.on) (sym is) tt;
+  hart = here.hart;
+  space = here.space;
+}
+answer_is_context (CopyIn done) answer r c is here = record {
+  steady = here.steady;
+  waiting = subst (λ (p : Phase). WaitsOnNoHart p c.on) (sym is) tt;
+  hart = here.hart;
+  space = here.space;
+}
+answer_is_context Waiting answer r c is here =
+    let one = finish_one c here.steady answer (at_phase c Waiting is here.steady) in
+    record {
+      steady = one.steady;
+      waiting = one.idle (finish_call answer c).on;
+      hart = subst (λ (o : Option HartId). IfSome o (λ hart. hart.0 < 4)) (sym one.on) here.hart;
+      space = subst (IsInUse r) (sym one.space) here.space;
+    }
+answer_is_context (CopyOut done total) answer r c is here = record {
+  steady = here.steady;
+  waiting = subst (λ (p : Phase). WaitsOnNoHart p c.on) (sym is) tt;
+  hart = here.hart;
+  space = here.space;
+}
+
+-- the slot that was just written, if there is such a slot
+set_there : {A : Type 0} (xs : List (Option A)) (i : ℕ) (x : A) (o : Option A) →
+    slice_index_or (slice_set xs i (Some x)) i None ≡ o → (o ≡ Some x) ⊎ (o ≡ None)
+set_there [] i x o is = inr (sym is)
+set_there (y ∷ xs) zero x o is = inl (sym is)
+set_there (y ∷ xs) (suc i) x o is = set_there xs i x o is
+
+past : {A : Type 0} (xs : List (Option A)) (i : ℕ) (x : A) → slice_index_or (slice_set xs i (Some x)) i None ≡ None →
+    slice_set xs i (Some x) ≡ xs
+past [] i x is = refl
+past (y ∷ xs) zero x is = absurd cc
+past (y ∷ xs) (suc i) x is = ap (λ (l : List _). y ∷ l) (past xs i x is)
+
+taken_kept : (slot answer : ℕ) (d : Control) (c : Context) (o : Option Context) → KeepsLimits d →
+    IsRunning d.resources c → (o ≡ Some c) ⊎ (o ≡ None) →
+    (o ≡ None → with_context slot c d.contexts ≡ d.contexts) →
+    KeepsLimits (answer_taken slot answer o (record d { contexts = with_context slot c d.contexts }))
+unfolding answer_taken
+taken_kept slot answer d c None keeps here is past =
+    subst (λ (contexts : List (Option Context)). KeepsLimits (record d { contexts = contexts })) (sym (past refl)) keeps
+taken_kept slot answer d c (Some k) keeps here (inr none) past = absurd cc
+taken_kept slot answer d c (Some k) keeps here (inl same) past =
+    let is : k ≡ c = cc in
+    let changed = slot_kept d slot (answer_in k.phase answer k) keeps
+    (answer_is_context k.phase answer d.resources k refl (subst (IsRunning d.resources) (sym is) here)) in
+    subst (λ (contexts : List (Option Context)). KeepsLimits (record d { contexts = contexts }))
+    (sym (set-set d.contexts slot (Some c) (Some (answer_in k.phase answer k)))) changed
+
+resumed_kept : (slot answer : ℕ) (d : Control) (c : Context) → KeepsLimits d → IsRunning d.resources c →
+    KeepsLimits (resume_told slot answer (Ok tt) (record d { contexts = with_context slot c d.contexts })).control
+unfolding resume_told
+resumed_kept slot answer d c keeps here =
+    taken_kept slot answer d c _ keeps here (set_there d.contexts slot c _ refl) (λ none. past d.contexts slot c none)
+
+abbrev Tells : ℕ → ℕ → Control → Resumed → Type 0
+Tells slot answer d made = KeepsLimits (resume_told slot answer made.answer (record d { contexts = made.contexts })).control
+
+busy_kept : (slot answer : ℕ) (d : Control) (f : ResumeFault) → KeepsLimits d →
+    Tells slot answer d (record { answer = Err f; contexts = d.contexts })
+unfolding resume_told
+busy_kept slot answer d f keeps = keeps
+
+by_busy : (busy : Bool) (slot answer : ℕ) (d : Control) (x y : Resumed) → Tells slot answer d x → Tells slot answer d y →
+    Tells slot answer d (cond busy x y)
+by_busy true slot answer d x y here there = here
+by_busy false slot answer d x y here there = there
+
+resume_if_kept : (slot hart answer : ℕ) (o : Option Context) (d : Control) → hart < 4 → KeepsLimits d →
+    IfSome o (IsContext d.resources) → Tells slot answer d (resume_if slot hart o d.contexts)
+unfolding resume_if
+resume_if_kept slot hart answer None d low keeps here = busy_kept slot answer d fault.NoContext keeps
+resume_if_kept slot hart answer (Some c) d low keeps here =
+    by_busy (is_some c.on) slot answer d _ _ (busy_kept slot answer d fault.Busy keeps)
+    (resumed_kept slot answer d (record c { on = Some (record { 0 = hart }) }) keeps (record {
+      steady = record {
+        registers = here.steady.registers;
+        zero_register = here.steady.zero_register;
+        aligned = here.steady.aligned;
+        phase = here.steady.phase;
+      };
+      hart = low;
+      space = here.space;
+    }))
+
+pub resume_kept : (slot hart answer : ℕ) (d : Control) → hart < 4 → KeepsLimits d →
+    KeepsLimits (resume_slot slot hart answer d).control
+unfolding resume_slot resume_at
+resume_kept slot hart answer d low keeps = resume_if_kept slot hart answer _ d low keeps (keeps.contexts slot)

@@ -1,0 +1,51 @@
+-- Harts and contexts hold words, at every moment of a run.
+use Rattle.std.proofs.Common.{◌≡◌, List, [], ◌∷◌, Option, Some, None, Ok}
+use Rattle.std.specs.List.{AllByRecursion}
+use Rattle.cloak_base.specs.Random.{Random}
+use Rattle.cloak_model.specs.declared.image.Bundle.{Bundle}
+use Rattle.cloak_model.specs.Bundle.{IsInGrammar}
+use Rattle.cloak_model.specs.Contexts.{Context}
+use Rattle.cloak_model.specs.DomainState.{Domain}
+use Rattle.cloak_model.specs.Hart.{Hart}
+use Rattle.cloak_model.specs.Opening.{Opened, opening}
+use Rattle.cloak_model.specs.Parts.{Joint}
+use Rattle.item_law.specs.Writing.{IsOfBytes, IsStreamOfBytes}
+use Rattle.item_law.proofs.Controls.{SlotFits}
+use Rattle.item_law.proofs.Harts.{HartFits}
+use Rattle.item_law.proofs.Opened.{opened_fits}
+use Rattle.item_law.proofs.Turns.{ProgramFits, JointFits, turn_fits}
+use Rattle.limit_law.proofs.Moments.{at_every_moment}
+use Rattle.limit_law.specs.Words.{HasHartWords, HasSlotWords, HasProgramWords, HasWords, RunsHaveWords}
+
+each : {A : Type 0} (P Q : A → Type 0) (xs : List A) → ((a : A) → P a → Q a) → AllByRecursion P xs → AllByRecursion Q xs
+each P Q [] gives all = tt
+each P Q (x ∷ xs) gives all = (gives x all.0, each P Q xs gives all.1)
+
+slot_words : (o : Option Context) → SlotFits o → HasSlotWords o
+slot_words None fits = tt
+slot_words (Some c) fits = record { regs = fits.regs; pc = fits.pc }
+
+program_words : (d : Domain) → ProgramFits d → HasProgramWords d
+program_words d fits = record {
+  number = fits.number;
+  contexts = each SlotFits HasSlotWords d.control.contexts slot_words fits.slots.each;
+}
+
+hart_words : (h : Hart) → HartFits h → HasHartWords h
+hart_words h fits = record { regs = fits.regs; csrs = fits.csrs; pc = fits.pc }
+
+words : (j : Joint) → JointFits j → HasWords j
+words j fits = record {
+  harts = each HartFits HasHartWords j.harts hart_words fits.harts;
+  programs = each ProgramFits HasProgramWords j.domains program_words fits.programs;
+}
+
+pub opened_words : (b : Bundle) (stream : Random) → IsInGrammar b → IsOfBytes b → IsStreamOfBytes stream →
+    (o : Opened) → opening b stream ≡ Ok o → JointFits o.joint
+opened_words b stream grammar bytes all o opens = (opened_fits b stream o grammar bytes all opens).joint
+
+pub runs_have_words : RunsHaveWords
+runs_have_words b stream budget r grammar bytes all is n =
+    words _
+    (at_every_moment JointFits b stream budget r (opened_words b stream grammar bytes all)
+    (λ m same fits. (turn_fits m fits).joint) is n)

@@ -1,0 +1,5 @@
+pub mod Limits
+pub mod Owed
+pub mod Roots
+pub mod Words
+pub mod Files

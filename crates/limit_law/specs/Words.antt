@@ -1,0 +1,51 @@
+-- Harts and contexts hold words, at every moment of a run.
+use Rattle.std.specs.Prelude.{ℕ, ◌≡◌, ◌<◌, List, Option, Some, None, Ok}
+use Rattle.std.specs.List.{AllByRecursion}
+use Rattle.cloak_base.specs.Random.{Random}
+use Rattle.cloak_model.specs.declared.image.Bundle.{Bundle}
+use Rattle.cloak_model.specs.Bundle.{IsInGrammar}
+use Rattle.cloak_model.specs.Contexts.{Context}
+use Rattle.cloak_model.specs.DomainState.{Domain}
+use Rattle.cloak_model.specs.Hart.{Hart}
+use Rattle.cloak_model.specs.Parts.{Joint}
+use Rattle.cloak_model.specs.Record.{IsWord}
+use Rattle.cloak_model.specs.Run.{Run, joint_run}
+use Rattle.item_law.specs.Writing.{IsOfBytes, IsStreamOfBytes}
+use Rattle.kernel_isolation.specs.Isolation.{joint_until}
+
+-- Words of 32 bits.
+abbrev pub AreWords : List ℕ → Type 0
+AreWords words = AllByRecursion IsWord words
+
+-- A hart has words in its registers, in its control and status registers (listed by their numbers), and as its program
+-- counter.
+pub record HasHartWords (h : Hart) : Type 0 where
+  pub regs : AreWords h.regs
+  pub csrs : AllByRecursion (λ (entry : ℕ × ℕ). IsWord entry.1) h.csrs
+  pub pc : IsWord h.pc
+
+-- So has a context in its registers and as its program counter.
+pub record HasContextWords (c : Context) : Type 0 where
+  pub regs : AreWords c.regs
+  pub pc : IsWord c.pc
+
+-- A slot is free, or has such a context.
+abbrev pub HasSlotWords : Option Context → Type 0
+HasSlotWords None = Unit {0}
+HasSlotWords (Some c) = HasContextWords c
+
+-- The number of a program is below 4, and its slots have words.
+pub record HasProgramWords (d : Domain) : Type 0 where
+  pub number : d.control.number < 4
+  pub contexts : AllByRecursion HasSlotWords d.control.contexts
+
+-- The joint machine: its harts, and its programs.
+pub record HasWords (j : Joint) : Type 0 where
+  pub harts : AllByRecursion HasHartWords j.harts
+  pub programs : AllByRecursion HasProgramWords j.domains
+
+-- The law, of the run of an image in the grammar whose bytes are bytes, under a stream of bytes.
+abbrev pub RunsHaveWords : Type 0
+RunsHaveWords =
+    (b : Bundle) (stream : Random) (budget : ℕ) (r : Run) → IsInGrammar b → IsOfBytes b → IsStreamOfBytes stream →
+    joint_run b stream budget ≡ Ok r → (n : ℕ) → HasWords (joint_until n r)

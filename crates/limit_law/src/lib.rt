@@ -1,0 +1,44 @@
+//! Laws on the definitions alone: what holds at every moment of every run (`cloak_model`, `specs/Run`), also after its
+//! last step, whatever the kernel does. Each program keeps its limits: each of its contexts is of a space in use, at a
+//! word of the program and has the registers that its phase needs, and its resources and regions fit together. No page
+//! is owed by two frames. A page table is recorded only of a space in use, of a program that there is. Registers,
+//! program counters and the numbers of files are words. The laws are of images in the grammar, under every stream and
+//! budget; that on owed pages is of all images, and those on words are of images and streams of bytes.
+//!
+//! No body turns a law, so there is no wrong body to refuse here. These changes were tried on a copy, and with none of
+//! them did the proofs go through. Of the limits: 15 regions in a space; harts below 3; program counters that are
+//! multiples of 8; no context waits. Of the definitions: THREAD does not test its program counter; EXIT ends its space
+//! though another context is in it; an offer does not settle the frame that is owed the page; the page table of a space
+//! that ended stays recorded.
+#![tactic(auto)]
+
+ghost use Rattle.limit_law.specs.Files.{RunsHaveFileWords};
+ghost use Rattle.limit_law.specs.Limits.{RunsKeepLimits};
+ghost use Rattle.limit_law.specs.Owed.{PagesAreOwedOnce};
+ghost use Rattle.limit_law.specs.Roots.{RootsAreOfSpacesInUse};
+ghost use Rattle.limit_law.specs.Words.{RunsHaveWords};
+
+/// Each program keeps its limits at every moment. It does nothing: its contract is the law.
+pub fn law_of_limits()
+    ensures { RunsKeepLimits }
+{}
+
+/// Each page is owed by one frame at most. It does nothing: its contract is the law.
+pub fn law_of_owed_pages()
+    ensures { PagesAreOwedOnce }
+{}
+
+/// Page tables are recorded of spaces in use alone. It does nothing: its contract is the law.
+pub fn law_of_roots()
+    ensures { RootsAreOfSpacesInUse }
+{}
+
+/// Harts and contexts hold words. It does nothing: its contract is the law.
+pub fn law_of_words()
+    ensures { RunsHaveWords }
+{}
+
+/// The numbers of files are words. It does nothing: its contract is the law.
+pub fn law_of_file_words()
+    ensures { RunsHaveFileWords }
+{}

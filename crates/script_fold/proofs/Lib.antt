@@ -1,0 +1,5 @@
+pub mod Folding
+pub mod Questions
+pub mod ByQuestions
+pub mod Rooted
+pub mod Tables

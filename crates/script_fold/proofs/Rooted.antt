@@ -1,0 +1,130 @@
+-- No step of a cloaked program changes the page tables that are recorded.
+use Rattle.std.proofs.Common.{◌≡◌, ◌∙◌, true, false, ℕ, Bool, List, refl, [], Option, Some, None, slice_index_or, if◌then◌else◌}
+use Rattle.cloak_base.specs.declared.names.PageId.{PageId}
+use Rattle.cloak_model.specs.Events.{Event}
+use Rattle.cloak_model.specs.World.{World, Flat, Cloaked, Alone, noted, stored_at, settled, written, with_plain}
+use Rattle.cloak_model.specs.declared.item.Item.{Item}
+use Rattle.cloak_model.specs.AskPages.{ask_copy, ask_forget}
+use Rattle.cloak_model.specs.DomainState.{Domain}
+use Rattle.cloak_model.specs.DomainStep.{domain_step}
+use Rattle.script_fold.proofs.Folding.{step_keeps}
+use Rattle.script_fold.proofs.Questions.{Kept}
+use Rattle.script_fold.proofs.ByQuestions.{kept_by}
+use Rattle.std.specs.Str.{bytes_eq}
+use Rattle.cloak_base.specs.Random.{Random}
+use Rattle.cloak_model.specs.Ledger.{vector_of}
+use Rattle.cloak_model.specs.Cloaking.{CloakedMemory, AfterSettling, AfterOffer, settle, settle_if, settle_owed, settle_frame_if, owing_frame, owes, owed_in, compared, unless_missed, offer}
+use Rattle.script_fold.specs.Tables.{recorded_tables}
+use Rattle.cloak_model.specs.PageMoves.{copy_pages, drop_pages}
+
+-- the page tables that spaces were first resumed with
+pub record SameRoot (w v : World) : Type 0 where
+  pub root : recorded_tables v ≡ recorded_tables w
+
+pub same_refl : (w : World) → SameRoot w w
+same_refl w = record { root = refl }
+
+pub same_trans : (u v w : World) → SameRoot u v → SameRoot v w → SameRoot u w
+same_trans u v w p q = record { root = q.root ∙ p.root }
+
+settle_owed_root : (f : ℕ) (q : PageId) (draw : Option (List ℕ × Random)) (m : CloakedMemory) → (settle_owed f q draw m).memory.ledger.root ≡ m.ledger.root
+unfolding settle_owed
+settle_owed_root f q None m = refl
+settle_owed_root f q (Some draw) m = refl
+
+settle_if_root : (f : ℕ) (owed : Option PageId) (m : CloakedMemory) → (settle_if f owed m).memory.ledger.root ≡ m.ledger.root
+unfolding settle_if
+settle_if_root f None m = refl
+settle_if_root f (Some q) m = settle_owed_root f q (vector_of m.ledger q) m
+
+-- settling records no page table
+pub settle_root : (f : ℕ) (m : CloakedMemory) → (settle f m).memory.ledger.root ≡ m.ledger.root
+unfolding settle
+settle_root f m = settle_if_root f (owed_in m f) m
+
+settle_frame_if_root : (f : Option ℕ) (m : CloakedMemory) → (settle_frame_if f m).memory.ledger.root ≡ m.ledger.root
+settle_frame_if_root None m = refl
+settle_frame_if_root (Some f) m = settle_root f m
+
+either_way : {A : Type 0} (P : A → Type 0) (b : Bool) (x y : A) → P x → P y → P (if b then x else y)
+either_way P true x y here there = here
+either_way P false x y here there = there
+
+compared_root : (q : PageId) (g : ℕ) (write : Bool) (recorded : Option (List ℕ)) (m : CloakedMemory) → (compared q g write recorded m).memory.ledger.root ≡ m.ledger.root
+unfolding compared
+compared_root q g write None m = refl
+compared_root q g write (Some c) m =
+    either_way (λ (o : AfterOffer). o.memory.ledger.root ≡ m.ledger.root) (bytes_eq (slice_index_or m.ram g []) c) _ _ (either_way (λ (x : CloakedMemory). x.ledger.root ≡ m.ledger.root) write _ _ refl refl) refl
+
+unless_missed_root : (s : AfterSettling) (next : CloakedMemory → AfterOffer) → ((m : CloakedMemory) → (next m).memory.ledger.root ≡ m.ledger.root) → (unless_missed s next).memory.ledger.root ≡ s.memory.ledger.root
+unfolding unless_missed
+unless_missed_root s next same = either_way (λ (o : AfterOffer). o.memory.ledger.root ≡ s.memory.ledger.root) s.missed _ _ refl (same s.memory)
+
+pub offer_root : (q : PageId) (g : ℕ) (write : Bool) (m : CloakedMemory) → (offer q g write m).memory.ledger.root ≡ m.ledger.root
+unfolding offer
+offer_root q g write m =
+    either_way (λ (o : AfterOffer). o.memory.ledger.root ≡ m.ledger.root) (owes q (owed_in m g)) _ _ refl
+    (unless_missed_root (settle g m) _ (λ m'. unless_missed_root (settle_frame_if (owing_frame m' q) m') _ (λ m''. compared_root q g write (m''.ledger.recorded q) m'') ∙ settle_frame_if_root (owing_frame m' q) m') ∙ settle_root g m)
+
+copy_root : (domain from to : ℕ) (m : CloakedMemory) → (copy_pages domain from to m).ledger.root ≡ m.ledger.root
+unfolding copy_pages
+copy_root domain from to m = refl
+
+drop_root : (domain resource : ℕ) (m : CloakedMemory) → (drop_pages domain resource m).ledger.root ≡ m.ledger.root
+unfolding drop_pages
+drop_root domain resource m = refl
+
+pub same_settled : (f : ℕ) (w : World) → SameRoot w (settled f w)
+same_settled f (Flat ram) = same_refl (Flat ram)
+same_settled f (Cloaked c) = record { root = settle_root f c.memory }
+same_settled f (Alone h) = same_refl (Alone h)
+
+pub same_stored_at : (pa width value : ℕ) (w : World) → SameRoot w (stored_at pa width value w)
+same_stored_at pa width value (Flat ram) = record { root = refl }
+same_stored_at pa width value (Cloaked c) = record { root = refl }
+same_stored_at pa width value (Alone h) = same_refl (Alone h)
+
+pub same_noted : (events : List Event) (w : World) → SameRoot w (noted events w)
+same_noted events (Flat ram) = same_refl (Flat ram)
+same_noted events (Cloaked c) = record { root = refl }
+same_noted events (Alone h) = same_refl (Alone h)
+
+pub same_written : (i : Item) (w : World) → SameRoot w (written i w)
+same_written i (Flat ram) = same_refl (Flat ram)
+same_written i (Cloaked c) = record { root = refl }
+same_written i (Alone h) = same_refl (Alone h)
+
+pub same_with_plain : (domain : ℕ) (plain : PageId → List ℕ) (w : World) → SameRoot w (with_plain domain plain w)
+same_with_plain domain plain (Flat ram) = same_refl (Flat ram)
+same_with_plain domain plain (Cloaked c) = record { root = refl }
+same_with_plain domain plain (Alone h) = record { root = refl }
+
+pub rooted_copy : (domain from to : ℕ) (w : World) → SameRoot w (ask_copy domain from to w).world
+unfolding ask_copy
+rooted_copy domain from to (Flat ram) = same_refl (Flat ram)
+rooted_copy domain from to (Cloaked c) = record { root = copy_root domain from to c.memory }
+rooted_copy domain from to (Alone h) = record { root = refl }
+
+pub rooted_forget : (domain resource : ℕ) (w : World) → SameRoot w (ask_forget domain resource w).world
+unfolding ask_forget
+rooted_forget domain resource (Flat ram) = same_refl (Flat ram)
+rooted_forget domain resource (Cloaked c) = record { root = drop_root domain resource c.memory }
+rooted_forget domain resource (Alone h) = record { root = refl }
+
+root_changes : Kept SameRoot
+root_changes = record {
+  same = same_refl;
+  chained = same_trans;
+  settled = same_settled;
+  stored_at = same_stored_at;
+  noted = same_noted;
+  written = same_written;
+  with_plain = same_with_plain;
+  offered = λ q g write c. record { root = offer_root q g write c.memory };
+  mismatched = λ q g c. record { root = refl };
+  told = λ h rest. record { root = refl };
+  unfit = λ h. record { root = refl };
+}
+
+pub rooted_domain_step : (slot : ℕ) (d : Domain) (w : World) → SameRoot w (domain_step slot d w).world
+rooted_domain_step slot d w = step_keeps SameRoot slot d (kept_by SameRoot root_changes rooted_copy rooted_forget d.control.number) w
