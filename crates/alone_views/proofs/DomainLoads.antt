@@ -17,8 +17,9 @@ use Rattle.cloak_model.specs.Parts.{DomainPart}
 use Rattle.cloak_model.specs.DomainState.{Domain}
 use Rattle.cloak_model.specs.DomainStep as step
 use Rattle.cloak_model.specs.DomainStep.{DomainStepped, Resumes, domain_step}
+use Rattle.cloak_model.specs.Ending.{ended_domain}
 use Rattle.cloak_model.specs.DomainAlone as model
-use Rattle.cloak_model.specs.DomainAlone.{Tried, Over, Wants, Wrong, tried, try_with, handed_of, is_none_left, is_granted, answered_by, made_by, take_answer, take_timer, take_resume, resumed_by, domain_step_ended, domain_step_begun, take_domain_step, domain_takes, take_domain_item, domain_taken}
+use Rattle.cloak_model.specs.DomainAlone.{Tried, Over, Wants, Wrong, tried, try_with, handed_of, is_none_left, is_granted, answered_by, made_by, take_answer, take_timer, take_resume, take_ended, domain_gone, resumed_by, domain_step_ended, domain_step_begun, take_domain_step, domain_takes, take_domain_item, domain_taken}
 
 abbrev LoadsOnce : Domain → DomainStepped → Type 0
 LoadsOnce d made = length made.domain.loads ≤ length d.loads + 1
@@ -136,6 +137,24 @@ few_resume d (model.Running slot answers) ctx reply s = no_load (loads_of s)
 few_resume d model.Done ctx reply s = no_load (loads_of s)
 few_resume d model.Stopped ctx reply s = no_load (loads_of s)
 
+-- the end of the domain keeps its loads
+few_gone : (d : ℕ) (s : model.DomainAlone) → FewMore s (domain_gone d s)
+unfolding ended_domain
+few_gone d s = no_load (loads_of s)
+
+few_over : (d : ℕ) (ended : Bool) (q : model.DomainPlace) (s : model.DomainAlone) → FewMore s (take_ended d ended q s)
+unfolding take_ended
+few_over d true (model.Other hart) s = no_load (loads_of s)
+few_over d false (model.Other hart) s = few_gone d s
+few_over d true model.Stopped s = few_gone d s
+few_over d false model.Stopped s = few_gone d s
+few_over d true model.Between s = no_load (loads_of s)
+few_over d false model.Between s = no_load (loads_of s)
+few_over d true (model.Running slot answers) s = no_load (loads_of s)
+few_over d false (model.Running slot answers) s = no_load (loads_of s)
+few_over d true model.Done s = no_load (loads_of s)
+few_over d false model.Done s = no_load (loads_of s)
+
 few_ended : (q : model.DomainPlace) (s : model.DomainAlone) → FewMore s (domain_step_ended q s)
 unfolding domain_step_ended
 few_ended (model.Running slot answers) s = few_made _ s (once_tried slot answers s.part)
@@ -169,6 +188,7 @@ few_takes d schedule (item.Word domain value) s = few_either _ s _ s (few_answer
 few_takes d schedule (item.Stopped domain) s = few_either _ s _ s (few_answer s.place _ s) (no_load (loads_of s))
 few_takes d schedule (item.Timer domain) s = few_either _ s _ s (few_timer s.place s) (no_load (loads_of s))
 few_takes d schedule (item.Resume domain ctx reply) s = few_either _ s _ s (few_resume d s.place ctx reply s) (no_load (loads_of s))
+few_takes d schedule (item.Ended domain) s = few_either _ s _ s (few_over d _ s.place s) (no_load (loads_of s))
 few_takes d schedule (item.Cipher frame bytes) s = no_load (loads_of s)
 few_takes d schedule (item.Put address width value) s = no_load (loads_of s)
 few_takes d schedule (item.Leave shown) s = no_load (loads_of s)

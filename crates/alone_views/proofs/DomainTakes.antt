@@ -8,9 +8,10 @@ use Rattle.cloak_model.specs.declared.item.Item.TheVariants as item
 use Rattle.cloak_model.specs.Contexts.{Context, context_at}
 use Rattle.cloak_model.specs.DomainState.{Control}
 use Rattle.cloak_model.specs.DomainStep.{interrupt, interrupt_if, resume_slot}
+use Rattle.cloak_model.specs.Ending.{ended_domain}
 use Rattle.cloak_model.specs.Parts.{DomainPart}
 use Rattle.cloak_model.specs.DomainAlone as model
-use Rattle.cloak_model.specs.DomainAlone.{Tried, Over, Wants, Wrong, domain_unfit, made_by, answered_by, is_stopped, is_granted, take_answer, take_timer, take_resume, resumed_by, domain_step_ended, domain_step_begun, take_domain_step, place_for, slot_on, try_with, with_control, domain_takes, take_domain_item}
+use Rattle.cloak_model.specs.DomainAlone.{Tried, Over, Wants, Wrong, domain_unfit, made_by, answered_by, is_stopped, is_granted, take_answer, take_timer, take_resume, take_ended, domain_gone, ended_part, resumed_by, domain_step_ended, domain_step_begun, take_domain_step, place_for, slot_on, try_with, with_control, domain_takes, take_domain_item}
 use Rattle.hypercalls.specs.declared.domain.Domain.{Domain}
 use Rattle.hypercalls.specs.Standing.{StandsFor, ResumesAs, control_of}
 use Rattle.alone_views.specs.declared.domain.DomainAlone.{DomainAlone}
@@ -20,7 +21,7 @@ use Rattle.alone_views.specs.declared.side.HandedSide.{HandedSide}
 use Rattle.alone_views.specs.declared.side.Handing.{Handing}
 use Rattle.alone_views.specs.declared.side.Handing.TheVariants as handing
 use Rattle.alone_views.specs.declared.unfit.Unfit.{Unfit}
-use Rattle.alone_views.specs.DomainPages.{HasPlain}
+use Rattle.alone_views.specs.DomainPages.{HasPlain, ended_plain}
 use Rattle.alone_views.specs.Side.{answers_in, one_answer}
 use Rattle.alone_views.specs.DomainStanding.{StandsForPart, StandsWhileFit, StandsForState, StandsForDomain, IsTried, TakesAs, TakesDomainItem, KeepsSetting, answer_by, hart_at, timer_taken, number_in, place_told, schedule_in, step_of, then_begun}
 use Rattle.alone_views.proofs.DomainSlots.{slots_interrupt, slots_resume}
@@ -369,6 +370,59 @@ resumes_not machine domain s slot hart reply n f told unfit steps =
     subst (λ (a : Result (Unit {0}) ResumeFault). StandsForState machine (cond (is_granted a) (record s { part = with_control r.control s.part; place = model.Done }) (domain_unfit s))) told.answer
     (stands_unfit machine s n unfit steps)
 
+-- The end of the domain.
+
+other_at : (machine : DomainAlone) (s : model.DomainAlone) (d hart : ℕ) (ended : Bool) → StandsForState machine (cond ended (domain_unfit s) (domain_gone d s)) →
+    StandsForState machine (take_ended d ended (model.Other hart) s)
+unfolding take_ended
+other_at machine s d hart true there = there
+other_at machine s d hart false there = there
+
+-- whether it has ended is told by the flag of the program
+pub ended_other : (old machine : DomainAlone) (s : model.DomainAlone) (d : ℕ) (ended : Bool) → StandsWhileFit old s → old.place ≡ place.Other → ended ≡ (control_of old.domain).ended →
+    StandsForState machine (cond ended (domain_unfit s) (domain_gone d s)) → StandsForState machine (take_ended d s.part.domain.control.ended s.place s)
+ended_other old machine s d ended stands is told there =
+    let flag = s.part.domain.control.ended in
+    placed old machine s place.Other (λ p. take_ended d flag p s) stands is
+    (other_at machine s d _ flag
+    (subst (λ (b : Bool). StandsForState machine (cond b (domain_unfit s) (domain_gone d s))) (told ∙ sym (ap (λ (k : Control). k.ended) stands.part.domain.control)) there))
+
+stopped_at : (machine : DomainAlone) (s : model.DomainAlone) (d : ℕ) (ended : Bool) → StandsForState machine (domain_gone d s) → StandsForState machine (take_ended d ended model.Stopped s)
+unfolding take_ended
+stopped_at machine s d true there = there
+stopped_at machine s d false there = there
+
+pub ended_stopped : (old machine : DomainAlone) (s : model.DomainAlone) (d : ℕ) (ended : Bool) → StandsWhileFit old s → old.place ≡ place.Stopped →
+    StandsForState machine (domain_gone d s) → StandsForState machine (take_ended d ended s.place s)
+ended_stopped old machine s d ended stands is there =
+    placed old machine s place.Stopped (λ p. take_ended d ended p s) stands is (stopped_at machine s d ended there)
+
+unfit_at : (q : DomainPlace) (hart d : ℕ) (ended : Bool) (s : model.DomainAlone) → (q ≡ place.Other → ⊥) → (q ≡ place.Stopped → ⊥) → take_ended d ended (place_told hart q) s ≡ domain_unfit s
+unfolding take_ended
+unfit_at place.Between hart d true s no_other no_stop = refl
+unfit_at place.Between hart d false s no_other no_stop = refl
+unfit_at place.Other hart d ended s no_other no_stop = absurd (no_other refl)
+unfit_at (place.Running slot answer) hart d true s no_other no_stop = refl
+unfit_at (place.Running slot answer) hart d false s no_other no_stop = refl
+unfit_at place.Done hart d true s no_other no_stop = refl
+unfit_at place.Done hart d false s no_other no_stop = refl
+unfit_at place.Stopped hart d ended s no_other no_stop = absurd (no_stop refl)
+
+pub ended_elsewhere : (old machine : DomainAlone) (s : model.DomainAlone) (d : ℕ) (ended : Bool) → StandsWhileFit old s → (old.place ≡ place.Other → ⊥) → (old.place ≡ place.Stopped → ⊥) →
+    machine.unfit ≡ Some (record { step = old.steps }) → StandsForState machine (take_ended d ended s.place s)
+ended_elsewhere old machine s d ended stands no_other no_stop unfit =
+    placed old machine s old.place (λ p. take_ended d ended p s) stands refl
+    (subst (λ (x : model.DomainAlone). StandsForState machine x) (sym (unfit_at old.place _ d ended s no_other no_stop)) (stands_unfit machine s old.steps unfit stands.steps))
+
+pub goes : (old machine : DomainAlone) (s : model.DomainAlone) (d : ℕ) → StandsWhileFit old s → StandsFor machine.domain (ended_domain s.part.domain) →
+    HasPlain machine.side.pages.items (ended_plain d s.part.plain) → machine.steps ≡ old.steps → machine.unfit ≡ old.unfit → machine.place ≡ place.Done →
+    StandsForState machine (domain_gone d s)
+unfolding ended_domain
+goes old machine s d stands domain pages steps unfit at =
+    stands_at machine s (ended_part d s.part) model.Done stands.fit (unfit ∙ stands.unfit) (steps ∙ stands.steps)
+    (record { domain = domain; pages = pages; slots = refl })
+    (sym (ap (λ (q : DomainPlace). place_told (hart_at (schedule_in machine) machine.steps) q) at))
+
 -- An item.
 
 pub takes_as_at : (old machine : DomainAlone) (number : ℕ) (schedule : List ℕ) (i j : Item) → i ≡ j → TakesAs old machine (domain_takes number schedule j) → TakesAs old machine (domain_takes number schedule i)
@@ -377,20 +431,21 @@ takes_as_at old machine number schedule i j same takes = subst (λ (x : Item). T
 -- an item that is of another half
 pub ignored : (machine : DomainAlone) (d : ℕ) (schedule : List ℕ) (i : Item) (s : model.DomainAlone) → ((n : ℕ) → i ≡ item.Step n → ⊥) → ((n : ℕ) → i ≡ item.Close n → ⊥) →
     ((n : ℕ) → i ≡ item.Ok n → ⊥) → ((n k : ℕ) → i ≡ item.Absent n k → ⊥) → ((n k : ℕ) → i ≡ item.Word n k → ⊥) → ((n : ℕ) → i ≡ item.Timer n → ⊥) →
-    ((n c r : ℕ) → i ≡ item.Resume n c r → ⊥) → ((n : ℕ) → i ≡ item.Stopped n → ⊥) → StandsForState machine s → StandsForState machine (domain_takes d schedule i s)
+    ((n c r : ℕ) → i ≡ item.Resume n c r → ⊥) → ((n : ℕ) → i ≡ item.Stopped n → ⊥) → ((n : ℕ) → i ≡ item.Ended n → ⊥) → StandsForState machine s → StandsForState machine (domain_takes d schedule i s)
 unfolding domain_takes
-ignored machine d schedule (item.Cipher frame bytes) s step close ok absent word timer resume stop stands = stands
-ignored machine d schedule (item.Put address width value) s step close ok absent word timer resume stop stands = stands
-ignored machine d schedule (item.Leave shown) s step close ok absent word timer resume stop stands = stands
-ignored machine d schedule (item.Step n) s step close ok absent word timer resume stop stands = absurd (step n refl)
-ignored machine d schedule (item.Close n) s step close ok absent word timer resume stop stands = absurd (close n refl)
-ignored machine d schedule item.End s step close ok absent word timer resume stop stands = stands
-ignored machine d schedule (item.Ok n) s step close ok absent word timer resume stop stands = absurd (ok n refl)
-ignored machine d schedule (item.Absent n k) s step close ok absent word timer resume stop stands = absurd (absent n k refl)
-ignored machine d schedule (item.Word n k) s step close ok absent word timer resume stop stands = absurd (word n k refl)
-ignored machine d schedule (item.Timer n) s step close ok absent word timer resume stop stands = absurd (timer n refl)
-ignored machine d schedule (item.Resume n c r) s step close ok absent word timer resume stop stands = absurd (resume n c r refl)
-ignored machine d schedule (item.Stopped n) s step close ok absent word timer resume stop stands = absurd (stop n refl)
+ignored machine d schedule (item.Cipher frame bytes) s step close ok absent word timer resume stop over stands = stands
+ignored machine d schedule (item.Put address width value) s step close ok absent word timer resume stop over stands = stands
+ignored machine d schedule (item.Leave shown) s step close ok absent word timer resume stop over stands = stands
+ignored machine d schedule (item.Step n) s step close ok absent word timer resume stop over stands = absurd (step n refl)
+ignored machine d schedule (item.Close n) s step close ok absent word timer resume stop over stands = absurd (close n refl)
+ignored machine d schedule item.End s step close ok absent word timer resume stop over stands = stands
+ignored machine d schedule (item.Ok n) s step close ok absent word timer resume stop over stands = absurd (ok n refl)
+ignored machine d schedule (item.Absent n k) s step close ok absent word timer resume stop over stands = absurd (absent n k refl)
+ignored machine d schedule (item.Word n k) s step close ok absent word timer resume stop over stands = absurd (word n k refl)
+ignored machine d schedule (item.Timer n) s step close ok absent word timer resume stop over stands = absurd (timer n refl)
+ignored machine d schedule (item.Resume n c r) s step close ok absent word timer resume stop over stands = absurd (resume n c r refl)
+ignored machine d schedule (item.Stopped n) s step close ok absent word timer resume stop over stands = absurd (stop n refl)
+ignored machine d schedule (item.Ended n) s step close ok absent word timer resume stop over stands = absurd (over n refl)
 
 -- The answer of a call.
 

@@ -12,5 +12,6 @@ pub mod DomainPlaces
 pub mod DomainSlots
 pub mod DomainTakes
 pub mod DomainTried
+pub mod DomainZeros
 pub mod SideAnswers
 pub mod SideFollows

@@ -2,7 +2,10 @@
 use Rattle.std.specs.Prelude.{ℕ, ◌≡◌, ◌+◌, ◌*◌, ◌<◌, nat_lt, List, [], slice_index_or, if◌then◌else◌}
 use Rattle.cloak_base.specs.Pages.{zero_page}
 use Rattle.cloak_model.specs.declared.image.Program.{Program}
+use Rattle.cloak_model.specs.DomainAlone.{handed_of}
+use Rattle.cloak_model.specs.Ending.{ask_end, handed_for}
 use Rattle.cloak_model.specs.Opening.{program_page}
+use Rattle.cloak_model.specs.World.{Alone}
 
 -- these are the pages of all resources, one resource of 1024 pages behind another
 abbrev pub HasPlain : List (List ℕ) → (ℕ → ℕ → List ℕ) → Type 0
@@ -12,3 +15,7 @@ HasPlain pages plain = (resource page : ℕ) → resource < 16 → page < 1024 �
 -- the page at a place among them, as a program starts: one of its own, or zeros
 abbrev pub page_at_start : Program → ℕ → List ℕ
 page_at_start p place = if nat_lt place p.start.pages then program_page p.bytes place else zero_page
+
+-- the pages of all resources once the domain has ended
+abbrev pub ended_plain : ℕ → (ℕ → ℕ → List ℕ) → ℕ → ℕ → List ℕ
+ended_plain domain plain = (handed_of (ask_end domain (Alone (handed_for plain))).world).plain

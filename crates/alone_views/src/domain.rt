@@ -157,6 +157,7 @@ impl DomainAlone {
                 ctx,
                 answer,
             } => self.take_resume_for(domain, ctx, answer),
+            Item::Ended { domain } => self.take_ended_for(domain),
             _ => {}
         }
     }
@@ -192,6 +193,18 @@ impl DomainAlone {
     {
         if domain as u32 == self.side.domain {
             self.take_resume(ctx, answer);
+        }
+    }
+
+    /// Takes an end, if it is of this domain.
+    fn take_ended_for(&mut self, domain: u8)
+        ensures takes { TakesAs self.old self.new
+            (λ s. if domain == number_in self.old
+            then spec.take_ended (number_in self.old) s.part.domain.control.ended s.place s else s) }
+        ensures keeps { KeepsSetting self.old self.new }
+    {
+        if domain as u32 == self.side.domain {
+            self.take_ended();
         }
     }
 
@@ -391,6 +404,46 @@ impl DomainAlone {
             }
             _ => self.fail(),
         }
+    }
+
+    /// Takes the end of the domain, which comes once: in a step of a hart that runs none of its contexts, or after what
+    /// stopped the step of one.
+    fn take_ended(&mut self)
+        ensures takes { TakesAs self.old self.new
+            (λ s. spec.take_ended (number_in self.old) s.part.domain.control.ended s.place s) }
+        ensures keeps { KeepsSetting self.old self.new }
+    {
+        match self.place {
+            DomainPlace::Other => {
+                let ended = self.domain.has_ended();
+                self.end_unless(ended);
+            }
+            DomainPlace::Stopped => self.end(),
+            _ => self.fail(),
+        }
+    }
+
+    /// The domain ends, unless it has ended before: then the item was unfit.
+    fn end_unless(&mut self, ended: bool)
+        ensures takes { TakesAs self.old self.new
+            (λ s. if ended then spec.domain_unfit s else spec.domain_gone (number_in self.old) s) }
+        ensures keeps { KeepsSetting self.old self.new }
+    {
+        if ended {
+            self.fail();
+        } else {
+            self.end();
+        }
+    }
+
+    /// The domain ends, and the step has its items.
+    fn end(&mut self)
+        ensures takes { TakesAs self.old self.new (spec.domain_gone (number_in self.old)) }
+        ensures keeps { KeepsSetting self.old self.new }
+    {
+        self.domain.end_all();
+        self.side.end_pages();
+        self.place = DomainPlace::Done;
     }
 
     /// The context of a slot runs on the hart of the step, where it is there and runs on none.

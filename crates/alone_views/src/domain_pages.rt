@@ -69,6 +69,16 @@ pub(crate) fn wipe(pages: &mut Vec<[u8; 4096]>, first: usize)
     }
 }
 
+/// Makes all pages zeros.
+pub(crate) fn wipe_all(pages: &mut Vec<[u8; 4096]>)
+    ensures zeros { (k : ℕ) → k < length pages.old.items → slice_index_or pages.new.items k [] ≡ zero_page }
+    ensures count { length pages.new.items ≡ length pages.old.items }
+{
+    for i in 0..pages.len() {
+        pages[i] = zeros();
+    }
+}
+
 /// Where a page stands among those of all resources.
 pub(crate) fn page_place(q: PageId) -> usize
     requires resource { q.resource < 16 }

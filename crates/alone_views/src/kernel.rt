@@ -104,6 +104,7 @@ impl KernelAlone {
             Item::Timer { .. } => {}
             Item::Resume { .. } => {}
             Item::Stopped { .. } => {}
+            Item::Ended { .. } => {}
         }
     }
 

@@ -1,15 +1,15 @@
 //! The side of a program that runs alone: the bytes of its pages, and up to two answers that were handed in.
-ghost use Rattle.std.specs.Prelude.{◌≡◌, ◌<◌, ◌≤◌, ◌*◌, true, false, length, IfOk};
+ghost use Rattle.std.specs.Prelude.{ℕ, List, ◌≡◌, ◌<◌, ◌≤◌, ◌*◌, true, false, length, IfOk};
 ghost use Rattle.cloak_model.specs.Asking.{FollowsFrom};
 ghost use Rattle.cloak_model.specs.AskPages as ask;
 ghost use Rattle.cloak_model.specs.AskPages.{next_answer};
 ghost use Rattle.cloak_model.specs.DomainAlone.{started_page};
 ghost use Rattle.cloak_model.specs.Effect.{IsWidth};
 ghost use Rattle.cloak_model.specs.World.{Handed};
-ghost use Rattle.alone_views.specs.DomainPages.{HasPlain};
+ghost use Rattle.alone_views.specs.DomainPages.{HasPlain, ended_plain};
 
 use crate::asked::Asked;
-use crate::domain_pages::{page_place, started_pages, wipe};
+use crate::domain_pages::{page_place, started_pages, wipe, wipe_all};
 use cloak_base::{Kind, NoMemory, PageId};
 use cloak_model::{Answer, PageSide, Program, set_value_in, value_in};
 use std::alloc::Global;
@@ -96,6 +96,14 @@ impl HandedSide {
         self.second = second;
         self.unfit = false;
         self.asked = [Asked::Nothing; 2];
+    }
+
+    /// The domain ends: all pages become zeros.
+    pub fn end_pages(&mut self)
+        ensures pages { (plain : ℕ → ℕ → List ℕ) → HasPlain self.new.pages.items (ended_plain self.old.domain plain) }
+        ensures domain { self.new.domain ≡ self.old.domain }
+    {
+        wipe_all(&mut self.pages);
     }
 
     /// One question more is asked.

@@ -14,6 +14,7 @@ use Rattle.cloak_model.specs.Ask.{ask_word, ask_second, ask_after, ask_first, as
 use Rattle.cloak_model.specs.AskPages.{replies, if_drawn, is_store, offer_events, ask_inside_address, offered_by, ask_offer, reached, reach_by_table, get_at, got, get_by_table, put_at, stored_inside, put_by_table, settled_if_marked, clear_from, ask_reach, ask_write, ask_get, ask_put, ask_clear, ask_copy, ask_forget}
 use Rattle.cloak_model.specs.Asking.{Told, Asking}
 use Rattle.cloak_model.specs.Cloaking.{Offer, Ready, Mismatch, Missed, offer}
+use Rattle.cloak_model.specs.Ending.{all_marked, settled_for, ask_end}
 use Rattle.cloak_model.specs.Events.{Event}
 use Rattle.cloak_model.specs.Fork.{ask_copies, ask_forgets}
 use Rattle.cloak_base.specs.Constants.{frame_of}
@@ -328,6 +329,17 @@ pub calms_forgets : (d : ℕ) (list : List ℕ) (w : World) → Calms w (ask_for
 unfolding ask_forgets
 calms_forgets d [] w = Calms-refl w
 calms_forgets d (n ∷ rest) w = Calms-trans _ _ _ (calms_forget d n w) (calms_forgets d rest _)
+
+-- The end of a domain meets nothing either.
+
+calms_for : (d f n : ℕ) (w : World) → Calms w (settled_for d f n w)
+unfolding settled_for
+calms_for d f zero w = Calms-refl w
+calms_for d f (suc n) w = Calms-trans _ _ _ (calms_if_marked d all_marked f w) (calms_for d (f + 1) n _)
+
+pub calms_end : (d : ℕ) (w : World) → Calms w (ask_end d w).world
+unfolding ask_end
+calms_end d w = Calms-trans _ _ _ (calms_for d 0 _ w) (calms_forgets d _ _)
 
 pub is_cloaked_calm : (w : World) → Calm w → is_cloaked w ≡ true
 is_cloaked_calm (Flat ram) calm = absurd calm

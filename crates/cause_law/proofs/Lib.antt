@@ -7,6 +7,8 @@ pub mod Asked
 pub mod Accessed
 pub mod Resumed
 pub mod Steps
+pub mod Over
+pub mod Ends
 pub mod Opened
 pub mod Refused
 pub mod Stopped

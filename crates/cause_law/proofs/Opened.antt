@@ -1,8 +1,9 @@
--- As a run begins, no frame is owed a page.
-use Rattle.std.proofs.Common.{◌≡◌, ◌∙◌, ◌≤◌, ℕ, zero, suc, ◌+◌, List, [], ◌∷◌, Option, Some, None, Ok, refl, sym, ap, subst, inl, inr}
+-- As a run begins, no frame is owed a page, and no domain has ended.
+use Rattle.std.proofs.Common.{◌≡◌, ◌∙◌, ◌≤◌, ℕ, zero, suc, ◌+◌, List, [], ◌∷◌, length, Option, Some, None, Ok, refl, sym, ap, subst, inl, inr}
 use Rattle.std.specs.Prelude.{slice_index_or, option_and_then, replicate}
 use Rattle.std.proofs.lemmas.Bool.{cases_lt}
 use Rattle.std.proofs.lemmas.List.{get_or_past, get_or-replicate, length-replicate}
+use Rattle.cloak_base.specs.declared.causes.Violation.{Violation}
 use Rattle.cloak_base.specs.declared.names.PageId.{PageId}
 use Rattle.cloak_base.specs.Random.{Random, next_draw}
 use Rattle.cloak_model.specs.declared.image.Bundle.{Bundle}
@@ -12,8 +13,10 @@ use Rattle.cloak_model.specs.Cloaking.{CloakedMemory, owed_in}
 use Rattle.cloak_model.specs.Ledger.{vector_of}
 use Rattle.cloak_model.specs.Opening.{Opened, started_ledger, started_memory, started_joint, opening_items, place_pages, place_programs, opened_with, opened_by, opening}
 use Rattle.cloak_model.specs.PageMoves.{place_with, place}
+use Rattle.cloak_model.specs.Parts.{Joint}
 use Rattle.kernel_isolation.proofs.Opened.{is_opened}
-use Rattle.cause_law.proofs.Kept.{IsKept}
+use Rattle.cause_law.proofs.Ends.{IsSound}
+use Rattle.cause_law.proofs.Over.{AreEmpty, AreListed, started_empty, started_listed}
 
 -- a memory, where there is one, has this owed
 abbrev HasOwed : List (Option PageId) → Option CloakedMemory → Type 0
@@ -78,9 +81,39 @@ by_owes b None o is = absurd cc
 by_owes b (Some draw) o is =
     with_owes b draw.0 draw.1 _ o (programs_owed 0 b.programs (started_memory b.kernel draw.0 draw.1)) is
 
-pub opened_kept : (b : Bundle) (stream : Random) (o : Opened) → opening b stream ≡ Ok o → IsKept o.joint.memory
-opened_kept b stream o opens = record {
-  places = (is_opened b stream o opens).steady.places;
-  once = λ f g q one two.
-      let clash : None ≡ Some q = sym (by_owes b (next_draw stream) o opens f) ∙ one in absurd cc;
-}
+-- no program has ended
+abbrev IsStarted : Joint → Type 0
+IsStarted j = AreEmpty j.domains × AreListed j.domains (replicate 4 None)
+
+-- what has ended of a machine as a run begins: nothing
+abbrev AtStart : Opened → Type 0
+AtStart o = (o.joint.ended ≡ replicate 4 None) × (o.joint.refused ≡ 0) × IsStarted o.joint
+
+with_start : (b : Bundle) (placed : Option CloakedMemory) (o : Opened) → opened_with b placed ≡ Ok o → AtStart o
+unfolding opened_with started_joint
+with_start b None o is = absurd cc
+with_start b (Some m) o is =
+    let same : record { joint = started_joint b m; items = opening_items b.programs m.ram } ≡ o = cc in
+    subst AtStart same (refl, refl, (started_empty 0 b.programs, started_listed b.programs))
+
+by_start : (b : Bundle) (draw : Option (List ℕ × Random)) (o : Opened) → opened_by b draw ≡ Ok o → AtStart o
+unfolding opened_by
+by_start b None o is = absurd cc
+by_start b (Some draw) o is = with_start b _ o is
+
+pub opened_start : (b : Bundle) (stream : Random) (o : Opened) → opening b stream ≡ Ok o → AtStart o
+opened_start b stream o opens = by_start b (next_draw stream) o opens
+
+pub opened_sound : (b : Bundle) (stream : Random) (o : Opened) → opening b stream ≡ Ok o → IsSound o.joint
+opened_sound b stream o opens =
+    let start = opened_start b stream o opens in
+    record {
+      places = ap (λ (l : List (Option Violation)). length l) start.0;
+      listed = subst (AreListed o.joint.domains) (sym start.0) start.2.1;
+      kept = record {
+        places = (is_opened b stream o opens).steady.places;
+        once = λ f g q one two.
+            let clash : None ≡ Some q = sym (by_owes b (next_draw stream) o opens f) ∙ one in absurd cc;
+      };
+      empty = start.2.0;
+    }

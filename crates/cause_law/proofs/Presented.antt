@@ -1,6 +1,6 @@
 -- A page that is presented to the step of a context, in a frame that differs, is the step's violation.
-use Rattle.std.proofs.Common.{◌≡◌, ◌∙◌, ℕ, Bool, false, Option, Some, refl, sym, ap, subst}
-use Rattle.std.specs.Prelude.{nat_le}
+use Rattle.std.proofs.Common.{◌≡◌, ◌∙◌, ℕ, zero, suc, Bool, false, List, [], ◌∷◌, Option, Some, refl, sym, ap, subst}
+use Rattle.std.specs.Prelude.{nat_le, slice_get, slice_set}
 use Rattle.std.proofs.lemmas.Bool.{lt-leb}
 use Rattle.cloak_base.specs.declared.causes.Violation.{Violation}
 use Rattle.cloak_base.specs.declared.causes.Violation.TheVariants as violation
@@ -12,24 +12,21 @@ use Rattle.cloak_model.specs.declared.answer.Answer.{Answer}
 use Rattle.cloak_model.specs.declared.answer.Answer.TheVariants as told
 use Rattle.cloak_model.specs.declared.context.Phase.{Phase}
 use Rattle.cloak_model.specs.declared.context.Phase.TheVariants.{Plain, CopyIn, CopyOut}
-use Rattle.cloak_model.specs.declared.inside.Went.{Went}
-use Rattle.cloak_model.specs.declared.inside.Went.TheVariants as went
 use Rattle.cloak_model.specs.declared.outcome.Effect.{Effect}
 use Rattle.cloak_model.specs.declared.outcome.Effect.TheVariants as does
 use Rattle.cloak_model.specs.Asking.{Told}
 use Rattle.cloak_model.specs.AskPages.{ask_reach, ask_read, ask_get}
 use Rattle.cloak_model.specs.Calls.{Copy, buffer, area, call_length, byte_address, is_cloaked, in_reached, in_placed, in_step, copy_in_step, out_reached, out_got, out_placed, out_step, copy_out_step}
 use Rattle.cloak_model.specs.Contexts.{Context, context_at, domain_of, slot_of}
+use Rattle.cloak_model.specs.DomainAlone.{runs_on}
 use Rattle.cloak_model.specs.DomainState.{Domain}
 use Rattle.cloak_model.specs.DomainStep.{DomainStepped, within, instruction_ended, copy_ended, phase_step, step_if, domain_step}
 use Rattle.cloak_model.specs.Effect.{effect}
-use Rattle.cloak_model.specs.Hart.{Hart}
 use Rattle.cloak_model.specs.Hypercalls.{stopped}
 use Rattle.cloak_model.specs.InsideStep.{AfterInstruction, load_reached, load_inside, store_reached, store_inside, done_inside, decoded_inside, executed_inside, fetched_inside, fetch, instruction_inside}
-use Rattle.cloak_model.specs.Joint.{Moment, next_hart, cloak_of, domain_ended, after_domain_step, pages_for, by_interrupt, inside_step, turn_of, joint_step}
+use Rattle.cloak_model.specs.Joint.{Moment, Turn, next_hart, cloak_of, domain_ended, after_domain_step, pages_for, by_interrupt, by_running, inside_step, turn_of, step_before_end}
 use Rattle.cloak_model.specs.KernelStep.{ticked}
-use Rattle.cloak_model.specs.Parts.{Joint}
-use Rattle.cloak_model.specs.World.{World, Cloaked, violation_of}
+use Rattle.cloak_model.specs.World.{World, Cloaked}
 use Rattle.cause_law.specs.Presented.{hart_of_step, StepsInside, world_inside, Executes, AsksAt, Fetches, LoadsAt, StoresAt, CopiesFrom, CopiesTo, PresentsPage}
 use Rattle.cause_law.proofs.Refused.{page_is_refused}
 
@@ -181,48 +178,51 @@ asked_stops slot d c q va kind begun w there lies (CopiesTo done total byte phas
     (subst (λ (x : ℕ). pages_for d (Some c) x ≡ Some q) at lies) clear got
     (question_at q va (byte_address (buffer c) done) kind Store w w at is refl) stops
 
-ended_violation : (j : Joint) (number : ℕ) (h : Hart) (e : ℕ) (w : World) (g : Went) (v : Violation) →
-    g ≡ went.Stopped → violation_of w ≡ Some v → (domain_ended j number h e w g).violation ≡ Some v
-unfolding domain_ended
-ended_violation j number h e w went.Stopped v stops is = is
-ended_violation j number h e w went.Stay v stops is = absurd cc
-ended_violation j number h e w (went.Remapped space) v stops is = absurd cc
-ended_violation j number h e w (went.Leave s) v stops is = absurd cc
-ended_violation j number h e w (went.SpaceGone space s) v stops is = absurd cc
-
-stopped_violation : (j : Joint) (number : ℕ) (h : Hart) (e : ℕ) (t u : Told DomainStepped) (v : Violation) → t ≡ u →
-    u.answer.went ≡ went.Stopped → violation_of u.world ≡ Some v →
-    (after_domain_step j number h e t).violation ≡ Some v
-unfolding after_domain_step
-stopped_violation j number h e t u v same stops is =
-    ap (λ (x : Told DomainStepped). (after_domain_step j number h e x).violation) same
-    ∙ ended_violation _ number h e u.world u.answer.went v stops is
-
 -- the step of the hart is that of its context
-context_turn : (m : Moment) (s : StepsInside m) (v : Violation) →
-    (after_domain_step m.joint (next_hart m) (ticked (hart_of_step m)) (domain_of s.ctx)
-    (domain_step (slot_of s.ctx) s.domain (world_inside m s))).violation ≡ Some v →
-    (joint_step m).violation ≡ Some v
-unfolding joint_step turn_of inside_step by_interrupt
-context_turn m s v is =
+context_turn : (m : Moment) (s : StepsInside m) →
+    step_before_end m
+    ≡ after_domain_step m.joint (next_hart m) (ticked (hart_of_step m)) (domain_of s.ctx)
+    (domain_step (slot_of s.ctx) s.domain (world_inside m s))
+unfolding turn_of inside_step by_running by_interrupt
+context_turn m s =
     let j = m.joint in
     let number = next_hart m in
     let h = ticked (hart_of_step m) in
     let e = domain_of s.ctx in
     let slot = slot_of s.ctx in
-    ap (λ (o : Option ℕ). (turn_of j number (hart_of_step m) o).violation) s.runs
-    ∙ (ap (λ (o : Option Domain). (inside_step j number h e slot o).violation) s.program
-    ∙ (ap (λ (b : Bool). (by_interrupt b j number h e slot s.domain).violation) s.goes
-    ∙ (ap (λ (o : Option Context). (after_domain_step j number h e
-    (domain_step slot s.domain (Cloaked (cloak_of j.memory h e (pages_for s.domain o))))).violation) s.there
-    ∙ is)))
+    ap (λ (o : Option ℕ). turn_of j number (hart_of_step m) o) s.runs
+    ∙ (ap (λ (o : Option Domain). inside_step j number h s.ctx o) s.program
+    ∙ (ap (λ (b : Bool). by_running b j number h s.ctx s.domain) (ap (runs_on number) s.there ∙ s.here)
+    ∙ (ap (λ (b : Bool). by_interrupt b j number h e slot s.domain) s.goes
+    ∙ ap (λ (o : Option Context). after_domain_step j number h e
+    (domain_step slot s.domain (Cloaked (cloak_of j.memory h e (pages_for s.domain o))))) s.there)))
+
+-- what is there, written back, changes nothing
+set_itself : {A : Type 0} (xs : List A) (i : ℕ) (x : A) → slice_get xs i ≡ Some x → slice_set xs i x ≡ xs
+set_itself [] i x is = absurd cc
+set_itself (y ∷ xs) zero x is = let same : y ≡ x = cc in ap (λ (z : _). z ∷ xs) (sym same)
+set_itself (y ∷ xs) (suc i) x is = ap (λ (l : List _). y ∷ l) (set_itself xs i x is)
+
+-- The step has this violation, and leaves each program's contexts and resources as they were.
+pub record IsStopped (m : Moment) (v : Violation) : Type 0 where
+  pub violates : (step_before_end m).violation ≡ Some v
+  pub domains : (step_before_end m).joint.domains ≡ m.joint.domains
 
 pub page_violates : (m : Moment) (q : PageId) (f : ℕ) → PresentsPage m q f →
-    (joint_step m).violation ≡ Some (violation.Page q (record { 0 = f }))
+    IsStopped m (violation.Page q (record { 0 = f }))
+unfolding after_domain_step domain_ended
 page_violates m q f p =
     let s = p.step in
+    let w : World = (ask_reach q p.va p.kind (Cloaked p.at)).world in
     let refused = page_is_refused q p.va p.kind f p.at p.finds in
-    context_turn m s _
-    (stopped_violation m.joint (next_hart m) (ticked (hart_of_step m)) (domain_of s.ctx) _ _ _
-    (asked_stops (slot_of s.ctx) s.domain s.context q p.va p.kind (world_inside m s) (Cloaked p.at) s.there p.lies p.asks
-    refused.answer) refl refused.violation)
+    let turn : step_before_end m
+    ≡ after_domain_step m.joint (next_hart m) (ticked (hart_of_step m)) (domain_of s.ctx) (halted s.domain w) =
+    context_turn m s
+    ∙ ap (after_domain_step m.joint (next_hart m) (ticked (hart_of_step m)) (domain_of s.ctx))
+    (asked_stops (slot_of s.ctx) s.domain s.context q p.va p.kind (world_inside m s) (Cloaked p.at) s.there p.lies
+    p.asks refused.answer) in
+    record {
+      violates = ap (λ (t : Turn). t.violation) turn ∙ refused.violation;
+      domains = ap (λ (t : Turn). t.joint.domains) turn
+          ∙ set_itself m.joint.domains (domain_of s.ctx) s.domain s.program;
+    }

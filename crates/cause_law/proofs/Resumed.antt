@@ -1,6 +1,7 @@
 -- Resuming: it is refused where there is no such context, or it runs, or its space has another page table, and so.
 use Rattle.std.proofs.Common.{◌≡◌, ◌∙◌, ℕ, Bool, true, false, cond, Option, Some, None, Result, Ok, Err, is_some, refl, ap}
 use Rattle.std.specs.Prelude.{slice_get, option_and_then}
+use Rattle.std.proofs.lemmas.Bool.{false≢true}
 use Rattle.cloak_base.specs.declared.causes.Violation.{Violation}
 use Rattle.cloak_base.specs.declared.causes.Violation.TheVariants as violation
 use Rattle.cloak_base.specs.declared.names.HartId.{HartId}
@@ -11,7 +12,7 @@ use Rattle.cloak_model.specs.Contexts.{Context, Resumed, Admitted, context_at, w
 use Rattle.cloak_model.specs.DomainState.{Control, Domain}
 use Rattle.cloak_model.specs.DomainStep.{resume_told, resume_slot}
 use Rattle.cloak_model.specs.Parts.{Joint}
-use Rattle.cloak_model.specs.Resuming.{AfterResume, space_of, by_root, by_context, by_domain, resume}
+use Rattle.cloak_model.specs.Resuming.{AfterResume, violated, space_of, by_root, by_context, by_domain, resume}
 use Rattle.cause_law.specs.Causes.{context_running}
 use Rattle.cause_law.proofs.Kept.{IsKept}
 
@@ -93,26 +94,36 @@ resume_refuses j hart satp ctx reply = domain_by j hart satp ctx reply (slice_ge
 pub record Leaves (j : Joint) (r : AfterResume) : Type 0 where
   pub kept : IsKept j.memory → IsKept r.joint.memory
   pub harts : r.joint.harts ≡ j.harts
+  pub ended : r.joint.ended ≡ j.ended
+  pub refused : r.joint.refused ≡ j.refused
+  -- if it is refused
+  pub domains : is_some r.violation ≡ true → r.joint.domains ≡ j.domains
+
+refused_leaves : (j : Joint) (v : Violation) → Leaves j (violated j v)
+refused_leaves j v = record { kept = λ kept. kept; harts = refl; ended = refl; refused = refl; domains = λ some. refl }
 
 root_leaves : (j : Joint) (satp ctx reply : ℕ) (was : Domain) (control : Control) (a : Admitted)
     (answer : Result (Unit {0}) ResumeFault) → Leaves j (by_root j satp ctx reply was control a answer)
 unfolding by_root
-root_leaves j satp ctx reply was control a (Err fault) = record { kept = λ kept. kept; harts = refl }
+root_leaves j satp ctx reply was control a (Err fault) = refused_leaves j (violation.Mapping ctx satp)
 root_leaves j satp ctx reply was control a (Ok done) = record {
   kept = λ kept. record { places = kept.places; once = kept.once };
   harts = refl;
+  ended = refl;
+  refused = refl;
+  domains = λ some. absurd (false≢true some);
 }
 
 context_leaves : (j : Joint) (satp ctx reply : ℕ) (was : Domain) (control : Control)
     (answer : Result (Unit {0}) ResumeFault) → Leaves j (by_context j satp ctx reply was control answer)
 unfolding by_context
-context_leaves j satp ctx reply was control (Err fault) = record { kept = λ kept. kept; harts = refl }
+context_leaves j satp ctx reply was control (Err fault) = refused_leaves j (violation.Context ctx)
 context_leaves j satp ctx reply was control (Ok done) = root_leaves j satp ctx reply was control _ _
 
 domain_leaves : (j : Joint) (hart satp ctx reply : ℕ) (found : Option Domain) →
     Leaves j (by_domain j hart satp ctx reply found)
 unfolding by_domain
-domain_leaves j hart satp ctx reply None = record { kept = λ kept. kept; harts = refl }
+domain_leaves j hart satp ctx reply None = refused_leaves j (violation.Context ctx)
 domain_leaves j hart satp ctx reply (Some was) = context_leaves j satp ctx reply was _ _
 
 pub resume_leaves : (j : Joint) (hart satp ctx reply : ℕ) → Leaves j (resume j hart satp ctx reply)

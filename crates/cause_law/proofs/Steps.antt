@@ -19,11 +19,12 @@ use Rattle.cloak_model.specs.Asking.{Told}
 use Rattle.cloak_model.specs.Cloaking.{CloakedMemory, AfterSettling, settle}
 use Rattle.cloak_model.specs.Contexts.{Context, context_at, domain_of, slot_of, is_root}
 use Rattle.cloak_model.specs.Csr.{satp_of, interrupt_due}
+use Rattle.cloak_model.specs.DomainAlone.{runs_on}
 use Rattle.cloak_model.specs.DomainState.{Domain}
 use Rattle.cloak_model.specs.DomainStep.{step_if, domain_step, interrupt}
 use Rattle.cloak_model.specs.Hart.{Hart, started}
 use Rattle.cloak_model.specs.HostCalls.{SteppedKernel}
-use Rattle.cloak_model.specs.Joint.{Moment, Turn, next_hart, hart_in, cloak_of, cloak_outside, memory_of, after_kernel_step, outside_ended, after_outside, outside_step, domain_ended, with_domain, after_domain_step, pages_for, interrupt_ended, after_interrupt, by_interrupt, inside_step, turn_of, joint_step}
+use Rattle.cloak_model.specs.Joint.{Moment, Turn, next_hart, hart_in, cloak_of, cloak_outside, memory_of, after_kernel_step, outside_ended, after_outside, outside_step, domain_ended, with_domain, after_domain_step, pages_for, interrupt_ended, after_interrupt, by_interrupt, by_running, inside_step, turn_of, step_before_end}
 use Rattle.cloak_model.specs.KernelStep.{ticked}
 use Rattle.cloak_base.specs.Constants.{frame_of}
 use Rattle.cloak_model.specs.Parts.{Joint}
@@ -82,7 +83,7 @@ ended_calm m j number h e c (went.SpaceGone space s) kept calm =
     quiet_meets m _ (record { places = kept.places; once = kept.once }) refl
 
 -- the page is of the program whose context made the step
-own_at : (d : Domain) (c : Context) (va : ℕ) (q : PageId) → pages_for d (Some c) va ≡ Some q →
+pub own_at : (d : Domain) (c : Context) (va : ℕ) (q : PageId) → pages_for d (Some c) va ≡ Some q →
     q.domain ≡ d.control.number
 own_at d c va q lies =
     subst (IsOwn d.control.number) lies (own_page d.control.number d.control.resources c.space va)
@@ -152,14 +153,15 @@ record Running (m : Moment) (ctx : ℕ) (was : Domain) : Type 0 where
   pub kept : IsKept m.joint.memory
 
 context_meets : (m : Moment) (ctx : ℕ) (was : Domain) (o : Option Context) → Running m ctx was →
+    runs_on (next_hart m) o ≡ true →
     interrupt_due (ticked (hart_of_step m)).mode (ticked (hart_of_step m)).csrs ≡ false →
     context_at was.control.contexts (slot_of ctx) ≡ o →
     let h = ticked (hart_of_step m) in
     Meets m (after_domain_step m.joint (next_hart m) h (domain_of ctx)
     (step_if o (slot_of ctx) was (Cloaked (cloak_of m.joint.memory h (domain_of ctx) (pages_for was o)))))
 unfolding after_domain_step step_if domain_ended
-context_meets m ctx was None r goes there = quiet_meets m _ r.kept refl
-context_meets m ctx was (Some c) r goes there =
+context_meets m ctx was None r here goes there = quiet_meets m _ r.kept refl
+context_meets m ctx was (Some c) r here goes there =
     let s : StepsInside m = record {
       ctx = ctx;
       runs = r.runs;
@@ -168,25 +170,35 @@ context_meets m ctx was (Some c) r goes there =
       program = r.program;
       context = c;
       there = there;
+      here = here;
     } in
     told_meets m s m.joint (next_hart m) (ticked (hart_of_step m)) (domain_of ctx) _ _ _ r.owner
     (phase_meets c.phase (slot_of ctx) was c (world_inside m s) refl (record { kept = r.kept; none = refl }))
 
 due_meets : (m : Moment) (ctx : ℕ) (was : Domain) (due : Bool) → Running m ctx was →
+    runs_on (next_hart m) (context_at was.control.contexts (slot_of ctx)) ≡ true →
     interrupt_due (ticked (hart_of_step m)).mode (ticked (hart_of_step m)).csrs ≡ due →
     Meets m (by_interrupt due m.joint (next_hart m) (ticked (hart_of_step m)) (domain_of ctx) (slot_of ctx) was)
 unfolding by_interrupt after_interrupt domain_step
-due_meets m ctx was true r is =
+due_meets m ctx was true r here is =
     interrupt_meets m _ (next_hart m) _ _ (interrupt (slot_of ctx) was.control).went r.kept
-due_meets m ctx was false r is = context_meets m ctx was (context_at was.control.contexts (slot_of ctx)) r is refl
+due_meets m ctx was false r here is =
+    context_meets m ctx was (context_at was.control.contexts (slot_of ctx)) r here is refl
+
+running_meets : (m : Moment) (ctx : ℕ) (was : Domain) (runs : Bool) → Running m ctx was →
+    runs_on (next_hart m) (context_at was.control.contexts (slot_of ctx)) ≡ runs →
+    Meets m (by_running runs m.joint (next_hart m) (ticked (hart_of_step m)) ctx was)
+unfolding by_running
+running_meets m ctx was false r is = quiet_meets m _ r.kept refl
+running_meets m ctx was true r is = due_meets m ctx was _ r is refl
 
 inside_meets : (m : Moment) (ctx : ℕ) (found : Option Domain) → (hart_of_step m).inside ≡ Some ctx →
     IsSteady m.joint → IsKept m.joint.memory → slice_get m.joint.domains (domain_of ctx) ≡ found →
-    Meets m (inside_step m.joint (next_hart m) (ticked (hart_of_step m)) (domain_of ctx) (slot_of ctx) found)
+    Meets m (inside_step m.joint (next_hart m) (ticked (hart_of_step m)) ctx found)
 unfolding inside_step
 inside_meets m ctx None runs steady kept is = quiet_meets m _ kept refl
 inside_meets m ctx (Some was) runs steady kept is =
-    due_meets m ctx was _
+    running_meets m ctx was _
     (record {
       runs = runs;
       program = is;
@@ -239,8 +251,8 @@ outside_leaves m kept =
 
 -- the step, by its ending
 pub outside_turn : (m : Moment) (e : Kernel) → (hart_of_step m).inside ≡ None → kernel_ending m ≡ e →
-    joint_step m ≡ outside_ended (joint_outside m) (next_hart m) (items_of (told_outside m).world) e
-unfolding joint_step turn_of outside_step after_outside
+    step_before_end m ≡ outside_ended (joint_outside m) (next_hart m) (items_of (told_outside m).world) e
+unfolding turn_of outside_step after_outside
 outside_turn m e outside is =
     ap (turn_of m.joint (next_hart m) (hart_of_step m)) outside
     ∙ ap (outside_ended (joint_outside m) (next_hart m) (items_of (told_outside m).world)) is
@@ -253,12 +265,12 @@ pub record Cause (m : Moment) (v : Violation) : Type 0 where
   pub left : IsLeft m v presents
 
 pub record TurnPresents (m : Moment) : Type 0 where
-  pub kept : IsKept (joint_step m).joint.memory
-  pub presents : (v : Violation) → (joint_step m).violation ≡ Some v → Cause m v
+  pub kept : IsKept (step_before_end m).joint.memory
+  pub presents : (v : Violation) → (step_before_end m).violation ≡ Some v → Cause m v
 
 inside_turn : (m : Moment) (ctx : ℕ) → (hart_of_step m).inside ≡ Some ctx → IsSteady m.joint →
-    IsKept m.joint.memory → Meets m (joint_step m)
-unfolding joint_step turn_of
+    IsKept m.joint.memory → Meets m (step_before_end m)
+unfolding turn_of
 inside_turn m ctx inside steady kept =
     subst (Meets m) (sym (ap (turn_of m.joint (next_hart m) (hart_of_step m)) inside))
     (inside_meets m ctx _ inside steady kept refl)
@@ -286,8 +298,9 @@ inside_presents m ctx inside steady kept =
 
 -- resuming, as the step's ending
 pub record ResumedSo (m : Moment) (ctx : ℕ) : Type 0 where
-  pub kept : IsKept (joint_step m).joint.memory
-  pub violates : (joint_step m).violation ≡ refusal m.joint (presented_root m) ctx (context_running m.joint ctx)
+  pub kept : IsKept (step_before_end m).joint.memory
+  pub violates : (step_before_end m).violation ≡ refusal m.joint (presented_root m) ctx (context_running m.joint ctx)
+  pub domains : is_some (step_before_end m).violation ≡ true → (step_before_end m).joint.domains ≡ m.joint.domains
 
 refusal_root : (j j' : Joint) (satp ctx : ℕ) (o : Option Context) → j'.memory.ledger.root ≡ j.memory.ledger.root →
     refusal j' satp ctx o ≡ refusal j satp ctx o
@@ -306,9 +319,9 @@ resumed_so m ctx reply outside is kept =
     let satp : ℕ = satp_of (hart_in j number).csrs in
     let r = resume j number satp ctx reply in
     let leaves = resume_leaves j number satp ctx reply in
-    let turn : joint_step m ≡ outside_ended j number (items_of (told_outside m).world) (kernel.Resume ctx reply) =
+    let turn : step_before_end m ≡ outside_ended j number (items_of (told_outside m).world) (kernel.Resume ctx reply) =
     outside_turn m (kernel.Resume ctx reply) outside is in
-    let joint : (joint_step m).joint ≡ r.joint = ap (λ (t : Turn). t.joint) turn in
+    let joint : (step_before_end m).joint ≡ r.joint = ap (λ (t : Turn). t.joint) turn in
     let root : satp ≡ presented_root m =
     ap (λ (harts : List Hart). satp_of (slice_index_or harts number (started 0 0)).csrs)
     (sym (ap (λ (x : Joint). x.harts) joint ∙ leaves.harts)) in
@@ -318,6 +331,8 @@ resumed_so m ctx reply outside is kept =
           ∙ (resume_refuses j number satp ctx reply
           ∙ (refusal_root m.joint j satp ctx (context_running m.joint ctx) before.root
           ∙ ap (λ (x : ℕ). refusal m.joint x ctx (context_running m.joint ctx)) root));
+      domains = λ some. ap (λ (x : Joint). x.domains) joint
+          ∙ leaves.domains (ap (λ (t : Turn). is_some t.violation) (sym turn) ∙ some);
     }
 
 -- what the refusal is of
@@ -360,7 +375,7 @@ refused m ctx asks v None there violates =
     (record { presents = record { asks = asks; cannot = ap can_run there }; left = tt })
 refused m ctx asks v (Some c) there violates = refused_on m ctx asks c v c.on there refl violates
 
-plain_presents : (m : Moment) (t : Turn) → joint_step m ≡ t → IsKept t.joint.memory → t.violation ≡ None →
+plain_presents : (m : Moment) (t : Turn) → step_before_end m ≡ t → IsKept t.joint.memory → t.violation ≡ None →
     TurnPresents m
 plain_presents m t is kept none = record {
   kept = subst (λ (x : Turn). IsKept x.joint.memory) (sym is) kept;

@@ -8,7 +8,7 @@ use Rattle.cloak_model.specs.Cloaking.{CloakedMemory, owed_in}
 use Rattle.cloak_model.specs.Opening.{numbers_below}
 use Rattle.cloak_model.specs.Run.{Run, joint_run, joint_after}
 
--- the memory behind the last step of a run, before it is closed
+-- the memory after the last step of a run, before it is closed
 abbrev pub memory_at_end : Run → CloakedMemory
 memory_at_end r = (joint_after r.opened.joint r.turns).memory
 

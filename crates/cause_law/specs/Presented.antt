@@ -1,5 +1,5 @@
 -- A page that is presented to a step of a program: at which address the step asks for it, and in which frame it is found.
-use Rattle.std.specs.Prelude.{ℕ, ◌≡◌, ◌≢◌, ◌<◌, ◌%◌, false, List, [], slice_get, slice_index_or, Bool, Option, Some, None, Ok}
+use Rattle.std.specs.Prelude.{ℕ, ◌≡◌, ◌≢◌, ◌<◌, ◌%◌, true, false, List, [], slice_get, slice_index_or, Bool, Option, Some, None, Ok}
 use Rattle.cloak_base.specs.declared.names.Kind.{Kind}
 use Rattle.cloak_base.specs.declared.names.Kind.TheVariants.{Fetch, Load, Store}
 use Rattle.cloak_base.specs.declared.names.PageId.{PageId}
@@ -13,6 +13,7 @@ use Rattle.cloak_model.specs.Calls.{buffer, call_length, area, byte_address, is_
 use Rattle.cloak_model.specs.Cloaking.{CloakedMemory, owed_in, owing_frame, settle, settle_frame_if}
 use Rattle.cloak_model.specs.Contexts.{Context, context_at, domain_of, slot_of}
 use Rattle.cloak_model.specs.Csr.{interrupt_due}
+use Rattle.cloak_model.specs.DomainAlone.{runs_on}
 use Rattle.cloak_model.specs.DomainState.{Domain}
 use Rattle.cloak_model.specs.Effect.{effect}
 use Rattle.cloak_model.specs.Hart.{Hart}
@@ -28,7 +29,7 @@ use Rattle.cloak_model.specs.World.{World, Cloak, Cloaked, plain_of}
 abbrev pub hart_of_step : Moment → Hart
 hart_of_step m = hart_in m.joint (next_hart m)
 
--- The next step is made by a context that this hart runs: no interrupt is due.
+-- The next step is made by a context that runs on this hart: no interrupt is due.
 pub record StepsInside (m : Moment) : Type 0 where
   pub ctx : ℕ
   pub runs : (hart_of_step m).inside ≡ Some ctx
@@ -37,6 +38,7 @@ pub record StepsInside (m : Moment) : Type 0 where
   pub program : slice_get m.joint.domains (domain_of ctx) ≡ Some domain
   pub context : Context
   pub there : context_at domain.control.contexts (slot_of ctx) ≡ Some context
+  pub here : runs_on (next_hart m) (Some context) ≡ true
 
 -- the page of the program that lies at an address of the context's space
 abbrev pub page_here : {m : Moment} → StepsInside m → ℕ → Option PageId
@@ -63,7 +65,7 @@ HasPlainArea d c done = is_cloaked d.control.resources c (byte_address (area c) 
 pub data AsksAt (d : Domain) (c : Context) (begun : World) (va : ℕ) (kind : Kind) (w : World) : Type 0 where
   -- for its instruction, as the step begins;
   Fetches : c.phase ≡ Plain → va ≡ c.pc → kind ≡ Fetch → w ≡ begun → AsksAt d c begun va kind w
-  -- for what this loads or stores, behind the fetch;
+  -- for what this loads or stores, after the fetch;
   LoadsAt : (i : Instr) → Executes d c begun i w → (rd width : ℕ) (is_signed : Bool) →
       effect i c.regs c.pc ≡ does.Load rd va width is_signed → kind ≡ Load → AsksAt d c begun va kind w
   StoresAt : (i : Instr) → Executes d c begun i w → (width value : ℕ) →

@@ -13,19 +13,19 @@ use Rattle.cloak_model.specs.declared.image.Bundle.{Bundle}
 use Rattle.cloak_model.specs.declared.item.Item.TheVariants as item
 use Rattle.cloak_model.specs.DomainState.{Domain, domain_line}
 use Rattle.cloak_model.specs.Exchange.{Piece, Emits, item_pieces, shown_each}
-use Rattle.cloak_model.specs.Joint.{Moment, Turn, hart_in, joint_step, next_hart}
+use Rattle.cloak_model.specs.Joint.{Moment, Turn, joint_step, next_hart}
 use Rattle.cloak_model.specs.Opening.{Opened, opening}
 use Rattle.cloak_model.specs.Parts.{Joint, kernel_part}
-use Rattle.cloak_model.specs.Report.{stop_line, number_line, kernel_lines}
+use Rattle.cloak_model.specs.Report.{stop_line, number_line, refusal_lines, kernel_lines}
 use Rattle.cloak_model.specs.Run.{closing, first_moment}
-use Rattle.joint_machine.specs.Standing.{StandsForJoint, TakesTurn, ShowsAs, turn_in, shown_byte}
+use Rattle.joint_machine.specs.Standing.{StandsForJoint, TakesTurn, ShowsAs, step_in, shown_byte}
 use Rattle.joint_machine.specs.declared.joint.Joint.{Joint as Machines}
 use Rattle.joint_machine.specs.declared.turned.Turned.{Turned}
 use Rattle.cloaked_side.proofs.Emitting.{emits_then, emits_items}
 use Rattle.kernel_report.specs.Console.{ConsoleShows}
 use Rattle.kernel_report.specs.KernelText.{kernel_text}
 use Rattle.kernel_report.proofs.KernelSaid.{IsSaid, kernel_text-is}
-use Rattle.shadow_fold.specs.Events.{after_step, asked_in, asked_of}
+use Rattle.shadow_fold.specs.Events.{after_step, asked_in, asked_with_end}
 use Rattle.shadow_fold.specs.Fold.{Fold, after_events}
 use Rattle.shadow_fold.specs.Reads.{Spends, events_in, reads_due}
 use Rattle.cloaked_side.specs.Tracking.{AreMapped, Tracks, GoesBy, spent_in}
@@ -98,9 +98,9 @@ counting_first old new m stands joint schedule steps console empty = record {
 
 -- the turn that the schedule tells is the next step of the run
 pub next_turn : (machine : Machine) (m : Moment) (number : ℕ) → StandsForMoment machine m →
-    number ≡ slice_index machine.schedule.turns.items machine.schedule.place → turn_in m.joint number ≡ joint_step m
+    number ≡ slice_index machine.schedule.turns.items machine.schedule.place → step_in m.joint number ≡ joint_step m
 unfolding joint_step
-next_turn machine m number stands told = ap (turn_in m.joint)
+next_turn machine m number stands told = ap (step_in m.joint)
     (told ∙ ap (slice_index machine.schedule.turns.items) stands.place
     ∙ ap (λ (turns : List ℕ). slice_index turns (m.steps % length turns)) (sym stands.schedule))
 
@@ -114,22 +114,20 @@ next_number machine m number stands told =
 -- the counts go on with the fold behind the step
 pub counts_behind : (old new : Machine) (m : Moment) (number : ℕ) (s : Fold) → number ≡ next_hart m → Counts old s →
     new.joint.memory.counting ≡ old.joint.memory.counting →
-    GoesBy old.joint.memory new.joint.memory (asked_of m.joint (hart_in m.joint number) (hart_in m.joint number).inside) →
-    Counts new (after_step m s)
+    GoesBy old.joint.memory new.joint.memory (asked_with_end m.joint number) → Counts new (after_step m s)
 unfolding after_step
 counts_behind old new m number s is counts same goes = record {
   counting = same ∙ counts.counting;
-  tracks = subst (λ (n : ℕ). let a = asked_of m.joint (hart_in m.joint n) (hart_in m.joint n).inside in
+  tracks = subst (λ (n : ℕ). let a = asked_with_end m.joint n in
       Tracks new.joint.memory (after_events a.space (events_in a) s)) is (goes.tracks s counts.tracks);
 }
 
 -- and the reads are those that are due
 pub reads_behind : (old new : Memory) (m : Moment) (number : ℕ) → number ≡ next_hart m →
-    GoesBy old new (asked_of m.joint (hart_in m.joint number) (hart_in m.joint number).inside) →
+    GoesBy old new (asked_with_end m.joint number) →
     Spends 0 (reads_due (asked_in m)) (spent_in old) (spent_in new)
 reads_behind old new m number is goes =
-    subst (λ (n : ℕ). Spends 0 (reads_due (asked_of m.joint (hart_in m.joint n) (hart_in m.joint n).inside)) (spent_in old) (spent_in new))
-    is goes.spends
+    subst (λ (n : ℕ). Spends 0 (reads_due (asked_with_end m.joint n)) (spent_in old) (spent_in new)) is goes.spends
 
 -- What a step left of a machine.
 pub record Leaves (old new : Machine) (m : Moment) (given : Turned) (t : Turn) : Type 0 where
@@ -141,8 +139,8 @@ pub record Leaves (old new : Machine) (m : Moment) (given : Turned) (t : Turn) :
   pub mapped : AreMapped (mapped_in t.joint) new.joint.memory
 
 stands_after : (old new : Machine) (m : Moment) (number : ℕ) (given : Turned) → StandsForMoment old m →
-    shown_byte given.console ≡ (turn_in m.joint number).console → Leaves old new m given (turn_in m.joint number) →
-    StandsForMoment new (record { schedule = m.schedule; steps = m.steps + 1; joint = (turn_in m.joint number).joint })
+    shown_byte given.console ≡ (step_in m.joint number).console → Leaves old new m given (step_in m.joint number) →
+    StandsForMoment new (record { schedule = m.schedule; steps = m.steps + 1; joint = (step_in m.joint number).joint })
 stands_after old new m number given stands byte left =
     let went = goes m.joint number in record {
       schedule = stands.schedule ∙ sym left.turns;
@@ -157,16 +155,16 @@ stands_after old new m number given stands byte left =
 
 -- a whole step
 pub step_made : {E : Type 0} {gave : E → E → List Piece → Type 0} {e f g h : E} (old new : Machine) (m : Moment)
-    (number : ℕ) (given : Turned) → StandsForMoment old m → turn_in m.joint number ≡ joint_step m →
+    (number : ℕ) (given : Turned) → StandsForMoment old m → step_in m.joint number ≡ joint_step m →
     Emits gave e f (item_pieces (item.Step (old.steps + 1) ∷ [])) →
-    TakesTurn gave f g new.joint given (turn_in m.joint number) →
+    TakesTurn gave f g new.joint given (step_in m.joint number) →
     Emits gave g h (shown_each (shown_byte given.console)) →
     new.schedule.turns.items ≡ old.schedule.turns.items → IsAt new.schedule (m.steps + 1) →
     new.steps ≡ old.steps + 1 → ConsoleShows new.console (m.joint.console ++ shown_byte given.console) →
-    AreMapped (mapped_in (turn_in m.joint number).joint) new.joint.memory →
+    AreMapped (mapped_in (step_in m.joint number).joint) new.joint.memory →
     MakesTurn gave e h new given.stop m (joint_step m)
 step_made {E} {gave} {e} {f} {g} {h} old new m number given stands next marker takes shows turns place steps console mapped =
-    let t = turn_in m.joint number in
+    let t = step_in m.joint number in
     let first : Emits gave e f (item_pieces (item.Step (m.steps + 1) ∷ [])) =
     subst (λ n. Emits gave e f (item_pieces (item.Step (n + 1) ∷ []))) (sym stands.steps) marker in
     let last : Emits gave g h (shown_each t.console) =
@@ -204,11 +202,12 @@ pub ends_as : {E : Type 0} {gave : E → E → List Piece → Type 0} {e f g h :
     Emits gave g h (item_pieces (item.End ∷ [])) → missed ≡ (closing m.joint).joint.memory.ledger.missed →
     end.stop ≡ (if missed then cause.NoRandom else stopped) → end.steps ≡ machine.steps →
     end.draws ≡ (closing m.joint).joint.memory.ledger.draws →
+    end.ended ≡ (closing m.joint).joint.ended → end.refused ≡ (closing m.joint).joint.refused →
     IsSaid end.lines (kernel_part (closing m.joint).joint) →
     lines_kept end.domains ≡ map domain_line (closing m.joint).joint.domains →
     FinishesAs gave e h end stopped m (closing m.joint)
 ends_as {E} {gave} {e} {f} {g} {h} {joint} {machine} {end} {stopped} m missed stands close shows last miss stop steps
-    draws said lines =
+    draws ended refused said lines =
     let o = closing m.joint in
     let first : Emits gave e f (item_pieces (item.Close m.steps ∷ [])) =
     subst (λ n. Emits gave e f (item_pieces (item.Close n ∷ []))) (sym stands.steps) close in
@@ -222,12 +221,15 @@ ends_as {E} {gave} {e} {f} {g} {h} {joint} {machine} {end} {stopped} m missed st
           (emits_items o.items (item.End ∷ []) shows.emits last);
       steps = same;
       draws = draws;
+      ended = ended;
+      refused = refused;
       stop = stop ∙ ap (λ (b : Bool). if b then cause.NoRandom else stopped) miss;
       report = λ i. stop_line end.stop ++
           (number_line (codes "steps ") (same i) ++ (number_line (codes "draws ") (draws i)
-          ++ (kernel i ++ texts i)));
+          ++ (refusal_lines (ended i) (refused i) ++ (kernel i ++ texts i))));
       short = λ i. stop_line end.stop ++
-          (number_line (codes "steps ") (same i) ++ (number_line (codes "draws ") (draws i) ++ texts i));
+          (number_line (codes "steps ") (same i) ++ (number_line (codes "draws ") (draws i)
+          ++ (refusal_lines (ended i) (refused i) ++ texts i)));
       lines = λ d program there. ap (λ (l : List (List ℕ)). unwrap_or (slice_get l d) []) lines
           ∙ ap (λ (l : Option (List ℕ)). unwrap_or l [])
           (slice_get-map domain_line o.joint.domains d ∙ ap (option_map domain_line) there);

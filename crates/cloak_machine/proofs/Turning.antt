@@ -27,13 +27,17 @@ use Rattle.cloak_model.specs.DomainStep.{DomainStepped, domain_step, step_if, ph
 use Rattle.cloak_model.specs.DomainStep.{copy_ended}
 use Rattle.cloak_model.specs.Hart.{Hart}
 use Rattle.cloak_model.specs.HostCalls.{SteppedKernel}
+use Rattle.cloak_base.specs.declared.causes.Violation.{Violation}
+use Rattle.cloak_model.specs.Ending.{ended_domain}
 use Rattle.cloak_model.specs.Joint.{Turn, hart_in, turn_of, outside_step, after_outside, outside_ended, inside_step}
 use Rattle.cloak_model.specs.Joint.{by_interrupt, after_interrupt, interrupt_ended, after_domain_step, domain_ended}
+use Rattle.cloak_model.specs.Joint.{by_running, domain_met, end_domain, refuses, ends_once, ends_resumed, ends_asked}
+use Rattle.cloak_model.specs.Joint.{answers_violation}
 use Rattle.cloak_model.specs.KernelStep.{ticked}
 use Rattle.cloak_model.specs.Parts.{Joint}
 use Rattle.cloak_model.specs.Resuming.{resume, by_domain, by_context, by_root, AfterResume}
 use Rattle.cloak_model.specs.World.{World}
-use Rattle.joint_machine.specs.Standing.{turn_in}
+use Rattle.joint_machine.specs.Standing.{step_in}
 use Rattle.cloak_machine.specs.Standing.{HaveFewLoads}
 
 -- each program completed at most one load more
@@ -59,6 +63,16 @@ load_set d domains was now there once = record {
       let most = few_at n d domains was there few in
       All-set (λ (x : Domain). length x.loads ≤ n + 1) domains d now (omega (arith, once, most))
       ((load_none domains).few n few);
+}
+
+-- a program is replaced by one that completed the same loads
+load_kept : (d : ℕ) (old new : List Domain) (was now : Domain) → slice_get new d ≡ Some was →
+    length now.loads ≡ length was.loads → LoadOnce old new → LoadOnce old (slice_set new d now)
+load_kept d old new was now there same once = record {
+  few = λ n few.
+      let next = once.few n few in
+      let most = few_at (n + 1) d new was there next in
+      All-set (λ (x : Domain). length x.loads ≤ n + 1) new d now (omega (arith, same, most)) next;
 }
 
 -- What a step goes on to: the console has what it showed, and loads are few.
@@ -210,18 +224,66 @@ goes_by_interrupt true j number h d slot was there =
 goes_by_interrupt false j number h d slot was there =
     goes_domain_step j number h d was _ there (loads_step slot was _)
 
-goes_inside : (j : Joint) (number : ℕ) (h : Hart) (d slot : ℕ) (found : Option Domain) →
-    slice_get j.domains d ≡ found → Goes j (inside_step j number h d slot found)
-unfolding inside_step
-goes_inside j number h d slot None there =
+goes_running : (runs : Bool) (j : Joint) (number : ℕ) (h : Hart) (ctx : ℕ) (was : Domain) →
+    slice_get j.domains (domain_of ctx) ≡ Some was → Goes j (by_running runs j number h ctx was)
+unfolding by_running
+goes_running false j number h ctx was there =
     record { console = sym (append-nil j.console); loads = load_none j.domains }
-goes_inside j number h d slot (Some was) there = goes_by_interrupt _ j number h d slot was there
+goes_running true j number h ctx was there =
+    goes_by_interrupt _ j number h (domain_of ctx) (slot_of ctx) was there
+
+goes_inside : (j : Joint) (number : ℕ) (h : Hart) (ctx : ℕ) (found : Option Domain) →
+    slice_get j.domains (domain_of ctx) ≡ found → Goes j (inside_step j number h ctx found)
+unfolding inside_step
+goes_inside j number h ctx None there =
+    record { console = sym (append-nil j.console); loads = load_none j.domains }
+goes_inside j number h ctx (Some was) there = goes_running _ j number h ctx was there
 
 goes_turn : (j : Joint) (number : ℕ) (h : Hart) (inside : Option ℕ) → Goes j (turn_of j number h inside)
 unfolding turn_of outside_step
 goes_turn j number h None = goes_outside j number (settled_step h j.disk _)
-goes_turn j number h (Some ctx) = goes_inside j number (ticked h) (domain_of ctx) (slot_of ctx) _ refl
+goes_turn j number h (Some ctx) = goes_inside j number (ticked h) ctx _ refl
+
+-- The end of a domain: its loads stay, and nothing is shown.
+
+goes_end : (j : Joint) (d : ℕ) (was : Domain) (v : Violation) (t : Turn) → slice_get t.joint.domains d ≡ Some was →
+    Goes j t → Goes j (end_domain d was v t)
+unfolding end_domain ended_domain
+goes_end j d was v t there goes = record {
+  console = goes.console;
+  loads = load_kept d j.domains t.joint.domains was _ there refl goes.loads;
+}
+
+goes_refused : (j : Joint) (t : Turn) → Goes j t → Goes j (refuses t)
+goes_refused j t goes = record { console = goes.console; loads = goes.loads }
+
+goes_once : (over : Bool) (j : Joint) (d : ℕ) (was : Domain) (v : Violation) (t : Turn) →
+    slice_get t.joint.domains d ≡ Some was → Goes j t → Goes j (ends_once over d was v t)
+unfolding ends_once
+goes_once true j d was v t there goes = goes_refused j t goes
+goes_once false j d was v t there goes = goes_end j d was v t there goes
+
+goes_resumed : (found : Option Domain) (j : Joint) (d : ℕ) (v : Violation) (t : Turn) →
+    slice_get t.joint.domains d ≡ found → Goes j t → Goes j (ends_resumed found d v t)
+unfolding ends_resumed
+goes_resumed None j d v t there goes = goes_refused j t goes
+goes_resumed (Some was) j d v t there goes = goes_once _ j d was v t there goes
+
+goes_asked : (found : Option Domain) (j : Joint) (d : ℕ) (v : Violation) (t : Turn) →
+    slice_get t.joint.domains d ≡ found → Goes j t → Goes j (ends_asked found d v t)
+unfolding ends_asked
+goes_asked None j d v t there goes = goes
+goes_asked (Some was) j d v t there goes = goes_end j d was v t there goes
+
+goes_answered : (inside : Option ℕ) (met : Option Violation) (j : Joint) (t : Turn) → Goes j t →
+    Goes j (answers_violation inside met t)
+unfolding answers_violation
+goes_answered inside None j t goes = goes
+goes_answered None (Some v) j t goes = goes_resumed _ j (domain_met v) v t refl goes
+goes_answered (Some ctx) (Some v) j t goes = goes_asked _ j (domain_of ctx) v t refl goes
 
 -- every step
-pub goes : (j : Joint) (number : ℕ) → Goes j (turn_in j number)
-goes j number = goes_turn j number (hart_in j number) (hart_in j number).inside
+pub goes : (j : Joint) (number : ℕ) → Goes j (step_in j number)
+goes j number =
+    let h = hart_in j number in
+    goes_answered h.inside _ j (turn_of j number h h.inside) (goes_turn j number h h.inside)

@@ -77,6 +77,8 @@ pub record FinishesAs {E : Type 0} (gave : E → E → List Piece → Type 0) (e
   pub emits : Emits gave e e' (item_pieces (item.Close m.steps ∷ (closed.items ++ item.End ∷ [])))
   pub steps : end.steps ≡ m.steps
   pub draws : end.draws ≡ closed.joint.memory.ledger.draws
+  pub ended : end.ended ≡ closed.joint.ended
+  pub refused : end.refused ≡ closed.joint.refused
   pub stop : end.stop ≡ cause_of closed.joint (Some stopped)
   pub report : end_report end ≡ report end.stop m.steps closed.joint
   pub short : end_short_report end ≡ short_report end.stop m.steps closed.joint

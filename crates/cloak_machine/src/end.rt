@@ -1,6 +1,6 @@
 //! The end of a run, and the report.
 ghost use Rattle.std.specs.Prelude.{◌≡◌, List, ℕ, None, map};
-ghost use Rattle.std.specs.List.{concat};
+ghost use Rattle.std.specs.List.{concat, flat_map};
 ghost use Rattle.sha2.specs.Sha256.{sha256};
 ghost use Rattle.outside_io.specs.Sinks.{PutsTo};
 ghost use Rattle.cloak_model.specs.Cloaking.{CloakedMemory};
@@ -29,6 +29,10 @@ pub struct End {
     pub steps: u32,
     /// The draws that were made for pages, without the key.
     pub draws: u64,
+    /// For each number of a domain, what ended it.
+    pub ended: [Option<Violation>; 4],
+    /// How often a resuming was refused of which no domain was left to end, up to 2^64 - 1.
+    pub refused: u64,
     pub(crate) lines: KernelLines,
     pub(crate) domains: DomainLines,
 }
@@ -55,6 +59,50 @@ pub fn kernel_lines_of(
         disk: Sha256::digest(disk),
         harts,
     }
+}
+
+/// The line of what ended a domain, if something did.
+fn put_violation_line<O: Sink>(out: &mut O, so_far: SoFar, ended: &Option<Violation>) -> SoFar
+    ensures { PutsMore (putting O.Sink out.old so_far) (putting O.Sink out.new result)
+        (spec.violation_line ended.now) }
+{
+    match ended {
+        None => so_far,
+        Some(violation) => {
+            let so_far = text(out, so_far, b"violation ");
+            let so_far = put_violation(out, so_far, violation);
+            text(out, so_far, b"\n")
+        }
+    }
+}
+
+/// A line for each domain that ended, in the order of their numbers.
+fn put_violation_lines<O: Sink>(out: &mut O, so_far: SoFar, ended: &[Option<Violation>; 4]) -> SoFar
+    ensures { PutsMore (putting O.Sink out.old so_far) (putting O.Sink out.new result)
+        (flat_map spec.violation_line ended.now) }
+{
+    let mut so_far = so_far;
+    for what in ended {
+        so_far = put_violation_line(out, so_far, what);
+    }
+    so_far
+}
+
+/// What the kernel was refused: a line for each domain that ended, and how often there was none left to end, if ever.
+fn put_refusals<O: Sink>(
+    out: &mut O,
+    so_far: SoFar,
+    ended: &[Option<Violation>; 4],
+    refused: u64,
+) -> SoFar
+    ensures { PutsMore (putting O.Sink out.old so_far) (putting O.Sink out.new result)
+        (spec.refusal_lines ended.now refused) }
+{
+    let so_far = put_violation_lines(out, so_far, ended);
+    if refused == 0 {
+        return so_far;
+    }
+    put_number(out, so_far, b"refused ", refused)
 }
 
 /// What the kernel presented.
@@ -104,10 +152,6 @@ fn put_stop<O: Sink>(out: &mut O, so_far: SoFar, stop: &Stop) -> SoFar
             decimal(out, so_far, value as u64)
         }
         Stop::Budget => text(out, so_far, b"stop budget"),
-        Stop::Violation(violation) => {
-            let so_far = text(out, so_far, b"stop violation ");
-            put_violation(out, so_far, &violation)
-        }
         Stop::NoRandom => text(out, so_far, b"stop norandom"),
     }
 }
@@ -134,7 +178,14 @@ fn put_lines<O: Sink>(out: &mut O, so_far: SoFar, lines: &[DomainLine]) -> SoFar
 }
 
 impl End {
-    ghost use Rattle.cloak_machine.specs.Ending.{end_report, end_short_report, line_in};
+    ghost use Rattle.cloak_machine.specs.Ending.{end_is_refused, end_report, end_short_report, line_in};
+
+    /// Whether a domain ended, or a resuming was refused of which none was left to end.
+    pub fn is_refused(&self) -> bool
+        ensures { result ≡ end_is_refused self.now }
+    {
+        self.ended.iter().any(|what| what.is_some()) || self.refused > 0
+    }
 
     /// The line of a program in the report, and nothing where there is no such program.
     pub fn domain_line(&self, d: u32) -> &[u8]
@@ -150,6 +201,7 @@ impl End {
         let so_far = put_stop_line(out, Ok(()), &self.stop);
         let so_far = put_number(out, so_far, b"steps ", self.steps as u64);
         let so_far = put_number(out, so_far, b"draws ", self.draws);
+        let so_far = put_refusals(out, so_far, &self.ended, self.refused);
         let so_far = put_kernel(out, so_far, &self.lines);
         put_lines(out, so_far, self.domains.all())
     }
@@ -161,6 +213,7 @@ impl End {
         let so_far = put_stop_line(out, Ok(()), &self.stop);
         let so_far = put_number(out, so_far, b"steps ", self.steps as u64);
         let so_far = put_number(out, so_far, b"draws ", self.draws);
+        let so_far = put_refusals(out, so_far, &self.ended, self.refused);
         put_lines(out, so_far, self.domains.all())
     }
 }

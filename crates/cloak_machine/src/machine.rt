@@ -143,9 +143,9 @@ impl Machine {
         self.joint.counts()
     }
 
-    /// Makes the next step of the schedule, and answers why it stopped the run, if it did. Frames are read no more often
-    /// than its questions and what the kernel is shown call for, and twice for each look that misses, for the words of page
-    /// tables.
+    /// Makes the next step of the schedule, and returns why it stopped the run, if it did: for a halt, or because a draw
+    /// was missing. A violation stops no run: the step ends its domain. Frames are read no more often than its questions
+    /// and what the kernel is shown call for, and twice for each look that misses, for the words of page tables.
     #[inline(always)]
     pub fn step<E: Emit>(&mut self, e: &mut E) -> Option<Stop>
         requires { steps_made self.old < most_steps }
@@ -196,11 +196,15 @@ impl Machine {
             mut memory,
             domains,
             disk,
+            ended,
+            refused,
         } = joint.into_parts();
         End {
             stop: stop_of(memory.missed, stop),
             steps,
             draws: memory.draws,
+            ended,
+            refused,
             lines: kernel_lines_of(console, &mut memory, disk.bytes(), harts),
             domains: DomainLines::of(domains),
         }

@@ -1,9 +1,11 @@
 -- A joint run with a budget of steps, as one value, and what is read off it: the exchange and its halves, the record,
 -- and the one list of what is written to record and output.
-use Rattle.std.specs.Prelude.{ℕ, zero, suc, List, [], ◌∷◌, ◌++◌, codes, length, map, Option, Some, None, unwrap_or, Result, if◌then◌else◌}
+use Rattle.std.specs.Prelude.{ℕ, zero, suc, nat_lt, Bool, ◌||◌, is_some, List, [], ◌∷◌, ◌++◌, codes, length, map, Option, Some, None, unwrap_or, Result, if◌then◌else◌}
+use Rattle.std.specs.List.{list_any}
 use Rattle.std.specs.Result.{result_map_both}
 use Rattle.cloak_base.specs.Random.{Random}
 use Rattle.cloak_base.specs.declared.causes.Stop.{Stop}
+use Rattle.cloak_base.specs.declared.causes.Violation.{Violation}
 use Rattle.cloak_base.specs.declared.causes.Stop.TheVariants as stop
 use Rattle.cloak_model.specs.declared.image.Bundle.{Bundle}
 use Rattle.cloak_model.specs.declared.item.Item.{Item}
@@ -103,6 +105,13 @@ run_inward_half d r = half.inward_half d (exchange r)
 -- the bytes of the record
 abbrev pub record_bytes : Run → List ℕ
 record_bytes r = record_of (exchange r)
+
+-- the kernel was refused something: a domain ended, or a resuming was refused of which none was left to end
+abbrev pub any_refused : List (Option Violation) → ℕ → Bool
+any_refused ended refused = list_any is_some ended || nat_lt 0 refused
+
+abbrev pub is_refused : Run → Bool
+is_refused r = any_refused r.closed.joint.ended r.closed.joint.refused
 
 -- the report
 abbrev pub report_of : Run → List ℕ

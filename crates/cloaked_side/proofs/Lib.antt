@@ -15,3 +15,4 @@ pub mod Tracking
 pub mod Spending
 pub mod Tabled
 pub mod Offered
+pub mod Ended

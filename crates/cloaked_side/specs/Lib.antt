@@ -4,3 +4,4 @@ pub mod Seeing
 pub mod Offering
 pub mod Telling
 pub mod Leading
+pub mod Ending

@@ -39,15 +39,15 @@ fn is_page_of(domain: u32, resource: u32, held: Option<PageId>) -> bool
 
 impl<'m, 'e, E: Emit> Side<'m, 'e, E> {
     ghost use Rattle.cloak_model.specs.Asking.{Keeps};
-    ghost use Rattle.cloak_model.specs.AskPages.{settled_if_marked, ask_clear};
+    ghost use Rattle.cloak_model.specs.AskPages.{settled_if_marked, ask_clear, ask_forget};
     ghost use Rattle.cloak_pager.specs.State.{held_in, owed_at, IsNoneOwed, IsNoneHeld};
-    ghost use Rattle.cloaked_side.specs.Holding.{frames_of};
+    ghost use Rattle.cloaked_side.specs.Holding.{frames_of, domains_in};
     ghost use Rattle.cloaked_side.specs.Seeing.{Becomes, FollowsAlways, ShowsOn, StaysWithin};
     ghost use Rattle.cloaked_side.specs.Tracking.{Tracks, TracksBy, touched_if};
     ghost use Rattle.shadow_fold.specs.Fold.{Fold, touched_where};
 
     /// Settles a frame where it is owed a page of one of the marked resources.
-    fn clear_frame(&mut self, domain: u32, resources: &[bool; 16], f: Frame)
+    pub(crate) fn clear_frame(&mut self, domain: u32, resources: &[bool; 16], f: Frame)
         requires { f.0 < frames_of self.old.memory.now }
         ensures sees { Becomes E.gave self.old self.new (settled_if_marked domain resources.now f.0) }
         ensures keeps { Keeps (StaysWithin E.gave) self.old self.new }
@@ -108,5 +108,18 @@ impl<'m, 'e, E: Emit> Side<'m, 'e, E> {
             self.empty_frame(domain, resource, Frame(i));
         }
         self.memory.pager.whole();
+    }
+
+    /// Drops the pages of a resource of which no frame is owed one. The frames that held one are brought outside first.
+    pub(crate) fn drop_resource(&mut self, domain: u32, resource: u32)
+        requires domain { domain < domains_in self.old.memory.now }
+        requires resource { resource < 16 }
+        requires cleared { IsNoneOwed self.old.memory.now.pager domain resource }
+        ensures told { FollowsAlways E.gave self.old self.new tt (ask_forget domain resource) }
+        ensures keeps { Keeps (StaysWithin E.gave) self.old self.new }
+        ensures away { IsNoneHeld self.new.memory.now.pager domain resource }
+    {
+        self.empty_frames(domain, resource);
+        self.memory.pager.drop_pages(domain, resource)
     }
 }

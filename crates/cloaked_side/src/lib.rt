@@ -3,8 +3,8 @@
 //! `Memory` settles frames and offers pages, and emits what the kernel is shown on the way. A `Side` is made of it for
 //! one step. It answers what the plain step asks (`Words` of `sv32_walk`, `Ram` of `host_calls`), each time settling
 //! the frame first, and what the step of a cloaked program asks (`PageSide` of `cloak_model`), and writes each answer.
-//! It holds no page and copies none. `outside_step` is the plain step over it. The item of stores is kept from step to step
-//! (`KeptItems`), and lent to the side.
+//! It holds no page and copies none. `outside_step` is the plain step over it, `end_pages` the end of a domain's pages.
+//! The item of stores is kept from step to step (`KeptItems`), and lent to the side.
 //!
 //! The layer above may rely on this: for every joint world that a side stands for (`specs/Seeing`), each call answers
 //! what the definition tells, the emitter was given exactly the items that the world has written since, and the side
@@ -14,6 +14,7 @@
 #![tactic(auto)]
 
 mod clearing;
+mod ending;
 mod inside;
 mod kept_items;
 mod leading;
@@ -22,6 +23,7 @@ mod outside;
 mod page_side;
 mod side;
 
+pub use ending::end_pages;
 pub use kept_items::KeptItems;
 pub use memory::{Memory, Offer};
 pub use outside::{outside_step, view_of};

@@ -68,7 +68,6 @@ impl<'m, 'e, E: Emit> PageSide for Side<'m, 'e, E> {
     }
 
     fn forget(&mut self, domain: u32, resource: u32) {
-        self.empty_frames(domain, resource);
-        self.memory.pager.drop_pages(domain, resource)
+        self.drop_resource(domain, resource)
     }
 }

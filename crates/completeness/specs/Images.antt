@@ -5,7 +5,7 @@ use Rattle.outside_io.specs.Told.{Grows}
 use Rattle.program_parts.specs.declared.status.Status.{Status}
 use Rattle.program_parts.specs.declared.status.Status.TheVariants as status
 use Rattle.program_parts.specs.Outside.{Outside, Output, NothingRose}
-use Rattle.run_command.specs.Running.{NoClash, status_of}
+use Rattle.run_command.specs.Running.{NoClash, run_status}
 use Rattle.image_commands.specs.Demonstrating.{DemoAnswers, IsDemoRun, demo_lines}
 use Rattle.image_commands.specs.Generating.{GenAnswers, HasGenerated}
 use Rattle.image_commands.specs.Showing.{no_memory_line}
@@ -26,11 +26,11 @@ GensAreComplete S O =
     (n : ℕ) (name : List ℕ) (answer : Status) (before after : Outside S O) →
     GenAnswers n name before after answer → CompletesGen n name answer before after
 
--- the run was made, and where no pages clashed in it, the answer is its stop's and its lines were shown
+-- the run was made, and where no pages clashed in it, the answer is its status and its lines were shown
 pub record Demonstrated {O : Type 0} (n steps : ℕ) (answer : Status) (before after : Output O) : Type 0 where
   pub made : Run
   pub is_run : IsDemoRun n steps made
-  pub status : NoClash made → answer ≡ status_of made.stop
+  pub status : NoClash made → answer ≡ run_status made
   pub lines : NoClash made → Grows before.taken after.taken (demo_lines n made)
 
 -- there was no memory to begin with

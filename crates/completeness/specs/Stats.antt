@@ -8,18 +8,17 @@ use Rattle.outside_io.specs.Told.{Grows, SameFiles}
 use Rattle.command_words.specs.Command as spec
 use Rattle.program_parts.specs.declared.status.Status.{Status}
 use Rattle.program_parts.specs.Outside.{Outside, NothingRose}
-use Rattle.run_command.specs.Running.{NoClash, status_of}
+use Rattle.run_command.specs.Running.{NoClash, run_status}
 use Rattle.stats_command.specs.Answering.{StatsAnswers}
 use Rattle.stats_command.specs.Showing.{run_lines}
 use Rattle.completeness.specs.Asked.{IsBundleFile, WantsMemory}
 use Rattle.completeness.specs.Runs.{IsToldStream, Lacks}
 
--- No file was written. Where no pages clashed in the run, its lines were shown, and the answer is the status of its
--- stop.
+-- No file was written. Where no pages clashed in the run, its lines were shown, and the answer is its status.
 pub record ShowsCounts {S O : Type 0} (b : Bundle) (steps : ℕ) (o : Opened) (answer : Status)
     (before after : Outside S O) : Type 0 where
   pub held : SameFiles before.files.held after.files.held
-  pub status : NoClash (run_of b steps o) → answer ≡ status_of (run_of b steps o).stop
+  pub status : NoClash (run_of b steps o) → answer ≡ run_status (run_of b steps o)
   pub lines : NoClash (run_of b steps o) → Grows before.output.taken after.output.taken (run_lines b steps o)
 
 -- what the run comes to by how it opens, or why there is none

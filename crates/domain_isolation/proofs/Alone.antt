@@ -1,5 +1,6 @@
 -- The program alone: how it takes the items of one step.
-use Rattle.std.proofs.Common.{◌≡◌, ◌∙◌, ◌-◌, ◌%◌, true, false, cond, suc, ℕ, Bool, List, [], ◌∷◌, ◌++◌, None, refl, ap, sym, subst, append_assoc, append-nil, eq-eqb, arith, length, if◌then◌else◌}
+use Rattle.std.proofs.lemmas.Bool.{false≢true}
+use Rattle.std.proofs.Common.{◌≡◌, ◌∙◌, ◌-◌, ◌%◌, true, false, cond, suc, ℕ, Bool, List, [], ◌∷◌, ◌++◌, None, refl, ap, sym, subst, append_assoc, append-nil, eq-eqb, arith, length, if◌then◌else◌, Option, Some, ◌⊎◌, inl, inr, ◌≢◌}
 use Rattle.std.specs.Prelude.{◌||◌, ◌==◌, slice_index}
 use Rattle.std.specs.List.{list_any}
 use Rattle.cloak_model.specs.declared.answer.Answer.{Answer}
@@ -18,7 +19,7 @@ use Rattle.cloak_model.specs.DomainAlone.{DomainAlone, DomainPlace, Between, Oth
 use Rattle.domain_isolation.proofs.Scripts.{played}
 use Rattle.domain_isolation.proofs.StepScripts.{step_scripted}
 use Rattle.domain_isolation.proofs.Answers.{alone_with, IsServing}
-use Rattle.domain_isolation.proofs.Played.{answers_of, answer_items, played_alone, played_short}
+use Rattle.domain_isolation.proofs.Played.{answers_of, answer_items, last_stopped, played_alone, played_short}
 use Rattle.domain_isolation.proofs.Ignoring.{item_taken}
 
 -- the machine alone with this part, at this place, with no item unfit
@@ -35,6 +36,21 @@ pub record RestsAt (s : DomainAlone) (p : DomainPart) (stops : Bool) : Type 0 wh
   pub place : DomainPlace
   pub is : s ≡ alone_at p steps place
   pub between : stops ≡ false → place ≡ Between
+
+-- It may take the end of the domain: in a step of another hart, or behind what stopped its own.
+pub record OtherAt (s : DomainAlone) (p : DomainPart) : Type 0 where
+  pub steps : ℕ
+  pub hart : ℕ
+  pub is : s ≡ alone_at p steps (Other hart)
+
+pub record StoppedAt (s : DomainAlone) (p : DomainPart) : Type 0 where
+  pub steps : ℕ
+  pub is : s ≡ alone_at p steps Stopped
+
+-- by the context that the hart of the step is inside
+abbrev pub Opens : ℕ → Option ℕ → DomainAlone → DomainPart → Type 0
+Opens d None s p = OtherAt s p
+Opens d (Some ctx) s p = ((d ≢ domain_of ctx) × OtherAt s p) ⊎ ((d ≡ domain_of ctx) × StoppedAt s p)
 
 -- One step follows another.
 
@@ -196,6 +212,44 @@ over_rests p k false stops stop = record { steps = k; place = Between; is = refl
 or_later : (a b : Bool) → b ≡ true → (a || b) ≡ true
 or_later true b is = refl
 or_later false b is = is
+
+-- behind the last answer, which stops
+pub answers_open : (schedule : List ℕ) (k slot : ℕ) (d : Domain) (w : World) → IsServing d.control.number w →
+    (before after : List Answer) → before ++ after ≡ answers_of (step_scripted slot d).script w →
+    last_stopped after ≡ true →
+    let t = played (step_scripted slot d).script w in
+    StoppedAt (domain_taken d.control.number schedule (alone_at (part_in d w) k (Running slot before))
+    (answer_items d.control.number after))
+    (record { domain = t.answer.domain; plain = domain_pages d.control.number (plain_of t.world) })
+unfolding domain_taken answered_by
+answers_open schedule k slot d w serving before [] is last = absurd (false≢true last)
+answers_open schedule k slot d w serving before (a ∷ []) is last =
+    let t = played (step_scripted slot d).script w in
+    let p : DomainPart = record { domain = t.answer.domain; plain = domain_pages d.control.number (plain_of t.world) } in
+    let n = d.control.number in
+    let s = alone_at (part_in d w) k (Running slot before) in
+    let over : try_with slot (before ++ a ∷ []) (part_in d w) ≡ Over p = ap
+    (λ (l : List Answer). try_with slot l (part_in d w)) is ∙ tried_all slot d w serving in
+    record {
+      steps = k;
+      is = answer_taken n schedule (part_in d w) k slot before a
+          ∙ ap (λ (r : alone.Tried). answered_by slot before a r s) over
+          ∙ ap (λ (b : Bool). alone_at p k (if b then Stopped else Done)) last;
+    }
+answers_open schedule k slot d w serving before (a ∷ b ∷ after) is last =
+    let t = played (step_scripted slot d).script w in
+    let p : DomainPart = record { domain = t.answer.domain; plain = domain_pages d.control.number (plain_of t.world) } in
+    let n = d.control.number in
+    let s = alone_at (part_in d w) k (Running slot before) in
+    let rest : (before ++ a ∷ []) ++ b ∷ after ≡ answers_of (step_scripted slot d).script w = append_assoc before
+    (a ∷ []) (b ∷ after) ∙ is in
+    let taken : take_domain_item n schedule s (answer_item n a) ≡ alone_at (part_in d w) k
+    (Running slot (before ++ a ∷ [])) =
+    answer_taken n schedule (part_in d w) k slot before a
+    ∙ ap (λ (r : alone.Tried). answered_by slot before a r s)
+    (tried_front slot d w serving (before ++ a ∷ []) b after rest) in
+    subst (λ (u : DomainAlone). StoppedAt (domain_taken n schedule u (answer_items n (b ∷ after))) p) (sym taken)
+    (answers_open schedule k slot d w serving (before ++ a ∷ []) (b ∷ after) rest last)
 
 -- its answers, one by one
 pub answers_rest : (schedule : List ℕ) (k slot : ℕ) (d : Domain) (w : World) → IsServing d.control.number w →

@@ -14,7 +14,7 @@ use Rattle.cloak_model.specs.Cloaking.{Offer, Ready, Mismatch, Missed}
 use Rattle.cloak_model.specs.Memory.{with_value_in}
 use Rattle.cloak_model.specs.PageMoves.{copy_pages, drop_pages}
 use Rattle.cloak_model.specs.Parts.{domain_pages}
-use Rattle.cloak_model.specs.World.{World, Flat, Cloaked, Alone, Handed, plain_of, view_of, items_of, is_missed}
+use Rattle.cloak_model.specs.World.{World, Flat, Cloaked, Alone, Handed, plain_of, view_of, items_of, violation_of, is_missed}
 use Rattle.cloak_model.specs.Asking.{Told, Asking}
 use Rattle.cloak_model.specs.AskPages.{inside_access, replies, if_drawn, ask_inside_address, offered_by, ask_offer, reached, reach_by_table, get_at, got, get_by_table, put_at, stored_inside, put_by_table, clear_from, is_for_access, is_for_value, is_for_clearing, of_width, next_answer, ask_reach, ask_read, ask_write, ask_get, ask_put, ask_clear, ask_copy, ask_forget}
 use Rattle.cloak_model.specs.Ask.{opened}
@@ -257,6 +257,7 @@ pub record LeavesOthers (d : ℕ) (w v : World) : Type 0 where
   pub view : view_of v ≡ view_of w
   pub form : is_cloaked v ≡ is_cloaked w
   pub items : items_of v ≡ items_of w
+  pub violation : violation_of v ≡ violation_of w
   pub others : (e : ℕ) → e ≢ d → domain_pages e (plain_of v) ≡ domain_pages e (plain_of w)
 
 not_taken : {A : Type 0} (b : Bool) (x y : A) → b ≡ false → cond b x y ≡ y
@@ -293,6 +294,7 @@ change_leaves {d} (Write q own at width value) (Cloaked c) cloaked = record {
   view = refl;
   form = refl;
   items = refl;
+  violation = refl;
   others = λ e other. other_pages e c.memory.plain (λ p. with_value_in (c.memory.plain q) at width value)
       (λ p. same_page p q) (never_same_page d e q own other);
 }
@@ -300,6 +302,7 @@ change_leaves {d} (Copy from to) (Cloaked c) cloaked = record {
   view = refl;
   form = refl;
   items = refl;
+  violation = refl;
   others = λ e other. other_pages e c.memory.plain (λ p. c.memory.plain (page_in from p)) (is_of d to)
       (never_of d e to other);
 }
@@ -307,5 +310,6 @@ change_leaves {d} (Forget resource) (Cloaked c) cloaked = record {
   view = refl;
   form = refl;
   items = refl;
+  violation = refl;
   others = λ e other. other_pages e c.memory.plain (λ p. zero_page) (is_of d resource) (never_of d e resource other);
 }

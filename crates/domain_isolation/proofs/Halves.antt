@@ -50,6 +50,7 @@ parsed_one (item.Word domain value) rest is = refl
 parsed_one (item.Timer domain) rest is = refl
 parsed_one (item.Resume domain ctx reply) rest is = refl
 parsed_one (item.Stopped domain) rest is = refl
+parsed_one (item.Ended domain) rest is = refl
 
 parsed_step : (told items : List Item) → AllByRecursion IsOfStep told →
     parsed (told ++ items) ≡ record { front = told ++ (parsed items).front; steps = (parsed items).steps }

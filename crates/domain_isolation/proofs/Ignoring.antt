@@ -28,6 +28,7 @@ takes_others d schedule s (item.Ok domain) is = not_chosen _ _ _ is
 takes_others d schedule s (item.Absent domain cause) is = not_chosen _ _ _ is
 takes_others d schedule s (item.Word domain value) is = not_chosen _ _ _ is
 takes_others d schedule s (item.Stopped domain) is = not_chosen _ _ _ is
+takes_others d schedule s (item.Ended domain) is = not_chosen _ _ _ is
 takes_others d schedule s (item.Timer domain) is = not_chosen _ _ _ is
 takes_others d schedule s (item.Resume domain ctx reply) is = not_chosen _ _ _ is
 
@@ -73,3 +74,7 @@ pub item_taken : (d : ℕ) (schedule : List ℕ) (s : DomainAlone) (i : Item) �
     take_domain_item d schedule s i ≡ domain_takes d schedule i s
 unfolding take_domain_item
 item_taken d schedule s i fits = rw fits refl
+
+pub none_taken : (d : ℕ) (schedule : List ℕ) (s : DomainAlone) → domain_taken d schedule s [] ≡ s
+unfolding domain_taken
+none_taken d schedule s = refl

@@ -1,7 +1,7 @@
 -- What holds of the joint machine between two steps: each program has its place for its number, and a context runs on a
--- hart exactly where that hart is inside it.
+-- hart only where that hart is inside it.
 use Rattle.std.proofs.Common.{◌≡◌, ◌≢◌, ◌∙◌, ◌⊎◌, inl, inr, ◌+◌, ◌<◌, ◌≤◌, true, false, cond, suc, zero, pred, ℕ, Bool, List, [], ◌∷◌, Option, Some, None, Ok, Err, refl, ap, sym, subst, eq-eqb, eqb-true, ne_eqb, arith, length, length-set, nat_eq}
-use Rattle.std.specs.Prelude.{◌&&◌, ◌==◌, unwrap_or, is_some, slice_get, slice_set, slice_index_or}
+use Rattle.std.specs.Prelude.{◌&&◌, ◌==◌, unwrap_or, is_some, replicate, slice_get, slice_set, slice_index_or}
 use Rattle.std.proofs.lemmas.Bool.{false≢true, cases_lt, eqb-false}
 use Rattle.std.proofs.lemmas.List.{get_or-set_same, get_or-set_other, get_or_past}
 use Rattle.cloak_base.specs.declared.names.HartId.{HartId}
@@ -12,6 +12,7 @@ use Rattle.cloak_model.specs.Hart.{Hart, started}
 use Rattle.cloak_model.specs.Contexts.{Context, Resumed, context_at, domain_of, slot_of, resume_at, resume_if, with_context}
 use Rattle.cloak_model.specs.Calls.{finish_call}
 use Rattle.cloak_model.specs.DomainState.{Control, Domain}
+use Rattle.cloak_model.specs.Ending.{ended_domain}
 use Rattle.cloak_model.specs.DomainStep.{answer_in, answer_taken, resume_told, resume_slot}
 use Rattle.cloak_model.specs.DomainAlone.{is_hart, runs_on, slot_on, is_granted}
 use Rattle.domain_isolation.proofs.Runs.{runs_in, set_same, set_others, MovesSlot}
@@ -35,13 +36,13 @@ abbrev pub is_running : ℕ → ℕ → Option ℕ → Bool
 is_running d slot None = false
 is_running d slot (Some ctx) = (domain_of ctx == d) && (slot_of ctx == slot)
 
--- There are so many harts; each program has its place for its number; and a context runs on a hart where the hart is
--- inside it, and nowhere else.
+-- There are so many harts; each program has its place for its number; and a context runs on a hart only where the hart is
+-- inside it. A hart may be inside one that does not run: its resuming was refused, or its domain ended.
 pub record InOrder (count : ℕ) (harts : List Hart) (domains : List Domain) : Type 0 where
   pub harts_count : length harts ≡ count
   pub numbers : (d : ℕ) (domain : Domain) → slice_get domains d ≡ Some domain → domain.control.number ≡ d
   pub runs : (d : ℕ) (domain : Domain) → slice_get domains d ≡ Some domain → (hart slot : ℕ) →
-      runs_in hart domain.control.contexts slot ≡ is_running d slot (inside_at harts hart)
+      runs_in hart domain.control.contexts slot ≡ true → is_running d slot (inside_at harts hart) ≡ true
 
 -- Harts.
 
@@ -102,11 +103,12 @@ get_set_other (x ∷ xs) (suc i) (suc k) new other = get_set_other xs i k new (�
 -- the harts of another domain's contexts
 abbrev OthersKept : ℕ → List Hart → List Hart → Type 0
 OthersKept e harts harts' =
-    (d slot m : ℕ) → d ≢ e → is_running d slot (inside_at harts' m) ≡ is_running d slot (inside_at harts m)
+    (d slot m : ℕ) → d ≢ e → is_running d slot (inside_at harts m) ≡ true →
+    is_running d slot (inside_at harts' m) ≡ true
 
 -- the contexts of this domain
 abbrev RunsSo : ℕ → List Hart → List (Option Context) → Type 0
-RunsSo e harts contexts = (m slot : ℕ) → runs_in m contexts slot ≡ is_running e slot (inside_at harts m)
+RunsSo e harts contexts = (m slot : ℕ) → runs_in m contexts slot ≡ true → is_running e slot (inside_at harts m) ≡ true
 
 with_one : (count : ℕ) (harts harts' : List Hart) (domains : List Domain) (e : ℕ) (old new : Domain) →
     InOrder count harts domains →
@@ -122,14 +124,14 @@ with_one count harts harts' domains e old new order is counted number runs other
             ap (λ (x : Domain). x.control.number) it ∙ number ∙ order.numbers e old is ∙ sym same
         | inr other ↦ order.numbers d domain (sym (get_set_other domains e d new other) ∙ found)
       ];
-      runs = λ d domain found m slot. elim (decided d e) [
+      runs = λ d domain found m slot on. elim (decided d e) [
         | inl same ↦
             let it : domain ≡ new = same_some domain new (sym found ∙ ap (slice_get (slice_set domains e new)) same
             ∙ get_set_same domains e old new is) in
-            ap (λ (x : Domain). runs_in m x.control.contexts slot) it ∙ runs m slot
-            ∙ ap (λ (k : ℕ). is_running k slot (inside_at harts' m)) (sym same)
+            ap (λ (k : ℕ). is_running k slot (inside_at harts' m)) same
+            ∙ runs m slot (ap (λ (x : Domain). runs_in m x.control.contexts slot) (sym it) ∙ on)
         | inr other ↦
-            order.runs d domain (sym (get_set_other domains e d new other) ∙ found) m slot ∙ sym (others d slot m other)
+            others d slot m other (order.runs d domain (sym (get_set_other domains e d new other) ∙ found) m slot on)
       ];
     }
 
@@ -141,8 +143,8 @@ pub order_kept : (count : ℕ) (harts : List Hart) (domains : List Domain) (n : 
 order_kept count harts domains n h order kept = record {
   harts_count = length-set harts n h ∙ order.harts_count;
   numbers = order.numbers;
-  runs = λ d domain found m slot. order.runs d domain found m slot
-      ∙ ap (is_running d slot) (sym (inside_set_kept harts n h kept m));
+  runs = λ d domain found m slot on. ap (is_running d slot) (inside_set_kept harts n h kept m)
+      ∙ order.runs d domain found m slot on;
 }
 
 moves_nothing : (slot : ℕ) (old new : Control) → MovesSlot slot false old new → (m s : ℕ) →
@@ -158,9 +160,9 @@ pub order_stays : (count : ℕ) (harts : List Hart) (domains : List Domain) (n :
     InOrder count (slice_set harts n h) (slice_set domains e new)
 order_stays count harts domains n h e slot old new order is kept moves =
     with_one count harts (slice_set harts n h) domains e old new order is (length-set harts n h) moves.number
-    (λ m s. moves_nothing slot old.control new.control moves m s ∙ order.runs e old is m s
-    ∙ ap (is_running e s) (sym (inside_set_kept harts n h kept m)))
-    (λ d s m other. ap (is_running d s) (inside_set_kept harts n h kept m))
+    (λ m s on. ap (is_running e s) (inside_set_kept harts n h kept m)
+    ∙ order.runs e old is m s (sym (moves_nothing slot old.control new.control moves m s) ∙ on))
+    (λ d s m other on. ap (is_running d s) (inside_set_kept harts n h kept m) ∙ on)
 
 -- A hart that leaves its context.
 
@@ -185,51 +187,90 @@ both false b is is' = absurd cc
 running_own : (ctx : ℕ) → is_running (domain_of ctx) (slot_of ctx) (Some ctx) ≡ true
 running_own ctx = both _ _ (eq-eqb (domain_of ctx) (domain_of ctx) refl) (eq-eqb (slot_of ctx) (slot_of ctx) refl)
 
-hart_once : (m n : ℕ) (o : Option HartId) → is_hart n o ≡ true → m ≢ n → is_hart m o ≡ false
-hart_once m n None is other = refl
-hart_once m n (Some on) is other = ne_eqb on.0 m (λ same. other (sym same ∙ eqb-true on.0 n is))
-
-runs_once : (m n : ℕ) (o : Option Context) → runs_on n o ≡ true → m ≢ n → runs_on m o ≡ false
-runs_once m n None is other = refl
-runs_once m n (Some c) is other = hart_once m n c.on is other
-
 pub order_leaves : (count : ℕ) (harts : List Hart) (domains : List Domain) (n : ℕ) (h : Hart) (ctx : ℕ)
     (old new : Domain) → InOrder count harts domains →
-    slice_get domains (domain_of ctx) ≡ Some old → inside_at harts n ≡ Some ctx → h.inside ≡ None →
+    slice_get domains (domain_of ctx) ≡ Some old → inside_at harts n ≡ Some ctx →
     MovesSlot (slot_of ctx) true old.control new.control →
     InOrder count (slice_set harts n h) (slice_set domains (domain_of ctx) new)
-order_leaves count harts domains n h ctx old new order is runs out moves =
+order_leaves count harts domains n h ctx old new order is runs moves =
     let e = domain_of ctx in
     let slot = slot_of ctx in
     let harts' = slice_set harts n h in
-    let gone : inside_at harts' n ≡ None = inside_set_same harts n h (running_within harts n ctx runs) ∙ out in
-    let here : runs_in n old.control.contexts slot ≡ true = order.runs e old is n slot ∙ ap (is_running e slot) runs
-    ∙ running_own ctx in
     with_one count harts harts' domains e old new order is (length-set harts n h) moves.number
-    (λ m s. elim (decided m n) [
-      | inl same ↦
-          subst (λ (k : ℕ). runs_in k new.control.contexts s ≡ is_running e s (inside_at harts' k)) (sym same)
-          (elim (decided s slot) [
-            | inl it ↦ ap (runs_in n new.control.contexts) it ∙ moves.own n ∙ ap (is_running e s) (sym gone)
-            | inr other ↦
-                moves.others n s other ∙ order.runs e old is n s ∙ ap (is_running e s) runs
-                ∙ running_other_slot ctx e s other ∙ ap (is_running e s) (sym gone)
+    (λ m s on. elim (decided s slot) [
+      | inl it ↦ absurd (false≢true (sym (ap (runs_in m new.control.contexts) it ∙ moves.own m) ∙ on))
+      | inr other ↦
+          let was : is_running e s (inside_at harts m) ≡ true = order.runs e old is m s (sym (moves.others m s other) ∙ on) in
+          (elim (decided m n) [
+            | inl same ↦
+                absurd (false≢true (sym (ap (λ (k : ℕ). is_running e s (inside_at harts k)) same ∙ ap (is_running e s) runs
+                ∙ running_other_slot ctx e s other) ∙ was))
+            | inr apart ↦ ap (is_running e s) (inside_set_other harts n m h apart) ∙ was
           ])
-      | inr apart ↦
-          (elim (decided s slot) [
-            | inl it ↦
-                ap (runs_in m new.control.contexts) it ∙ moves.own m
-                ∙ sym (runs_once m n (context_at old.control.contexts slot) here apart)
-                ∙ ap (runs_in m old.control.contexts) (sym it) ∙ order.runs e old is m s
-            | inr other ↦ moves.others m s other ∙ order.runs e old is m s
-          ]) ∙ ap (is_running e s) (sym (inside_set_other harts n m h apart))
     ])
-    (λ d s m other. elim (decided m n) [
+    (λ d s m other on. elim (decided m n) [
       | inl same ↦
-          subst (λ (k : ℕ). is_running d s (inside_at harts' k) ≡ is_running d s (inside_at harts k)) (sym same)
-          (ap (is_running d s) gone ∙ sym (running_other ctx e d s refl other) ∙ ap (is_running d s) (sym runs))
-      | inr apart ↦ ap (is_running d s) (inside_set_other harts n m h apart)
+          absurd (false≢true (sym (ap (λ (k : ℕ). is_running d s (inside_at harts k)) same ∙ ap (is_running d s) runs
+          ∙ running_other ctx e d s refl other) ∙ on))
+      | inr apart ↦ ap (is_running d s) (inside_set_other harts n m h apart) ∙ on
     ])
+
+-- A hart that enters a context, which may not run, and one that leaves a context that does not run on it.
+
+order_moves : (count : ℕ) (harts : List Hart) (domains : List Domain) (n : ℕ) (h : Hart) → InOrder count harts domains →
+    ((d : ℕ) (domain : Domain) → slice_get domains d ≡ Some domain → (slot : ℕ) →
+    runs_in n domain.control.contexts slot ≡ true → ⊥) → InOrder count (slice_set harts n h) domains
+order_moves count harts domains n h order none = record {
+  harts_count = length-set harts n h ∙ order.harts_count;
+  numbers = order.numbers;
+  runs = λ d domain found m slot on. elim (decided m n) [
+    | inl same ↦ absurd (none d domain found slot (ap (λ (k : ℕ). runs_in k domain.control.contexts slot) (sym same) ∙ on))
+    | inr apart ↦ ap (is_running d slot) (inside_set_other harts n m h apart) ∙ order.runs d domain found m slot on
+  ];
+}
+
+pub order_enters : (count : ℕ) (harts : List Hart) (domains : List Domain) (n : ℕ) (h : Hart) →
+    InOrder count harts domains → inside_at harts n ≡ None → InOrder count (slice_set harts n h) domains
+order_enters count harts domains n h order out =
+    order_moves count harts domains n h order
+    (λ d domain found slot on. false≢true (ap (is_running d slot) (sym out) ∙ order.runs d domain found n slot on))
+
+first_of : (a b : Bool) → (a && b) ≡ true → a ≡ true
+first_of true b is = refl
+first_of false b is = is
+
+second_of : (a b : Bool) → (a && b) ≡ true → b ≡ true
+second_of true b is = is
+second_of false b is = absurd (false≢true is)
+
+pub order_gone : (count : ℕ) (harts : List Hart) (domains : List Domain) (n : ℕ) (h : Hart) (ctx : ℕ) →
+    InOrder count harts domains → inside_at harts n ≡ Some ctx →
+    ((domain : Domain) → slice_get domains (domain_of ctx) ≡ Some domain →
+    runs_in n domain.control.contexts (slot_of ctx) ≡ false) → InOrder count (slice_set harts n h) domains
+order_gone count harts domains n h ctx order runs not_here =
+    order_moves count harts domains n h order
+    (λ d domain found slot on.
+    let in_it : is_running d slot (Some ctx) ≡ true = ap (is_running d slot) (sym runs) ∙ order.runs d domain found n slot on in
+    let at : domain_of ctx ≡ d = eqb-true (domain_of ctx) d (first_of _ _ in_it) in
+    let place : slot_of ctx ≡ slot = eqb-true (slot_of ctx) slot (second_of (domain_of ctx == d) _ in_it) in
+    false≢true (sym (not_here domain (ap (slice_get domains) at ∙ found))
+    ∙ ap (runs_in n domain.control.contexts) place ∙ on))
+
+-- A domain that ends.
+
+none_at : (n s : ℕ) → let none : Option Context = None in slice_index_or (replicate n none) s none ≡ none
+none_at zero s = refl
+none_at (suc n) zero = refl
+none_at (suc n) (suc s) = none_at n s
+
+pub order_ends : (count : ℕ) (harts : List Hart) (domains : List Domain) (e : ℕ) (old : Domain) →
+    InOrder count harts domains → slice_get domains e ≡ Some old →
+    InOrder count harts (slice_set domains e (ended_domain old))
+unfolding ended_domain
+order_ends count harts domains e old order is =
+    with_one count harts harts domains e old (ended_domain old) order is refl refl
+    (λ m s on. absurd (false≢true (sym (ap (λ (o : Option Context). runs_on m o) (none_at 8 s)) ∙ on)))
+    (λ d s m other on. on)
 
 -- A hart that resumes a context.
 
@@ -251,31 +292,24 @@ order_resumes count harts domains n h ctx old new order is within runs goes resu
     let harts' = slice_set harts n h in
     let in_it : inside_at harts' n ≡ Some ctx = inside_set_same harts n h within ∙ goes in
     with_one count harts harts' domains e old new order is (length-set harts n h) resumes.number
-    (λ m s. elim (decided m n) [
-      | inl same ↦
-          subst (λ (k : ℕ). runs_in k new.control.contexts s ≡ is_running e s (inside_at harts' k)) (sym same)
-          (elim (decided s slot) [
-            | inl it ↦
-                ap (runs_in n new.control.contexts) it ∙ resumes.here n ∙ eq-eqb n n refl ∙ sym (running_own ctx)
-                ∙ ap (λ (x : ℕ). is_running e x (Some ctx)) (sym it) ∙ ap (is_running e s) (sym in_it)
-            | inr other ↦
-                resumes.others n s other ∙ order.runs e old is n s ∙ ap (is_running e s) runs
-                ∙ sym (running_other_slot ctx e s other) ∙ ap (is_running e s) (sym in_it)
+    (λ m s on. elim (decided s slot) [
+      | inl it ↦
+          let same : n ≡ m = eqb-true n m (sym (ap (runs_in m new.control.contexts) it ∙ resumes.here m) ∙ on) in
+          ap (λ (k : ℕ). is_running e s (inside_at harts' k)) (sym same) ∙ ap (is_running e s) in_it
+          ∙ ap (λ (x : ℕ). is_running e x (Some ctx)) it ∙ running_own ctx
+      | inr other ↦
+          let was : is_running e s (inside_at harts m) ≡ true = order.runs e old is m s (sym (resumes.others m s other) ∙ on) in
+          (elim (decided m n) [
+            | inl same ↦
+                absurd (false≢true (sym (ap (λ (k : ℕ). is_running e s (inside_at harts k)) same
+                ∙ ap (is_running e s) runs) ∙ was))
+            | inr apart ↦ ap (is_running e s) (inside_set_other harts n m h apart) ∙ was
           ])
-      | inr apart ↦
-          (elim (decided s slot) [
-            | inl it ↦
-                ap (runs_in m new.control.contexts) it ∙ resumes.here m ∙ ne_eqb n m (λ same. apart (sym same))
-                ∙ sym (resumes.idle m)
-                ∙ ap (runs_in m old.control.contexts) (sym it) ∙ order.runs e old is m s
-            | inr other ↦ resumes.others m s other ∙ order.runs e old is m s
-          ]) ∙ ap (is_running e s) (sym (inside_set_other harts n m h apart))
     ])
-    (λ d s m other. elim (decided m n) [
+    (λ d s m other on. elim (decided m n) [
       | inl same ↦
-          subst (λ (k : ℕ). is_running d s (inside_at harts' k) ≡ is_running d s (inside_at harts k)) (sym same)
-          (ap (is_running d s) in_it ∙ running_other ctx e d s refl other ∙ ap (is_running d s) (sym runs))
-      | inr apart ↦ ap (is_running d s) (inside_set_other harts n m h apart)
+          absurd (false≢true (sym (ap (λ (k : ℕ). is_running d s (inside_at harts k)) same ∙ ap (is_running d s) runs) ∙ on))
+      | inr apart ↦ ap (is_running d s) (inside_set_other harts n m h apart) ∙ on
     ])
 
 -- the answer that a context takes leaves it on its hart
@@ -388,28 +422,49 @@ slot_found hart k (suc slot) (c ∷ contexts) own others =
     ∙ slot_found hart (k + 1) slot contexts own (λ s other. others (suc s) (λ same. other (ap pred same)))
     ∙ ap (λ (n : ℕ). Some n) same
 
+-- what is not true is false
+not_true : (b : Bool) → (b ≡ true → ⊥) → b ≡ false
+not_true true never = absurd (never refl)
+not_true false never = refl
+
 -- of a hart outside, or in a context of another program
 pub slot_outside : (count : ℕ) (harts : List Hart) (domains : List Domain) (d : ℕ) (domain : Domain) (hart : ℕ) →
     InOrder count harts domains → slice_get domains d ≡ Some domain →
     inside_at harts hart ≡ None → slot_on hart 0 domain.control.contexts ≡ None
 slot_outside count harts domains d domain hart order is out =
-    slot_none hart 0 domain.control.contexts (λ s. order.runs d domain is hart s ∙ ap (is_running d s) out)
+    slot_none hart 0 domain.control.contexts (λ s. not_true _ (λ on.
+    false≢true (ap (is_running d s) (sym out) ∙ order.runs d domain is hart s on)))
 
 pub slot_other : (count : ℕ) (harts : List Hart) (domains : List Domain) (d : ℕ) (domain : Domain) (hart ctx : ℕ) →
     InOrder count harts domains → slice_get domains d ≡ Some domain →
     inside_at harts hart ≡ Some ctx → d ≢ domain_of ctx → slot_on hart 0 domain.control.contexts ≡ None
 slot_other count harts domains d domain hart ctx order is runs other =
-    slot_none hart 0 domain.control.contexts (λ s. order.runs d domain is hart s ∙ ap (is_running d s) runs
-    ∙ running_other ctx (domain_of ctx) d s refl other)
+    slot_none hart 0 domain.control.contexts (λ s. not_true _ (λ on.
+    false≢true (sym (running_other ctx (domain_of ctx) d s refl other) ∙ ap (is_running d s) (sym runs)
+    ∙ order.runs d domain is hart s on)))
 
--- of a hart in a context of the program itself
+-- of a hart in a context of the program that does not run on it
+pub slot_idle : (count : ℕ) (harts : List Hart) (domains : List Domain) (domain : Domain) (hart ctx : ℕ) →
+    InOrder count harts domains → slice_get domains (domain_of ctx) ≡ Some domain → inside_at harts hart ≡ Some ctx →
+    runs_in hart domain.control.contexts (slot_of ctx) ≡ false → slot_on hart 0 domain.control.contexts ≡ None
+slot_idle count harts domains domain hart ctx order is runs idle =
+    slot_none hart 0 domain.control.contexts (λ s. elim (decided s (slot_of ctx)) [
+      | inl same ↦ ap (runs_in hart domain.control.contexts) same ∙ idle
+      | inr other ↦ not_true _ (λ on.
+          false≢true (sym (running_other_slot ctx (domain_of ctx) s other) ∙ ap (is_running (domain_of ctx) s) (sym runs)
+          ∙ order.runs (domain_of ctx) domain is hart s on))
+    ])
+
+-- of a hart in a context of the program itself, which runs on it
 pub slot_own : (count : ℕ) (harts : List Hart) (domains : List Domain) (domain : Domain) (hart ctx : ℕ) →
     InOrder count harts domains → slice_get domains (domain_of ctx) ≡ Some domain →
-    inside_at harts hart ≡ Some ctx → slot_on hart 0 domain.control.contexts ≡ Some (slot_of ctx)
-slot_own count harts domains domain hart ctx order is runs =
+    inside_at harts hart ≡ Some ctx → runs_in hart domain.control.contexts (slot_of ctx) ≡ true →
+    slot_on hart 0 domain.control.contexts ≡ Some (slot_of ctx)
+slot_own count harts domains domain hart ctx order is runs here =
     let e = domain_of ctx in
     let same : 0 + slot_of ctx ≡ slot_of ctx = omega arith in
-    slot_found hart 0 (slot_of ctx) domain.control.contexts
-    (order.runs e domain is hart (slot_of ctx) ∙ ap (is_running e (slot_of ctx)) runs ∙ running_own ctx)
-    (λ s other. order.runs e domain is hart s ∙ ap (is_running e s) runs ∙ running_other_slot ctx e s other)
+    slot_found hart 0 (slot_of ctx) domain.control.contexts here
+    (λ s other. not_true _ (λ on.
+    false≢true (sym (running_other_slot ctx e s other) ∙ ap (is_running e s) (sym runs)
+    ∙ order.runs e domain is hart s on)))
     ∙ ap (λ (n : ℕ). Some n) same

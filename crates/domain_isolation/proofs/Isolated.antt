@@ -1,4 +1,5 @@
 -- A program's half of isolation, step by step.
+use Rattle.domain_isolation.proofs.Endings.{StepTaken, step_taken}
 use Rattle.std.proofs.Common.{◌≡◌, ◌∙◌, ◌+◌, ◌%◌, ◌<◌, ◌≤◌, false, suc, zero, ℕ, Bool, List, [], ◌∷◌, ◌++◌, Option, Some, None, Result, Ok, Err, refl, ap, sym, subst, arith, add-one, length, map, take, mod-lt}
 use Rattle.std.specs.Prelude.{is_some, slice_get, slice_index, All}
 use Rattle.std.specs.List.{AllByRecursion}
@@ -16,7 +17,7 @@ use Rattle.cloak_model.specs.Exchange.{steps_items}
 use Rattle.cloak_model.specs.Record.{IsOfStep}
 use Rattle.cloak_model.specs.Opening.{Lack, Opened, opening}
 use Rattle.cloak_model.specs.Parts.{Joint, DomainPart, domain_part}
-use Rattle.cloak_model.specs.Joint.{Moment, Turn, joint_step, stop_of, hart_in, turn_of}
+use Rattle.cloak_model.specs.Joint.{Moment, Turn, joint_step, stop_of, hart_in, turn_of, answers_violation}
 use Rattle.cloak_model.specs.Run.{Run, unless_stopped, turns_from, joint_after, closing, first_moment, run_of, exchange}
 use Rattle.cloak_model.specs.DomainAlone.{DomainAlone, Between, domain_step_ended, domain_taken, domain_takes, opened_domain, domain_alone}
 use Rattle.domain_isolation.specs.Isolation.{HasDomain, Hosts, DomainIsAlone, DomainEndsAlone}
@@ -70,7 +71,7 @@ after_none d schedule k j s p n has is =
 -- one step, and then others
 after_one : (d count : ℕ) (schedule : List ℕ) (k : ℕ) (j : Joint) (s : DomainAlone) (p : DomainPart) (n : ℕ)
     (t : Turn) → ended s ≡ alone_at p n Between →
-    (step : StepAlone d count schedule k (slice_index schedule (k % length schedule)) p t) →
+    (step : StepTaken d count schedule k (slice_index schedule (k % length schedule)) p t) →
     RestsAt (ended (domain_taken d schedule s (item.Step (suc k) ∷ t.items))) step.part (is_some (stop_of t))
 after_one d count schedule k j s p n t is step =
     subst (λ (x : DomainAlone). RestsAt (ended x) step.part (is_some (stop_of t)))
@@ -137,13 +138,13 @@ FrontsFrom budget d count schedule =
 -- what follows a step, by whether it stops the run
 fronts_unless : (budget d count : ℕ) (schedule : List ℕ) → FrontsFrom budget d count schedule →
     (k : ℕ) (t : Turn) (s : DomainAlone) (p : DomainPart) (o : Option Stop) →
-    stop_of t ≡ o → (stop_of t ≡ None → InOrder count t.joint.harts t.joint.domains) → HoldsPart d t.joint p →
+    stop_of t ≡ o → InOrder count t.joint.harts t.joint.domains → HoldsPart d t.joint p →
     RestsAt (ended s) p (is_some (stop_of t)) →
     Fronts d schedule (k + 1) t.joint (unless_stopped o (turns_from budget) (moment schedule (k + 1) t.joint)) s
 fronts_unless budget d count schedule rest k t s p (Some cause) is order has rests =
     fronts_none d schedule (k + 1) t.joint s p (is_some (stop_of t)) has rests
 fronts_unless budget d count schedule rest k t s p None is order has rests =
-    rest (k + 1) t.joint s p rests.steps (order is) has
+    rest (k + 1) t.joint s p rests.steps order has
     (rests_between (ended s) p (is_some (stop_of t)) rests (ap is_some is))
 
 fronts : (budget d count : ℕ) (schedule : List ℕ) → IsSchedule count schedule → FrontsFrom budget d count schedule
@@ -152,10 +153,12 @@ fronts zero d count schedule is k j s p n order has rests =
     fronts_none d schedule k j s p false has (record { steps = n; place = Between; is = rests; between = λ goes. refl })
 fronts (suc budget) d count schedule is k j s p n order has rests =
     let hart = slice_index schedule (k % length schedule) in
-    let t = turn_of j hart (hart_in j hart) (hart_in j hart).inside in
+    let h = hart_in j hart in
+    let before = turn_of j hart h h.inside in
+    let t = answers_violation h.inside before.violation before in
     let within : hart < length j.harts = subst (λ (c : ℕ). hart < c) (sym order.harts_count)
     (hart_within count schedule k is) in
-    let step = turn_alone d count schedule k hart p j order has within in
+    let step = step_taken d count schedule k hart p j order has within in
     fronts_one d count schedule k j t _ s p n has rests step.told
     (fronts_unless budget d count schedule (fronts budget d count schedule is) k t _ step.part
     (stop_of t) refl step.order step.has (after_one d count schedule k j s p n t rests step))

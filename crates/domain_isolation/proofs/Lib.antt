@@ -14,6 +14,7 @@ pub mod KernelHarts
 pub mod JointSteps
 pub mod OutsideSteps
 pub mod InsideSteps
+pub mod Endings
 pub mod Opened
 pub mod Isolated
 pub mod Halves

@@ -2,7 +2,7 @@
 use Rattle.std.proofs.Common.{◌≡◌, ◌≢◌, ◌∙◌, inl, inr, ◌+◌, ◌<◌, ◌≤◌, true, false, cond, suc, zero, ℕ, Bool, List, [], ◌∷◌, ◌++◌, Option, Some, None, Result, Ok, Err, refl, ap, sym, subst, eq-eqb, ne_eqb, arith, length, map, filter, replicate, nat_eq, nat_lt, lt-ltb, le-ltb, eqb-true, length-append, if◌then◌else◌}
 use mathlib.Core.Path.{fun_ext}
 use Rattle.std.specs.Prelude.{◌&&◌, ◌||◌, ◌==◌, option_and_then, slice_get, slice_index_or}
-use Rattle.std.proofs.lemmas.Bool.{cases_lt}
+use Rattle.std.proofs.lemmas.Bool.{cases_lt, false≢true}
 use Rattle.cloak_base.specs.Random.{Random, next_draw}
 use Rattle.cloak_base.specs.Pages.{zero_page, same_page, with_page}
 use Rattle.cloak_base.specs.declared.names.PageId.{PageId}
@@ -307,9 +307,8 @@ opened_order b o opened =
       harts_count = harts_counted b.kernel.entry b.kernel.harts;
       numbers = λ d domain found. let same : 0 + d ≡ d = omega arith in
           (domains_idle 0 d b.programs domain found).number ∙ same;
-      runs = λ d domain found hart slot.
-          (domains_idle 0 d b.programs domain found).idle hart slot
-          ∙ ap (is_running d slot) (sym (harts_outside b.kernel.entry b.kernel.harts hart));
+      runs = λ d domain found hart slot on.
+          absurd (false≢true (sym ((domains_idle 0 d b.programs domain found).idle hart slot) ∙ on));
     })
 
 opened_zeros : (b : Bundle) (key : List ℕ) (stream : Random) (e : ℕ) →

@@ -28,9 +28,10 @@ use Rattle.cloak_model.specs.DomainAlone.{DomainAlone, Other, domain_taken, slot
 use Rattle.domain_isolation.proofs.Ignoring.{taken_half}
 use Rattle.domain_isolation.proofs.Steady.{settle_plain, ciphers_told}
 use Rattle.domain_isolation.proofs.Alone.{alone_at, ended, RestsAt, resume_rests}
-use Rattle.domain_isolation.proofs.InOrder.{same_some, decided, inside_at, InOrder, order_kept, order_resumes, resume_resumes, get_set_same, get_set_other, slot_outside}
+use Rattle.domain_isolation.proofs.InOrder.{same_some, decided, inside_at, InOrder, order_kept, order_enters, order_resumes, resume_resumes, get_set_same, get_set_other, slot_outside}
 use Rattle.domain_isolation.proofs.KernelHarts.{inside_after, kernel_step_inside}
-use Rattle.domain_isolation.proofs.JointSteps.{HoldsPart, StepAlone, other_alone, no_order}
+use Rattle.domain_isolation.proofs.JointSteps.{HoldsPart, StepAlone, is_cut, other_alone}
+use Rattle.std.proofs.lemmas.Bool.{false≢true}
 
 found_plain : (f : Option ℕ) (next : CloakedMemory → AfterSettling) (m : CloakedMemory) →
     ((m' : CloakedMemory) → (next m').memory.plain ≡ m'.plain) →
@@ -99,7 +100,7 @@ granted_own : (count : ℕ) (schedule : List ℕ) (k n : ℕ) (p : DomainPart) (
     OutsideStep (domain_of ctx) count n p j h disk m items → h.inside ≡ Some ctx →
     let r = resume_slot (slot_of ctx) n reply p.domain.control in
     is_granted r.answer ≡ true →
-    StepAlone (domain_of ctx) count schedule k n p (record (quiet (record (stepped_to n j h disk m) {
+    StepAlone (domain_of ctx) count schedule k n p None (record (quiet (record (stepped_to n j h disk m) {
       domains = with_domain_control (domain_of ctx) p.domain r.control j.domains;
       memory = with_roots root m;
     }) (items ++ item.Resume (domain_of ctx) ctx reply ∷ [])) { violation = None })
@@ -124,11 +125,12 @@ granted_own count schedule k n p j h disk m items ctx reply root o goes granted 
       rests =
           subst (λ (s : Option ℕ). RestsAt (ended
           (domain_taken e schedule (alone_at p (suc k) (place_for n s)) t.items)) (with_control r.control p)
-          (is_some (stop_of t))) (sym o.none)
-          (subst (λ (s : DomainAlone). RestsAt (ended s) (with_control r.control p) (is_some (stop_of t)))
+          (is_cut t)) (sym o.none)
+          (subst (λ (s : DomainAlone). RestsAt (ended s) (with_control r.control p) (is_cut t))
           (sym (taken_half e schedule (alone_at p (suc k) (Other n)) t.items (item.Resume e ctx reply ∷ []) half))
-          (resume_rests e schedule p (suc k) n ctx reply (is_some (stop_of t)) refl granted));
-      order = λ stops.
+          (resume_rests e schedule p (suc k) n ctx reply (is_cut t) refl granted));
+      opens = λ some. absurd (false≢true some);
+      order =
           order_resumes count j.harts j.domains n h ctx p.domain new o.order o.has.domain o.within o.out goes
           (resume_resumes (slot_of ctx) n reply p.domain.control granted);
       told = subst (AllByRecursion IsOfStep) (sym half) (refl, tt);
@@ -139,7 +141,7 @@ granted_alone : (d count : ℕ) (schedule : List ℕ) (k n : ℕ) (p : DomainPar
     OutsideStep d count n p j h disk m items → h.inside ≡ Some ctx → slice_get j.domains (domain_of ctx) ≡ Some old →
     let r = resume_slot (slot_of ctx) n reply old.control in
     is_granted r.answer ≡ true →
-    StepAlone d count schedule k n p (record (quiet (record (stepped_to n j h disk m) {
+    StepAlone d count schedule k n p None (record (quiet (record (stepped_to n j h disk m) {
       domains = with_domain_control (domain_of ctx) old r.control j.domains;
       memory = with_roots root m;
     }) (items ++ item.Resume (domain_of ctx) ctx reply ∷ [])) { violation = None })
@@ -154,12 +156,12 @@ granted_alone d count schedule k n p j h disk m items ctx reply root old o goes 
           let own : OutsideStep e count n p j h disk m items = subst
           (λ (x : ℕ). OutsideStep x count n p j h disk m items) same o in
           let it : p.domain ≡ old = same_some p.domain old (sym own.has.domain ∙ is) in
-          subst (λ (x : ℕ). StepAlone x count schedule k n p (turn old)) (sym same)
+          subst (λ (x : ℕ). StepAlone x count schedule k n p None (turn old)) (sym same)
           (subst (λ (x : Domain). is_granted (resume_slot (slot_of ctx) n reply x.control).answer ≡ true →
-          StepAlone e count schedule k n p (turn x)) it
+          StepAlone e count schedule k n p None (turn x)) it
           (granted_own count schedule k n p j h disk m items ctx reply root own goes) granted)
       | inr other ↦
-          other_alone d count schedule k n p (turn old) o.none
+          other_alone d count schedule k n p None (turn old) o.none
           (resumed_half e d ctx reply items o.half ∙ ap (λ (b : Bool). cond b (item.Resume e ctx reply ∷ []) [])
           (ne_eqb e d (λ same. other (sym same))))
           (record {
@@ -167,8 +169,9 @@ granted_alone d count schedule k n p j h disk m items ctx reply root old o goes 
                 (record old { control = (resume_slot (slot_of ctx) n reply old.control).control }) other ∙ o.has.domain;
             plain = ap (domain_pages d) o.plain ∙ o.has.plain;
           })
-          (λ stops. order_resumes count j.harts j.domains n h ctx old _ o.order is o.within o.out goes
+          (order_resumes count j.harts j.domains n h ctx old _ o.order is o.within o.out goes
           (resume_resumes (slot_of ctx) n reply old.control granted))
+          (λ some. tt)
     ]
 
 -- what a resuming made, as the step ends with it
@@ -178,18 +181,18 @@ resumed_turn items r = record (quiet r.joint (items ++ r.items)) { violation = r
 refused_alone : (d count : ℕ) (schedule : List ℕ) (k n : ℕ) (p : DomainPart) (j : Joint) (h : Hart) (disk : List ℕ)
     (m : CloakedMemory) (items : List Item) (v : Violation) →
     OutsideStep d count n p j h disk m items →
-    StepAlone d count schedule k n p (resumed_turn items (violated (stepped_to n j h disk m) v))
+    StepAlone d count schedule k n p None (resumed_turn items (violated (stepped_to n j h disk m) v))
 refused_alone d count schedule k n p j h disk m items v o =
-    other_alone d count schedule k n p (resumed_turn items (violated (stepped_to n j h disk m) v)) o.none
+    other_alone d count schedule k n p None (resumed_turn items (violated (stepped_to n j h disk m) v)) o.none
     (ap (inward_half d) (append-nil items) ∙ o.half) (outside_has d count n p j h disk m items o)
-    (no_order (resumed_turn items (violated (stepped_to n j h disk m) v)) v refl)
+    (order_enters count j.harts j.domains n h o.order o.out) (λ some. tt)
 
 by_root_alone : (d count : ℕ) (schedule : List ℕ) (k n : ℕ) (p : DomainPart) (j : Joint) (h : Hart) (disk : List ℕ)
     (m : CloakedMemory) (items : List Item) (satp ctx reply : ℕ) (old : Domain) (admitted : Admitted)
     (answer : Result (Unit {0}) ResumeFault) →
     OutsideStep d count n p j h disk m items → h.inside ≡ Some ctx → slice_get j.domains (domain_of ctx) ≡ Some old →
     is_granted (resume_slot (slot_of ctx) n reply old.control).answer ≡ true →
-    StepAlone d count schedule k n p (resumed_turn items
+    StepAlone d count schedule k n p None (resumed_turn items
     (by_root (stepped_to n j h disk m) satp ctx reply old
     (resume_slot (slot_of ctx) n reply old.control).control admitted answer))
 unfolding by_root
@@ -203,7 +206,7 @@ by_context_alone : (d count : ℕ) (schedule : List ℕ) (k n : ℕ) (p : Domain
     (answer : Result (Unit {0}) ResumeFault) →
     OutsideStep d count n p j h disk m items → h.inside ≡ Some ctx → slice_get j.domains (domain_of ctx) ≡ Some old →
     (resume_slot (slot_of ctx) n reply old.control).answer ≡ answer →
-    StepAlone d count schedule k n p (resumed_turn items
+    StepAlone d count schedule k n p None (resumed_turn items
     (by_context (stepped_to n j h disk m) satp ctx reply old
     (resume_slot (slot_of ctx) n reply old.control).control answer))
 unfolding by_context
@@ -221,7 +224,7 @@ by_context_alone d count schedule k n p j h disk m items satp ctx reply old (Ok 
 by_domain_alone : (d count : ℕ) (schedule : List ℕ) (k n : ℕ) (p : DomainPart) (j : Joint) (h : Hart)
     (disk : List ℕ) (m : CloakedMemory) (items : List Item) (satp ctx reply : ℕ) (found : Option Domain) →
     OutsideStep d count n p j h disk m items → h.inside ≡ Some ctx → slice_get j.domains (domain_of ctx) ≡ found →
-    StepAlone d count schedule k n p (resumed_turn items (by_domain (stepped_to n j h disk m) n satp ctx reply found))
+    StepAlone d count schedule k n p None (resumed_turn items (by_domain (stepped_to n j h disk m) n satp ctx reply found))
 unfolding by_domain
 by_domain_alone d count schedule k n p j h disk m items satp ctx reply None o goes is =
     refused_alone d count schedule k n p j h disk m items (violation.Context ctx) o
@@ -232,31 +235,31 @@ by_domain_alone d count schedule k n p j h disk m items satp ctx reply (Some old
 outside_ended_alone : (d count : ℕ) (schedule : List ℕ) (k n : ℕ) (p : DomainPart) (j : Joint) (h : Hart)
     (disk : List ℕ) (m : CloakedMemory) (items : List Item) (ending : Kernel) →
     OutsideStep d count n p j h disk m items → h.inside ≡ inside_after ending None →
-    StepAlone d count schedule k n p (outside_ended (stepped_to n j h disk m) n items ending)
+    StepAlone d count schedule k n p None (outside_ended (stepped_to n j h disk m) n items ending)
 unfolding outside_ended resume
 outside_ended_alone d count schedule k n p j h disk m items Stay o goes =
-    other_alone d count schedule k n p (quiet (stepped_to n j h disk m) items) o.none o.half
+    other_alone d count schedule k n p None (quiet (stepped_to n j h disk m) items) o.none o.half
     (outside_has d count n p j h disk m items o)
-    (λ stops. order_kept count j.harts j.domains n h o.order (goes ∙ sym o.out))
+    (order_kept count j.harts j.domains n h o.order (goes ∙ sym o.out)) (λ some. tt)
 outside_ended_alone d count schedule k n p j h disk m items (Put b) o goes =
     let j' = stepped_to n j h disk m in
     let has = outside_has d count n p j h disk m items o in
-    other_alone d count schedule k n p (record
+    other_alone d count schedule k n p None (record
     (quiet (record j' { console = j'.console ++ b ∷ [] }) items) { console = b ∷ [] }) o.none o.half
     (record { domain = has.domain; plain = has.plain })
-    (λ stops. order_kept count j.harts j.domains n h o.order (goes ∙ sym o.out))
+    (order_kept count j.harts j.domains n h o.order (goes ∙ sym o.out)) (λ some. tt)
 outside_ended_alone d count schedule k n p j h disk m items (Halt value) o goes =
-    other_alone d count schedule k n p (record
+    other_alone d count schedule k n p None (record
     (quiet (stepped_to n j h disk m) items) { halt = Some value }) o.none o.half
     (outside_has d count n p j h disk m items o)
-    (λ stops. order_kept count j.harts j.domains n h o.order (goes ∙ sym o.out))
+    (order_kept count j.harts j.domains n h o.order (goes ∙ sym o.out)) (λ some. tt)
 outside_ended_alone d count schedule k n p j h disk m items (Resume ctx reply) o goes =
     by_domain_alone d count schedule k n p j h disk m items
     (satp_of (hart_in (stepped_to n j h disk m) n).csrs) ctx reply (slice_get j.domains (domain_of ctx)) o goes refl
 
 pub outside_alone : (d count : ℕ) (schedule : List ℕ) (k n : ℕ) (p : DomainPart) (j : Joint) →
     InOrder count j.harts j.domains → HoldsPart d j p → n < length j.harts → inside_at j.harts n ≡ None →
-    StepAlone d count schedule k n p (outside_step j n (hart_in j n))
+    StepAlone d count schedule k n p None (outside_step j n (hart_in j n))
 unfolding outside_step after_outside
 outside_alone d count schedule k n p j order has within out =
     let h = hart_in j n in

@@ -1,6 +1,7 @@
 -- A script over the joint machine, and over the program alone that is handed its answers.
 use Rattle.std.proofs.Common.{◌≡◌, ◌≢◌, ◌∙◌, true, false, ℕ, Bool, List, [], ◌∷◌, ◌++◌, refl, ap, sym, subst, map, append_assoc, append-nil}
-use Rattle.std.specs.Prelude.{◌||◌}
+use Rattle.std.specs.Prelude.{◌||◌, Option, Some, None, is_some}
+use Rattle.cloak_base.specs.declared.causes.Violation.{Violation}
 use Rattle.std.specs.List.{list_any}
 use Rattle.std.proofs.lemmas.Bool.{false≢true}
 use Rattle.std.proofs.lemmas.List.Elements.{filter-append}
@@ -9,7 +10,7 @@ use Rattle.cloak_model.specs.declared.answer.Answer.TheVariants as told
 use Rattle.cloak_model.specs.declared.item.Item.{Item}
 use Rattle.cloak_model.specs.Halves.{is_inward, inward_half}
 use Rattle.cloak_model.specs.Parts.{domain_pages}
-use Rattle.cloak_model.specs.World.{World, plain_of, items_of}
+use Rattle.cloak_model.specs.World.{World, plain_of, items_of, violation_of}
 use Rattle.cloak_model.specs.Asking.{Told}
 use Rattle.cloak_model.specs.AskPages.{answer_item, ask_read}
 use Rattle.cloak_model.specs.DomainAlone.{is_stopped}
@@ -142,6 +143,54 @@ played_stopped e (Reads q own at width more) w ends serving any =
     played_stopped e (more (ask_read q at width w).answer) w (ends (ask_read q at width w).answer) serving any
 played_stopped e (Changes change more) w ends serving any =
     played_stopped e more (changed change w).world ends (changed_serving change w serving) any
+
+-- A violation was met by the last question.
+
+-- the last answer stops
+abbrev pub last_stopped : List Answer → Bool
+last_stopped [] = false
+last_stopped (a ∷ []) = is_stopped a
+last_stopped (a ∷ b ∷ answers) = last_stopped (b ∷ answers)
+
+last_cons : (a : Answer) (answers : List Answer) → last_stopped answers ≡ true → last_stopped (a ∷ answers) ≡ true
+last_cons a [] last = absurd (false≢true last)
+last_cons a (b ∷ answers) last = last
+
+stop_answers : {d : ℕ} {A : Type 0} (e : Ending A) (s : Script d A) (w : World) → IsStop e s → answers_of s w ≡ []
+unfolding IsStop
+stop_answers e (Gives a) w is = refl
+stop_answers e (Asks question more) w is = absurd is
+stop_answers e (Reads q own at width more) w is = absurd is
+stop_answers e (Changes change more) w is = absurd is
+
+met_by : {d : ℕ} {A : Type 0} (e : Ending A) (question : Question d) (more : Answer → Script d A) (w : World) →
+    IsServing d w → violation_of w ≡ None → IsStop e (more told.Stopped) → (o : Option Violation) →
+    violation_of (asked question w).world ≡ o →
+    (o ≡ None → last_stopped (answers_of (more (asked question w).answer) (asked question w).world) ≡ true) →
+    last_stopped ((asked question w).answer ∷ answers_of (more (asked question w).answer) (asked question w).world) ≡ true
+met_by e question more w serving none stops None is later =
+    last_cons (asked question w).answer (answers_of (more (asked question w).answer) (asked question w).world) (later refl)
+met_by e question more w serving none stops (Some v) is later =
+    let t = asked question w in
+    let stop : t.answer ≡ told.Stopped =
+    (question_answered question w serving.form).replied.meets none (ap is_some is) in
+    let over : answers_of (more t.answer) t.world ≡ [] =
+    stop_answers e (more t.answer) t.world (subst (λ (a : Answer). IsStop e (more a)) (sym stop) stops) in
+    ap (λ (l : List Answer). last_stopped (t.answer ∷ l)) over ∙ ap is_stopped stop
+
+pub played_met : {d : ℕ} {A : Type 0} (e : Ending A) (s : Script d A) (w : World) → EndsSo e s → IsServing d w →
+    violation_of w ≡ None → is_some (violation_of (played s w).world) ≡ true → last_stopped (answers_of s w) ≡ true
+unfolding EndsSo ask_read
+played_met e (Gives a) w ends serving none some = absurd (false≢true (sym (ap is_some none) ∙ some))
+played_met e (Asks question more) w ends serving none some =
+    let t = asked question w in
+    met_by e question more w serving none ends.1 (violation_of t.world) refl
+    (λ still. played_met e (more t.answer) t.world (ends.0 t.answer) (asked_serving question w serving) still some)
+played_met e (Reads q own at width more) w ends serving none some =
+    played_met e (more (ask_read q at width w).answer) w (ends (ask_read q at width w).answer) serving none some
+played_met e (Changes change more) w ends serving none some =
+    played_met e more (changed change w).world ends (changed_serving change w serving)
+    ((change_leaves change w serving.form).violation ∙ none) some
 
 -- What it is over the program alone.
 

@@ -1,6 +1,6 @@
 -- What the joint machine's questions of a program leave: the newest bytes of each page, the view, and what each
 -- program was told; and what an answer adds to that.
-use Rattle.std.proofs.Common.{◌≡◌, ◌∙◌, true, false, cond, zero, suc, ◌+◌, ◌%◌, ◌^◌, ◌*◌, ℕ, Bool, List, [], ◌∷◌, ◌++◌, Option, Some, None, Result, Ok, Err, refl, ap, append-nil, if◌then◌else◌}
+use Rattle.std.proofs.Common.{sym, ◌≡◌, ◌∙◌, true, false, cond, zero, suc, ◌+◌, ◌%◌, ◌^◌, ◌*◌, ℕ, Bool, List, [], ◌∷◌, ◌++◌, Option, Some, None, Result, Ok, Err, refl, ap, append-nil, if◌then◌else◌}
 use Rattle.std.specs.Prelude.{is_some, ◌||◌}
 use Rattle.std.specs.Str.{bytes_eq}
 use Rattle.std.proofs.lemmas.List.Elements.{filter-append}
@@ -9,6 +9,7 @@ use Rattle.cloak_base.specs.declared.names.Kind.{Kind}
 use Rattle.cloak_base.specs.declared.names.Kind.TheVariants.{Load, Store}
 use Rattle.cloak_base.specs.declared.names.PageId.{PageId}
 use Rattle.cloak_base.specs.Random.{Random}
+use Rattle.cloak_base.specs.declared.causes.Violation.TheVariants as violation
 use Rattle.cloak_model.specs.declared.access.Access.{Access}
 use Rattle.cloak_model.specs.declared.answer.Answer.{Answer}
 use Rattle.cloak_model.specs.declared.answer.Answer.TheVariants as told
@@ -153,9 +154,10 @@ pub record Steady (w v : World) : Type 0 where
   pub view : view_of v ≡ view_of w
   pub form : is_cloaked v ≡ is_cloaked w
   pub items : (d : ℕ) → inward_half d (items_of v) ≡ inward_half d (items_of w)
+  pub violation : violation_of v ≡ violation_of w
 
 pub Steady-refl : (w : World) → Steady w w
-Steady-refl w = record { plain = refl; view = refl; form = refl; items = λ d. refl }
+Steady-refl w = record { plain = refl; view = refl; form = refl; items = λ d. refl; violation = refl }
 
 pub Steady-trans : (u v w : World) → Steady u v → Steady v w → Steady u w
 Steady-trans u v w p q =
@@ -165,6 +167,7 @@ Steady-trans u v w p q =
       form = q.form ∙ p.form;
       items = λ d. q.items d
           ∙ p.items d;
+      violation = q.violation ∙ p.violation;
     }
 
 Steady-either : {A : Type 0} (b : Bool) (m n : Told A) (w : World) → Steady w m.world → Steady w n.world →
@@ -181,20 +184,21 @@ Steady-settled f (Cloaked c) =
       form = refl;
       items = λ d. ciphers_told d c.items
           (settle f c.memory).ciphers;
+      violation = refl;
     }
 Steady-settled f (Alone h) = Steady-refl (Alone h)
 
 Steady-noted : (events : List Event) (w : World) → Steady w (noted events w)
 Steady-noted events (Flat ram) = Steady-refl (Flat ram)
-Steady-noted events (Cloaked c) = record { plain = refl; view = refl; form = refl; items = λ d. refl }
+Steady-noted events (Cloaked c) = record { plain = refl; view = refl; form = refl; items = λ d. refl; violation = refl }
 Steady-noted events (Alone h) = Steady-refl (Alone h)
 
 Steady-opened : (satp : ℕ) (a : Access) (pa : ℕ) (w : World) → Steady w (opened satp a pa w)
 Steady-opened satp a pa w = Steady-trans _ _ _ (Steady-settled (frame_of pa) w) (Steady-noted _ _)
 
 Steady-stored_at : (pa width value : ℕ) (w : World) → Steady w (stored_at pa width value w)
-Steady-stored_at pa width value (Flat ram) = record { plain = refl; view = refl; form = refl; items = λ d. refl }
-Steady-stored_at pa width value (Cloaked c) = record { plain = refl; view = refl; form = refl; items = λ d. refl }
+Steady-stored_at pa width value (Flat ram) = record { plain = refl; view = refl; form = refl; items = λ d. refl; violation = refl }
+Steady-stored_at pa width value (Cloaked c) = record { plain = refl; view = refl; form = refl; items = λ d. refl; violation = refl }
 Steady-stored_at pa width value (Alone h) = Steady-refl (Alone h)
 
 Steady-written : (i : Item) (w : World) → ((d : ℕ) → is_inward d i ≡ false) → Steady w (written i w)
@@ -207,6 +211,7 @@ Steady-written i (Cloaked c) outward = record {
       filter-append (is_inward d) c.items (i ∷ [])
       ∙ ap (λ (b : Bool). inward_half d c.items ++ cond b (i ∷ []) []) (outward d)
       ∙ append-nil (inward_half d c.items);
+  violation = refl;
 }
 Steady-written i (Alone h) outward = Steady-refl (Alone h)
 
@@ -260,6 +265,8 @@ pub record Replied (w : World) (t : Told Answer) : Type 0 where
   pub items : (d : ℕ) → inward_half d (items_of t.world) ≡ inward_half d (items_of w) ++ inward_half d
       (answer_item (view_of w).domain t.answer ∷ [])
   pub stops : t.answer ≡ told.Stopped → is_halted t.world ≡ true
+  -- where the kernel presented what is not recorded, the answer says so
+  pub meets : violation_of w ≡ None → is_some (violation_of t.world) ≡ true → t.answer ≡ told.Stopped
 
 replied_after : (u v : World) (t : Told Answer) → Steady u v → Replied v t → Replied u t
 replied_after u v t s r = record {
@@ -270,6 +277,7 @@ replied_after u v t s r = record {
       r.items d ∙ ap (λ (l : List Item). l ++ inward_half d (answer_item (view_of v).domain t.answer ∷ [])) (s.items d)
       ∙ ap (λ (view : _). inward_half d (items_of u) ++ inward_half d (answer_item view.domain t.answer ∷ [])) s.view;
   stops = r.stops;
+  meets = λ none some. r.meets (s.violation ∙ none) some;
 }
 
 replied : (a : Answer) (w : World) → is_cloaked w ≡ true → (a ≡ told.Stopped → is_halted w ≡ true) →
@@ -282,6 +290,7 @@ replied a (Cloaked c) cloaked halted = record {
   form = refl;
   items = λ d. filter-append (is_inward d) c.items (answer_item c.view.domain a ∷ []);
   stops = halted;
+  meets = λ none some. absurd (false≢true (sym (ap is_some none) ∙ some));
 }
 replied a (Alone h) cloaked halted = absurd (false≢true cloaked)
 
@@ -300,7 +309,7 @@ replied_drawn ask w cloaked next = replied_if_drawn (is_missed w) ask w refl clo
 
 replied_offered : (q : PageId) (va : ℕ) (kind : Kind) (g : ℕ) (o : Offer) (w : World) → is_cloaked w ≡ true →
     (o ≡ Missed → is_missed w ≡ true) → Replied w (offered_by q va kind g o w)
-unfolding offered_by
+unfolding offered_by replies
 replied_offered q va kind g Ready w cloaked marked =
     let steady = Steady-noted _ w in
     replied_after w _ _ steady (replied told.Ok _ (steady.form ∙ cloaked) (λ e. absurd cc))
@@ -308,8 +317,17 @@ replied_offered q va kind g Missed w cloaked marked =
     replied told.Stopped w cloaked (λ e. missed_halted w (marked refl))
 replied_offered q va kind g Mismatch (Flat ram) cloaked marked = absurd (false≢true cloaked)
 replied_offered q va kind g Mismatch (Cloaked c) cloaked marked =
-    replied_after (Cloaked c) (Cloaked _) _ (record { plain = refl; view = refl; form = refl; items = λ d. refl })
-    (replied told.Stopped (Cloaked _) refl (λ e. violation_halted c.memory.ledger.missed))
+    let r = replied told.Stopped
+    (Cloaked (record c { violation = Some (violation.Page q (record { 0 = g })) })) refl
+    (λ e. violation_halted c.memory.ledger.missed) in
+    record {
+      plain = r.plain;
+      view = r.view;
+      form = r.form;
+      items = r.items;
+      stops = r.stops;
+      meets = λ none some. refl;
+    }
   where
     violation_halted : (b : Bool) → (b || true) ≡ true
     violation_halted true = refl
@@ -329,6 +347,7 @@ replied_offer q va kind g (Cloaked c) cloaked =
       form = refl;
       items = λ d.
           ciphers_told d c.items o.ciphers;
+      violation = refl;
     })
     (replied_offered q va kind g o.answer (Cloaked _) refl (offer_marked q g (is_store kind) c.memory))
 replied_offer q va kind g (Alone h) cloaked = absurd (false≢true cloaked)
@@ -402,7 +421,7 @@ either_world : (b : Bool) (w v : World) → Steady w v → Steady w (if b then v
 either_world true w v steady = steady
 either_world false w v steady = Steady-refl w
 
-steady_if_marked : (domain : ℕ) (marked : List Bool) (f : ℕ) (w : World) →
+pub steady_if_marked : (domain : ℕ) (marked : List Bool) (f : ℕ) (w : World) →
     Steady w (settled_if_marked domain marked f w)
 unfolding settled_if_marked
 steady_if_marked domain marked f w = either_world _ w (settled f w) (Steady-settled f w)

@@ -135,5 +135,6 @@ pub fn write_item(i: &Item, into: &mut [u8; LONGEST]) -> usize
             write_front(into, &[0x24, *domain, a, b, c, d, e, f, g, h])
         }
         Item::Stopped { domain } => write_front(into, &[0x25, *domain]),
+        Item::Ended { domain } => write_front(into, &[0x26, *domain]),
     }
 }

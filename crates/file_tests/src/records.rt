@@ -21,7 +21,7 @@ fn read_on(shelf: &mut MemoryShelf, reader: &mut Reader<'_>) -> (usize, Result<(
 }
 
 /// One item of each kind, in the order of a record.
-fn items() -> [Item; 13] {
+fn items() -> [Item; 14] {
     let shown = Shown {
         cause: 8,
         stval: 0,
@@ -56,6 +56,7 @@ fn items() -> [Item; 13] {
             answer: 9,
         },
         Item::Stopped { domain: 3 },
+        Item::Ended { domain: 3 },
         Item::Leave(shown),
         Item::Close { steps: 1 },
         Item::Cipher {

@@ -6,6 +6,7 @@ use Rattle.cloak_model.specs.declared.context.ResumeFault.TheVariants.{Busy}
 use Rattle.cloak_model.specs.Contexts.{Context, Resumed, context_at, with_context, end_at, started_contexts, resume_if, resume_at}
 use Rattle.cloak_model.specs.Resources.{Resources, started_resources}
 use Rattle.cloak_model.specs.DomainState.{Control}
+use Rattle.cloak_model.specs.Ending.{ended_control}
 use Rattle.cloak_model.specs.Hypercalls.{with_slot}
 use Rattle.resource_map.specs.Kept.{IsInUse}
 use Rattle.resource_map.specs.Owning.{SameSpaces}
@@ -87,8 +88,16 @@ unfolding started_contexts
 harts_at_start pc sp zero = no_hart
 harts_at_start pc sp (suc slot) = subst (λ o. IfSome o (λ (c : Context). HasHart c.on)) (sym (get_or-replicate_none 7 slot)) tt
 
-pub fits_started : (number pc sp pages base : ℕ) → number < 4 → IsFitting (record { number = number; contexts = started_contexts pc sp; resources = started_resources pages base })
+pub fits_started : (number pc sp pages base : ℕ) → number < 4 → IsFitting (record { number = number; contexts = started_contexts pc sp; resources = started_resources pages base; ended = false })
 fits_started number pc sp pages base few = record { number = few; spaces = spaces_at_start pc sp pages base; harts = harts_at_start pc sp }
+
+-- a program as it ends
+pub fits_nothing : (d : Control) → IsFitting d → IsFitting (ended_control d)
+fits_nothing d fits = record {
+  number = fits.number;
+  spaces = λ slot. subst (λ o. IfSome o (λ (c : Context). IsInUse (ended_control d).resources c.space)) (sym (get_or-replicate_none 8 slot)) tt;
+  harts = λ slot. subst (λ o. IfSome o (λ (c : Context). HasHart c.on)) (sym (get_or-replicate_none 8 slot)) tt;
+}
 
 -- resources change, and the same spaces are in use
 pub fits_with : (d : Control) (r : Resources) → IsFitting d → SameSpaces d.resources r → IsFitting (record d { resources = r })
@@ -105,7 +114,7 @@ fits_with d r fits same = record {
 pub ruleset changes = (fits_changed, fits_left)
 
 -- a fork or an end leaves contexts and resources
-pub fits_spaces : (d : Control) (contexts : List (Option Context)) (r : Resources) → IsFitting d → AllInUse contexts r → AllOnHarts contexts → IsFitting (record { number = d.number; contexts = contexts; resources = r })
+pub fits_spaces : (d : Control) (contexts : List (Option Context)) (r : Resources) → IsFitting d → AllInUse contexts r → AllOnHarts contexts → IsFitting (record { number = d.number; contexts = contexts; resources = r; ended = d.ended })
 fits_spaces d contexts r fits spaces harts = record { number = fits.number; spaces = spaces; harts = harts }
 
 -- a new context that runs on no hart
@@ -124,20 +133,20 @@ pub harts_without : (contexts : List (Option Context)) (slot : ℕ) → AllOnHar
 harts_without contexts slot each = each_without (λ x. HasHart x.on) contexts slot each
 
 -- a fork put a context into a slot that runs on no hart
-pub fits_forked : (d : Control) (contexts : List (Option Context)) (r : Resources) (c : Context) → IsFitting d → AllInUse contexts r → spaces contexts r ≡ forked_spaces c d.resources d.contexts → IsFitting (record { number = d.number; contexts = contexts; resources = r })
+pub fits_forked : (d : Control) (contexts : List (Option Context)) (r : Resources) (c : Context) → IsFitting d → AllInUse contexts r → spaces contexts r ≡ forked_spaces c d.resources d.contexts → IsFitting (record { number = d.number; contexts = contexts; resources = r; ended = d.ended })
 unfolding forking.forked
 fits_forked d contexts r c fits in_use is =
     fits_spaces d contexts r fits in_use
     (subst AllOnHarts (sym (ap (λ (s : Spaces). s.contexts) is)) (harts_with d.contexts (lowest d.contexts) _ refl fits.harts))
 
 -- an end freed a slot
-pub fits_ended : (d : Control) (contexts : List (Option Context)) (r r' : Resources) (slot : ℕ) → IsFitting d → AllInUse contexts r → spaces contexts r ≡ spaces (end_at slot d.contexts) r' → IsFitting (record { number = d.number; contexts = contexts; resources = r })
+pub fits_ended : (d : Control) (contexts : List (Option Context)) (r r' : Resources) (slot : ℕ) → IsFitting d → AllInUse contexts r → spaces contexts r ≡ spaces (end_at slot d.contexts) r' → IsFitting (record { number = d.number; contexts = contexts; resources = r; ended = d.ended })
 fits_ended d contexts r r' slot fits in_use is =
     fits_spaces d contexts r fits in_use
     (subst AllOnHarts (sym (ap (λ (s : Spaces). s.contexts) is)) (harts_without d.contexts slot fits.harts))
 
 -- all stayed
-pub fits_same : (d : Control) (contexts : List (Option Context)) (r : Resources) → IsFitting d → spaces contexts r ≡ spaces d.contexts d.resources → IsFitting (record { number = d.number; contexts = contexts; resources = r })
-fits_same d contexts r fits is = subst (λ (s : Spaces). IsFitting (record { number = d.number; contexts = s.contexts; resources = s.resources })) (sym is) fits
+pub fits_same : (d : Control) (contexts : List (Option Context)) (r : Resources) → IsFitting d → spaces contexts r ≡ spaces d.contexts d.resources → IsFitting (record { number = d.number; contexts = contexts; resources = r; ended = d.ended })
+fits_same d contexts r fits is = subst (λ (s : Spaces). IsFitting (record { number = d.number; contexts = s.contexts; resources = s.resources; ended = d.ended })) (sym is) fits
 
 pub ruleset spaces_fit = (fits_forked, fits_ended, fits_same)

@@ -9,7 +9,7 @@ use Rattle.guest_kernel.specs.Summary.{summary_line}
 use Rattle.program_parts.specs.Outside.{Output, Raised}
 use Rattle.program_parts.specs.declared.status.Status.{Status}
 use Rattle.program_parts.specs.declared.status.Status.TheVariants as status
-use Rattle.run_command.specs.Running.{NoClash, status_of}
+use Rattle.run_command.specs.Running.{NoClash, run_status}
 use Rattle.image_commands.specs.Showing.{IsShown, IsShownInPart, no_memory_line}
 
 -- the joint run of the image of number n, under the random stream of number n, with at most so many steps
@@ -20,11 +20,11 @@ IsDemoRun n steps r = joint_run (generated n) (numbered n) steps ≡ Ok r
 abbrev pub demo_lines : ℕ → Run → List ℕ
 demo_lines n r = summary_line n ++ short_report r.stop (length r.turns) r.closed.joint
 
--- The run was made. Where no pages clashed in it, its lines were shown, and the answer is the status of its stop.
+-- The run was made. Where no pages clashed in it, its lines were shown, and the answer is its status.
 pub record HasDemonstrated {O : Type 0} (n steps : ℕ) (answer : Status) (before after : Output O) : Type 0 where
   pub made : Run
   pub is_run : IsDemoRun n steps made
-  pub status : NoClash made → answer ≡ status_of made.stop
+  pub status : NoClash made → answer ≡ run_status made
   pub lines : NoClash made → Grows before.taken after.taken (demo_lines n made)
   pub grows : (text : List ℕ) × Grows before.taken after.taken text
   pub faults : after.faults ≡ before.faults

@@ -12,7 +12,7 @@ ghost use Rattle.guest_kernel.specs.Generated.{generated};
 ghost use Rattle.guest_kernel.specs.Summary.{summary_line};
 ghost use Rattle.program_parts.specs.Outside.{output};
 ghost use Rattle.image_commands.specs.Demonstrating.{DemoAnswers};
-ghost use Rattle.run_command.specs.Running.{IsEndOf, MadeAll, NoClash, NoClashYet, status_of};
+ghost use Rattle.run_command.specs.Running.{IsEndOf, MadeAll, NoClash, NoClashYet};
 
 use cloak_base::{Failed, NoMemory, Stop};
 use cloak_machine::{End, Machine, OpenFault};
@@ -20,7 +20,7 @@ use cloak_model::Bundle;
 use guest_kernel::{generate, put_summary};
 use outside_io::{Sink, Stream};
 use program_parts::{Refusal, Status, refuse};
-use run_command::Unheard;
+use run_command::{Unheard, stop_status};
 use std::alloc::Global;
 
 /// The machine of a number's image, under the random stream of the number, which has a key and each draw that is due.
@@ -67,17 +67,6 @@ fn end_of_run(machine: Machine, steps: u32) -> End
     machine.finish(stopped.unwrap_or(Stop::Budget), &mut Unheard {})
 }
 
-/// The status of a run that this stopped.
-fn status(stop: &Stop) -> Status
-    ensures { result ≡ status_of stop.now }
-{
-    match *stop {
-        Stop::Halt(_) | Stop::Budget => Status::Done,
-        Stop::Violation(_) => Status::Violation,
-        Stop::NoRandom => Status::NoRandom,
-    }
-}
-
 /// Shows the line of a number's image, and what its run came to. One that failed has shown a front of it.
 fn show_demo<O: Sink>(out: &mut O, number: u64, end: &End) -> Result<(), Failed>
     ensures { PutsTo O.Sink out.old out.new (summary_line number ++ end_short_report end.now) result }
@@ -97,7 +86,7 @@ pub fn demo_command<O: Sink>(alloc: Global, number: u64, steps: u32, out: &mut O
     };
     let end = end_of_run(machine, steps);
     match show_demo(out, number, &end) {
-        Ok(()) => status(&end.stop),
+        Ok(()) => stop_status(&end.stop, end.is_refused()),
         Err(_) => Status::WriteFault,
     }
 }

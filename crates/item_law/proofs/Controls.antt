@@ -370,7 +370,7 @@ end_stopped_told : (r : Resources) (contexts : List (Option Context)) (w : World
 end_stopped_told r contexts w few slots world =
     record { answer = record { slots = slots; numbers = few }; world = world }
 
-forgets_told : (domain : ℕ) (numbers : List ℕ) (w : World) → WorldFits w →
+pub forgets_told : (domain : ℕ) (numbers : List ℕ) (w : World) → WorldFits w →
     ToldFits Anything (ask_forgets domain numbers w)
 unfolding ask_forgets
 forgets_told domain [] w world = record { answer = tt; world = world }

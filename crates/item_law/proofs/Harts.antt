@@ -1,6 +1,6 @@
 -- The kernel's harts: registers, control and status registers and program counter are words.
 use Rattle.std.proofs.Common.{ℕ, ◌+◌, ◌-◌, ◌^◌, ◌≤◌, Bool, true, false, cond, List, [], ◌∷◌, Option, Some, None, unwrap_or, arith}
-use Rattle.std.specs.Prelude.{◌==◌}
+use Rattle.std.specs.Prelude.{IfSome, ◌==◌}
 use Rattle.std.specs.List.{AllByRecursion}
 use Rattle.std.proofs.lemmas.Nat.{or_of_32, and_le_l}
 use Rattle.cloak_base.specs.Registers.{register, with_register, zero_registers}
@@ -100,6 +100,8 @@ pub record HartFits (h : Hart) : Type 0 where
   pub regs : AreWords h.regs
   pub csrs : CsrsFit h.csrs
   pub pc : IsWord h.pc
+  -- the number of the context that it is inside, which a register had
+  pub inside : IfSome h.inside IsWord
 
 pub started_fits : (entry h : ℕ) → IsWord entry → IsWord h → HartFits (started entry h)
 unfolding started
@@ -107,6 +109,7 @@ started_fits entry h e n = record {
   regs = with_register_fits zero_registers 10 h zero_registers_fit n;
   csrs = (lit, (lit, (lit, (lit, (lit, (lit, (lit, (lit, (lit, tt)))))))));
   pc = e;
+  inside = tt;
 }
   where
     lit : IsWord 0
@@ -117,13 +120,13 @@ register_fits h i fits = word_at h.regs i fits.regs
 
 pub with_word_fits : (h : Hart) (rd value : ℕ) → HartFits h → IsWord value → HartFits (with_word h rd value)
 with_word_fits h rd value fits v =
-    record { regs = with_register_fits h.regs rd value fits.regs v; csrs = fits.csrs; pc = fits.pc }
+    record { regs = with_register_fits h.regs rd value fits.regs v; csrs = fits.csrs; pc = fits.pc; inside = fits.inside }
 
 pub gone_on_fits : (h : Hart) → HartFits h → HartFits (gone_on h)
-gone_on_fits h fits = record { regs = fits.regs; csrs = fits.csrs; pc = rest_below _ }
+gone_on_fits h fits = record { regs = fits.regs; csrs = fits.csrs; pc = rest_below _; inside = fits.inside }
 
 pub with_pc_fits : (h : Hart) (pc : ℕ) → HartFits h → IsWord pc → HartFits (record h { pc = pc })
-with_pc_fits h pc fits here = record { regs = fits.regs; csrs = fits.csrs; pc = here }
+with_pc_fits h pc fits here = record { regs = fits.regs; csrs = fits.csrs; pc = here; inside = fits.inside }
 
 either_hart : (b : Bool) (x y : Hart) → HartFits x → HartFits y → HartFits (cond b x y)
 either_hart true x y here there = here
@@ -137,7 +140,8 @@ ticked_fits h fits =
       regs = fits.regs;
       csrs = with_pending_fits true h.csrs fits.csrs;
       pc = fits.pc;
-    }) (record { regs = fits.regs; csrs = fits.csrs; pc = fits.pc }))
+      inside = fits.inside;
+    }) (record { regs = fits.regs; csrs = fits.csrs; pc = fits.pc; inside = fits.inside }))
 
 -- How a step ended.
 
@@ -162,6 +166,7 @@ raised_fits h cause value fits c v = record {
     regs = fits.regs;
     csrs = trap_entry_fits h.mode cause value h.pc h.csrs fits.csrs c v fits.pc;
     pc = csr_word_fits h.csrs csr.stvec fits.csrs;
+    inside = fits.inside;
   };
   ending = tt;
 }
@@ -192,7 +197,7 @@ unfolding csr_written
 written_fits h rd n was None fits old new = stays_fits _ (gone_on_fits _ (with_word_fits h rd was fits old))
 written_fits h rd n was (Some w) fits old new =
     stays_fits _ (gone_on_fits _ (with_word_fits (record h { csrs = csr_write h.csrs n w }) rd was
-    (record { regs = fits.regs; csrs = csr_write_fits h.csrs n w fits.csrs new; pc = fits.pc }) old))
+    (record { regs = fits.regs; csrs = csr_write_fits h.csrs n w fits.csrs new; pc = fits.pc; inside = fits.inside }) old))
 
 found_fits : (h : Hart) (w rd n : ℕ) (new found : Option ℕ) → HartFits h → IsWord w → MayFit new → MayFit found →
     MadeFits (csr_found h w rd n new found)
@@ -216,6 +221,7 @@ returned_fits S h w fits word = stays_fits _ (record {
   regs = fits.regs;
   csrs = with_csr_fits h.csrs csr.sstatus _ fits.csrs (sstatus_fits (status_after_return (status h.csrs)));
   pc = csr_word_fits h.csrs csr.sepc fits.csrs;
+  inside = fits.inside;
 })
 
 idle_fits : (mode : Mode) (h : Hart) (w : ℕ) → HartFits h → IsWord w → MadeFits (idle mode h w)
@@ -262,4 +268,5 @@ leave_fits h s fits words = record {
       words.1.1.1.0;
   csrs = trap_entry_fits U s.cause s.stval 0x00001000 h.csrs fits.csrs words.0 words.1.0 (omega arith);
   pc = csr_word_fits h.csrs csr.stvec fits.csrs;
+  inside = tt;
 }

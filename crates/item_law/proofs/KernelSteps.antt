@@ -65,7 +65,7 @@ timer_fits : (h : Hart) → HartFits h → MadeFits (timer_call h)
 unfolding timer_call
 timer_fits h fits =
     answers_fit (record h { timer = register h.regs 10; csrs = with_pending false h.csrs }) 0
-    (record { regs = fits.regs; csrs = with_pending_fits false h.csrs fits.csrs; pc = fits.pc }) (omega arith)
+    (record { regs = fits.regs; csrs = with_pending_fits false h.csrs fits.csrs; pc = fits.pc; inside = fits.inside }) (omega arith)
 
 halt_fits : (h : Hart) → HartFits h → MadeFits (halt_call h)
 unfolding halt_call
@@ -123,7 +123,7 @@ host_call_told h disk w fits bytes world =
 resumed_fits : (h : Hart) → HartFits h → MadeFits (resumed h)
 unfolding resumed
 resumed_fits h fits = record {
-  hart = record { regs = zero_registers_fit; csrs = fits.csrs; pc = omega arith };
+  hart = record { regs = zero_registers_fit; csrs = fits.csrs; pc = omega arith; inside = register_fits h 5 fits };
   ending = (register_fits h 5 fits, register_fits h 10 fits);
 }
 

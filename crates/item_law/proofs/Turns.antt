@@ -1,5 +1,10 @@
 -- A step of the joint run: the machine fits as before, and what the step wrote are items of a record.
-use Rattle.std.proofs.Common.{◌≡◌, ◌∙◌, ℕ, zero, suc, ◌<◌, Bool, true, false, List, [], ◌∷◌, ◌++◌, slice_get, Option, Some, None, IfSome, Result, Ok, Err, refl, sym, arith}
+use Rattle.kernel_isolation.proofs.Ends.{end_shows}
+use Rattle.cloak_model.specs.Exchange.{shown_words}
+use Rattle.cloak_model.specs.DomainAlone.{runs_on}
+use Rattle.cloak_model.specs.Opening.{numbers_below}
+use Rattle.cloak_model.specs.Ending.{all_marked, settled_for, ask_end, cloak_for, ended_domain}
+use Rattle.std.proofs.Common.{◌≡◌, ◌∙◌, ℕ, zero, suc, ◌<◌, Bool, true, false, List, [], ◌∷◌, ◌++◌, slice_get, Option, Some, None, IfSome, Result, Ok, Err, refl, sym, arith, ◌+◌, length, ap}
 use Rattle.std.specs.List.{AllByRecursion}
 use Rattle.std.proofs.lemmas.Bool.{false≢true}
 use Rattle.cloak_base.specs.declared.causes.Shown.{Shown}
@@ -21,7 +26,7 @@ use Rattle.cloak_model.specs.DomainState.{Control, Domain}
 use Rattle.cloak_model.specs.DomainStep.{DomainStepped, domain_step}
 use Rattle.cloak_model.specs.Hart.{Hart, started}
 use Rattle.cloak_model.specs.Hypercalls.{Stepped}
-use Rattle.cloak_model.specs.Joint.{Moment, Turn, next_hart, hart_in, with_hart, cloak_of, cloak_outside, memory_of, outside_ended, after_outside, outside_step, without_root, domain_ended, with_domain, after_domain_step, pages_for, interrupt_ended, after_interrupt, by_interrupt, inside_step, turn_of, joint_step}
+use Rattle.cloak_model.specs.Joint.{Moment, Turn, next_hart, hart_in, with_hart, cloak_of, cloak_outside, memory_of, outside_ended, after_outside, outside_step, without_root, domain_ended, with_domain, after_domain_step, pages_for, interrupt_ended, after_interrupt, by_interrupt, inside_step, turn_of, joint_step, left, not_running, by_running, domain_met, end_domain, refuses, ends_once, ends_resumed, ends_asked, answers_violation, step_before_end}
 use Rattle.cloak_model.specs.KernelStep.{kernel_step, ticked}
 use Rattle.cloak_model.specs.Leaving.{leave}
 use Rattle.cloak_model.specs.Parts.{Joint}
@@ -32,12 +37,12 @@ use Rattle.settling_ahead.proofs.Touching.{writes_touched_alone}
 use Rattle.kernel_isolation.proofs.Accounts.{is_joint}
 use Rattle.kernel_isolation.proofs.StepAccounts.{accounts_domain_step}
 use Rattle.item_law.specs.Writing.{AreBytes}
-use Rattle.item_law.proofs.Bounds.{all_append, all_or, all_set}
+use Rattle.item_law.proofs.Bounds.{AreWords, all_append, all_or, all_set}
 use Rattle.item_law.proofs.Harts.{HartFits, EndingFits, started_fits, ticked_fits, leave_fits}
 use Rattle.item_law.proofs.Memories.{MemoryFits, ShowsFit, touched_fits}
-use Rattle.item_law.proofs.Worlds.{CloakFits, WorldFits, ToldFits, frames_of}
+use Rattle.item_law.proofs.Worlds.{CloakFits, WorldFits, ToldFits, frames_of, marked_fits}
 use Rattle.item_law.proofs.KernelSteps.{kernel_step_told}
-use Rattle.item_law.proofs.Controls.{ControlFits, WentFits, SteppedFits, DomainStepFits, domain_step_told, interrupt_fits, resume_slot_fits}
+use Rattle.item_law.proofs.Controls.{ControlFits, WentFits, SteppedFits, DomainStepFits, domain_step_told, interrupt_fits, resume_slot_fits, forgets_told}
 
 abbrev pub ProgramFits : Domain → Type 0
 ProgramFits d = ControlFits d.control
@@ -263,24 +268,122 @@ by_interrupt_fits false j number h d ctx was fits here program =
     told_fits j number h d (domain_step (slot_of ctx) was (Cloaked c)) fits here
     (domain_step_told (slot_of ctx) was (Cloaked c) (low_slot ctx) program world) account.joint.form
 
-inside_fits : (j : Joint) (number : ℕ) (h : Hart) (d ctx : ℕ) (found : Option Domain) → JointFits j → HartFits h →
-    IfSome found ProgramFits → TurnFits (inside_step j number h d (slot_of ctx) found)
-unfolding inside_step
-inside_fits j number h d ctx None fits here program =
-    record { joint = with_hart_fits number h j fits here; items = tt }
-inside_fits j number h d ctx (Some was) fits here program =
-    by_interrupt_fits (interrupt_due h.mode h.csrs) j number h d ctx was fits here program
+-- a hart leaves a context that does not run on it
+gone_fits : (j : Joint) (number : ℕ) (h : Hart) (ctx : ℕ) → JointFits j → HartFits h → IsWord ctx →
+    TurnFits (left j number h [] (not_running ctx))
+gone_fits j number h ctx fits here word =
+    let zero_word : IsWord 0 = omega arith in
+    let cause_word : IsWord 24 = omega arith in
+    let words : AreWords (shown_words (not_running ctx)) =
+    (cause_word, (zero_word, (word, (zero_word, (zero_word, (zero_word, (zero_word, (zero_word, (zero_word, (zero_word, tt)))))))))) in
+    record {
+      joint = with_hart_fits number (leave h (not_running ctx)) j fits (leave_fits h (not_running ctx) here words);
+      items = left_fits j number h [] (not_running ctx) fits here tt (refl, words);
+    }
 
-turn_by : (j : Joint) (number : ℕ) (h : Hart) (inside : Option ℕ) → JointFits j → HartFits h →
+running_fits : (runs : Bool) (j : Joint) (number : ℕ) (h : Hart) (ctx : ℕ) (was : Domain) → JointFits j →
+    HartFits h → IsWord ctx → ProgramFits was → TurnFits (by_running runs j number h ctx was)
+unfolding by_running
+running_fits false j number h ctx was fits here word program = gone_fits j number h ctx fits here word
+running_fits true j number h ctx was fits here word program =
+    by_interrupt_fits (interrupt_due h.mode h.csrs) j number h (domain_of ctx) ctx was fits here program
+
+inside_fits : (j : Joint) (number : ℕ) (h : Hart) (ctx : ℕ) (found : Option Domain) → JointFits j → HartFits h →
+    IsWord ctx → IfSome found ProgramFits → TurnFits (inside_step j number h ctx found)
+unfolding inside_step
+inside_fits j number h ctx None fits here word program = gone_fits j number h ctx fits here word
+inside_fits j number h ctx (Some was) fits here word program =
+    running_fits (runs_on number (context_at was.control.contexts (slot_of ctx))) j number h ctx was fits here word program
+
+turn_by : (j : Joint) (number : ℕ) (h : Hart) (inside : Option ℕ) → JointFits j → HartFits h → IfSome inside IsWord →
     TurnFits (turn_of j number h inside)
 unfolding turn_of
-turn_by j number h None fits here = outside_fits j number h fits here
-turn_by j number h (Some ctx) fits here =
-    inside_fits j number (ticked h) (domain_of ctx) ctx _ fits (ticked_fits h here)
+turn_by j number h None fits here word = outside_fits j number h fits here
+turn_by j number h (Some ctx) fits here word =
+    inside_fits j number (ticked h) ctx _ fits (ticked_fits h here) word
     (found_fits j.domains (domain_of ctx) fits.programs)
+
+-- The end of a domain.
+
+settled_for_fits : (d f n : ℕ) (w : World) → WorldFits w → WorldFits (settled_for d f n w)
+unfolding settled_for
+settled_for_fits d f zero w fits = fits
+settled_for_fits d f (suc n) w fits = settled_for_fits d (f + 1) n _ (marked_fits d all_marked f w fits)
+
+end_fits : (d : ℕ) (m : CloakedMemory) → MemoryFits m → WorldFits (ask_end d (Cloaked (cloak_for m d))).world
+unfolding ask_end
+end_fits d m fits =
+    let w = Cloaked (cloak_for m d) in
+    (forgets_told d (numbers_below 16) _ (settled_for_fits d 0 (length m.ram) w (record { memory = fits; items = tt }))).world
+
+ended_program_fits : (domain : Domain) → ProgramFits domain → ProgramFits (ended_domain domain)
+unfolding ended_domain
+ended_program_fits domain fits = record {
+  number = fits.number;
+  slots = record { few = omega arith; each = (tt, (tt, (tt, (tt, (tt, (tt, (tt, (tt, tt)))))))) };
+  numbers = omega arith;
+}
+
+end_domain_fits : (d : ℕ) (domain : Domain) (v : Violation) (t : Turn) → TurnFits t → ProgramFits domain →
+    TurnFits (end_domain d domain v t)
+unfolding end_domain
+end_domain_fits d domain v t fits program =
+    let w = (ask_end d (Cloaked (cloak_for t.joint.memory d))).world in
+    let e = end_shows d t.joint.memory fits.joint.memory.places in
+    let world = end_fits d t.joint.memory fits.joint.memory in
+    let m = memory_of_fits w t.joint.memory (ap is_joint e.is) world in
+    record {
+      joint = record {
+        harts = fits.joint.harts;
+        disk = fits.joint.disk;
+        memory = record { ram = m.ram; plain = m.plain; key = m.key; stream = m.stream; places = m.places };
+        programs = all_set ProgramFits t.joint.domains d (ended_domain domain) fits.joint.programs
+            (ended_program_fits domain program);
+      };
+      items = all_append IsItem t.items _ fits.items
+          (all_append IsItem (items_of w) (item.Ended d ∷ []) (items_of_fits w world) (tt, tt));
+    }
+
+refuses_fits : (t : Turn) → TurnFits t → TurnFits (refuses t)
+refuses_fits t fits = record {
+  joint = record {
+    harts = fits.joint.harts;
+    disk = fits.joint.disk;
+    memory = fits.joint.memory;
+    programs = fits.joint.programs;
+  };
+  items = fits.items;
+}
+
+ends_once_fits : (over : Bool) (d : ℕ) (domain : Domain) (v : Violation) (t : Turn) → TurnFits t → ProgramFits domain →
+    TurnFits (ends_once over d domain v t)
+unfolding ends_once
+ends_once_fits true d domain v t fits program = refuses_fits t fits
+ends_once_fits false d domain v t fits program = end_domain_fits d domain v t fits program
+
+resumed_end_fits : (found : Option Domain) (d : ℕ) (v : Violation) (t : Turn) → TurnFits t → IfSome found ProgramFits →
+    TurnFits (ends_resumed found d v t)
+unfolding ends_resumed
+resumed_end_fits None d v t fits program = refuses_fits t fits
+resumed_end_fits (Some domain) d v t fits program = ends_once_fits domain.control.ended d domain v t fits program
+
+asked_end_fits : (found : Option Domain) (d : ℕ) (v : Violation) (t : Turn) → TurnFits t → IfSome found ProgramFits →
+    TurnFits (ends_asked found d v t)
+unfolding ends_asked
+asked_end_fits None d v t fits program = fits
+asked_end_fits (Some domain) d v t fits program = end_domain_fits d domain v t fits program
+
+answers_fits : (inside : Option ℕ) (o : Option Violation) (t : Turn) → TurnFits t → TurnFits (answers_violation inside o t)
+unfolding answers_violation
+answers_fits inside None t fits = fits
+answers_fits None (Some v) t fits =
+    resumed_end_fits _ (domain_met v) v t fits (found_fits t.joint.domains (domain_met v) fits.joint.programs)
+answers_fits (Some ctx) (Some v) t fits =
+    asked_end_fits _ (domain_of ctx) v t fits (found_fits t.joint.domains (domain_of ctx) fits.joint.programs)
 
 pub turn_fits : (m : Moment) → JointFits m.joint → TurnFits (joint_step m)
 unfolding joint_step
 turn_fits m fits =
     let h : Hart = hart_in m.joint (next_hart m) in
-    turn_by m.joint (next_hart m) h h.inside fits (hart_fits m.joint (next_hart m) fits)
+    let here = hart_fits m.joint (next_hart m) fits in
+    answers_fits h.inside _ (step_before_end m) (turn_by m.joint (next_hart m) h h.inside fits here here.inside)

@@ -426,7 +426,7 @@ either_world : (b : Bool) (v w : World) → WorldFits v → WorldFits w → Worl
 either_world true v w here there = here
 either_world false v w here there = there
 
-marked_fits : (domain : ℕ) (marked : List Bool) (f : ℕ) (w : World) → WorldFits w →
+pub marked_fits : (domain : ℕ) (marked : List Bool) (f : ℕ) (w : World) → WorldFits w →
     WorldFits (settled_if_marked domain marked f w)
 unfolding settled_if_marked
 marked_fits domain marked f w fits = either_world _ (settled f w) w (settled_fits f w fits) fits

@@ -96,11 +96,11 @@ below_roots (suc n) c s = settle_roots n (settled_below n c).memory s ∙ below_
 -- a machine whose memory alone changed, and in which all frames are settled
 pub closes_as : {E : Type 0} (gave : E → E → List Piece → Type 0) (e e' : E) (old new : Joint) (j : model.Joint) (n : ℕ) →
     StandsForJoint old j → n ≡ length j.memory.ram → new.harts ≡ old.harts → new.disk ≡ old.disk →
-    new.domains ≡ old.domains → new.roots ≡ old.roots →
+    new.domains ≡ old.domains → new.roots ≡ old.roots → new.ended ≡ old.ended → new.refused ≡ old.refused →
     SettlesFrames gave e e' new.memory (settled_below n (cloak_outside j.memory (hart_in j 0))) →
     ShowsAs gave e e' new (closing j)
 unfolding closing
-closes_as gave e e' old new j n stands count harts disk domains roots settles =
+closes_as gave e e' old new j n stands count harts disk domains roots ended refused settles =
     let all = subst (λ k. SettlesFrames gave e e' new.memory (settled_below k (cloak_outside j.memory (hart_in j 0)))) count settles in
     record {
       emits = all.emits;
@@ -112,5 +112,7 @@ closes_as gave e e' old new j n stands count harts disk domains roots settles =
         roots = λ s.
             ap (λ (x : _). root_at x s) roots
             ∙ (stands.roots s ∙ sym (below_roots (length j.memory.ram) (cloak_outside j.memory (hart_in j 0)) s));
+        ended = ended ∙ stands.ended;
+        refused = refused ∙ stands.refused;
       };
     }

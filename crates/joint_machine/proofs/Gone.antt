@@ -73,6 +73,7 @@ module _ {E : Type 0} (gave : E → E → List Piece → Type 0) (e : E) (h : Ha
     harts = refl;
     domains = refl;
     disk = refl;
+    ends = record { ended = refl; refused = refl };
     roots_are = same;
     holds = λ memory holds. holds;
   })
@@ -89,6 +90,7 @@ module _ {E : Type 0} (gave : E → E → List Piece → Type 0) (e : E) (h : Ha
     harts = refl;
     domains = refl;
     disk = refl;
+    ends = record { ended = refl; refused = refl };
     roots_are = same;
     holds = λ memory holds. holds;
   })
@@ -111,6 +113,7 @@ module _ {E : Type 0} (gave : E → E → List Piece → Type 0) (e : E) (h : Ha
     harts = refl;
     domains = refl;
     disk = refl;
+    ends = record { ended = refl; refused = refl };
     roots_are = same;
     holds = λ memory holds. holds;
   })
@@ -128,6 +131,7 @@ module _ {E : Type 0} (gave : E → E → List Piece → Type 0) (e : E) (h : Ha
     harts = refl;
     domains = refl;
     disk = refl;
+    ends = record { ended = refl; refused = refl };
     roots_are = same;
     holds = λ memory holds. holds;
   }))
@@ -145,6 +149,7 @@ module _ {E : Type 0} (gave : E → E → List Piece → Type 0) (e : E) (h : Ha
     harts = refl;
     domains = refl;
     disk = refl;
+    ends = record { ended = refl; refused = refl };
     roots_are = gone;
     holds = λ memory holds. holds_rooted memory j.memory _ holds;
   }))

@@ -1,8 +1,5 @@
 -- The step of a hart inside, by what its parts came to.
-use Rattle.std.proofs.Common.{◌≡◌, ◌∙◌, ℕ, Bool, true, false, List, [], ◌∷◌, Option, Some, None, refl, ap, sym, subst}
-use Rattle.std.specs.Prelude.{is_none, is_some, option_map}
-use Rattle.std.proofs.lemmas.Bool.{false≢true}
-use Rattle.cloak_base.specs.declared.names.HartId.{HartId}
+use Rattle.std.proofs.Common.{◌≡◌, ◌∙◌, ℕ, Bool, true, false, List, [], ◌∷◌, Option, None, refl, sym, subst}
 use Rattle.cloak_base.specs.declared.names.SpaceId.{SpaceId}
 use Rattle.cloak_base.specs.declared.causes.Shown.{Shown}
 use Rattle.cloak_base.specs.declared.causes.Violation.{Violation}
@@ -13,22 +10,22 @@ use Rattle.cloak_model.specs.declared.inside.Went.TheVariants as went
 use Rattle.cloak_model.specs.declared.view.View.{View}
 use Rattle.cloak_model.specs.Asking.{Told}
 use Rattle.cloak_model.specs.Cloaking.{CloakedMemory}
-use Rattle.cloak_model.specs.Contexts.{Context, context_at}
+use Rattle.cloak_model.specs.Contexts.{context_at}
 use Rattle.cloak_model.specs.Csr.{satp_of, sum_of, mxr_of}
 use Rattle.cloak_model.specs.DomainState as program
-use Rattle.cloak_model.specs.DomainStep.{DomainStepped, domain_step, step_if, interrupt, interrupt_if, within}
+use Rattle.cloak_model.specs.DomainStep.{DomainStepped, domain_step, interrupt, within}
 use Rattle.cloak_model.specs.Exchange.{Piece, Emits, item_pieces}
 use Rattle.cloak_model.specs.Hart.{Hart}
-use Rattle.cloak_model.specs.Joint.{Turn, memory_of, with_domain, domain_ended, after_domain_step, by_interrupt, after_interrupt, interrupt_ended, cloak_of, pages_for}
+use Rattle.cloak_model.specs.Joint.{memory_of, with_domain, domain_ended, after_domain_step, by_interrupt, after_interrupt, interrupt_ended, cloak_of, pages_for}
 use Rattle.cloak_model.specs.Leaving.{leave}
 use Rattle.cloak_model.specs.Parts as model
 use Rattle.cloak_model.specs.World.{World, Cloak, Flat, Cloaked, Alone, items_of, violation_of, is_clashed}
 use Rattle.cloaked_side.specs.Holding.{Holds}
 use Rattle.cloaked_side.specs.Telling.{HoldsWorld}
 use Rattle.cloaked_side.specs.declared.memory.Memory.{Memory}
-use Rattle.cloaked_side.proofs.Emitting.{emits_none, emits_items}
+use Rattle.cloaked_side.proofs.Emitting.{emits_items}
 use Rattle.hypercalls.specs.declared.domain.Domain.{Domain}
-use Rattle.hypercalls.specs.Standing.{StandsFor, EndsAs, control_of}
+use Rattle.hypercalls.specs.Standing.{EndsAs}
 use Rattle.joint_machine.specs.declared.stepping.Stepped.{Stepped}
 use Rattle.joint_machine.specs.Turning.{AreRoots, GoesOn, InterruptsIn, StepsDomain, TurnsIn, begun}
 use Rattle.joint_machine.proofs.RootedPages.{root_of}
@@ -118,36 +115,9 @@ turns_stepped gave e e' e'' h h' domain roots' memory stepped given j number d s
       stands = steps.stands;
       domains = goes.domains;
       disk = goes.disk;
+      ends = record { ended = goes.ends.ended; refused = goes.ends.refused };
       roots_are = goes.roots_are;
       holds = goes.holds memory (holds_memory memory told.world j.memory steps.holds);
-    }
-
--- Where there is no such context, nothing happens.
-pub turns_none : {E : Type 0} (gave : E → E → List Piece → Type 0) (e : E) (h : Hart) (domain : Domain) (roots : List (List (Option ℕ))) (memory : Memory) (given : Option Violation) (j : model.Joint) (number d slot : ℕ) (was : program.Domain) →
-    context_at was.control.contexts slot ≡ None → given ≡ None → StandsFor domain was → Holds memory j.memory → AreRoots roots j.memory.ledger.root →
-    TurnsIn gave e e h domain roots memory given j number d (by_interrupt false j number h d slot was)
-unfolding by_interrupt after_domain_step domain_step step_if domain_ended
-turns_none gave e h domain roots memory given j number d slot was free none stands holds are = subst (λ (c : Option Context). TurnsIn gave e e h domain roots memory given j number d (stepped_if c)) (sym free) (at_none)
-  where
-    begins : Option Context → World
-    begins c = Cloaked (cloak_of j.memory h d (pages_for was c))
-
-    stepped_if : Option Context → Turn
-    stepped_if c = let told = step_if c slot was (begins c) in domain_ended (stepped_joint j d told) number h d told.world told.answer.went
-
-    at_none : TurnsIn gave e e h domain roots memory given j number d (stepped_if None)
-    at_none = record {
-      emits = emits_none gave e;
-      violation = none;
-      console = refl;
-      halt = refl;
-      harts = refl;
-      after = was;
-      stands = stands;
-      domains = refl;
-      disk = refl;
-      roots_are = are;
-      holds = holds;
     }
 
 -- An interrupt changes no memory.
@@ -165,24 +135,10 @@ turns_interrupted gave e e' h h' domain roots memory given j number d slot was n
   stands = i.stands;
   domains = i.domains;
   disk = i.disk;
+  ends = i.ends;
   roots_are = subst (λ (m : CloakedMemory). AreRoots roots m.ledger.root) (sym i.memory) are;
   holds = subst (λ (m : CloakedMemory). Holds memory m) (sym i.memory) holds;
 }
-
--- A slot is free.
-free_if : {A B : Type 0} (o : Option A) (f : A → B) (r : Option B) (b : Bool) → r ≡ option_map f o → b ≡ is_some r → b ≡ false → o ≡ None
-free_if None f r b is test off = refl
-free_if (Some a) f r b is test off = absurd (false≢true (sym off ∙ test ∙ ap (λ (x : Option _). is_some x) is))
-
-pub free_slot : (domain : Domain) (was : program.Domain) (slot : ℕ) (r : Option (ℕ × Option HartId)) (b : Bool) → StandsFor domain was → r ≡ option_map (λ (c : Context). (c.space, c.on)) (context_at (control_of domain).contexts slot) → b ≡ is_some r → b ≡ false → context_at was.control.contexts slot ≡ None
-free_slot domain was slot r b stands is test off = ap (λ (k : program.Control). context_at k.contexts slot) stands.control ∙ free_if (context_at (control_of domain).contexts slot) (λ (c : Context). (c.space, c.on)) r b is test off
-
-taken_if : {B : Type 0} (r : Option B) (b : Bool) → b ≡ is_none r → b ≡ true → is_some r ≡ false
-taken_if None b test on = refl
-taken_if (Some x) b test on = absurd (false≢true (sym test ∙ on))
-
-pub free_none : (domain : Domain) (was : program.Domain) (slot : ℕ) (r : Option (ℕ × Option HartId)) (b : Bool) → StandsFor domain was → r ≡ option_map (λ (c : Context). (c.space, c.on)) (context_at (control_of domain).contexts slot) → b ≡ is_none r → b ≡ true → context_at was.control.contexts slot ≡ None
-free_none domain was slot r b stands is test on = free_slot domain was slot r (is_some r) stands is refl (taken_if r b test on)
 
 -- The interrupt by itself: the context leaves.
 pub interrupts_out : {E : Type 0} (gave : E → E → List Piece → Type 0) (e e' e'' : E) (h h' : Hart) (domain : Domain) (s : Shown) (j : model.Joint) (number d slot : ℕ) (was : program.Domain) →
@@ -202,27 +158,7 @@ interrupts_out gave e e' e'' h h' domain s j number d slot was ends left first s
       stands = ends.domain_stands;
       domains = refl;
       disk = refl;
-      memory = refl;
-    }
-
--- The interrupt where there is no such context.
-pub interrupts_none : {E : Type 0} (gave : E → E → List Piece → Type 0) (e e' : E) (h : Hart) (domain : Domain) (j : model.Joint) (number d slot : ℕ) (was : program.Domain) →
-    context_at was.control.contexts slot ≡ None → StandsFor domain was → Emits gave e e' (item_pieces (item.Timer d ∷ [])) →
-    InterruptsIn gave e e' h domain j number d (after_interrupt j number h d was (interrupt slot was.control))
-unfolding interrupt interrupt_if after_interrupt interrupt_ended
-interrupts_none gave e e' h domain j number d slot was free stands emits = subst (λ (c : Option Context). InterruptsIn gave e e' h domain j number d (after_interrupt j number h d was (interrupt_if c slot was.control))) (sym free) here
-  where
-    here : InterruptsIn gave e e' h domain j number d (after_interrupt j number h d was (interrupt_if None slot was.control))
-    here = record {
-      emits = emits;
-      violation = refl;
-      console = refl;
-      halt = refl;
-      harts = refl;
-      after = was;
-      stands = stands;
-      domains = refl;
-      disk = refl;
+      ends = record { ended = refl; refused = refl };
       memory = refl;
     }
 

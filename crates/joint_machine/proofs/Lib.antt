@@ -11,9 +11,12 @@ pub mod Sides
 pub mod Gone
 pub mod Insides
 pub mod Places
+pub mod Running
 pub mod Turns
 pub mod Resumed
 pub mod Clashed
 pub mod Lent
 pub mod Tracked
 pub mod Mapped
+pub mod Ends
+pub mod AfterEnd

@@ -1,5 +1,5 @@
 -- The opening of a joint run, over plain variables.
-use Rattle.std.proofs.Common.{◌≡◌, ℕ, zero, suc, true, false, List, [], ◌∷◌, length, Option, None, Some, Err, refl, ap, sym, ◌∙◌, arith}
+use Rattle.std.proofs.Common.{◌≡◌, ℕ, zero, suc, true, false, List, [], ◌∷◌, length, Option, None, Some, Err, refl, ap, sym, ◌∙◌, arith, replicate}
 use Rattle.std.proofs.lemmas.List.{length-append}
 use Rattle.cloak_base.specs.declared.names.SpaceId.{SpaceId}
 use Rattle.cloak_base.specs.Random.{Random, next_draw}
@@ -60,6 +60,8 @@ pub record HasParts (joint : Joint) (b : Bundle) (key : List ℕ) (rest : Random
   pub disk : joint.disk ≡ b.kernel.disk
   pub domains : AreDomains joint.domains.items (started_domains 0 b.programs)
   pub roots : (s : SpaceId) → root_at joint.roots s ≡ None
+  pub ended : joint.ended ≡ replicate 4 None
+  pub refused : joint.refused ≡ 0
   pub memory : PlacesTo joint.memory true (place_programs 0 b.programs (started_memory b.kernel key rest))
 
 no_roots : (b : Bundle) (key : List ℕ) (rest : Random) (s : SpaceId) →
@@ -78,6 +80,8 @@ stands_with joint b key rest m parts holds roots = record {
   memory = holds;
   domains = parts.domains;
   roots = λ s. parts.roots s ∙ sym (roots s ∙ no_roots b key rest s);
+  ended = parts.ended;
+  refused = parts.refused;
 }
 
 opened_as : (joint : Joint) (b : Bundle) (s rest : Random) (key : List ℕ) (o : Option CloakedMemory) →

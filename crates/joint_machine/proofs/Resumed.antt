@@ -147,6 +147,7 @@ refused_in gave e domain roots given j d was v r is met there stands are = subst
   holds = λ memory holds. holds;
   harts = refl;
   disk = refl;
+  ends = record { ended = refl; refused = refl };
 })
 
 module _ {E : Type 0} (gave : E → E → List Piece → Type 0) (e : E) (domain : Domain) (roots : List (List (Option ℕ))) (hart satp ctx reply : ℕ) (given : Option Violation) (j : model.Joint) (was : program.Domain) (there : slice_get j.domains (domain_of ctx) ≡ Some was) (stands : StandsFor domain was) (are : AreRoots roots j.memory.ledger.root) where
@@ -186,6 +187,7 @@ module _ {E : Type 0} (gave : E → E → List Piece → Type 0) (e : E) (domain
         holds = λ memory holds. holds_rooted memory j.memory _ holds;
         harts = refl;
         disk = refl;
+        ends = record { ended = refl; refused = refl };
       })
 
 -- The machine after a resuming in the program of its place.
@@ -202,10 +204,11 @@ resumes_none gave e joint given j number satp ctx reply s past met = subst (λ (
 pub resumes_there : {E : Type 0} (gave : E → E → List Piece → Type 0) (e e' : E) (old new : Joint) (given : Option Violation) (j : model.Joint) (number satp word ctx reply : ℕ) (x x' : Domain) → satp ≡ word →
     StandsForJoint old j → slice_get old.domains.items (domain_of ctx) ≡ Some x →
     new.harts.items ≡ old.harts.items → new.disk ≡ old.disk → new.memory ≡ old.memory → new.domains.items ≡ slice_set old.domains.items (domain_of ctx) x' →
+    new.ended ≡ old.ended → new.refused ≡ old.refused →
     ((was : program.Domain) → slice_get j.domains (domain_of ctx) ≡ Some was → StandsFor x was → ResumesIn gave e e' x' new.roots given j (domain_of ctx) (by_domain j number satp ctx reply (Some was))) →
     ResumesJoint gave e e' new given (resume j number word ctx reply)
 unfolding resume
-resumes_there gave e e' old new given j number satp word ctx reply x x' same s there harts disk memory domains resumes =
+resumes_there gave e e' old new given j number satp word ctx reply x x' same s there harts disk memory domains ended refused resumes =
     let at = domain_at old.domains.items j.domains (domain_of ctx) x s.domains there in
     let was = at.0 in
     let r = resumes was at.1.0 at.1.1 in
@@ -219,5 +222,7 @@ resumes_there gave e e' old new given j number satp word ctx reply x x' same s t
         domains = subst (λ (xs : List Domain). AreDomains xs (by_domain j number satp ctx reply (Some was)).joint.domains) (sym domains)
             (subst (λ (ds : List program.Domain). AreDomains (slice_set old.domains.items (domain_of ctx) x') ds) (sym r.domains) (domains_set old.domains.items j.domains (domain_of ctx) x' r.after s.domains r.stands));
         roots = r.roots_are;
+        ended = ended ∙ s.ended ∙ sym r.ends.ended;
+        refused = refused ∙ s.refused ∙ sym r.ends.refused;
       };
     }))

@@ -1,10 +1,8 @@
 -- What a step of a hart does to memory, by what its parts do.
-use Rattle.std.proofs.Common.{◌≡◌, ◌∙◌, ◌+◌, arith, map, ℕ, Bool, true, false, [], ◌∷◌, List, Option, Some, None, refl, ap, sym, subst}
+use Rattle.std.proofs.Common.{◌≡◌, ◌∙◌, ◌+◌, add-one, arith, map, ℕ, Bool, true, false, [], ◌∷◌, ◌++◌, List, Option, Some, None, refl, ap, sym, subst}
 use Rattle.std.specs.List.{All}
-use Rattle.std.specs.Prelude.{option_map, slice_get}
-use Rattle.std.proofs.lemmas.List.{append-nil}
-use Rattle.std.proofs.lemmas.Option.{none-some}
-use Rattle.cloak_base.specs.declared.names.HartId.{HartId}
+use Rattle.std.specs.Prelude.{slice_get}
+use Rattle.std.proofs.lemmas.List.{append-nil, map-append}
 use Rattle.cloak_base.specs.declared.names.SpaceId.{SpaceId}
 use Rattle.cloak_model.specs.declared.inside.Went.{Went}
 use Rattle.cloak_model.specs.Asking.{Told}
@@ -13,12 +11,14 @@ use Rattle.cloak_model.specs.Csr.{interrupt_due}
 use Rattle.cloak_model.specs.DomainState as program
 use Rattle.cloak_model.specs.DomainStep.{DomainStepped, domain_step}
 use Rattle.cloak_model.specs.Hart.{Hart}
-use Rattle.cloak_model.specs.Joint.{by_interrupt, cloak_of, cloak_outside, hart_in, inside_step, pages_for}
+use Rattle.cloak_model.specs.DomainAlone.{runs_on}
+use Rattle.cloak_model.specs.Joint.{Turn, by_interrupt, cloak_of, cloak_outside, hart_in, inside_step, pages_for}
 use Rattle.cloak_model.specs.KernelStep.{kernel_step, ticked}
 use Rattle.cloak_model.specs.Parts as model
 use Rattle.cloak_model.specs.World.{Cloak, Cloaked, events_of, items_of, is_clashed}
 use Rattle.cloak_model.specs.declared.view.View.{View}
-use Rattle.cloaked_side.specs.Tracking.{Tracks, TracksBy, GoesBy, IsGone, spent_in}
+use Rattle.cloaked_side.specs.Tracking.{AreAll, Tracks, TracksBy, GoesBy, IsGone, spent_in}
+use Rattle.cloak_model.specs.Opening.{numbers_below}
 use Rattle.cloaked_side.proofs.Spending.{ending_misses, maps_ending, maps_still, spends_more, spends_none, spends_still, spends_then}
 use Rattle.shadow_fold.specs.Reads.{Asked, reads_due}
 use Rattle.shadow_fold.proofs.Agreeing.{keeps_ending}
@@ -29,12 +29,11 @@ use Rattle.cloak_model.specs.Events.{Event, Space}
 use Rattle.cloak_pager.specs.State.{held_in}
 use Rattle.shadow_fold.specs.Entries.{is_of_space}
 use Rattle.shadow_fold.specs.Table.{Table, ending}
-use Rattle.hypercalls.specs.declared.domain.Domain.{Domain}
-use Rattle.hypercalls.specs.Standing.{StandsFor, control_of}
 use Rattle.shadow_fold.specs.Events as events
 use Rattle.shadow_fold.specs.Fold.{Fold, after_event, after_events}
-use Rattle.joint_machine.specs.Turning.{begun}
+use Rattle.joint_machine.specs.Turning.{begun, spaces_below}
 use Rattle.joint_machine.proofs.Insides.{step_unclashed}
+use Rattle.joint_machine.proofs.Running.{run_asks, run_step}
 
 -- A hart outside.
 
@@ -49,23 +48,6 @@ plainly_goes old new j number h disk is at goes =
     GoesBy old new (record { space = None; events = events_of told.world; items = items_of told.world; changed = [] })) at goes)
 
 -- A hart inside.
-
--- a slot has this context
-abbrev space_in : Option (ℕ × Option HartId) → ℕ
-space_in None = 0
-space_in (Some p) = p.0
-
-taken_if : (o : Option Context) (r : Option (ℕ × Option HartId)) (p : ℕ × Option HartId) → r ≡ option_map (λ (c : Context). (c.space, c.on)) o → r ≡ Some p →
-    (c : Context) × ((o ≡ Some c) × (c.space ≡ p.0))
-taken_if None r p is there = (let clash : None ≡ Some p = sym is ∙ there in absurd (none-some p clash))
-taken_if (Some c) r p is there = (c, (refl, ap space_in (sym is ∙ there)))
-
-pub taken_slot : (domain : Domain) (was : program.Domain) (slot : ℕ) (r : Option (ℕ × Option HartId)) (p : ℕ × Option HartId) → StandsFor domain was →
-    r ≡ option_map (λ (c : Context). (c.space, c.on)) (context_at (control_of domain).contexts slot) → r ≡ Some p →
-    (c : Context) × ((context_at was.control.contexts slot ≡ Some c) × (c.space ≡ p.0))
-taken_slot domain was slot r p stands is there =
-    subst (λ (k : program.Control). (c : Context) × ((context_at k.contexts slot ≡ Some c) × (c.space ≡ p.0))) (sym stands.control)
-    (taken_if (context_at (control_of domain).contexts slot) r p is there)
 
 -- Nothing was asked.
 
@@ -95,17 +77,51 @@ goes_ended old new x is space = record {
   gone = (subst (λ (m : Memory). IsGone m x) (sym is) (all_ended x old.shadows), tt);
 }
 
+-- the spaces of a domain, one after another
+pub goes_none : (memory : Memory) (d : ℕ) (space : Option SpaceId) → GoesBy memory memory (record { space = space; events = []; items = []; changed = spaces_below d 0 })
+goes_none memory d space = goes_still memory space
+
+-- what is gone stays gone as another space ends
+stays_gone : (old new : Memory) (x : SpaceId) → new ≡ record old { shadows = ending (is_of_space x) old.shadows } → (gone : List SpaceId) → AreAll (IsGone old) gone → AreAll (IsGone new) gone
+stays_gone old new x is [] are = tt
+stays_gone old new x is (y ∷ gone) are = (
+  subst (λ (m : Memory). IsGone m y) (sym is)
+      (keeps_ending (λ e. is_of_space y e ≡ false) (λ e. is_of_space y e ≡ false) (is_of_space x) old.shadows (λ e stays none. none) are.0),
+  stays_gone old new x is gone are.1,
+)
+
+all_then : (P : SpaceId → Type 0) (xs ys : List SpaceId) → AreAll P xs → AreAll P ys → AreAll P (xs ++ ys)
+all_then P [] ys first second = second
+all_then P (x ∷ xs) ys first second = (first.0, all_then P xs ys first.1 second)
+
+-- one more space
+goes_more : (old mid new : Memory) (x : SpaceId) (changed : List SpaceId) (space : Option SpaceId) → new ≡ record mid { shadows = ending (is_of_space x) mid.shadows } →
+    GoesBy old mid (record { space = space; events = []; items = []; changed = changed }) →
+    GoesBy old new (record { space = space; events = []; items = []; changed = changed ++ x ∷ [] })
+goes_more old mid new x changed space is first =
+    let second = goes_ended mid new x is space in
+    let nothing : Asked = record { space = space; events = []; items = []; changed = changed } in
+    record {
+      tracks = subst (λ (xs : List Event). TracksBy old new (after_events space xs)) (sym (map-append (λ s. Space s) changed (x ∷ [])))
+          (tracks_on old mid new space (map (λ s. Space s) changed) (map (λ s. Space s) (x ∷ [])) first.tracks second.tracks);
+      spends = spends_then 0 0 (reads_due nothing) (reads_due nothing) (spent_in old) (spent_in mid) (spent_in new) first.spends second.spends;
+      maps = λ mapped make are. second.maps mapped tt (first.maps mapped tt are);
+      gone = all_then (IsGone new) changed (x ∷ []) (stays_gone mid new x is changed first.gone) second.gone;
+    }
+
+pub goes_next : (old mid new : Memory) (d n : ℕ) (space : Option SpaceId) → new ≡ record mid { shadows = ending (is_of_space (record { domain = d; number = n })) mid.shadows } →
+    GoesBy old mid (record { space = space; events = []; items = []; changed = spaces_below d n }) →
+    GoesBy old new (record { space = space; events = []; items = []; changed = spaces_below d (n + 1) })
+goes_next old mid new d n space is first =
+    let named : ℕ → SpaceId = λ k. record { domain = d; number = k } in
+    subst (λ (xs : List SpaceId). GoesBy old new (record { space = space; events = []; items = []; changed = xs }))
+    (sym (ap (λ (k : ℕ). spaces_below d k) (add-one n) ∙ map-append named (numbers_below n) (n ∷ [])))
+    (goes_more old mid new (named n) (spaces_below d n) space is first)
+
 -- an interrupt is due
 pub goes_due : (memory : Memory) (due : Bool) (j : model.Joint) (h : Hart) (d slot : ℕ) (was : program.Domain) (c : Option Context) → due ≡ true →
     GoesBy memory memory (events.asked_if due j h d slot was c)
 goes_due memory due j h d slot was c is = subst (λ (b : Bool). GoesBy memory memory (events.asked_if b j h d slot was c)) (sym is) (goes_still memory None)
-
--- the slot is free
-pub goes_free : (memory : Memory) (due : Bool) (j : model.Joint) (h : Hart) (d slot : ℕ) (was : program.Domain) (c : Option Context) → due ≡ false → c ≡ None →
-    GoesBy memory memory (events.asked_if due j h d slot was c)
-goes_free memory due j h d slot was c is none =
-    subst (λ (b : Bool). GoesBy memory memory (events.asked_if b j h d slot was c)) (sym is)
-    (subst (λ (o : Option Context). GoesBy memory memory (events.asked_if false j h d slot was o)) (sym none) (goes_still memory None))
 
 -- questions, and then the end of spaces
 pub goes_then : (old mid new : Memory) (space : Option SpaceId) (es : List Event) (is : List Item) (changed : List SpaceId) →
@@ -126,7 +142,7 @@ goes_then old mid new space es is changed first second =
     }
 
 -- what is told of a program's step, where the slot has this context
-abbrev told_in : model.Joint → Hart → ℕ → ℕ → program.Domain → Option Context → Told DomainStepped
+abbrev pub told_in : model.Joint → Hart → ℕ → ℕ → program.Domain → Option Context → Told DomainStepped
 told_in j h d slot was c = domain_step slot was (Cloaked (cloak_of j.memory h d (pages_for was c)))
 
 -- a context made its step, and then a space of its domain changed or ended, or none
@@ -162,31 +178,34 @@ goes_stepped old mid new due j number h d slot was c space view ended is there h
         (goes_then old mid new (Some space) (events_of told.world) (items_of told.world) (events.changed_by d told.answer.went) made.1
         (subst (λ (x : Went). GoesBy mid new (record { space = Some space; events = []; items = []; changed = events.changed_by d x })) made.0 (ends (Some space))))
 
--- there is no such program
-pub goes_absent : (memory : Memory) (j : model.Joint) (h : Hart) (d slot : ℕ) (o : Option program.Domain) → o ≡ None →
-    GoesBy memory memory (events.asked_inside j h d slot o)
-goes_absent memory j h d slot o none = subst (λ (x : Option program.Domain). GoesBy memory memory (events.asked_inside j h d slot x)) (sym none) (goes_still memory None)
+-- the context does not run on the hart
+pub goes_stopped : (memory : Memory) (a : Asked) → a ≡ events.nothing_asked → GoesBy memory memory a
+goes_stopped memory a nothing = subst (λ (x : Asked). GoesBy memory memory x) (sym nothing) (goes_still memory None)
 
 -- the step of a program in its place
-pub goes_turned : (old new : Memory) (j : model.Joint) (number : ℕ) (h at_start : Hart) (d slot : ℕ) (was : program.Domain) → h ≡ at_start → slice_get j.domains d ≡ Some was →
-    ((by_interrupt (interrupt_due h.mode h.csrs) j number h d slot was).joint.memory.ledger.clashed ≡ false →
-    GoesBy old new (events.asked_if (interrupt_due h.mode h.csrs) j h d slot was (context_at was.control.contexts slot))) →
-    (inside_step j number at_start d slot (slice_get j.domains d)).joint.memory.ledger.clashed ≡ false →
-    GoesBy old new (events.asked_inside j at_start d slot (slice_get j.domains d))
-unfolding inside_step
-goes_turned old new j number h at_start d slot was same at goes unclashed =
-    subst (λ (y : Hart). (inside_step j number y d slot (slice_get j.domains d)).joint.memory.ledger.clashed ≡ false → GoesBy old new (events.asked_inside j y d slot (slice_get j.domains d))) same
-    (subst (λ (o : Option program.Domain). (inside_step j number h d slot o).joint.memory.ledger.clashed ≡ false → GoesBy old new (events.asked_inside j h d slot o)) (sym at) goes) unclashed
+pub goes_turned : (old new : Memory) (j : model.Joint) (number : ℕ) (h at_start : Hart) (ctx : ℕ) (was : program.Domain) → h ≡ at_start → slice_get j.domains (domain_of ctx) ≡ Some was →
+    runs_on number (context_at was.control.contexts (slot_of ctx)) ≡ true →
+    ((by_interrupt (interrupt_due h.mode h.csrs) j number h (domain_of ctx) (slot_of ctx) was).joint.memory.ledger.clashed ≡ false →
+    GoesBy old new (events.asked_if (interrupt_due h.mode h.csrs) j h (domain_of ctx) (slot_of ctx) was (context_at was.control.contexts (slot_of ctx)))) →
+    (inside_step j number at_start ctx (slice_get j.domains (domain_of ctx))).joint.memory.ledger.clashed ≡ false →
+    GoesBy old new (events.asked_inside j number at_start (domain_of ctx) (slot_of ctx) (slice_get j.domains (domain_of ctx)))
+goes_turned old new j number h at_start ctx was same at runs goes unclashed =
+    let d = domain_of ctx in
+    let o = slice_get j.domains d in
+    let unclashed_h = subst (λ (y : Hart). (inside_step j number y ctx o).joint.memory.ledger.clashed ≡ false) (sym same) unclashed in
+    subst (λ (y : Hart). GoesBy old new (events.asked_inside j number y d (slot_of ctx) o)) same
+    (subst (λ (a : Asked). GoesBy old new a) (sym (run_asks j number h d ctx o was at runs))
+    (goes (subst (λ (t : Turn). t.joint.memory.ledger.clashed ≡ false) (run_step j number h ctx o was at runs) unclashed_h)))
 
 -- A hart, by the context that it runs.
 
-pub goes_outside : (old new : Memory) (j : model.Joint) (h at : Hart) → h ≡ at → h.inside ≡ None → GoesBy old new (events.asked_outside j at) →
-    GoesBy old new (events.asked_of j at at.inside)
-goes_outside old new j h at is none goes =
-    subst (λ (o : Option ℕ). GoesBy old new (events.asked_of j at o)) (sym (sym (ap (λ (x : Hart). x.inside) is) ∙ none)) goes
+pub goes_outside : (old new : Memory) (j : model.Joint) (number : ℕ) (h at : Hart) → h ≡ at → h.inside ≡ None → GoesBy old new (events.asked_outside j at) →
+    GoesBy old new (events.asked_of j number at at.inside)
+goes_outside old new j number h at is none goes =
+    subst (λ (o : Option ℕ). GoesBy old new (events.asked_of j number at o)) (sym (sym (ap (λ (x : Hart). x.inside) is) ∙ none)) goes
 
-pub goes_inside : (old new : Memory) (j : model.Joint) (ctx : ℕ) (h at : Hart) → h ≡ at → h.inside ≡ Some ctx →
-    GoesBy old new (events.asked_inside j (ticked at) (domain_of ctx) (slot_of ctx) (slice_get j.domains (domain_of ctx))) →
-    GoesBy old new (events.asked_of j at at.inside)
-goes_inside old new j ctx h at is some goes =
-    subst (λ (o : Option ℕ). GoesBy old new (events.asked_of j at o)) (sym (sym (ap (λ (x : Hart). x.inside) is) ∙ some)) goes
+pub goes_inside : (old new : Memory) (j : model.Joint) (number ctx : ℕ) (h at : Hart) → h ≡ at → h.inside ≡ Some ctx →
+    GoesBy old new (events.asked_inside j number (ticked at) (domain_of ctx) (slot_of ctx) (slice_get j.domains (domain_of ctx))) →
+    GoesBy old new (events.asked_of j number at at.inside)
+goes_inside old new j number ctx h at is some goes =
+    subst (λ (o : Option ℕ). GoesBy old new (events.asked_of j number at o)) (sym (sym (ap (λ (x : Hart). x.inside) is) ∙ some)) goes

@@ -1,5 +1,5 @@
 -- The step of a hart, by what its parts came to.
-use Rattle.std.proofs.Common.{◌≡◌, ◌<◌, ◌≤◌, ◌∙◌, ℕ, false, List, [], ◌∷◌, ◌++◌, Option, Some, None, length, slice_get, slice_set, slice_index_or, ap, sym, subst}
+use Rattle.std.proofs.Common.{◌≡◌, ◌<◌, ◌∙◌, ℕ, false, List, [], ◌∷◌, ◌++◌, Option, Some, None, length, slice_get, slice_set, slice_index_or, ap, sym, subst}
 use Rattle.std.proofs.lemmas.Option.{get_or_from_slice_get, slice_get-get_or}
 use Rattle.cloak_base.specs.declared.causes.Violation.{Violation}
 use Rattle.cloak_base.specs.declared.names.SpaceId.{SpaceId}
@@ -10,28 +10,31 @@ use Rattle.cloak_model.specs.Asking.{Told}
 use Rattle.cloak_model.specs.Cloaking.{CloakedMemory}
 use Rattle.cloak_model.specs.Csr.{interrupt_due, satp_of}
 use Rattle.cloak_model.specs.DomainState as program
-use Rattle.cloak_model.specs.Exchange.{Piece}
+use Rattle.cloak_model.specs.Exchange.{Piece, Emits, item_pieces}
+use Rattle.cloak_model.specs.Leaving.{leave}
+use Rattle.cloak_model.specs.declared.item.Item.TheVariants as item
 use Rattle.cloak_model.specs.Hart.{Hart, started}
 use Rattle.cloak_model.specs.Contexts.{domain_of, slot_of}
 use Rattle.cloak_model.specs.HostCalls.{SteppedKernel}
 use Rattle.cloak_model.specs.KernelStep.{ticked}
-use Rattle.cloak_model.specs.Joint.{Turn, by_interrupt, inside_step, hart_in, memory_of, after_kernel_step, after_outside, outside_ended, outside_step, cloak_outside, turn_of}
+use Rattle.cloak_model.specs.Joint.{Turn, by_interrupt, inside_step, hart_in, not_running, memory_of, after_kernel_step, after_outside, outside_ended, outside_step, cloak_outside, turn_of}
 use Rattle.cloak_model.specs.Parts as model
 use Rattle.cloak_model.specs.Resuming.{resume}
 use Rattle.cloak_model.specs.World.{items_of}
 use Rattle.cloaked_side.specs.Holding.{Holds}
 use Rattle.cloaked_side.specs.Telling.{TellsSide}
 use Rattle.cloaked_side.specs.declared.memory.Memory.{Memory}
-use Rattle.cloaked_side.proofs.Emitting.{emits_none, emits_items}
+use Rattle.cloaked_side.proofs.Emitting.{emits_items}
 use Rattle.hypercalls.specs.declared.domain.Domain.{Domain}
 use Rattle.hypercalls.specs.Standing.{StandsFor}
 use Rattle.settling_ahead.proofs.Laws.{keeps_rest}
 use Rattle.joint_machine.specs.declared.ended.Ended.{Ended}
 use Rattle.joint_machine.specs.declared.joint.Joint.{Joint}
 use Rattle.joint_machine.specs.Standing.{AreDomains, StandsForJoint, shown_byte, turn_in}
-use Rattle.joint_machine.specs.Turning.{AreRoots, EndsTurn, ResumesJoint, StepsPlainly, TurnsIn}
+use Rattle.joint_machine.specs.Turning.{AreRoots, EndsTurn, ResumesJoint, StepsPlainly, TurnsIn, running_in}
 use Rattle.joint_machine.proofs.Insides.{holds_memory}
-use Rattle.joint_machine.proofs.Places.{domain_at, domains_set, none_past}
+use Rattle.joint_machine.proofs.Places.{domains_set}
+use Rattle.joint_machine.proofs.Running.{not_run, run_step, run_there, unrun_step}
 
 -- the hart of a number
 pub hart_is : (hs js : List Hart) (n : ℕ) (h : Hart) → hs ≡ js → n < length hs → h ≡ slice_index_or hs n h → h ≡ slice_index_or js n (started 0 0)
@@ -40,43 +43,51 @@ hart_is hs js n h same inside is =
 
 -- A hart inside.
 
--- nothing but the timer: there is no such program
-pub ends_none : {E : Type 0} (gave : E → E → List Piece → Type 0) (e : E) (old new : Joint) (given : Ended) (j : model.Joint) (number : ℕ) (h : Hart) (d slot : ℕ) →
-    StandsForJoint old j → length old.domains.items ≤ d → new.harts.items ≡ slice_set old.harts.items number h → new.disk ≡ old.disk → new.memory ≡ old.memory → new.domains.items ≡ old.domains.items → new.roots ≡ old.roots →
+-- the context does not run on the hart, which leaves it
+pub ends_stopped : {E : Type 0} (gave : E → E → List Piece → Type 0) (e e' : E) (old new : Joint) (given : Ended) (j : model.Joint) (number : ℕ) (h at_start : Hart) (ctx : ℕ) → h ≡ at_start →
+    StandsForJoint old j → running_in number ctx (slice_get old.domains.items (domain_of ctx)) ≡ None →
+    new.harts.items ≡ slice_set old.harts.items number (leave h (not_running ctx)) → new.disk ≡ old.disk → new.memory ≡ old.memory → new.domains.items ≡ old.domains.items → new.roots ≡ old.roots →
+    new.ended ≡ old.ended → new.refused ≡ old.refused →
     given ≡ record { console = None; violation = None; halt = None } →
-    EndsTurn gave e e new given (inside_step j number h d slot (slice_get j.domains d))
-unfolding inside_step
-ends_none gave e old new given j number h d slot s past harts disk memory domains roots none = subst (λ (o : Option program.Domain). EndsTurn gave e e new given (inside_step j number h d slot o)) (sym (none_past old.domains.items j.domains d s.domains past)) (record {
-  emits = emits_none gave e;
-  console = ap (λ (x : Ended). shown_byte x.console) none;
-  violation = ap (λ (x : Ended). x.violation) none;
-  halt = ap (λ (x : Ended). x.halt) none;
-  stands = record {
-    harts = harts ∙ ap (λ (hs : List Hart). slice_set hs number h) s.harts;
-    disk = disk ∙ s.disk;
-    memory = subst (λ (m : Memory). Holds m j.memory) (sym memory) s.memory;
-    domains = subst (λ (xs : List Domain). AreDomains xs j.domains) (sym domains) s.domains;
-    roots = subst (λ (r : List (List (Option ℕ))). AreRoots r j.memory.ledger.root) (sym roots) s.roots;
-  };
-})
+    Emits gave e e' (item_pieces (item.Leave (not_running ctx) ∷ [])) →
+    EndsTurn gave e e' new given (inside_step j number at_start ctx (slice_get j.domains (domain_of ctx)))
+ends_stopped gave e e' old new given j number h at_start ctx same s unrun harts disk memory domains roots ended refused none emits =
+    subst (λ (y : Hart). EndsTurn gave e e' new given (inside_step j number y ctx (slice_get j.domains (domain_of ctx)))) same
+    (subst (λ (t : Turn). EndsTurn gave e e' new given t)
+    (sym (unrun_step j number h ctx (slice_get j.domains (domain_of ctx)) (not_run old.domains.items j.domains number ctx s.domains unrun))) (record {
+      emits = emits;
+      console = ap (λ (x : Ended). shown_byte x.console) none;
+      violation = ap (λ (x : Ended). x.violation) none;
+      halt = ap (λ (x : Ended). x.halt) none;
+      stands = record {
+        harts = harts ∙ ap (λ (hs : List Hart). slice_set hs number (leave h (not_running ctx))) s.harts;
+        disk = disk ∙ s.disk;
+        memory = subst (λ (m : Memory). Holds m j.memory) (sym memory) s.memory;
+        domains = subst (λ (xs : List Domain). AreDomains xs j.domains) (sym domains) s.domains;
+        roots = subst (λ (r : List (List (Option ℕ))). AreRoots r j.memory.ledger.root) (sym roots) s.roots;
+        ended = ended ∙ s.ended;
+        refused = refused ∙ s.refused;
+      };
+    }))
 
 -- the step of a program in its place
-pub ends_turned : {E : Type 0} (gave : E → E → List Piece → Type 0) (e e' : E) (old new : Joint) (met : Option Violation) (given : Ended) (j : model.Joint) (number : ℕ) (h h' at_start : Hart) (d slot : ℕ) (x x' : Domain) → h ≡ at_start →
-    StandsForJoint old j → slice_get old.domains.items d ≡ Some x →
-    new.harts.items ≡ slice_set old.harts.items number h' → new.disk ≡ old.disk → new.domains.items ≡ slice_set old.domains.items d x' →
+pub ends_turned : {E : Type 0} (gave : E → E → List Piece → Type 0) (e e' : E) (old new : Joint) (met : Option Violation) (given : Ended) (j : model.Joint) (number : ℕ) (h h' at_start : Hart) (ctx space : ℕ) (x x' : Domain) → h ≡ at_start →
+    StandsForJoint old j → slice_get old.domains.items (domain_of ctx) ≡ Some x → running_in number ctx (slice_get old.domains.items (domain_of ctx)) ≡ Some space →
+    new.harts.items ≡ slice_set old.harts.items number h' → new.disk ≡ old.disk → new.domains.items ≡ slice_set old.domains.items (domain_of ctx) x' →
+    new.ended ≡ old.ended → new.refused ≡ old.refused →
     given ≡ record { console = None; violation = met; halt = None } →
-    ((was : program.Domain) → StandsFor x was → (by_interrupt (interrupt_due h.mode h.csrs) j number h d slot was).joint.memory.ledger.clashed ≡ false →
-    TurnsIn gave e e' h' x' new.roots new.memory met j number d (by_interrupt (interrupt_due h.mode h.csrs) j number h d slot was)) →
-    (inside_step j number at_start d slot (slice_get j.domains d)).joint.memory.ledger.clashed ≡ false →
-    EndsTurn gave e e' new given (inside_step j number at_start d slot (slice_get j.domains d))
-unfolding inside_step
-ends_turned gave e e' old new met given j number h h' at_start d slot x x' same s there harts disk domains is turns unclashed =
-    let at = domain_at old.domains.items j.domains d x s.domains there in
-    let was = at.0 in
-    let step : Option program.Domain → Turn = λ o. inside_step j number h d slot o in
-    let unclashed_h = subst (λ (y : Hart). (inside_step j number y d slot (slice_get j.domains d)).joint.memory.ledger.clashed ≡ false) (sym same) unclashed in
-    let t = turns was at.1.1 (subst (λ (o : Option program.Domain). (step o).joint.memory.ledger.clashed ≡ false) at.1.0 unclashed_h) in
-    subst (λ (y : Hart). EndsTurn gave e e' new given (inside_step j number y d slot (slice_get j.domains d))) same (subst (λ (o : Option program.Domain). EndsTurn gave e e' new given (step o)) (sym at.1.0) (record {
+    ((was : program.Domain) → StandsFor x was → (by_interrupt (interrupt_due h.mode h.csrs) j number h (domain_of ctx) (slot_of ctx) was).joint.memory.ledger.clashed ≡ false →
+    TurnsIn gave e e' h' x' new.roots new.memory met j number (domain_of ctx) (by_interrupt (interrupt_due h.mode h.csrs) j number h (domain_of ctx) (slot_of ctx) was)) →
+    (inside_step j number at_start ctx (slice_get j.domains (domain_of ctx))).joint.memory.ledger.clashed ≡ false →
+    EndsTurn gave e e' new given (inside_step j number at_start ctx (slice_get j.domains (domain_of ctx)))
+ends_turned gave e e' old new met given j number h h' at_start ctx space x x' same s here runs harts disk domains ended refused is turns unclashed =
+    let there = run_there old.domains.items j.domains number ctx space x s.domains here runs in
+    let was = there.was in
+    let d = domain_of ctx in
+    let stepped = run_step j number h ctx (slice_get j.domains d) was there.there there.runs in
+    let unclashed_h = subst (λ (y : Hart). (inside_step j number y ctx (slice_get j.domains d)).joint.memory.ledger.clashed ≡ false) (sym same) unclashed in
+    let t = turns was there.stands (subst (λ (u : Turn). u.joint.memory.ledger.clashed ≡ false) stepped unclashed_h) in
+    subst (λ (y : Hart). EndsTurn gave e e' new given (inside_step j number y ctx (slice_get j.domains d))) same (subst (λ (u : Turn). EndsTurn gave e e' new given u) (sym stepped) (record {
       emits = t.emits;
       console = ap (λ (y : Ended). shown_byte y.console) is ∙ sym t.console;
       violation = ap (λ (y : Ended). y.violation) is ∙ t.violation;
@@ -85,9 +96,11 @@ ends_turned gave e e' old new met given j number h h' at_start d slot x x' same 
         harts = harts ∙ ap (λ (hs : List Hart). slice_set hs number h') s.harts ∙ sym t.harts;
         disk = disk ∙ s.disk ∙ sym t.disk;
         memory = t.holds;
-        domains = subst (λ (xs : List Domain). AreDomains xs (by_interrupt (interrupt_due h.mode h.csrs) j number h d slot was).joint.domains) (sym domains)
+        domains = subst (λ (xs : List Domain). AreDomains xs (by_interrupt (interrupt_due h.mode h.csrs) j number h d (slot_of ctx) was).joint.domains) (sym domains)
             (subst (λ (ds : List program.Domain). AreDomains (slice_set old.domains.items d x') ds) (sym t.domains) (domains_set old.domains.items j.domains d x' t.after s.domains t.stands));
         roots = t.roots_are;
+        ended = ended ∙ s.ended ∙ sym t.ends.ended;
+        refused = refused ∙ s.refused ∙ sym t.ends.refused;
       };
     }))
 
@@ -102,9 +115,10 @@ plain_roots h disk m = (keeps_rest h disk m).root
 pub steps_plainly : {E : Type 0} (gave : E → E → List Piece → Type 0) (e e' : E) (old new : Joint) (given : Kernel) (j : model.Joint) (number : ℕ) (h h' : Hart) →
     StandsForJoint old j → h ≡ hart_in j number →
     new.harts.items ≡ slice_set old.harts.items number h' → new.domains.items ≡ old.domains.items → new.roots ≡ old.roots →
+    new.ended ≡ old.ended → new.refused ≡ old.refused →
     TellsSide gave e e' new.memory (record { hart = h'; disk = new.disk; ending = given }) (settled_step h old.disk (cloak_outside j.memory h)) →
     StepsPlainly gave e e' new given j number (settled_step (hart_in j number) j.disk (cloak_outside j.memory (hart_in j number)))
-steps_plainly gave e e' old new given j number h h' s is harts domains roots tells =
+steps_plainly gave e e' old new given j number h h' s is harts domains roots ended refused tells =
     let told : Hart → List ℕ → Told SteppedKernel = λ x disk. settled_step x disk (cloak_outside j.memory x) in
     let told_here : TellsSide gave e e' new.memory (record { hart = h'; disk = new.disk; ending = given }) (told (hart_in j number) j.disk) =
     subst (λ (x : Hart). TellsSide gave e e' new.memory (record { hart = h'; disk = new.disk; ending = given }) (told x j.disk)) is
@@ -119,12 +133,14 @@ steps_plainly gave e e' old new given j number h h' s is harts domains roots tel
         domains = subst (λ (xs : List Domain). AreDomains xs j.domains) (sym domains) s.domains;
         roots = subst (λ (root : SpaceId → Option ℕ). AreRoots new.roots root) (sym (plain_roots (hart_in j number) j.disk j.memory))
             (subst (λ (r : List (List (Option ℕ))). AreRoots r j.memory.ledger.root) (sym roots) s.roots);
+        ended = ended ∙ s.ended;
+        refused = refused ∙ s.refused;
       };
     }
 
 -- the machine is that of a state whatever the console was shown
 pub stands_shown : (joint : Joint) (j : model.Joint) (console : List ℕ) → StandsForJoint joint j → StandsForJoint joint (record j { console = console })
-stands_shown joint j console s = record { harts = s.harts; disk = s.disk; memory = s.memory; domains = s.domains; roots = s.roots }
+stands_shown joint j console s = record { harts = s.harts; disk = s.disk; memory = s.memory; domains = s.domains; roots = s.roots; ended = s.ended; refused = s.refused }
 
 module _ {E : Type 0} (gave : E → E → List Piece → Type 0) (e e' : E) (joint : Joint) (given : Kernel) (ended : Ended) (j : model.Joint) (number : ℕ) (told : Told SteppedKernel) (s : StepsPlainly gave e e' joint given j number told) where
   pub ends_stay : given ≡ kernel.Stay → ended ≡ record { console = None; violation = None; halt = None } → EndsTurn gave e e' joint ended (after_outside j number told)
@@ -175,6 +191,6 @@ unfolding turn_of
 turn_outside j number h is none = ap (λ (o : Option ℕ). turn_of j number (hart_in j number) o) (sym (ap (λ (x : Hart). x.inside) is) ∙ none)
 
 pub turn_inside : (j : model.Joint) (number ctx : ℕ) (h : Hart) → h ≡ hart_in j number → h.inside ≡ Some ctx →
-    turn_in j number ≡ inside_step j number (ticked (hart_in j number)) (domain_of ctx) (slot_of ctx) (slice_get j.domains (domain_of ctx))
+    turn_in j number ≡ inside_step j number (ticked (hart_in j number)) ctx (slice_get j.domains (domain_of ctx))
 unfolding turn_of
 turn_inside j number ctx h is some = ap (λ (o : Option ℕ). turn_of j number (hart_in j number) o) (sym (ap (λ (x : Hart). x.inside) is) ∙ some)

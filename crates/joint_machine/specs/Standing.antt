@@ -6,7 +6,7 @@ use Rattle.cloak_model.specs.declared.image.Bundle.{Bundle}
 use Rattle.cloak_model.specs.Exchange.{Piece, Emits, item_pieces}
 use Rattle.cloak_model.specs.DomainState as program
 use Rattle.cloak_model.specs.Parts as model
-use Rattle.cloak_model.specs.Joint.{Turn, hart_in, turn_of, stop_of}
+use Rattle.cloak_model.specs.Joint.{Turn, hart_in, turn_of, answers_violation, stop_of}
 use Rattle.cloak_model.specs.Opening.{Opened, NoKey, NoPageDraw, opening}
 use Rattle.thread_context.specs.Recorded.{root_at}
 use Rattle.cloak_base.specs.declared.names.PageId.{PageId}
@@ -39,12 +39,19 @@ pub record StandsForJoint (joint : Joint) (j : model.Joint) : Type 0 where
   pub memory : Holds joint.memory j.memory
   pub domains : AreDomains joint.domains.items j.domains
   pub roots : (s : SpaceId) → root_at joint.roots s ≡ j.memory.ledger.root s
+  pub ended : joint.ended ≡ j.ended
+  pub refused : joint.refused ≡ j.refused
 
 -- A step.
 
--- the next step of a hart
+-- the next step of a hart, but for the end of a domain
 abbrev pub turn_in : model.Joint → ℕ → Turn
 turn_in j number = let h = hart_in j number in turn_of j number h h.inside
+
+-- the next step of a hart, with the end of a domain after it
+abbrev pub step_in : model.Joint → ℕ → Turn
+step_in j number =
+    let h = hart_in j number in let t = turn_of j number h h.inside in answers_violation h.inside t.violation t
 
 -- the bytes of the console that were shown
 abbrev pub shown_byte : Option ℕ → List ℕ

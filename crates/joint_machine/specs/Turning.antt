@@ -1,5 +1,5 @@
 -- What the parts of a hart's step come to.
-use Rattle.std.specs.Prelude.{ℕ, ◌≡◌, ◌≢◌, List, [], ◌++◌, Option, Some, None, slice_set, is_some, if◌then◌else◌}
+use Rattle.std.specs.Prelude.{ℕ, ◌≡◌, ◌≢◌, Bool, false, not, List, [], ◌++◌, map, Option, Some, None, slice_set, is_some, if◌then◌else◌}
 use Rattle.cloak_base.specs.declared.names.PageId.{PageId}
 use Rattle.cloak_base.specs.declared.names.SpaceId.{SpaceId}
 use Rattle.cloak_base.specs.declared.causes.Violation.{Violation}
@@ -11,11 +11,13 @@ use Rattle.cloak_model.specs.Cloaking.{CloakedMemory}
 use Rattle.cloak_model.specs.World.{Cloak, items_of, violation_of}
 use Rattle.cloak_model.specs.Asking.{Told}
 use Rattle.cloak_model.specs.HostCalls.{SteppedKernel}
-use Rattle.cloak_model.specs.Contexts.{Context, context_at}
+use Rattle.cloak_model.specs.Contexts.{Context, context_at, slot_of}
+use Rattle.cloak_model.specs.DomainAlone.{is_hart}
 use Rattle.cloak_model.specs.DomainState as program
 use Rattle.cloak_model.specs.DomainStep.{DomainStepped}
 use Rattle.cloak_model.specs.Exchange.{Piece, Emits, item_pieces}
 use Rattle.cloak_model.specs.Resuming.{AfterResume}
+use Rattle.cloak_model.specs.Opening.{numbers_below}
 use Rattle.cloak_model.specs.Parts as model
 use Rattle.cloak_model.specs.Joint.{Turn, pages_for, after_kernel_step}
 use Rattle.thread_context.specs.Recorded.{root_at}
@@ -25,8 +27,9 @@ use Rattle.cloaked_fork.specs.Marks.{AreUnused}
 use Rattle.cloaked_side.specs.Holding.{Holds}
 use Rattle.cloaked_side.specs.Telling.{HoldsWorld}
 use Rattle.cloaked_side.specs.declared.memory.Memory.{Memory}
+use Rattle.shadow_fold.specs.Reads.{Asked}
 use Rattle.hypercalls.specs.declared.domain.Domain.{Domain}
-use Rattle.hypercalls.specs.Standing.{StandsFor}
+use Rattle.hypercalls.specs.Standing.{StandsFor, control_of}
 use Rattle.joint_machine.specs.declared.joint.Joint.{Joint}
 use Rattle.joint_machine.specs.declared.ended.Ended.{Ended}
 use Rattle.joint_machine.specs.declared.stepping.Stepped.{Stepped}
@@ -40,6 +43,11 @@ pub record EndsTurn {E : Type 0} (gave : E → E → List Piece → Type 0) (e e
   pub violation : given.violation ≡ t.violation
   pub halt : given.halt ≡ t.halt
   pub stands : StandsForJoint joint t.joint
+
+-- the same domains were ended, and as often was none left to end
+pub record SameEnds (after j : model.Joint) : Type 0 where
+  pub ended : after.ended ≡ j.ended
+  pub refused : after.refused ≡ j.refused
 
 -- A hart outside.
 
@@ -79,6 +87,7 @@ pub record ResumesIn {E : Type 0} (gave : E → E → List Piece → Type 0) (e 
   pub holds : (memory : Memory) → Holds memory j.memory → Holds memory r.joint.memory
   pub harts : r.joint.harts ≡ j.harts
   pub disk : r.joint.disk ≡ j.disk
+  pub ends : SameEnds r.joint j
 
 -- What holds of frames and pages before and after a program's step.
 
@@ -91,6 +100,16 @@ pub record HoldsNoFree (d : ℕ) (r : Resources) (pager : PagerState) : Type 0 w
   pub unused : AreUnused (IsNoneHeld pager d) r
 
 -- A hart inside.
+
+-- the space of a context that runs on this hart
+abbrev pub running_space : ℕ → Option Context → Option ℕ
+running_space hart None = None
+running_space hart (Some c) = if is_hart hart c.on then Some c.space else None
+
+-- so of the context of this number, in its program
+abbrev pub running_in : ℕ → ℕ → Option Domain → Option ℕ
+running_in hart ctx None = None
+running_in hart ctx (Some d) = running_space hart (context_at (control_of d).contexts (slot_of ctx))
 
 -- the memory as the step of a slot's context begins
 abbrev pub begun : CloakedMemory → View → ℕ → program.Domain → Cloak
@@ -125,6 +144,7 @@ pub record GoesOn {E : Type 0} (gave : E → E → List Piece → Type 0) (e e' 
   pub harts : t.joint.harts ≡ slice_set j.harts number h
   pub domains : t.joint.domains ≡ j.domains
   pub disk : t.joint.disk ≡ j.disk
+  pub ends : SameEnds t.joint j
   pub roots_are : AreRoots roots t.joint.memory.ledger.root
   pub holds : (memory : Memory) → Holds memory j.memory → Holds memory t.joint.memory
 
@@ -142,6 +162,7 @@ pub record TurnsIn {E : Type 0} (gave : E → E → List Piece → Type 0) (e e'
   pub stands : StandsFor domain after
   pub domains : t.joint.domains ≡ slice_set j.domains d after
   pub disk : t.joint.disk ≡ j.disk
+  pub ends : SameEnds t.joint j
   pub roots_are : AreRoots roots t.joint.memory.ledger.root
   pub holds : Holds memory t.joint.memory
 
@@ -157,4 +178,30 @@ pub record InterruptsIn {E : Type 0} (gave : E → E → List Piece → Type 0) 
   pub stands : StandsFor domain after
   pub domains : t.joint.domains ≡ slice_set j.domains d after
   pub disk : t.joint.disk ≡ j.disk
+  pub ends : SameEnds t.joint j
   pub memory : t.joint.memory ≡ j.memory
+
+-- The end of a domain.
+
+-- What follows a step has come about: what was emitted after its items, and what the machine then stands for.
+pub record EndsAfter {E : Type 0} (gave : E → E → List Piece → Type 0) (e e' : E) (joint : Joint) (t after : Turn) :
+    Type 0 where
+  pub more : List Item
+  pub items_are : after.items ≡ t.items ++ more
+  pub emits : Emits gave e e' (item_pieces more)
+  pub console : after.console ≡ t.console
+  pub halt : after.halt ≡ t.halt
+  pub stands : StandsForJoint joint after.joint
+
+-- there is a domain, and it has not ended
+abbrev pub has_left : Option Domain → Bool
+has_left None = false
+has_left (Some d) = not (control_of d).ended
+
+-- nothing was asked, for a context of this space, or outside
+abbrev pub nothing_in : Option SpaceId → Asked
+nothing_in space = record { space = space; events = []; items = []; changed = [] }
+
+-- the spaces of a domain whose numbers are below n
+abbrev pub spaces_below : ℕ → ℕ → List SpaceId
+spaces_below d n = map (λ (k : ℕ). let s : SpaceId = record { domain = d; number = k } in s) (numbers_below n)

@@ -27,17 +27,16 @@ impl Ended {
         }
     }
 
-    /// Why the step stops the run: a missing draw before all else, then a violation, then a halt.
+    /// Why the step stops the run: a missing draw before a halt.
     pub fn stop(&self, missed: bool) -> Option<Stop>
-        ensures { result ≡ (if missed then Some stop.NoRandom else stop_without_miss self.now.violation self.now.halt) }
+        ensures { result ≡ (if missed then Some stop.NoRandom else stop_without_miss self.now.halt) }
     {
         if missed {
             return Some(Stop::NoRandom);
         }
-        match (self.violation, self.halt) {
-            (Some(v), _) => Some(Stop::Violation(v)),
-            (None, Some(value)) => Some(Stop::Halt(value)),
-            (None, None) => None,
+        match self.halt {
+            Some(value) => Some(Stop::Halt(value)),
+            None => None,
         }
     }
 }

@@ -1,7 +1,7 @@
 //! What follows the step of a program: its context goes on, or leaves its hart.
 ghost use Rattle.std.specs.Prelude.{◌≡◌, ◌<◌, ℕ, Option, [], ◌∷◌};
 ghost use Rattle.cloak_model.specs.Exchange.{Emits, EmitsSome, item_pieces};
-ghost use Rattle.cloak_model.specs.Joint.{domain_ended};
+ghost use Rattle.cloak_model.specs.Joint.{domain_ended, not_running};
 ghost use Rattle.cloak_model.specs.Leaving as spec;
 ghost use Rattle.cloak_model.specs.Parts as model;
 ghost use Rattle.cloak_model.specs.World.{World, items_of, violation_of};
@@ -21,6 +21,24 @@ pub fn leave_context<E: Emit>(h: &mut Hart, s: &Shown, e: &mut E)
 {
     leave(h, s);
     e.item(&Item::Leave(*s));
+}
+
+/// The hart leaves a context that does not run on it: its resuming was refused, or its domain ended. Out of line, since
+/// it is rare.
+#[cold]
+#[inline(never)]
+pub fn leave_stopped<E: Emit>(h: &mut Hart, ctx: u32, e: &mut E)
+    ensures hart { h.new ≡ spec.leave h.old (not_running ctx) }
+    ensures emits { Emits E.gave e.old e.new (item_pieces (item.Leave (not_running ctx) ∷ [])) }
+{
+    let shown = Shown {
+        cause: 24,
+        stval: 0,
+        ctx,
+        number: 0,
+        args: [0; 6],
+    };
+    leave_context(h, &shown, e);
 }
 
 /// A context of this domain goes on or leaves after its step. Answers what the kernel presented in place of what is

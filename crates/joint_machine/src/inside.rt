@@ -1,7 +1,8 @@
 //! The step of a hart inside.
-ghost use Rattle.std.specs.Prelude.{◌≡◌, ◌≢◌, ◌<◌, ℕ, false, [], Some, IsSome};
+ghost use Rattle.std.specs.Prelude.{◌≡◌, ◌≢◌, ◌<◌, ℕ, false, [], Some, IsSome, length, option_map, slice_get};
 ghost use Rattle.cloak_model.specs.Cloaking.{CloakedMemory};
-ghost use Rattle.cloak_model.specs.Contexts.{context_at};
+ghost use Rattle.cloak_model.specs.Contexts as context;
+ghost use Rattle.cloak_model.specs.Contexts.{context_at, domain_of};
 ghost use Rattle.cloak_model.specs.Csr.{interrupt_due};
 ghost use Rattle.cloak_model.specs.DomainState as model;
 ghost use Rattle.cloak_model.specs.Exchange.{EmitsSome};
@@ -17,10 +18,10 @@ ghost use Rattle.cloak_base.specs.declared.names.SpaceId.{SpaceId as AnySpace};
 ghost use Rattle.joint_machine.specs.Mapping.{MakesIn};
 ghost use Rattle.space_law.specs.Mapping.{mapped_in, page_of};
 ghost use Rattle.hypercalls.specs.Standing.{StandsFor, control_of, number_of};
-ghost use Rattle.joint_machine.specs.Turning.{AreRoots, HoldsNoFree, HoldsNoOthers, InterruptsIn, TurnsIn};
+ghost use Rattle.joint_machine.specs.Turning.{AreRoots, HoldsNoFree, HoldsNoOthers, InterruptsIn, TurnsIn, running_in};
 
 use crate::ended::Ended;
-use crate::going::{go_on, leave_context};
+use crate::going::{go_on, leave_context, leave_stopped};
 use crate::joint::Joint;
 use crate::stepping::{Stepped, step_domain};
 use cloak_base::{SpaceId, Violation};
@@ -30,8 +31,22 @@ use host_calls::{Hart, tick};
 use hypercalls::Domain;
 use thread_context::Roots;
 
-/// The timer interrupts the hart, and the context of the slot leaves, where it is there.
+/// The space of this context, if it runs on the hart of this number.
+fn running_space(domains: &[Domain], number: usize, ctx: u32) -> Option<u32>
+    ensures value { result ≡ running_in number ctx (slice_get domains.now (domain_of ctx)) }
+    ensures there { IsSome result → domain_of ctx < length domains.now }
+{
+    let (space, on) = domains.get((ctx / 8) as usize)?.context(ctx % 8)?;
+    if on?.0 as usize == number {
+        Some(space)
+    } else {
+        None
+    }
+}
+
+/// The timer interrupts the hart, and the context of the slot leaves.
 fn take_interrupt<E: Emit>(h: &mut Hart, d: u8, slot: u32, domain: &mut Domain, e: &mut E)
+    requires runs { IsSome (context_at (control_of domain.old).contexts slot) }
     ensures number { number_of domain.new ≡ number_of domain.old }
     ensures resources { (control_of domain.new).resources ≡ (control_of domain.old).resources }
     ensures emits_some { EmitsSome E.gave e.old e.new }
@@ -40,10 +55,8 @@ fn take_interrupt<E: Emit>(h: &mut Hart, d: u8, slot: u32, domain: &mut Domain, 
         (after_interrupt j number h.old d was (spec.interrupt slot was.control)) }
 {
     e.item(&Item::Timer { domain: d });
-    if domain.context(slot).is_some() {
-        let shown = domain.interrupt(slot);
-        leave_context(h, &shown, e);
-    }
+    let shown = domain.interrupt(slot);
+    leave_context(h, &shown, e);
 }
 
 /// The translations of a space of the domain end whose regions the step changed, or which it ended.
@@ -70,12 +83,13 @@ fn end_space(memory: &mut Memory, domain: u32, went: &Went)
     }
 }
 
-/// Makes the step of a hart that runs the context of a slot of this domain, after its timer fell. Answers what the
-/// kernel presented in place of what is recorded, where that stopped the step.
+/// Makes the step of a hart that runs the context of a slot of this domain, which has this space, after its timer fell.
+/// Returns what the kernel presented in place of what is recorded, if that stopped the step.
 fn step_context<E: Emit>(
     h: &mut Hart,
     d: u8,
     slot: u32,
+    space: u32,
     domain: &mut Domain,
     roots: &mut Roots,
     memory: &mut Memory,
@@ -83,6 +97,8 @@ fn step_context<E: Emit>(
     e: &mut E,
 ) -> Option<Violation>
     requires few { d < 4 }
+    requires runs { option_map (λ (c : context.Context). c.space) (context_at (control_of domain.old).contexts slot) ≡
+        Some space }
     requires number { number_of domain.old ≡ d }
     requires there { d < domains_in memory.old }
     requires unused { HoldsNoFree d (control_of domain.old).resources memory.old.pager }
@@ -112,9 +128,6 @@ fn step_context<E: Emit>(
         take_interrupt(h, d, slot, domain, e);
         return None;
     }
-    let Some((space, _)) = domain.context(slot) else {
-        return None;
-    };
     domain.whole(space);
     let view = view_of(h, d);
     let space = SpaceId {
@@ -131,22 +144,21 @@ fn step_context<E: Emit>(
 }
 
 impl Joint {
-    ghost use Rattle.std.specs.Prelude.{slice_get};
-    ghost use Rattle.cloak_model.specs.Contexts.{domain_of, slot_of};
+    ghost use Rattle.cloak_model.specs.Contexts.{slot_of};
     ghost use Rattle.cloak_model.specs.KernelStep.{ticked};
     ghost use Rattle.cloak_model.specs.Joint.{hart_in, inside_step};
     ghost use Rattle.joint_machine.specs.Standing.{StandsForJoint, harts_of};
     ghost use Rattle.joint_machine.specs.Turning.{EndsTurn};
 
-    /// Makes the step of a hart that runs this context: its timer falls, and then its context leaves for the interrupt
-    /// that is due, or makes a step. Where there is no such context, none leaves and none makes a step.
+    /// Makes the step of a hart inside this context: its timer falls. If the context does not run on it, it leaves with
+    /// cause 24. Otherwise the context leaves for the interrupt that is due, or makes a step.
     pub(crate) fn inside<E: Emit>(&mut self, number: usize, ctx: u32, e: &mut E) -> Ended
         requires { number < harts_of self.old }
         ensures harts { harts_of self.new ≡ harts_of self.old }
         ensures emits_some { EmitsSome E.gave e.old e.new }
         ensures turns { (j : parts.Joint) →
             let d = domain_of ctx in
-            let t = inside_step j number (ticked (hart_in j number)) d (slot_of ctx) (slice_get j.domains d) in
+            let t = inside_step j number (ticked (hart_in j number)) ctx (slice_get j.domains d) in
             StandsForJoint self.old j → t.joint.memory.ledger.clashed ≡ false →
             EndsTurn E.gave e.old e.new self.new result t }
         ensures counting { self.new.memory.counting ≡ self.old.memory.counting }
@@ -154,22 +166,25 @@ impl Joint {
             let d = domain_of ctx in
             let h = ticked (hart_in j number) in
             StandsForJoint self.old j →
-            (inside_step j number h d (slot_of ctx) (slice_get j.domains d)).joint.memory.ledger.clashed ≡ false →
-            GoesBy self.old.memory self.new.memory (events.asked_inside j h d (slot_of ctx) (slice_get j.domains d)) }
+            (inside_step j number h ctx (slice_get j.domains d)).joint.memory.ledger.clashed ≡ false →
+            GoesBy self.old.memory self.new.memory
+            (events.asked_inside j number h d (slot_of ctx) (slice_get j.domains d)) }
         ensures makes { (j : parts.Joint) → let d = domain_of ctx in StandsForJoint self.old j → MakesIn (mapped_in j)
-            (events.asked_inside j (ticked (hart_in j number)) d (slot_of ctx) (slice_get j.domains d)) }
+            (events.asked_inside j number (ticked (hart_in j number)) d (slot_of ctx) (slice_get j.domains d)) }
     {
         let h = &mut self.harts[number];
         tick(h);
-        let d = (ctx / 8) as usize;
-        if d >= self.domains.len() {
+        let Some(space) = running_space(&self.domains, number, ctx) else {
+            leave_stopped(h, ctx, e);
             return Ended::met(None);
-        }
+        };
+        let d = (ctx / 8) as usize;
         let domain = &mut self.domains[d];
         Ended::met(step_context(
             h,
             d as u8,
             ctx % 8,
+            space,
             domain,
             &mut self.roots,
             &mut self.memory,

@@ -2,6 +2,7 @@ ghost use Rattle.std.specs.Prelude.{◌≡◌, ◌≤◌, length};
 ghost use Rattle.cloaked_side.specs.Holding.{domains_in};
 ghost use Rattle.joint_machine.specs.Programs.{AreNumbered, AreFreeUnused};
 
+use cloak_base::Violation;
 use cloaked_side::{KeptItems, Memory};
 use host_calls::{Disk, Hart};
 use hypercalls::Domain;
@@ -19,6 +20,10 @@ pub struct Joint {
     pub(crate) disk: Disk,
     /// What the answers to programs are written as.
     pub(crate) items: KeptItems,
+    /// For each number of a domain, what ended it.
+    pub(crate) ended: [Option<Violation>; 4],
+    /// How often a resuming was refused of which no domain was left to end, up to 2^64 - 1.
+    pub(crate) refused: u64,
     ghost few_harts: { length harts.items ≤ 4 },
     ghost few: { length domains.items ≤ 4 },
     ghost served: { length domains.items ≡ domains_in memory },

@@ -1,9 +1,9 @@
 //! The joint machine: harts, memory over the pager, programs, recorded page tables, and disk.
 //!
-//! `Joint::open` stands for the opening of a joint run, `turn` for the next step of a hart, and `close` for the closing
-//! (`cloak_model`, `specs/Opening`, `Joint`, `Run`). Items are emitted in their order as they come about. What the
-//! schedule is, how many steps were made, and what the console was shown, is known above. After the opening no call
-//! takes memory.
+//! `Joint::open` stands for the opening of a joint run, `turn` for the next step of a hart, with the end of the domain of
+//! a violation that it met, and `close` for the closing (`cloak_model`, `specs/Opening`, `Joint`, `Run`). Items are
+//! emitted in their order as they come about. What the schedule is, how many steps were made, and what the console was
+//! shown, is known above. After the opening no call takes memory.
 //!
 //! The layer above may rely on this: for every state of the joint machine that this one stands for
 //! (`specs/Standing`), a call emits exactly the items of the definition and answers what it tells, and the machine then
@@ -12,6 +12,7 @@
 
 mod closing;
 mod ended;
+mod ending;
 mod going;
 mod inside;
 mod joint;

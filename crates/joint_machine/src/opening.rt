@@ -90,6 +90,8 @@ impl Joint {
             roots: Roots::open(),
             disk,
             items: KeptItems::new(),
+            ended: [None; 4],
+            refused: 0,
         })
     }
 

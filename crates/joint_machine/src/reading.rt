@@ -1,4 +1,5 @@
 use crate::joint::Joint;
+use cloak_base::Violation;
 use cloak_pager::Pager;
 use cloaked_side::Memory;
 use host_calls::{Disk, Hart};
@@ -13,6 +14,10 @@ pub struct JointParts {
     /// Each program in the place of its number.
     pub domains: Vec<Domain>,
     pub disk: Disk,
+    /// For each number of a domain, what ended it.
+    pub ended: [Option<Violation>; 4],
+    /// How often a resuming was refused of which no domain was left to end, up to 2^64 - 1.
+    pub refused: u64,
 }
 
 impl Joint {
@@ -56,6 +61,8 @@ impl Joint {
         ensures memory { result.memory ≡ self.memory }
         ensures domains { result.domains ≡ self.domains }
         ensures disk { result.disk ≡ self.disk }
+        ensures ended { result.ended ≡ self.ended }
+        ensures refused { result.refused ≡ self.refused }
         ensures few { length result.domains.items ≤ 4 }
     {
         let Joint {
@@ -63,6 +70,8 @@ impl Joint {
             memory,
             domains,
             disk,
+            ended,
+            refused,
             ..
         } = self;
         JointParts {
@@ -70,6 +79,8 @@ impl Joint {
             memory,
             domains,
             disk,
+            ended,
+            refused,
         }
     }
 }

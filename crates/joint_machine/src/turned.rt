@@ -5,7 +5,7 @@ ghost use Rattle.cloak_model.specs.Parts as model;
 ghost use Rattle.cloaked_side.specs.Tracking.{AreMapped, GoesBy};
 ghost use Rattle.joint_machine.specs.Mapping.{MakesIn};
 ghost use Rattle.space_law.specs.Mapping.{mapped_in};
-ghost use Rattle.shadow_fold.specs.Events.{asked_of};
+ghost use Rattle.shadow_fold.specs.Events.{asked_of, asked_with_end};
 
 use crate::ended::Ended;
 use crate::joint::Joint;
@@ -22,10 +22,10 @@ pub struct Turned {
 }
 
 impl Joint {
-    ghost use Rattle.joint_machine.specs.Standing.{StandsForJoint, TakesTurn, harts_of, turn_in};
+    ghost use Rattle.joint_machine.specs.Standing.{StandsForJoint, TakesTurn, harts_of, step_in, turn_in};
     ghost use Rattle.joint_machine.specs.Turning.{EndsTurn};
 
-    /// Makes the next step of a hart, by the context that it runs.
+    /// Makes the next step of a hart, by the context that it is inside, but for the end of a domain.
     #[inline(always)]
     fn step<E: Emit>(&mut self, number: usize, e: &mut E) -> Ended
         requires { number < harts_of self.old }
@@ -37,9 +37,10 @@ impl Joint {
         ensures counting { self.new.memory.counting ≡ self.old.memory.counting }
         ensures goes { (j : model.Joint) → StandsForJoint self.old j →
             (turn_in j number).joint.memory.ledger.clashed ≡ false →
-            GoesBy self.old.memory self.new.memory (asked_of j (hart_in j number) (hart_in j number).inside) }
+            GoesBy self.old.memory self.new.memory
+            (asked_of j number (hart_in j number) (hart_in j number).inside) }
         ensures makes { (j : model.Joint) → StandsForJoint self.old j →
-            MakesIn (mapped_in j) (asked_of j (hart_in j number) (hart_in j number).inside) }
+            MakesIn (mapped_in j) (asked_of j number (hart_in j number) (hart_in j number).inside) }
     {
         match self.harts[number].inside {
             None => self.outside(number, e),
@@ -47,26 +48,27 @@ impl Joint {
         }
     }
 
-    /// Makes the next step of a hart. What it shows and answers is emitted as it comes about, but for the console's
-    /// byte, which is answered. A hart that was left inside by a refused resume may run a context that is not there: it
-    /// counts its timer, and makes no step of one.
+    /// Makes the next step of a hart, and ends the domain of a violation that it met. What it shows and answers is emitted
+    /// as it comes about, but for the console's byte, which is returned.
     #[inline(always)]
     pub fn turn<E: Emit>(&mut self, number: usize, e: &mut E) -> Turned
         requires { number < harts_of self.old }
         ensures harts { harts_of self.new ≡ harts_of self.old }
         ensures emits_some { EmitsSome E.gave e.old e.new }
         ensures turns { (j : model.Joint) → StandsForJoint self.old j →
-            (turn_in j number).joint.memory.ledger.clashed ≡ false →
-            TakesTurn E.gave e.old e.new self.new result (turn_in j number) }
+            (step_in j number).joint.memory.ledger.clashed ≡ false →
+            TakesTurn E.gave e.old e.new self.new result (step_in j number) }
         ensures counting { self.new.memory.counting ≡ self.old.memory.counting }
         ensures goes { (j : model.Joint) → StandsForJoint self.old j →
-            (turn_in j number).joint.memory.ledger.clashed ≡ false →
-            GoesBy self.old.memory self.new.memory (asked_of j (hart_in j number) (hart_in j number).inside) }
+            (step_in j number).joint.memory.ledger.clashed ≡ false →
+            GoesBy self.old.memory self.new.memory (asked_with_end j number) }
         ensures maps { (j : model.Joint) → StandsForJoint self.old j →
-            (turn_in j number).joint.memory.ledger.clashed ≡ false → AreMapped (mapped_in j) self.old.memory →
-            AreMapped (mapped_in (turn_in j number).joint) self.new.memory }
+            (step_in j number).joint.memory.ledger.clashed ≡ false → AreMapped (mapped_in j) self.old.memory →
+            AreMapped (mapped_in (step_in j number).joint) self.new.memory }
     {
+        let inside = self.harts[number].inside;
         let ended = self.step(number, e);
+        self.answer_any(inside, ended.violation, e);
         Turned {
             console: ended.console,
             stop: ended.stop(self.memory.missed),

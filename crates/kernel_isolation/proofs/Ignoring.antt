@@ -33,6 +33,7 @@ ignores schedule s (item.Word domain value) is = refl
 ignores schedule s (item.Timer domain) is = refl
 ignores schedule s (item.Resume domain ctx answer) is = refl
 ignores schedule s (item.Stopped domain) is = refl
+ignores schedule s (item.Ended domain) is = refl
 ignores schedule s i is = absurd cc
 
 -- an inward item leaves all

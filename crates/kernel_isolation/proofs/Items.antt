@@ -37,6 +37,7 @@ is_within ram (item.Word domain value) = true
 is_within ram (item.Timer domain) = true
 is_within ram (item.Resume domain ctx answer) = true
 is_within ram (item.Stopped domain) = true
+is_within ram (item.Ended domain) = true
 
 abbrev pub AreWithin : List (List ℕ) → List Item → Type 0
 AreWithin ram items = AllByRecursion (λ i. is_within ram i ≡ true) items
@@ -55,6 +56,7 @@ length-with_item (item.Word domain value) ram = refl
 length-with_item (item.Timer domain) ram = refl
 length-with_item (item.Resume domain ctx answer) ram = refl
 length-with_item (item.Stopped domain) ram = refl
+length-with_item (item.Ended domain) ram = refl
 
 pub length-with_items : (items : List Item) (ram : List (List ℕ)) → length (with_items items ram) ≡ length ram
 length-with_items [] ram = refl
@@ -78,6 +80,7 @@ one_stays ram ram' (item.Word domain value) same = refl
 one_stays ram ram' (item.Timer domain) same = refl
 one_stays ram ram' (item.Resume domain ctx answer) same = refl
 one_stays ram ram' (item.Stopped domain) same = refl
+one_stays ram ram' (item.Ended domain) same = refl
 
 pub within_stays : (ram ram' : List (List ℕ)) (items : List Item) → length ram' ≡ length ram → AreWithin ram items →
     AreWithin ram' items
@@ -119,6 +122,7 @@ fit_taken schedule hart ctx (item.Word domain value) s place within = refl
 fit_taken schedule hart ctx (item.Timer domain) s place within = refl
 fit_taken schedule hart ctx (item.Resume domain c answer) s place within = refl
 fit_taken schedule hart ctx (item.Stopped domain) s place within = refl
+fit_taken schedule hart ctx (item.Ended domain) s place within = refl
 
 item_taken : (schedule : List ℕ) (hart ctx : ℕ) (i : Item) (s : KernelAlone) → s.unfit ≡ None →
     s.place ≡ Inside hart ctx →

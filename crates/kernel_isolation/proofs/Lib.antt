@@ -12,6 +12,8 @@ pub mod CopyAccounts
 pub mod StepAccounts
 pub mod Numbers
 pub mod Markers
+pub mod Resumes
+pub mod Ends
 pub mod Turns
 pub mod Closed
 pub mod Opened

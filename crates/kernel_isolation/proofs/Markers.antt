@@ -42,6 +42,7 @@ one_inward (item.Word domain value) is = refl
 one_inward (item.Timer domain) is = refl
 one_inward (item.Resume domain ctx answer) is = refl
 one_inward (item.Stopped domain) is = refl
+one_inward (item.Ended domain) is = refl
 
 pub inward_of_step : (items : List Item) → AreInward items → AreOfStep items
 inward_of_step [] all = tt
@@ -60,6 +61,7 @@ one_within ram (item.Word domain value) is = refl
 one_within ram (item.Timer domain) is = refl
 one_within ram (item.Resume domain ctx answer) is = refl
 one_within ram (item.Stopped domain) is = refl
+one_within ram (item.Ended domain) is = refl
 
 pub within_of_step : (ram : List (List ℕ)) (items : List Item) → AreWithin ram items → AreOfStep items
 within_of_step ram [] all = tt
@@ -89,6 +91,7 @@ no_marker n (item.Word domain value) is = refl
 no_marker n (item.Timer domain) is = refl
 no_marker n (item.Resume domain ctx answer) is = refl
 no_marker n (item.Stopped domain) is = refl
+no_marker n (item.Ended domain) is = refl
 
 before_one : (n : ℕ) (i : Item) (test : Bool) (items a rest : List Item) → begins_behind n i ≡ false →
     before_step n items ≡ a ++ rest → before_step n (cond test (i ∷ items) items) ≡ cond test (i ∷ a) a ++ rest
@@ -155,6 +158,7 @@ closes_past (item.Word domain value) items is = refl
 closes_past (item.Timer domain) items is = refl
 closes_past (item.Resume domain ctx answer) items is = refl
 closes_past (item.Stopped domain) items is = refl
+closes_past (item.Ended domain) items is = refl
 
 closes_one : (i : Item) (test : Bool) (items : List Item) → IsOfStep i →
     closes_at (cond test (i ∷ items) items) ≡ closes_at items

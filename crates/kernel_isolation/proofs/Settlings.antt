@@ -33,7 +33,7 @@ pub with_shown-append : (a b : List (ℕ × List ℕ)) (ram : List (List ℕ)) �
 with_shown-append [] b ram = refl
 with_shown-append (c ∷ a) b ram = with_shown-append a b (slice_set ram c.0 c.1)
 
-frames-append : (ram : List (List ℕ)) (a b : List (ℕ × List ℕ)) → AreFrames ram a → AreFrames ram b →
+pub frames-append : (ram : List (List ℕ)) (a b : List (ℕ × List ℕ)) → AreFrames ram a → AreFrames ram b →
     AreFrames ram (a ++ b)
 frames-append ram [] b here there = there
 frames-append ram (c ∷ a) b here there = (here.0, frames-append ram a b here.1 there)

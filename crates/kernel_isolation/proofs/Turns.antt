@@ -1,7 +1,7 @@
 -- A step of the joint run is the kernel alone's.
-use Rattle.std.proofs.Common.{◌≡◌, ◌∙◌, ◌<◌, ℕ, suc, ◌-◌, ◌%◌, Bool, true, false, cond, List, [], ◌∷◌, ◌++◌, length, slice_get, slice_index, slice_set, Option, Some, None, Result, Ok, Err, is_some, refl, sym, ap, subst, arith, inl, inr}
+use Rattle.std.proofs.Common.{append_assoc, ◌≡◌, ◌∙◌, ◌<◌, ℕ, suc, ◌-◌, ◌%◌, Bool, true, false, cond, List, [], ◌∷◌, ◌++◌, length, slice_get, slice_index, slice_set, Option, Some, None, Result, Ok, Err, is_some, refl, sym, ap, subst, arith, inl, inr}
 use Rattle.std.proofs.lemmas.Bool.{false≢true, cases_lt}
-use Rattle.std.proofs.lemmas.List.{append-nil, get_or_past}
+use Rattle.std.proofs.lemmas.List.{append-nil, get_or_past, map-append}
 use Rattle.cloak_base.specs.declared.causes.Shown.{Shown}
 use Rattle.cloak_base.specs.declared.causes.Stop.{Stop}
 use Rattle.cloak_base.specs.declared.causes.Stop.TheVariants as stop
@@ -22,19 +22,29 @@ use Rattle.cloak_model.specs.DomainState.{Control, Domain}
 use Rattle.cloak_model.specs.DomainStep.{DomainStepped}
 use Rattle.cloak_model.specs.Hart.{Hart, started}
 use Rattle.cloak_model.specs.Hypercalls.{Stepped}
-use Rattle.cloak_model.specs.Joint.{Moment, Turn, next_hart, hart_in, with_hart, cloak_of, cloak_outside, memory_of, outside_ended, after_outside, outside_step, domain_ended, with_domain, after_domain_step, pages_for, interrupt_ended, after_interrupt, by_interrupt, inside_step, turn_of, joint_step, stop_of}
+use Rattle.cloak_model.specs.Joint.{Moment, Turn, quiet, next_hart, hart_in, with_hart, cloak_of, cloak_outside, memory_of, outside_ended, after_outside, outside_step, domain_ended, with_domain, after_domain_step, pages_for, interrupt_ended, after_interrupt, by_interrupt, left, not_running, by_running, inside_step, turn_of, domain_met, without_domain_roots, end_domain, refuses, ends_once, ends_resumed, ends_asked, answers_violation, step_before_end, joint_step, stop_of}
 use Rattle.cloak_model.specs.KernelAlone.{kernel_hart, with_kernel_hart, console_byte, has_halted}
 use Rattle.cloak_model.specs.KernelStep.{kernel_step, ticked}
 use Rattle.cloak_model.specs.Leaving.{leave}
 use Rattle.cloak_model.specs.Parts.{Joint, KernelPart, kernel_part}
 use Rattle.cloak_model.specs.Resuming.{AfterResume, by_root, by_context, by_domain, resume}
 use Rattle.cloak_model.specs.World.{World, Cloak, Flat, Cloaked, Alone, ram_of, items_of, cipher_items}
-use Rattle.settling_ahead.proofs.Touching.{writes_touched_alone}
+use Rattle.std.specs.List.{find, Contains}
+use Rattle.cloak_model.specs.Ahead.{is_owed}
+use Rattle.cloak_model.specs.Ending.{ask_end, cloak_for, ended_domain}
+use Rattle.cloak_model.specs.HostCalls.{SteppedKernel}
+use Rattle.cloak_model.specs.Resuming.{violated}
+use Rattle.cloak_model.specs.Touched.{touched}
+use Rattle.settling_ahead.proofs.Laws.{settles_all}
+use Rattle.settling_ahead.proofs.Touching.{reads_touched_alone, writes_touched_alone}
+use Rattle.settling_ahead.specs.Touching.{Agrees}
 use Rattle.kernel_isolation.proofs.Between.{KernelStepIsAlone, hart_behind}
-use Rattle.kernel_isolation.proofs.Shown.{AreFrames}
-use Rattle.kernel_isolation.proofs.OutsideSteps.{AreInward, HaltsAsStops, shown_part, plain_part, outside_step_is_alone}
-use Rattle.kernel_isolation.proofs.Settlings.{HasPlaces, ShownBy, touched_shown}
-use Rattle.kernel_isolation.proofs.Items.{AreWithin, with_items}
+use Rattle.kernel_isolation.proofs.Shown.{AreFrames, frames_stay}
+use Rattle.kernel_isolation.proofs.OutsideSteps.{AreInward, HaltsAsStops, shown_part, plain_told, plain_part, outside_step_is_alone}
+use Rattle.kernel_isolation.proofs.Settlings.{HasPlaces, ShownBy, length-with_shown, with_shown-append, frames-append, touched_shown}
+use Rattle.kernel_isolation.proofs.Resumes.{is_resume, resume_keeps}
+use Rattle.kernel_isolation.proofs.Ends.{AreOwed, with_shown-apart, find_none, EndsIn, end_shows}
+use Rattle.kernel_isolation.proofs.Items.{AreWithin, with_items, with_items-append, length-with_items, within-append, ciphers_within, with_ciphers}
 use Rattle.kernel_isolation.proofs.InsideSteps.{after_inside, ticked_hart, staying_step_is_alone, leaving_step_is_alone}
 use Rattle.kernel_isolation.proofs.Markers.{AreOfStep, of_step-append, ciphers_of_step, inward_of_step, within_of_step}
 use Rattle.kernel_isolation.proofs.Accounts.{IsJointWorld, is_joint, Account}
@@ -46,12 +56,22 @@ pub record IsSteady (j : Joint) : Type 0 where
   pub places : HasPlaces j.memory
   pub programs : AreFrom 0 j.domains
 
+-- with these Ciphers and the end of a domain behind it, and whether or not it stops the run, a step is the kernel alone's
+abbrev pub Extends : List ℕ → ℕ → KernelPart → Turn → Type 0
+Extends schedule n k t =
+    (ciphers : List (ℕ × List ℕ)) (d : ℕ) (stops : Bool) → AreFrames t.joint.memory.ram ciphers →
+    AreOwed t.joint.memory ciphers →
+    KernelStepIsAlone schedule n k (t.items ++ (cipher_items ciphers ++ item.Ended d ∷ []))
+    (shown_part ciphers (kernel_part t.joint)) stops
+
 -- A step is the kernel alone's.
 pub record TurnIsAlone (schedule : List ℕ) (n : ℕ) (j : Joint) (t : Turn) : Type 0 where
   pub alone : KernelStepIsAlone schedule n (kernel_part j) t.items (kernel_part t.joint) (is_some (stop_of t))
   -- none of its items is a marker
   pub items : AreOfStep t.items
   pub steady : IsSteady t.joint
+  -- where it met a violation, it is the kernel alone's too with what is shown behind it in frames that are owed a page
+  pub extends : (v : Violation) → t.violation ≡ Some v → Extends schedule n (kernel_part j) t
 
 -- the same step, told in other words
 told_as : (schedule : List ℕ) (n : ℕ) (k : KernelPart) (items items' : List Item) (after after' : KernelPart)
@@ -68,10 +88,17 @@ record IsUnseen (j : Joint) (r : AfterResume) : Type 0 where
   pub part : kernel_part r.joint ≡ kernel_part j
   pub items : AreInward r.items
   pub steady : IsSteady r.joint
+  pub refused : (v : Violation) → r.violation ≡ Some v → r ≡ violated j v
 
 unseen_none : (j : Joint) (violation : Option Violation) → IsSteady j →
     IsUnseen j (record { joint = j; items = []; violation = violation })
-unseen_none j violation steady = record { part = refl; items = tt; steady = steady }
+unseen_none j violation steady = record {
+  part = refl;
+  items = tt;
+  steady = steady;
+  refused = λ v is. ap (λ (o : Option Violation). let r : AfterResume =
+      record { joint = j; items = []; violation = o } in r) is;
+}
 
 unseen_root : (j : Joint) (satp ctx reply : ℕ) (was : Domain) (control : Control) (admitted : Admitted)
     (answer : Result (Unit {0}) ResumeFault) → IsSteady j → slice_get j.domains (domain_of ctx) ≡ Some was →
@@ -85,6 +112,7 @@ unseen_root j satp ctx reply was control admitted (Ok done) steady there same = 
     places = steady.places;
     programs = set_number (domain_of ctx) j.domains was (record was { control = control }) steady.programs there same;
   };
+  refused = λ v is. let clash : None ≡ Some v = is in absurd cc;
 }
 
 unseen_context : (j : Joint) (satp ctx reply : ℕ) (was : Domain) (control : Control)
@@ -180,14 +208,153 @@ outside_for schedule n k ciphers others stops number same outside frames inward 
     KernelStepIsAlone schedule n k (cipher_items ciphers ++ others) (plain_part x (shown_part ciphers k)) stops) same
     (λ out ends. outside_step_is_alone schedule n k ciphers others stops out frames inward ends) outside halts
 
+-- A resuming that is refused: what is shown behind it may as well be shown before its step, which does not touch these
+-- frames, and writes none.
+
+record IsRefused (j : Joint) (number : ℕ) (s : AfterSettling) (ctx reply : ℕ) : Type 0 where
+  pub paid : find (is_owed s.memory) (touched (hart_in j number) s.memory.ram j.disk) ≡ None
+  pub shown : ShownBy j.memory s.ciphers s.memory
+  pub ends : (kernel_step (hart_in j number) j.disk (Flat s.memory.ram)).answer.ending ≡ Resume ctx reply
+
+refused_part : (j : Joint) (number : ℕ) (s : AfterSettling) (ctx reply : ℕ) (c : List (ℕ × List ℕ)) →
+    IsRefused j number s ctx reply → AreOwed s.memory c →
+    let told = kernel_step (hart_in j number) j.disk (Flat s.memory.ram) in
+    let after : KernelPart = record {
+      harts = slice_set j.harts number told.answer.hart;
+      ram = with_shown c (ram_of told.world);
+      disk = told.answer.disk;
+      console = j.console;
+    } in
+    let again = shown_part (s.ciphers ++ c) (kernel_part j) in
+    (after ≡ plain_part number again) × (has_halted (plain_told number again).answer.ending ≡ false)
+refused_part j number s ctx reply c r owed =
+    let h = hart_in j number in
+    let before : List (List ℕ) = s.memory.ram in
+    let later : List (List ℕ) = with_shown c before in
+    let k : KernelPart = kernel_part j in
+    let agrees : Agrees (touched h before j.disk) before later = record {
+      count = length-with_shown c before;
+      same = λ f there. with_shown-apart s.memory c before f
+          (find_none (is_owed s.memory) (touched h before j.disk) f r.paid there) owed;
+    } in
+    let same : (kernel_step h j.disk (Flat later)).answer ≡ (kernel_step h j.disk (Flat before)).answer =
+    reads_touched_alone h j.disk before later agrees in
+    let ends : (kernel_step h j.disk (Flat later)).answer.ending ≡ Resume ctx reply =
+    ap (λ (a : SteppedKernel). a.ending) same ∙ r.ends in
+    let now = resume_keeps h j.disk before (ap is_resume r.ends) in
+    let then = resume_keeps h j.disk later (ap is_resume ends) in
+    let all : with_shown (s.ciphers ++ c) j.memory.ram ≡ later =
+    with_shown-append s.ciphers c j.memory.ram ∙ ap (with_shown c) (sym r.shown.ram) in
+    let made : List (List ℕ) → KernelPart = λ ram. plain_part number (record k { ram = ram }) in
+    let of_answer : List (List ℕ) → SteppedKernel → KernelPart = λ ram a. record {
+      harts = slice_set j.harts number a.hart;
+      ram = ram;
+      disk = a.disk;
+      console = j.console ++ console_byte a.ending;
+    } in
+    let told = kernel_step h j.disk (Flat before) in
+    let part : made later ≡ record {
+      harts = slice_set j.harts number told.answer.hart;
+      ram = with_shown c (ram_of told.world);
+      disk = told.answer.disk;
+      console = j.console;
+    } =
+    ap (λ (w : World). of_answer (ram_of w) (kernel_step h j.disk (Flat later)).answer) then
+    ∙ ap (of_answer later) same
+    ∙ ap (λ (e : Kernel). let p : KernelPart = record {
+      harts = slice_set j.harts number told.answer.hart;
+      ram = later;
+      disk = told.answer.disk;
+      console = j.console ++ console_byte e;
+    } in p) r.ends
+    ∙ ap (λ (bytes : List ℕ). let p : KernelPart = record {
+      harts = slice_set j.harts number told.answer.hart;
+      ram = later;
+      disk = told.answer.disk;
+      console = bytes;
+    } in p) (append-nil j.console)
+    ∙ ap (λ (w : World). let p : KernelPart = record {
+      harts = slice_set j.harts number told.answer.hart;
+      ram = with_shown c (ram_of w);
+      disk = told.answer.disk;
+      console = j.console;
+    } in p) (sym now) in (
+      sym part ∙ ap made (sym all),
+      ap (λ (ram : List (List ℕ)). has_halted (plain_told number (record k { ram = ram })).answer.ending) all
+          ∙ ap has_halted ends,
+    )
+
+refused_extends : (schedule : List ℕ) (n : ℕ) (j : Joint) (number : ℕ) (s : AfterSettling) (ctx reply : ℕ)
+    (v : Violation) → hart_behind schedule n ≡ number → (hart_in j number).inside ≡ None →
+    IsRefused j number s ctx reply →
+    let told = kernel_step (hart_in j number) j.disk (Flat s.memory.ram) in
+    let after : Joint = record j {
+      harts = slice_set j.harts number told.answer.hart;
+      disk = told.answer.disk;
+      memory = record s.memory { ram = ram_of told.world };
+    } in
+    Extends schedule n (kernel_part j)
+    (record (quiet after (cipher_items s.ciphers ++ [])) { violation = Some v })
+refused_extends schedule n j number s ctx reply v same outside r c d stops frames owed =
+    let k : KernelPart = kernel_part j in
+    let h = hart_in j number in
+    let told = kernel_step h j.disk (Flat s.memory.ram) in
+    let p = refused_part j number s ctx reply c r owed in
+    let now = resume_keeps h j.disk s.memory.ram (ap is_resume r.ends) in
+    let count : length k.ram ≡ length (ram_of told.world) =
+    sym (ap (λ (w : World). length (ram_of w)) now ∙ ap length r.shown.ram ∙ length-with_shown s.ciphers k.ram) in
+    let all : AreFrames k.ram (s.ciphers ++ c) =
+    frames-append k.ram s.ciphers c r.shown.frames (frames_stay (ram_of told.world) k.ram c count frames) in
+    let items : (cipher_items s.ciphers ++ []) ++ (cipher_items c ++ item.Ended d ∷ [])
+    ≡ cipher_items (s.ciphers ++ c) ++ item.Ended d ∷ [] =
+    ap (λ (l : List Item). l ++ (cipher_items c ++ item.Ended d ∷ [])) (append-nil (cipher_items s.ciphers))
+    ∙ sym (append_assoc (cipher_items s.ciphers) (cipher_items c) (item.Ended d ∷ []))
+    ∙ ap (λ (l : List Item). l ++ item.Ended d ∷ [])
+    (sym (map-append (λ (x : ℕ × List ℕ). item.Cipher x.0 x.1) s.ciphers c)) in
+    told_as schedule n k (cipher_items (s.ciphers ++ c) ++ item.Ended d ∷ []) _ _ _ stops items p.0
+    (outside_for schedule n k (s.ciphers ++ c) (item.Ended d ∷ []) stops number same outside all (refl, tt)
+    (λ goes. p.1))
+
+ends_extends : (schedule : List ℕ) (n : ℕ) (j : Joint) (number : ℕ) (s : AfterSettling) (e : Kernel) →
+    hart_behind schedule n ≡ number → (hart_in j number).inside ≡ None → ShownBy j.memory s.ciphers s.memory →
+    find (is_owed s.memory) (touched (hart_in j number) s.memory.ram j.disk) ≡ None →
+    let told = kernel_step (hart_in j number) j.disk (Flat s.memory.ram) in
+    told.answer.ending ≡ e →
+    let after : Joint = record j {
+      harts = slice_set j.harts number told.answer.hart;
+      disk = told.answer.disk;
+      memory = record s.memory { ram = ram_of told.world };
+    } in
+    IsSteady after →
+    let t : Turn = outside_ended after number (cipher_items s.ciphers) e in
+    (v : Violation) → t.violation ≡ Some v → Extends schedule n (kernel_part j) t
+unfolding outside_ended
+ends_extends schedule n j number s Stay same outside shown paid is steady v met = let clash : None ≡ Some v = met in absurd cc
+ends_extends schedule n j number s (Put b) same outside shown paid is steady v met = let clash : None ≡ Some v = met in absurd cc
+ends_extends schedule n j number s (Halt value) same outside shown paid is steady v met = let clash : None ≡ Some v = met in absurd cc
+ends_extends schedule n j number s (Resume ctx reply) same outside shown paid is steady v met =
+    let told = kernel_step (hart_in j number) j.disk (Flat s.memory.ram) in
+    let after : Joint = record j {
+      harts = slice_set j.harts number told.answer.hart;
+      disk = told.answer.disk;
+      memory = record s.memory { ram = ram_of told.world };
+    } in
+    let r : AfterResume = resume after number (satp_of (hart_in after number).csrs) ctx reply in
+    let u : IsUnseen after r = unseen after number (satp_of (hart_in after number).csrs) ctx reply steady in
+    subst (λ (x : AfterResume). Extends schedule n (kernel_part j)
+    (record (quiet x.joint (cipher_items s.ciphers ++ x.items)) { violation = x.violation })) (sym (u.refused v met))
+    (refused_extends schedule n j number s ctx reply v same outside
+    (record { paid = paid; shown = shown; ends = is }))
+
 -- the step, by the settling ahead of it
 outside_by : (schedule : List ℕ) (n : ℕ) (j : Joint) (number : ℕ) (s : AfterSettling) →
     hart_behind schedule n ≡ number →
     IsSteady j → (hart_in j number).inside ≡ None → ShownBy j.memory s.ciphers s.memory →
+    find (is_owed s.memory) (touched (hart_in j number) s.memory.ram j.disk) ≡ None →
     TurnIsAlone schedule n j
     (after_outside j number (made_after (hart_in j number) j.disk (cloak_outside j.memory (hart_in j number)) s))
 unfolding after_outside made_after
-outside_by schedule n j number s same steady outside shown =
+outside_by schedule n j number s same steady outside shown paid =
     let h = hart_in j number in
     let k : KernelPart = kernel_part j in
     let told = kernel_step h j.disk (Flat s.memory.ram) in
@@ -197,6 +364,8 @@ outside_by schedule n j number s same steady outside shown =
       console = j.console;
       memory = record s.memory { ram = ram_of told.world };
       domains = j.domains;
+      ended = j.ended;
+      refused = j.refused;
     } in
     let items : List Item = cipher_items s.ciphers in
     let count = (writes_touched_alone h j.disk s.memory.ram).count in
@@ -213,6 +382,7 @@ outside_by schedule n j number s same steady outside shown =
       items = subst AreOfStep (sym e.written)
           (of_step-append items e.others (ciphers_of_step s.ciphers) (inward_of_step e.others e.inward));
       steady = e.steady;
+      extends = λ v met. ends_extends schedule n j number s told.answer.ending same outside shown paid refl steady' v met;
     }
 
 outside_turn : (schedule : List ℕ) (n : ℕ) (j : Joint) (number : ℕ) → hart_behind schedule n ≡ number → IsSteady j →
@@ -221,7 +391,7 @@ unfolding outside_step settled_step
 outside_turn schedule n j number same steady outside =
     let h = hart_in j number in
     outside_by schedule n j number (settle_touched h j.disk j.memory) same steady outside
-    (touched_shown h j.disk j.memory steady.places)
+    (touched_shown h j.disk j.memory steady.places) (settles_all h j.disk j.memory)
 
 -- A hart inside.
 
@@ -251,6 +421,33 @@ started_outside : (started 0 0).inside ≡ None
 unfolding started
 started_outside = refl
 
+stays_on : (schedule : List ℕ) (n : ℕ) (j j' : Joint) (number ctx : ℕ) (items : List Item) (t : Turn) →
+    IsInside schedule n j number ctx → IsReached j j' items → t.items ≡ items →
+    t.joint ≡ with_hart number (ticked (hart_in j number)) j' → Extends schedule n (kernel_part j) t
+stays_on schedule n j j' number ctx items t inside reached written joint c d stops frames owed =
+    let k : KernelPart = kernel_part j in
+    let h = ticked (hart_in j number) in
+    let more : List Item = cipher_items c ++ item.Ended d ∷ [] in
+    let ram : t.joint.memory.ram ≡ with_items items k.ram =
+    ap (λ (x : Joint). x.memory.ram) joint ∙ ap (λ (p : KernelPart). p.ram) reached.part in
+    let part : kernel_part t.joint ≡ after_inside number h items k =
+    ap (λ (x : Joint). kernel_part x) joint ∙ ap (with_kernel_hart number h) reached.part in
+    let shown : with_shown c (with_items items k.ram) ≡ with_items (items ++ more) k.ram =
+    sym (with_items-append items more k.ram ∙ with_items-append (cipher_items c) (item.Ended d ∷ []) (with_items items k.ram)
+    ∙ with_ciphers c (with_items items k.ram)) in
+    let count : length k.ram ≡ length t.joint.memory.ram = sym (ap length ram ∙ length-with_items items k.ram) in
+    let within : AreWithin k.ram (items ++ more) =
+    within-append k.ram items more reached.within
+    (within-append k.ram (cipher_items c) (item.Ended d ∷ [])
+    (ciphers_within k.ram c (frames_stay t.joint.memory.ram k.ram c count frames)) (refl, tt)) in
+    let step = subst (λ (x : ℕ). (kernel_hart k x).inside ≡ Some ctx →
+    KernelStepIsAlone schedule n k (items ++ more) (after_inside x (ticked_hart x k) (items ++ more) k) stops) inside.turn
+    (λ in'. staying_step_is_alone schedule n ctx k (items ++ more) stops in' within) inside.inside in
+    told_as schedule n k (items ++ more) (t.items ++ more) _ (shown_part c (kernel_part t.joint)) stops
+    (ap (λ (l : List Item). l ++ more) written)
+    (ap (shown_part c) part
+    ∙ ap (λ (x : List (List ℕ)). let p : KernelPart = record (with_kernel_hart number h k) { ram = x } in p) shown) step
+
 staying : (schedule : List ℕ) (n : ℕ) (j j' : Joint) (number ctx : ℕ) (items : List Item) (t : Turn) →
     IsInside schedule n j number ctx → IsReached j j' items → t.items ≡ items →
     t.joint ≡ with_hart number (ticked (hart_in j number)) j' → TurnIsAlone schedule n j t
@@ -270,12 +467,13 @@ staying schedule n j j' number ctx items t inside reached written joint =
         places = reached.steady.places;
         programs = reached.steady.programs;
       });
+      extends = λ v met. stays_on schedule n j j' number ctx items t inside reached written joint;
     }
 
 leaving : (schedule : List ℕ) (n : ℕ) (j j' : Joint) (number ctx : ℕ) (items : List Item) (s : Shown) (t : Turn) →
     IsInside schedule n j number ctx → IsReached j j' items → s.ctx ≡ ctx → t.items ≡ items ++ item.Leave s ∷ [] →
-    t.joint ≡ with_hart number (leave (ticked (hart_in j number)) s) j' → TurnIsAlone schedule n j t
-leaving schedule n j j' number ctx items s t inside reached same written joint =
+    t.joint ≡ with_hart number (leave (ticked (hart_in j number)) s) j' → t.violation ≡ None → TurnIsAlone schedule n j t
+leaving schedule n j j' number ctx items s t inside reached same written joint none =
     let k : KernelPart = kernel_part j in
     let h = leave (ticked (hart_in j number)) s in
     let stops = is_some (stop_of t) in
@@ -295,6 +493,7 @@ leaving schedule n j j' number ctx items s t inside reached same written joint =
         places = reached.steady.places;
         programs = reached.steady.programs;
       });
+      extends = λ v met. let clash : None ≡ Some v = sym none ∙ met in absurd cc;
     }
 
 -- A program's step.
@@ -312,7 +511,7 @@ domain_turn schedule n j j' number ctx d w (went.Remapped space) items inside re
     staying schedule n j j' number ctx items _ inside reached written refl
 domain_turn schedule n j j' number ctx d w (went.Leave s) items inside reached written shows =
     leaving schedule n j j' number ctx items s _ inside reached shows
-    (ap (λ (l : List Item). l ++ item.Leave s ∷ []) written) refl
+    (ap (λ (l : List Item). l ++ item.Leave s ∷ []) written) refl refl
 domain_turn schedule n j j' number ctx d w (went.SpaceGone space s) items inside reached written shows =
     leaving schedule n j _ number ctx items s _ inside
     (record {
@@ -320,7 +519,7 @@ domain_turn schedule n j j' number ctx d w (went.SpaceGone space s) items inside
       part = reached.part;
       steady = record { places = reached.steady.places; programs = reached.steady.programs };
     })
-    shows (ap (λ (l : List Item). l ++ item.Leave s ∷ []) written) refl
+    shows (ap (λ (l : List Item). l ++ item.Leave s ∷ []) written) refl refl
 
 memory_ram : (w : World) (m : CloakedMemory) → is_joint w ≡ true → (memory_of w m).ram ≡ ram_of w
 memory_ram (Flat ram) m form = refl
@@ -371,7 +570,7 @@ interrupt_turn schedule n j j' number ctx went.Stopped items inside reached show
 interrupt_turn schedule n j j' number ctx (went.Remapped space) items inside reached shows =
     staying schedule n j j' number ctx items _ inside reached refl refl
 interrupt_turn schedule n j j' number ctx (went.Leave s) items inside reached shows =
-    leaving schedule n j j' number ctx items s _ inside reached shows refl refl
+    leaving schedule n j j' number ctx items s _ inside reached shows refl refl refl
 interrupt_turn schedule n j j' number ctx (went.SpaceGone space s) items inside reached shows =
     staying schedule n j j' number ctx items _ inside reached refl refl
 
@@ -417,14 +616,29 @@ domain_of_turn schedule n false j number ctx was inside steady there =
     told_turn schedule n j number ctx (domain_of ctx) was c _ inside steady there refl refl account keeps.number
     (shows_own ctx was _ own keeps.shows)
 
+-- a hart leaves a context that does not run on it
+not_running_turn : (schedule : List ℕ) (n : ℕ) (j : Joint) (number ctx : ℕ) → IsInside schedule n j number ctx →
+    IsSteady j → TurnIsAlone schedule n j (left j number (ticked (hart_in j number)) [] (not_running ctx))
+not_running_turn schedule n j number ctx inside steady =
+    leaving schedule n j j number ctx [] (not_running ctx) _ inside (record { within = tt; part = refl; steady = steady })
+    refl refl refl refl
+
+running_turn : (schedule : List ℕ) (n : ℕ) (runs : Bool) (j : Joint) (number ctx : ℕ) (was : Domain) →
+    IsInside schedule n j number ctx → IsSteady j → slice_get j.domains (domain_of ctx) ≡ Some was →
+    TurnIsAlone schedule n j (by_running runs j number (ticked (hart_in j number)) ctx was)
+unfolding by_running
+running_turn schedule n false j number ctx was inside steady there =
+    not_running_turn schedule n j number ctx inside steady
+running_turn schedule n true j number ctx was inside steady there =
+    domain_of_turn schedule n _ j number ctx was inside steady there
+
 inside_turn : (schedule : List ℕ) (n : ℕ) (j : Joint) (number ctx : ℕ) (found : Option Domain) →
     IsInside schedule n j number ctx → IsSteady j → slice_get j.domains (domain_of ctx) ≡ found →
-    TurnIsAlone schedule n j (inside_step j number (ticked (hart_in j number)) (domain_of ctx) (slot_of ctx) found)
+    TurnIsAlone schedule n j (inside_step j number (ticked (hart_in j number)) ctx found)
 unfolding inside_step
-inside_turn schedule n j number ctx None inside steady there =
-    staying schedule n j j number ctx [] _ inside (record { within = tt; part = refl; steady = steady }) refl refl
+inside_turn schedule n j number ctx None inside steady there = not_running_turn schedule n j number ctx inside steady
 inside_turn schedule n j number ctx (Some was) inside steady there =
-    domain_of_turn schedule n _ j number ctx was inside steady there
+    running_turn schedule n _ j number ctx was inside steady there
 
 -- Every step.
 
@@ -436,9 +650,92 @@ turn_by schedule n j number None same steady is = outside_turn schedule n j numb
 turn_by schedule n j number (Some ctx) same steady is =
     inside_turn schedule n j number ctx _ (record { turn = same; inside = is }) steady refl
 
-pub turn_is_alone : (m : Moment) → IsSteady m.joint → TurnIsAlone m.schedule m.steps m.joint (joint_step m)
+-- The end of a domain behind a step.
+
+refused_alone : (schedule : List ℕ) (n : ℕ) (j : Joint) (t : Turn) → TurnIsAlone schedule n j t → (v : Violation) →
+    t.violation ≡ Some v → TurnIsAlone schedule n j (refuses t)
+refused_alone schedule n j t turn v met = record {
+  alone = turn.alone;
+  items = turn.items;
+  steady = record { places = turn.steady.places; programs = turn.steady.programs };
+  extends = λ v' met' c d stops frames owed. turn.extends v' met' c d stops frames owed;
+}
+
+-- a step that a domain's end follows, which nothing else may follow
+pub record EndedIsAlone (schedule : List ℕ) (n : ℕ) (j : Joint) (t : Turn) : Type 0 where
+  pub alone : KernelStepIsAlone schedule n (kernel_part j) t.items (kernel_part t.joint) (is_some (stop_of t))
+  pub items : AreOfStep t.items
+  pub steady : IsSteady t.joint
+
+whole : (schedule : List ℕ) (n : ℕ) (j : Joint) (t : Turn) → TurnIsAlone schedule n j t → EndedIsAlone schedule n j t
+whole schedule n j t turn = record { alone = turn.alone; items = turn.items; steady = turn.steady }
+
+end_alone : (schedule : List ℕ) (n : ℕ) (j : Joint) (t : Turn) (d : ℕ) (domain : Domain) (v : Violation) →
+    TurnIsAlone schedule n j t → t.violation ≡ Some v → slice_get t.joint.domains d ≡ Some domain →
+    EndedIsAlone schedule n j (end_domain d domain v t)
+unfolding end_domain ended_domain
+end_alone schedule n j t d domain v turn met there =
+    let e : EndsIn (cloak_for t.joint.memory d) (ask_end d (Cloaked (cloak_for t.joint.memory d))).world =
+    end_shows d t.joint.memory turn.steady.places in
+    let ended : World → Turn = λ w. record t {
+      joint = record (with_domain d (ended_domain domain) t.joint) {
+        memory = without_domain_roots d (memory_of w t.joint.memory);
+        ended = slice_set t.joint.ended d (Some v);
+      };
+      items = t.items ++ (items_of w ++ item.Ended d ∷ []);
+    } in
+    subst (λ (w : World). EndedIsAlone schedule n j (ended w)) (sym e.is)
+    (let more : List Item = cipher_items e.shows.ciphers ++ item.Ended d ∷ [] in
+    let stops = is_some (stop_of (ended (Cloaked e.after))) in
+    record {
+      alone = told_as schedule n (kernel_part j) (t.items ++ more) _ _ (kernel_part (ended (Cloaked e.after)).joint) stops
+          (ap (λ (l : List Item). t.items ++ (l ++ item.Ended d ∷ [])) e.shows.items)
+          (ap (λ (ram : List (List ℕ)). let p : KernelPart = record (kernel_part t.joint) { ram = ram } in p) e.shows.shown.ram)
+          (turn.extends v met e.shows.ciphers d stops e.shows.shown.frames e.shows.owed);
+      items = of_step-append t.items (e.after.items ++ item.Ended d ∷ []) turn.items
+          (subst (λ (l : List Item). AreOfStep (l ++ item.Ended d ∷ [])) (sym e.shows.items)
+          (of_step-append (cipher_items e.shows.ciphers) (item.Ended d ∷ []) (ciphers_of_step e.shows.ciphers) (refl, tt)));
+      steady = record {
+        places = e.shows.shown.places;
+        programs = set_number d t.joint.domains domain (ended_domain domain) turn.steady.programs there refl;
+      };
+    })
+
+ends_once_alone : (schedule : List ℕ) (n : ℕ) (j : Joint) (t : Turn) (ended : Bool) (domain : Domain) (d : ℕ)
+    (v : Violation) → TurnIsAlone schedule n j t → t.violation ≡ Some v → slice_get t.joint.domains d ≡ Some domain →
+    EndedIsAlone schedule n j (ends_once ended d domain v t)
+unfolding ends_once
+ends_once_alone schedule n j t true domain d v turn met there =
+    whole schedule n j (refuses t) (refused_alone schedule n j t turn v met)
+ends_once_alone schedule n j t false domain d v turn met there = end_alone schedule n j t d domain v turn met there
+
+resumed_alone : (schedule : List ℕ) (n : ℕ) (j : Joint) (t : Turn) (found : Option Domain) (d : ℕ) (v : Violation) →
+    TurnIsAlone schedule n j t → t.violation ≡ Some v → slice_get t.joint.domains d ≡ found →
+    EndedIsAlone schedule n j (ends_resumed found d v t)
+unfolding ends_resumed
+resumed_alone schedule n j t None d v turn met there =
+    whole schedule n j (refuses t) (refused_alone schedule n j t turn v met)
+resumed_alone schedule n j t (Some domain) d v turn met there =
+    ends_once_alone schedule n j t domain.control.ended domain d v turn met there
+
+asked_alone : (schedule : List ℕ) (n : ℕ) (j : Joint) (t : Turn) (found : Option Domain) (d : ℕ) (v : Violation) →
+    TurnIsAlone schedule n j t → t.violation ≡ Some v → slice_get t.joint.domains d ≡ found →
+    EndedIsAlone schedule n j (ends_asked found d v t)
+unfolding ends_asked
+asked_alone schedule n j t None d v turn met there = whole schedule n j t turn
+asked_alone schedule n j t (Some domain) d v turn met there = end_alone schedule n j t d domain v turn met there
+
+answers_alone : (schedule : List ℕ) (n : ℕ) (j : Joint) (t : Turn) (inside : Option ℕ) (o : Option Violation) →
+    TurnIsAlone schedule n j t → t.violation ≡ o → EndedIsAlone schedule n j (answers_violation inside o t)
+unfolding answers_violation
+answers_alone schedule n j t inside None turn met = whole schedule n j t turn
+answers_alone schedule n j t None (Some v) turn met = resumed_alone schedule n j t _ (domain_met v) v turn met refl
+answers_alone schedule n j t (Some ctx) (Some v) turn met = asked_alone schedule n j t _ (domain_of ctx) v turn met refl
+
+pub turn_is_alone : (m : Moment) → IsSteady m.joint → EndedIsAlone m.schedule m.steps m.joint (joint_step m)
 unfolding joint_step
 turn_is_alone m steady =
     let before : suc m.steps - 1 ≡ m.steps = omega arith in
-    turn_by m.schedule m.steps m.joint (next_hart m) _
-    (ap (λ (n : ℕ). slice_index m.schedule (n % length m.schedule)) before) steady refl
+    answers_alone m.schedule m.steps m.joint (step_before_end m) (hart_in m.joint (next_hart m)).inside _
+    (turn_by m.schedule m.steps m.joint (next_hart m) _
+    (ap (λ (n : ℕ). slice_index m.schedule (n % length m.schedule)) before) steady refl) refl

@@ -14,7 +14,7 @@ use Rattle.cloak_model.specs.Resources.{Resources, resource_at, drop_space}
 use Rattle.latest_store.specs.Moves.{Move, Makes, Stores, Copies, Zeros, Drops, Loads, covers, latest, with_moves}
 use Rattle.latest_store.specs.Deeds.{made_moves}
 use Rattle.latest_store.proofs.Moved.{IsSound, AreSound}
-use Rattle.latest_store.proofs.Numbers.{MapsHeld, Follows, HeldPlace, dropped_free, drop_maps, Enough, fork_maps, fork_free, fork_apart}
+use Rattle.latest_store.proofs.Numbers.{MapsHeld, HasFew, Follows, HeldPlace, dropped_free, drop_maps, drop_few, Enough, fork_maps, fork_few, fork_free, fork_apart}
 
 -- the pages of a domain under its free numbers are zeros
 abbrev pub FreeZero : List Move → ℕ → Resources → Type 0
@@ -24,6 +24,7 @@ FreeZero history d r =
 -- these moves leave them so, where regions are of resources that are there, and leave that so
 pub record Fits (d : ℕ) (r : Resources) (moves : List Move) (r' : Resources) : Type 0 where
   pub maps : MapsHeld r → MapsHeld r'
+  pub few : HasFew r → HasFew r'
   pub free : MapsHeld r → (history : List Move) → FreeZero history d r → FreeZero (with_moves moves history) d r'
 
 pub fits_none : (d : ℕ) (r : Resources) (moves : List Move) (r' : Resources) → moves ≡ [] → Follows r r' →
@@ -31,12 +32,13 @@ pub fits_none : (d : ℕ) (r : Resources) (moves : List Move) (r' : Resources) �
 fits_none d r moves r' none follows =
     subst (λ (ms : List Move). Fits d r ms r') (sym none) (record {
       maps = follows.maps;
+      few = follows.few;
       free = λ maps history zero q own free at. zero q own (follows.free q.resource free) at;
     })
 
 pub fits_load : (d : ℕ) (r : Resources) (q : PageId) (address width : ℕ) → Fits d r (Loads q address width ∷ []) r
 unfolding latest
-fits_load d r q address width = record { maps = λ maps. maps; free = λ maps history zero. zero }
+fits_load d r q address width = record { maps = λ maps. maps; few = λ few. few; free = λ maps history zero. zero }
 
 -- a store to another page
 other_store : (p q : PageId) (from width value at : ℕ) (history : List Move) → q ≢ p →
@@ -50,6 +52,7 @@ pub fits_store : (d : ℕ) (r : Resources) (p : PageId) (from width value : ℕ)
     Fits d r (Stores p from width value ∷ []) r
 fits_store d r p from width value held = record {
   maps = λ maps. maps;
+  few = λ few. few;
   free = λ maps history zero q own free at.
       other_store p q from width value at history (λ same.
       false≢true (ap is_some (sym free) ∙ ap (λ (x : PageId). is_some (resource_at r x.resource)) same ∙ held maps))
@@ -72,6 +75,7 @@ pub fits_fork : (d space new : ℕ) (r : Resources) → Enough space new r →
     Fits d r (map (λ (copy : ℕ × ℕ). Copies d copy.0 copy.1) (copies space r)) (forked_resources space new r)
 fits_fork d space new r enough = record {
   maps = fork_maps space new r enough;
+  few = fork_few space new r;
   free = λ maps history zero q own free at.
       copies_latest d (copies space r) history q at (fork_apart space new r q.resource free)
       ∙ zero q own (fork_free space new r q.resource free) at;
@@ -89,11 +93,12 @@ unfolding latest
 fits_make d r (Err fault) r' follows = fits_none d r [] r' refl follows
 fits_make d r (Ok n) r' follows = record {
   maps = follows.maps;
+  few = follows.few;
   free = λ maps history zero q own free at.
       either_zero (is_of d n q) (latest history q at) (zero q own (follows.free q.resource free) at);
 }
 
-drops_zero : (d : ℕ) (list : List ℕ) (history : List Move) (q : PageId) (at : ℕ) → q.domain ≡ d →
+pub drops_zero : (d : ℕ) (list : List ℕ) (history : List Move) (q : PageId) (at : ℕ) → q.domain ≡ d →
     ((latest history q at ≡ 0) ⊎ (list_any (λ m. nat_eq m q.resource) list ≡ true)) →
     latest (with_moves (map (λ (n : ℕ). Drops d n) list) history) q at ≡ 0
 unfolding latest
@@ -114,6 +119,7 @@ pub fits_drop : (d space : ℕ) (r : Resources) →
     Fits d r (map (λ (n : ℕ). Drops d n) (private_numbers space r)) (drop_space space r)
 fits_drop d space r = record {
   maps = drop_maps space r;
+  few = drop_few space r;
   free = λ maps history zero q own free at.
       drops_zero d (private_numbers space r) history q at own
       (elim (dropped_free space r q.resource free) [

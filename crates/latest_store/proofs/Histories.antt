@@ -1,10 +1,9 @@
 -- A run from its opening on, and the law.
-use Rattle.std.proofs.Common.{◌≡◌, ◌≢◌, ◌∙◌, ℕ, zero, suc, ◌+◌, ◌*◌, ◌%◌, ◌<◌, ◌≤◌, cond, List, [], ◌∷◌, ◌++◌, length, take, drop, slice_get, slice_index, Option, Some, None, Ok, refl, sym, ap, subst, arith, length-drop, take_all, All, Bool, true, false}
-use Rattle.std.specs.Prelude.{option_and_then, ◌==◌}
+use Rattle.std.proofs.Common.{◌≡◌, ◌≢◌, ◌∙◌, ℕ, zero, suc, ◌+◌, ◌-◌, ◌*◌, ◌%◌, true, ◌<◌, ◌≤◌, cond, List, [], ◌∷◌, length, take, drop, slice_get, slice_index, Option, Some, None, Ok, refl, sym, ap, subst, arith, length-drop, take_all, All, Bool, false}
+use Rattle.std.specs.Prelude.{option_and_then}
 use Rattle.std.proofs.lemmas.List.{length-take}
 use Rattle.std.proofs.lemmas.List.Elements.{All-head, All-tail}
 use Rattle.cloak_base.specs.Random.{Random, next_draw}
-use Rattle.std.proofs.lemmas.Bool.{false≢true, eq-eqb}
 use Rattle.cloak_base.proofs.Pages.{same_page-other}
 use Rattle.cloak_base.specs.Pages.{with_page}
 use Rattle.cloak_base.specs.declared.names.PageId.{PageId}
@@ -13,7 +12,7 @@ use Rattle.cloak_model.specs.declared.image.Program.{Program}
 use Rattle.cloak_model.specs.Bundle.{IsInGrammar, IsProgramIn}
 use Rattle.cloak_model.specs.Cloaking.{CloakedMemory}
 use Rattle.cloak_model.specs.DomainState.{Domain, started_control, started_domain}
-use Rattle.cloak_model.specs.Joint.{Moment, Turn, hart_in}
+use Rattle.cloak_model.specs.Joint.{Moment, Turn, hart_in, joint_step}
 use Rattle.cloak_model.specs.Ledger.{vector_of}
 use Rattle.cloak_model.specs.Opening.{program_page, place_pages, place_programs, opening_items, started_domains, started_memory, started_joint, Opened, opened_with, opened_by, opening}
 use Rattle.cloak_model.specs.PageMoves.{place, place_with}
@@ -22,18 +21,19 @@ use Rattle.cloak_model.specs.Resources.{Resources, resource_at, started_resource
 use Rattle.cloak_model.specs.Run.{Run, turns_from, joint_run, joint_after, first_moment, run_of, closing}
 use Rattle.kernel_isolation.specs.Isolation.{joint_until}
 use Rattle.kernel_isolation.proofs.Isolated.{until_read}
+use Rattle.kernel_isolation.proofs.Numbers.{AreFrom}
+use Rattle.resource_map.proofs.Lists.{get_or-replicate_none}
 use Rattle.store_law.specs.Ciphers.{items_of_turn}
-use Rattle.store_law.specs.OwnPages.{context_of_step, program_of_step}
+use Rattle.store_law.specs.OwnPages.{context_of_step, program_of_step, ends_in}
 use Rattle.store_law.proofs.Ciphers.{of_opened}
 use Rattle.store_law.proofs.OwnPages.{moment_behind, step_is, steps_keep_pages}
-use Rattle.latest_store.specs.Moves.{Move, Makes, latest, loads_of, with_moves}
-use Rattle.latest_store.specs.Deeds.{step_moves}
-use Rattle.latest_store.specs.LatestStore.{made_pages, made_programs, history_until, IsLatest, RunsGiveLatest}
+use Rattle.latest_store.specs.Moves.{Move, Makes, latest, loads_of}
+use Rattle.latest_store.specs.LatestStore.{made_pages, made_programs, history_until, StaysOver, RunsGiveLatest}
 use Rattle.latest_store.proofs.Values.{zero_page_at, zero_page_whole}
-use Rattle.latest_store.proofs.Moved.{Agrees, AreSound, given_by, move_agrees, moves_agree, moves_load}
-use Rattle.latest_store.proofs.Numbers.{MapsHeld, started_maps, started_free}
-use Rattle.latest_store.proofs.Fits.{FreeZero, Fits, others_latest}
-use Rattle.latest_store.proofs.Turned.{FreeInAll, TurnDid, joint_did}
+use Rattle.latest_store.proofs.Moved.{Agrees, move_agrees}
+use Rattle.latest_store.proofs.Numbers.{HasFew, MapsHeld, no_resources, started_few, started_maps, started_free}
+use Rattle.latest_store.proofs.Held.{Holds, HoldsAfter, step_holds}
+use Rattle.latest_store.proofs.Over.{IsOver, OverFrom, GoesOver, step_over, step_goes_over}
 
 -- The opening.
 
@@ -158,14 +158,6 @@ empty_latest : (q : PageId) (at : ℕ) → latest [] q at ≡ 0
 unfolding latest
 empty_latest q at = refl
 
--- The joint machine has the pages and the loads of a history, and the pages under free numbers are zeros in it.
-record Holds (history : List Move) (j : Joint) : Type 0 where
-  pub agrees : Agrees history j.memory.plain
-  pub loads : (d : ℕ) (program : Domain) → slice_get j.domains d ≡ Some program →
-      program.loads ≡ loads_of d history
-  pub maps : (d : ℕ) (program : Domain) → slice_get j.domains d ≡ Some program → MapsHeld program.control.resources
-  pub free : FreeInAll history j
-
 empty_loads : (d : ℕ) → loads_of d [] ≡ []
 unfolding loads_of
 empty_loads d = refl
@@ -179,6 +171,8 @@ started_holds b m agrees = record {
       no_loads 0 d b.programs program is ∙ sym (programs_loads 0 d b.programs [] ∙ empty_loads d);
   maps = λ d program is.
       let s = starts 0 d b.programs program is in subst MapsHeld (sym s.is) (started_maps s.pages s.base);
+  few = λ d program is.
+      let s = starts 0 d b.programs program is in subst HasFew (sym s.is) (started_few s.pages s.base);
   free = λ d program is q own free at.
       let s = starts 0 d b.programs program is in
       programs_latest 0 b.programs [] q at
@@ -207,41 +201,7 @@ opened_holds_by b (Some draw) o fits opens = opened_holds_with b draw.0 draw.1 _
 
 -- The steps.
 
-given_either : (b : Bool) (moves : List Move) (plain : PageId → List ℕ) →
-    given_by (cond b moves []) plain ≡ cond b (given_by moves plain) []
-given_either true moves plain = refl
-given_either false moves plain = refl
-
--- what these moves, of one program, leave zeros
-next_free : (b : Bool) (program d : ℕ) (moves history : List Move) (r r' : Resources) → (program == d) ≡ b →
-    AreSound program history moves → Fits d r (cond b moves []) r' → MapsHeld r → FreeZero history d r →
-    FreeZero (with_moves moves history) d r'
-next_free true program d moves history r r' is sound fits maps zeros = fits.free maps history zeros
-next_free false program d moves history r r' is sound fits maps zeros = λ q own free at.
-    others_latest program moves history q at sound (λ same.
-    false≢true (sym is ∙ eq-eqb program d (sym same ∙ own)))
-    ∙ fits.free maps history zeros q own free at
-
-next_holds : (history moves : List Move) (j : Joint) (t : Turn) → TurnDid history moves j t → Holds history j →
-    Holds (with_moves moves history) t.joint
-next_holds history moves j t did holds = record {
-  agrees = λ q. subst (IsLatest (with_moves moves history) q) (sym (did.pages q))
-      (moves_agree did.program moves history j.memory.plain did.sound holds.agrees q);
-  loads = λ d program is.
-      let g = did.programs d program is in
-      g.loads
-      ∙ ap (λ (l : List (ℕ × ℕ)). l ++ given_by (cond (did.program == d) moves []) j.memory.plain)
-      (holds.loads d g.was g.there)
-      ∙ ap (λ (l : List (ℕ × ℕ)). loads_of d history ++ l) (given_either (did.program == d) moves j.memory.plain)
-      ∙ sym (moves_load did.program d moves history j.memory.plain did.sound holds.agrees);
-  maps = λ d program is. let g = did.programs d program is in g.fits.maps (holds.maps d g.was g.there);
-  free = λ d program is.
-      let g = did.programs d program is in
-      next_free (did.program == d) did.program d moves history g.was.control.resources program.control.resources refl
-      did.sound g.fits (holds.maps d g.was g.there) (holds.free d g.was g.there);
-}
-
--- the step behind n steps, where there is one
+-- the step after n steps, if there is one
 record HasStep (turns : List Turn) (n : ℕ) : Type 0 where
   pub turn : Turn
   pub is : slice_get turns n ≡ Some turn
@@ -275,20 +235,18 @@ run_holds b stream budget o opens fits (suc n) low =
     let m : Moment = moment_behind (first_moment b o.joint) n turns in
     let steady = (until_read b stream budget o opens n low').steady in
     let earlier : List Move = history_until b n r in
-    let did : TurnDid earlier (step_moves earlier m.joint.domains
-    (hart_in m.joint (slice_index b.kernel.schedule (m.steps % length b.kernel.schedule))).inside t.items) m.joint t =
-    subst (λ (x : Turn). TurnDid earlier (step_moves earlier m.joint.domains
-    (hart_in m.joint (slice_index b.kernel.schedule (m.steps % length b.kernel.schedule))).inside x.items) m.joint x)
-    (step_is budget n (first_moment b o.joint) t step.is)
-    (joint_did earlier m steady.programs holds.free holds.agrees) in
+    let inside : ℕ → Option ℕ = λ k.
+    (hart_in m.joint (slice_index b.kernel.schedule (k % length b.kernel.schedule))).inside in
+    let after : HoldsAfter earlier m.joint (inside m.steps) t.items t.joint =
+    subst (λ (x : Turn). HoldsAfter earlier m.joint (inside m.steps) x.items x.joint)
+    (step_is budget n (first_moment b o.joint) t step.is) (step_holds earlier m steady.programs holds) in
     let number : m.steps ≡ n = omega arith in
-    let did' = subst (λ (k : ℕ). TurnDid earlier (step_moves earlier m.joint.domains
-    (hart_in m.joint (slice_index b.kernel.schedule (k % length b.kernel.schedule))).inside t.items) m.joint t)
-    number did in
-    let did'' = subst (λ (found : Option Turn). TurnDid earlier (step_moves earlier m.joint.domains
-    (context_of_step b r n) (items_of_turn found)) m.joint t) (sym step.is) did' in
-    subst (Holds (history_until b (suc n) r)) (sym (after_step o.joint turns n t step.is))
-    (next_holds earlier _ m.joint t did'' holds)
+    let after' : HoldsAfter earlier m.joint (inside n) t.items t.joint =
+    subst (λ (k : ℕ). HoldsAfter earlier m.joint (inside k) t.items t.joint) number after in
+    let after'' : HoldsAfter earlier m.joint (context_of_step b r n) (items_of_turn (slice_get r.turns n)) t.joint =
+    subst (λ (found : Option Turn). HoldsAfter earlier m.joint (context_of_step b r n) (items_of_turn found) t.joint)
+    (sym step.is) after' in
+    subst (Holds (history_until b (suc n) r)) (sym (after_step o.joint turns n t step.is)) after''
 
 -- The law.
 
@@ -303,14 +261,16 @@ closed_domains b budget o =
     let turns : List Turn = turns_from budget (first_moment b o.joint) in
     ap (λ (ts : List Turn). (joint_after o.joint ts).domains) (sym (take_all (length turns) turns (omega arith)))
 
--- a step that is not the program's own
+-- a step that is not the program's own, in which it does not end
 others_stay : (b : Bundle) (stream : Random) (budget : ℕ) (r : Run) → joint_run b stream budget ≡ Ok r →
     HoldsAlways b r → (n : ℕ) → suc n ≤ length r.turns → (q : PageId) → program_of_step b r n ≢ Some q.domain →
-    (at : ℕ) → latest (history_until b (suc n) r) q at ≡ latest (history_until b n r) q at
-others_stay b stream budget r runs holds n low q other at =
+    ends_in q.domain (items_of_turn (slice_get r.turns n)) ≡ false → (at : ℕ) →
+    latest (history_until b (suc n) r) q at ≡ latest (history_until b n r) q at
+others_stay b stream budget r runs holds n low q other gone at =
     let step = has_step r.turns n (omega (arith, low)) in
     let t = step.turn in
-    let kept = steps_keep_pages b stream budget r runs n t step.is q.domain other in
+    let kept = steps_keep_pages b stream budget r runs n t step.is q.domain other
+    (ap (λ (found : Option Turn). ends_in q.domain (items_of_turn found)) (sym step.is) ∙ gone) in
     let same : t.joint.memory.plain q ≡ (joint_until n r).memory.plain q =
     ap (λ (pages : ℕ → ℕ → List ℕ). pages q.resource q.page) kept in
     let now = (holds (suc n) low).agrees q in
@@ -318,6 +278,81 @@ others_stay b stream budget r runs holds n low q other at =
     sym (now.each at)
     ∙ ap (λ (j : Joint). slice_index (j.memory.plain q) at) (after_step r.opened.joint r.turns n t step.is)
     ∙ ap (λ (bytes : List ℕ). slice_index bytes at) same ∙ was.each at
+
+-- an ended domain
+
+-- the machine after n steps and one more
+after_next : (b : Bundle) (stream : Random) (budget : ℕ) (o : Opened) → opening b stream ≡ Ok o →
+    let r = run_of b budget o in
+    (n : ℕ) → suc n ≤ length r.turns → (P : Joint → Type 0) →
+    ((m : Moment) → m.joint ≡ joint_until n r → AreFrom 0 m.joint.domains →
+    slice_get r.turns n ≡ Some (joint_step m) → P (joint_step m).joint) →
+    P (joint_until (suc n) r)
+unfolding run_of
+after_next b stream budget o opens n low P next =
+    let r : Run = run_of b budget o in
+    let turns : List Turn = turns_from budget (first_moment b o.joint) in
+    let step = has_step turns n (omega (arith, low)) in
+    let m : Moment = moment_behind (first_moment b o.joint) n turns in
+    let same : joint_step m ≡ step.turn = step_is budget n (first_moment b o.joint) step.turn step.is in
+    let steady = (until_read b stream budget o opens n (omega (arith, low))).steady in
+    subst P (sym (after_step o.joint turns n step.turn step.is))
+    (subst (λ (t : Turn). P t.joint) same
+    (next m refl steady.programs (step.is ∙ ap (λ (t : Turn). Some t) (sym same))))
+
+run_goes_over : (b : Bundle) (stream : Random) (budget : ℕ) (o : Opened) → opening b stream ≡ Ok o →
+    let r = run_of b budget o in
+    (d n : ℕ) → suc n ≤ length r.turns → ends_in d (items_of_turn (slice_get r.turns n)) ≡ true →
+    GoesOver d (joint_until (suc n) r)
+run_goes_over b stream budget o opens d n low ends =
+    after_next b stream budget o opens n low (GoesOver d) (λ m at programs is.
+    step_goes_over d m programs (ap (λ (found : Option Turn). ends_in d (items_of_turn found)) (sym is) ∙ ends))
+
+run_stays_over : (b : Bundle) (stream : Random) (budget : ℕ) (o : Opened) → opening b stream ≡ Ok o →
+    let r = run_of b budget o in
+    (d : ℕ) (loads : List (ℕ × ℕ)) (n : ℕ) → IsOver d loads (joint_until n r) → (k : ℕ) → k + n ≤ length r.turns →
+    IsOver d loads (joint_until (k + n) r)
+run_stays_over b stream budget o opens d loads n over zero low =
+    let count : n ≡ 0 + n = omega arith in
+    subst (λ (k : ℕ). IsOver d loads (joint_until k (run_of b budget o))) count over
+run_stays_over b stream budget o opens d loads n over (suc k) low =
+    let before = run_stays_over b stream budget o opens d loads n over k (omega (arith, low)) in
+    let count : suc (k + n) ≡ suc k + n = omega arith in
+    subst (λ (k : ℕ). IsOver d loads (joint_until k (run_of b budget o))) count
+    (after_next b stream budget o opens (k + n) (omega (arith, low)) (IsOver d loads) (λ m at programs is.
+    step_over d loads m (subst (IsOver d loads) (sym at) before)))
+
+-- it is over at a later moment, too
+abbrev OverLater : Bundle → Run → Type 0
+OverLater b r = (n later : ℕ) → suc n ≤ later → later ≤ length r.turns → (d : ℕ) →
+    ends_in d (items_of_turn (slice_get r.turns n)) ≡ true → OverFrom d (joint_until (suc n) r) (joint_until later r)
+
+run_over : (b : Bundle) (stream : Random) (budget : ℕ) (o : Opened) → opening b stream ≡ Ok o →
+    OverLater b (run_of b budget o)
+run_over b stream budget o opens n later from low d ends =
+    let r : Run = run_of b budget o in
+    let first = run_goes_over b stream budget o opens d n (omega (arith, from, low)) ends in
+    let count : (later - suc n) + suc n ≡ later = omega (arith, from) in
+    record {
+      loads = first.loads;
+      first = first.over;
+      later = subst (λ (k : ℕ). IsOver d first.loads (joint_until k r)) count
+          (run_stays_over b stream budget o opens d first.loads (suc n) first.over (later - suc n)
+          (subst (λ (k : ℕ). k ≤ length r.turns) (sym count) low));
+    }
+
+no_number : (r : Resources) (n : ℕ) → r ≡ no_resources → resource_at r n ≡ None
+no_number r n same = ap (λ (x : Resources). resource_at x n) same ∙ get_or-replicate_none 16 n
+
+stays_over : (d : ℕ) (history later : List Move) (j j' : Joint) → OverFrom d j j' → Holds history j → Holds later j' →
+    StaysOver d history later
+stays_over d history later j j' over was now = record {
+  loads = sym (now.loads d over.later.program over.later.there) ∙ over.later.completed ∙ sym over.first.completed
+      ∙ was.loads d over.first.program over.first.there;
+  pages = λ q own at.
+      now.free d over.later.program over.later.there q own
+      (no_number over.later.program.control.resources q.resource over.later.resources) at;
+}
 
 pub runs_give_latest : RunsGiveLatest
 runs_give_latest b stream budget r fits runs =
@@ -327,6 +362,8 @@ runs_give_latest b stream budget r fits runs =
     let closed : r.closed.joint.domains ≡ (joint_until (length r.turns) r).domains =
     of_opened b budget (λ (x : Run). x.closed.joint.domains ≡ (joint_until (length x.turns) x).domains)
     (opening b stream) r runs (λ o opens. closed_domains b budget o) in
+    let over : OverLater b r =
+    of_opened b budget (OverLater b) (opening b stream) r runs (λ o opens. run_over b stream budget o opens) in
     record {
       loads = λ n low. (holds n low).loads;
       ends = λ d program is.
@@ -334,4 +371,8 @@ runs_give_latest b stream budget r fits runs =
           (subst (λ (domains : List Domain). slice_get domains d ≡ Some program) closed is);
       pages = λ n low. (holds n low).agrees;
       others = others_stay b stream budget r runs holds;
+      over = λ n later from low d ends.
+          stays_over d (history_until b (suc n) r) (history_until b later r) (joint_until (suc n) r)
+          (joint_until later r)
+          (over n later from low d ends) (holds (suc n) (omega (arith, from, low))) (holds later low);
     }

@@ -35,7 +35,7 @@ use Rattle.latest_store.proofs.Fits.{Fits, fits_none, fits_make, fits_fork, fits
 use Rattle.latest_store.proofs.Heard.{Heard, heard_asked, Did, untouched, quiet, if_fetched, if_granted}
 
 -- pages are rewritten by these moves, and nothing else
-record Makes (w v : World) (moves : List Move) : Type 0 where
+pub record Makes (w v : World) (moves : List Move) : Type 0 where
   pub form : is_cloaked v ≡ true
   pub items : items_of v ≡ items_of w
   pub pages : plain_of v ≡ moved_by moves (plain_of w)
@@ -43,7 +43,7 @@ record Makes (w v : World) (moves : List Move) : Type 0 where
 abbrev copy_moves : ℕ → List (ℕ × ℕ) → List Move
 copy_moves n list = map (λ (copy : ℕ × ℕ). Copies n copy.0 copy.1) list
 
-abbrev drop_moves : ℕ → List ℕ → List Move
+abbrev pub drop_moves : ℕ → List ℕ → List Move
 drop_moves n list = map (λ (resource : ℕ). Drops n resource) list
 
 copies_made : (n : ℕ) (list : List (ℕ × ℕ)) (w : World) → is_cloaked w ≡ true →
@@ -56,7 +56,7 @@ copies_made n (copy ∷ list) (Cloaked c) form =
     record { form = rest.form; items = rest.items; pages = rest.pages }
 copies_made n (copy ∷ list) (Alone h) form = absurd cc
 
-drops_made : (n : ℕ) (list : List ℕ) (w : World) → is_cloaked w ≡ true →
+pub drops_made : (n : ℕ) (list : List ℕ) (w : World) → is_cloaked w ≡ true →
     Makes w (ask_forgets n list w).world (drop_moves n list)
 unfolding ask_forgets ask_forget drop_pages
 drops_made n [] w form = record { form = form; items = refl; pages = refl }

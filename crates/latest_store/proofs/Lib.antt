@@ -8,4 +8,7 @@ pub mod InstructionDeeds
 pub mod CopyDeeds
 pub mod Sound
 pub mod Turned
+pub mod Told
+pub mod Held
+pub mod Over
 pub mod Histories

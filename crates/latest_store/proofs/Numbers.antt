@@ -1,9 +1,9 @@
 -- Which numbers of resources are free, and that regions are of resources that are there.
-use Rattle.std.proofs.Common.{◌≡◌, ◌≢◌, ◌∙◌, ◌⊎◌, inl, inr, ℕ, zero, suc, ◌<◌, ◌≤◌, Bool, true, false, not, cond, List, [], ◌∷◌, length, map, find, filter, get_or, Option, Some, None, option_map, unwrap_or, Ok, refl, sym, ap, subst, arith, All, is_some, slice_index_or, slice_set, eq-eqb, zero-add}
+use Rattle.std.proofs.Common.{◌≡◌, ◌≢◌, ◌∙◌, ◌⊎◌, inl, inr, ℕ, zero, suc, ◌<◌, ◌≤◌, Bool, true, false, not, cond, List, [], ◌∷◌, length, map, replicate, find, filter, get_or, Option, Some, None, option_map, unwrap_or, Ok, refl, sym, ap, subst, arith, All, is_some, slice_index_or, slice_set, eq-eqb, zero-add}
 use Rattle.std.specs.Prelude.{is_none, nat_eq, nat_lt, nat_le}
 use Rattle.std.specs.List.{list_any}
 use Rattle.std.proofs.lemmas.Bool.{false≢true, eqb-true, cases_eq}
-use Rattle.std.proofs.lemmas.List.{get_or-set_other, get_or-set_same, length-set}
+use Rattle.std.proofs.lemmas.List.{get_or-set_other, get_or-set_same, get_or_past, length-map, length-replicate, length-set}
 use Rattle.std.proofs.lemmas.List.Elements.{All-nil, All-cons, All-head, All-tail, All-map, All-filter, All-weaker}
 use Rattle.cloak_base.specs.declared.names.PageId.{PageId}
 use Rattle.cloak_model.specs.declared.resource.MapFault.{MapFault}
@@ -31,13 +31,18 @@ IsOf r space g = may_map space (resource_at r g.resource) ≡ true
 abbrev pub MapsHeld : Resources → Type 0
 MapsHeld r = (space : ℕ) → All (IsOf r space) (regions_in r space)
 
+-- there are 16 numbers at most
+abbrev pub HasFew : Resources → Type 0
+HasFew r = length r.held ≤ 16
+
 -- what a step without moves leaves of resources
 pub record Follows (r r' : Resources) : Type 0 where
   pub maps : MapsHeld r → MapsHeld r'
+  pub few : HasFew r → HasFew r'
   pub free : (n : ℕ) → resource_at r' n ≡ None → resource_at r n ≡ None
 
 pub follows_same : (r : Resources) → Follows r r
-follows_same r = record { maps = λ maps. maps; free = λ n free. free }
+follows_same r = record { maps = λ maps. maps; few = λ few. few; free = λ n free. free }
 
 pub follows_equal : (r r' : Resources) → r' ≡ r → Follows r r'
 follows_equal r r' same = subst (Follows r) (sym same) (follows_same r)
@@ -61,6 +66,27 @@ pub started_free : (pages base n : ℕ) → resource_at (started_resources pages
 unfolding started_resources
 started_free pages base zero free same = cc
 started_free pages base (suc n) free same = absurd (omega (arith, same))
+
+pub started_few : (pages base : ℕ) → HasFew (started_resources pages base)
+unfolding started_resources
+started_few pages base = let long = length-replicate {A = Option Resource} 15 None in omega (arith, long)
+
+-- As it has ended.
+
+abbrev pub no_resources : Resources
+no_resources = record { held = replicate 16 None; spaces = replicate 8 None }
+
+pub ended_maps : MapsHeld no_resources
+ended_maps space =
+    subst (λ (o : Option (List Region)). All (IsOf no_resources space) (unwrap_or o []))
+    (sym (get_or-replicate_none 8 space)) (All-nil (IsOf no_resources space))
+
+pub ended_few : HasFew no_resources
+ended_few = let long = length-replicate {A = Option Resource} 16 None in omega (arith, long)
+
+-- a number past the last is free
+pub past_free : (r : Resources) (n : ℕ) → HasFew r → 16 ≤ n → resource_at r n ≡ None
+past_free r n few past = get_or_past r.held n None (omega (arith, few, past))
 
 -- A page at an address is of a resource that is there.
 
@@ -114,6 +140,7 @@ unfolding made_at
 made_follows owner pages None r is = follows_same r
 made_follows owner pages (Some n) r is = record {
   maps = put_maps r n (record { owner = owner; pages = pages }) (first_free-at r.held n is).1;
+  few = λ few. subst (λ (k : ℕ). k ≤ 16) (sym (length-set r.held n _)) few;
   free = λ m free. put_free r.held n m _ free;
 }
 
@@ -176,6 +203,7 @@ regions_follow : (space : ℕ) (regions : List Region) (r : Resources) →
     (MapsHeld r → All (IsOf r space) regions) → Follows r (with_regions space regions r)
 regions_follow space regions r all = record {
   maps = λ maps s. set_regions (IsOf r) r.spaces space s (Some regions) (all maps) maps;
+  few = λ few. few;
   free = λ n free. free;
 }
 
@@ -300,6 +328,10 @@ dropped_free space r n free =
       | inl was ↦ inl was
       | inr private ↦ inr (private_listed space r n private)
     ]
+
+pub drop_few : (space : ℕ) (r : Resources) → HasFew r → HasFew (drop_space space r)
+unfolding drop_space
+drop_few space r few = subst (λ (k : ℕ). k ≤ 16) (sym (length-map r.held (without_space space))) few
 
 pub drop_maps : (space : ℕ) (r : Resources) → MapsHeld r → MapsHeld (drop_space space r)
 drop_maps space r maps s = dropped_maps space r maps s
@@ -441,6 +473,15 @@ module _ (space new : ℕ) (r : Resources) where
       (λ k. All-weaker (IsOf r k) (IsOf (forked_resources space new r) k)
       (λ g may. ap (may_map k) (stays_at g.resource (held_from_map k (resource_at r g.resource) may)) ∙ may)
       (regions_in r k) (maps k))
+
+  copied_length : (list : List (ℕ × ℕ)) (held : List (Option Resource)) →
+      length (with_copies new held list r) ≡ length held
+  copied_length [] held = refl
+  copied_length (copy ∷ rest) held = copied_length rest (with_copy new held copy r) ∙ length-set held copy.1 _
+
+  pub fork_few : HasFew r → HasFew (forked_resources space new r)
+  unfolding forked_resources
+  fork_few few = subst (λ (k : ℕ). k ≤ 16) (sym (copied_length (copies space r) r.held)) few
 
   copied_free : (list : List (ℕ × ℕ)) (held : List (Option Resource)) (n : ℕ) →
       get_or (with_copies new held list r) n None ≡ None → get_or held n None ≡ None

@@ -1,4 +1,5 @@
--- What a step of the joint machine does to the pages and the completed loads of programs.
+-- What a step of the joint machine does to the pages and the completed loads of programs, but for the end of a domain
+-- after it.
 use Rattle.std.proofs.Common.{◌≡◌, ◌∙◌, ℕ, zero, suc, Bool, true, false, cond, List, [], ◌∷◌, ◌++◌, slice_get, slice_set, Option, Some, None, Result, Ok, Err, refl, sym, ap, subst, append-nil, ◌≢◌, inl, inr, eq-eqb, ne_eqb}
 use Rattle.std.specs.Prelude.{◌==◌}
 use Rattle.std.proofs.lemmas.List.Elements.{filter-append}
@@ -21,7 +22,7 @@ use Rattle.cloak_model.specs.DomainState.{Control, Domain}
 use Rattle.cloak_model.specs.DomainStep.{DomainStepped, domain_step, answer_taken, resume_told, resume_slot, interrupt_if, interrupt}
 use Rattle.cloak_model.specs.Halves.{is_inward, inward_half}
 use Rattle.cloak_model.specs.Hart.{Hart}
-use Rattle.cloak_model.specs.Joint.{Moment, Turn, next_hart, hart_in, cloak_of, memory_of, outside_ended, after_outside, outside_step, domain_ended, after_domain_step, pages_for, interrupt_ended, after_interrupt, by_interrupt, inside_step, turn_of, joint_step}
+use Rattle.cloak_model.specs.Joint.{Turn, cloak_of, memory_of, outside_ended, after_outside, outside_step, domain_ended, after_domain_step, pages_for, interrupt_ended, after_interrupt, by_interrupt, by_running, inside_step, turn_of}
 use Rattle.cloak_model.specs.KernelStep.{ticked}
 use Rattle.cloak_model.specs.Parts.{Joint}
 use Rattle.cloak_model.specs.Resuming.{by_root, by_context, by_domain, resume}
@@ -70,14 +71,14 @@ none_either false = refl
 same_grow : (e : ℕ) (plain : PageId → List ℕ) (domains : List Domain) → GrowBy e [] plain domains domains
 same_grow e plain domains d now there = stays domains d _ plain now (none_either (e == d)) there
 
-set_same : (domains : List Domain) (e : ℕ) (found made now : Domain) → slice_get domains e ≡ Some found →
+pub set_same : (domains : List Domain) (e : ℕ) (found made now : Domain) → slice_get domains e ≡ Some found →
     slice_get (slice_set domains e made) e ≡ Some now → made ≡ now
 set_same [] zero found made now there is = absurd cc
 set_same [] (suc e) found made now there is = absurd cc
 set_same (x ∷ domains) zero found made now there is = cc
 set_same (x ∷ domains) (suc e) found made now there is = set_same domains e found made now there is
 
-set_other : (domains : List Domain) (e d : ℕ) (made now : Domain) → e ≢ d →
+pub set_other : (domains : List Domain) (e d : ℕ) (made now : Domain) → e ≢ d →
     slice_get (slice_set domains e made) d ≡ Some now → slice_get domains d ≡ Some now
 set_other [] e d made now other is = is
 set_other (x ∷ domains) zero zero made now other is = absurd (other refl)
@@ -105,7 +106,7 @@ set_grows domains e found made moves plain there loads fits d now is = elim (dec
       (set_other domains e d made now other is)
 ]
 
--- These moves, of one program, were done behind a history.
+-- These moves, of one program, were done after a history.
 pub record TurnDid (history moves : List Move) (j : Joint) (t : Turn) : Type 0 where
   pub program : ℕ
   pub sound : AreSound program history moves
@@ -270,10 +271,24 @@ unfolding context_moves
 timer_none None history d e = refl
 timer_none (Some c) history d e = timer_phase c.phase history d c e
 
+-- nothing is told of, and nothing is done
+
+silent_phase : (p : Phase) (history : List Move) (d : Control) (c : Context) → phase_moves p history d c [] ≡ []
+unfolding phase_moves
+silent_phase Plain history d c = refl
+silent_phase (CopyIn done) history d c = refl
+silent_phase Waiting history d c = refl
+silent_phase (CopyOut done total) history d c = refl
+
+silent_none : (o : Option Context) (history : List Move) (d : Control) → context_moves o history d [] ≡ []
+unfolding context_moves
+silent_none None history d = refl
+silent_none (Some c) history d = silent_phase c.phase history d c
+
 timer_told : (e : ℕ) → inward_half e (item.Timer e ∷ []) ≡ item.Timer e ∷ []
 timer_told e = ap (λ (b : Bool). cond b (item.Timer e ∷ []) []) (eq-eqb e e refl)
 
-memory_plain : (w : World) (m : CloakedMemory) → is_cloaked w ≡ true → plain_of w ≡ (memory_of w m).plain
+pub memory_plain : (w : World) (m : CloakedMemory) → is_cloaked w ≡ true → plain_of w ≡ (memory_of w m).plain
 memory_plain (Flat ram) m form = absurd cc
 memory_plain (Cloaked c) m form = refl
 memory_plain (Alone h) m form = absurd cc
@@ -339,19 +354,34 @@ nothing_did history j t pages domains = record {
   programs = subst (GrowBy 0 [] j.memory.plain j.domains) (sym domains) (same_grow 0 j.memory.plain j.domains);
 }
 
-inside_did : (history : List Move) (j : Joint) (number : ℕ) (h : Hart) (e slot : ℕ) (found : Option Domain) →
-    slice_get j.domains e ≡ found → AreFrom 0 j.domains → FreeInAll history j → Agrees history j.memory.plain →
-    let t = inside_step j number h e slot found in
-    TurnDid history (program_moves found history slot (inward_half e t.items)) j t
+-- a context that does not run on the hart is left
+running_did : (runs : Bool) (history : List Move) (j : Joint) (number : ℕ) (h : Hart) (ctx : ℕ) (found : Domain) →
+    slice_get j.domains (domain_of ctx) ≡ Some found → found.control.number ≡ domain_of ctx →
+    FreeZero history (domain_of ctx) found.control.resources → Agrees history j.memory.plain →
+    let t = by_running runs j number h ctx found in
+    TurnDid history (program_moves (Some found) history (slot_of ctx) (inward_half (domain_of ctx) t.items)) j t
+unfolding by_running program_moves
+running_did false history j number h ctx found there own zeros agrees =
+    subst (λ (ms : List Move). TurnDid history ms j (by_running false j number h ctx found))
+    (sym (silent_none (context_at found.control.contexts (slot_of ctx)) history found.control))
+    (nothing_did history j _ refl refl)
+running_did true history j number h ctx found there own zeros agrees =
+    by_did _ history j number h (domain_of ctx) (slot_of ctx) found there own zeros agrees
+
+inside_did : (history : List Move) (j : Joint) (number : ℕ) (h : Hart) (ctx : ℕ) (found : Option Domain) →
+    slice_get j.domains (domain_of ctx) ≡ found → AreFrom 0 j.domains → FreeInAll history j →
+    Agrees history j.memory.plain →
+    let t = inside_step j number h ctx found in
+    TurnDid history (program_moves found history (slot_of ctx) (inward_half (domain_of ctx) t.items)) j t
 unfolding inside_step program_moves
-inside_did history j number h e slot None there programs zeros agrees = nothing_did history j _ refl refl
-inside_did history j number h e slot (Some found) there programs zeros agrees =
-    by_did _ history j number h e slot found there (number_at e j.domains found programs there) (zeros e found there)
-    agrees
+inside_did history j number h ctx None there programs zeros agrees = nothing_did history j _ refl refl
+inside_did history j number h ctx (Some found) there programs zeros agrees =
+    running_did _ history j number h ctx found there (number_at (domain_of ctx) j.domains found programs there)
+    (zeros (domain_of ctx) found there) agrees
 
 -- Every step.
 
-turn_did : (history : List Move) (j : Joint) (number : ℕ) (h : Hart) (inside : Option ℕ) → AreFrom 0 j.domains →
+pub turn_did : (history : List Move) (j : Joint) (number : ℕ) (h : Hart) (inside : Option ℕ) → AreFrom 0 j.domains →
     FreeInAll history j → Agrees history j.memory.plain →
     let t = turn_of j number h inside in TurnDid history (step_moves history j.domains inside t.items) j t
 unfolding turn_of step_moves
@@ -364,11 +394,4 @@ turn_did history j number h None programs zeros agrees =
       programs = keeps.programs j.memory.plain;
     }
 turn_did history j number h (Some ctx) programs zeros agrees =
-    inside_did history j number (ticked h) (domain_of ctx) (slot_of ctx) _ refl programs zeros agrees
-
-pub joint_did : (history : List Move) (m : Moment) → AreFrom 0 m.joint.domains → FreeInAll history m.joint →
-    Agrees history m.joint.memory.plain →
-    let t = joint_step m in
-    TurnDid history (step_moves history m.joint.domains (hart_in m.joint (next_hart m)).inside t.items) m.joint t
-unfolding joint_step
-joint_did history m programs zeros agrees = turn_did history m.joint (next_hart m) _ _ programs zeros agrees
+    inside_did history j number (ticked h) ctx _ refl programs zeros agrees

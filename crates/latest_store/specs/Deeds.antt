@@ -2,6 +2,7 @@
 -- what the program is answered in the step, and by the history before it: the instruction is the word that was stored
 -- last where the program counter points. No page, no frame and no page table is looked at.
 use Rattle.std.specs.Prelude.{ℕ, ◌%◌, Bool, true, false, List, [], ◌∷◌, map, slice_get, Option, Some, None, if◌then◌else◌, position, Result, Ok, Err}
+use Rattle.std.specs.List.{flat_map}
 use Rattle.cloak_base.specs.Registers.{register}
 use Rattle.cloak_base.specs.declared.names.PageId.{PageId}
 use Rattle.rv_isa.specs.Table.{instruction}
@@ -17,6 +18,7 @@ use Rattle.cloak_model.specs.declared.resource.MapFault.{MapFault}
 use Rattle.cloak_model.specs.declared.resource.Owner.TheVariants.{Space, File}
 use Rattle.cloak_model.specs.Effect.{effect}
 use Rattle.cloak_model.specs.Halves.{inward_half}
+use Rattle.cloak_model.specs.Opening.{numbers_below}
 use Rattle.cloak_model.specs.Resources.{page_at, new_resource}
 use Rattle.cloak_model.specs.Contexts.{Context, context_at, domain_of, slot_of}
 use Rattle.cloak_model.specs.DomainState.{Control, Domain}
@@ -28,7 +30,7 @@ use Rattle.cloak_model.specs.Hypercalls.{Hypercall, New, ForkSpace, Exit, hyperc
 use Rattle.latest_store.specs.Moves.{Move, Stores, Copies, Zeros, Drops, Loads, latest_value}
 
 -- A step of a program asks at most twice: mostly for its instruction, and then for what this is about. Here is what it
--- does where the first question, or where both were granted.
+-- does if the first question was granted, or if both were.
 
 abbrev pub is_granted : Item → Bool
 is_granted (item.Ok domain) = true
@@ -46,7 +48,7 @@ both_granted _ = false
 abbrev pub page_for : Control → Context → ℕ → Option PageId
 page_for d c address = page_at d.number d.resources c.space address
 
--- a load, and a store, where the address is cloaked
+-- a load, and a store, if the address is cloaked
 
 abbrev pub load_at : ℕ → ℕ → Option PageId → List Move
 load_at address width None = []
@@ -56,7 +58,7 @@ abbrev pub store_at : ℕ → ℕ → ℕ → Option PageId → List Move
 store_at address width value None = []
 store_at address width value (Some q) = Stores q (address % 4096) width value ∷ []
 
--- a resource that was made, where one was
+-- a resource that was made, if one was
 abbrev pub made_moves : ℕ → Result ℕ MapFault → List Move
 made_moves domain (Ok n) = Zeros domain n ∷ []
 made_moves domain (Err fault) = []
@@ -103,7 +105,7 @@ unfoldable pub fetched_moves : List Move → Control → Context → Option Page
 fetched_moves earlier d c None told = []
 fetched_moves earlier d c (Some q) told = word_moves d c (instruction (latest_value earlier q (c.pc % 4096) 4)) told
 
--- READ: the byte that was told is stored at an address of the buffer, where this was granted
+-- READ: the byte that was told is stored at an address of the buffer, if this was granted
 abbrev pub byte_moves : ℕ → Option PageId → List Item → List Move
 byte_moves address place (item.Word domain byte ∷ item.Ok domain' ∷ []) = store_at address 1 byte place
 byte_moves address place _ = []
@@ -129,9 +131,18 @@ unfoldable pub program_moves : Option Domain → List Move → ℕ → List Item
 program_moves None earlier slot told = []
 program_moves (Some d) earlier slot told = context_moves (context_at d.control.contexts slot) earlier d.control told
 
--- A step of a hart that runs this context, or none, among these programs, which wrote these items: the kernel does
--- nothing to cloaked pages.
+-- A step of a hart that is inside this context, or in none, among these programs, which wrote these items: the kernel
+-- does nothing to cloaked pages. A context that does not run on the hart is told nothing, and does nothing.
 unfoldable pub step_moves : List Move → List Domain → Option ℕ → List Item → List Move
 step_moves earlier domains None items = []
 step_moves earlier domains (Some ctx) items =
     program_moves (slice_get domains (domain_of ctx)) earlier (slot_of ctx) (inward_half (domain_of ctx) items)
+
+-- The end of a domain drops its pages, those of every number of a resource.
+abbrev pub ending_moves : Item → List Move
+ending_moves (item.Ended d) = map (λ (n : ℕ). Drops d n) (numbers_below 16)
+ending_moves _ = []
+
+-- the domains that end among these items
+abbrev pub end_moves : List Item → List Move
+end_moves items = flat_map ending_moves items

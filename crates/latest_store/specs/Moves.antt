@@ -60,7 +60,7 @@ loads_of domain (Loads q address width ∷ earlier) =
     let before = loads_of domain earlier in
     if q.domain == domain then before ++ (address, latest_value earlier q (address % 4096) width) ∷ [] else before
 
--- a history with these moves behind it, one after another
+-- a history with these moves after it, one after another
 abbrev pub with_moves : List Move → List Move → List Move
 with_moves [] history = history
 with_moves (m ∷ moves) history = with_moves moves (m ∷ history)

@@ -9,6 +9,7 @@ use Rattle.cloak_model.specs.Bundle.{IsInGrammar}
 use Rattle.cloak_model.specs.Cloaking.{CloakedMemory}
 use Rattle.cloak_model.specs.DomainState.{Domain, started_control, started_domain}
 use Rattle.cloak_model.specs.DomainStep.{interrupt}
+use Rattle.cloak_model.specs.Ending.{ended_domain}
 use Rattle.cloak_model.specs.Opening.{Opened, opening, started_joint, started_domains}
 use Rattle.cloak_model.specs.Parts.{Joint}
 use Rattle.cloak_model.specs.Resources.{resource_at, started_resources}
@@ -39,12 +40,18 @@ record IsFit (d : Domain) : Type 0 where
   limits : Keeps d
   words : ProgramFits d
 
+end_words : (d : Domain) → Words (ended_domain d)
+unfolding ended_domain
+end_words d n =
+    subst (λ (o : Option Resource). IfSome o (λ held. HasOwnerWord held.owner)) (sym (get_or-replicate_none 16 n)) tt
+
 words_kept : KeptInside IsFit Words
 unfolding interrupt
 words_kept = record {
   step = λ slot d w known here. step_file_words slot d w known.limits (slot_fits d.control.contexts slot known.words.slots) here;
   interrupted = λ slot d here. subst AreFileWords (sym (interrupt_same _ slot d.control)) here;
   resumed = λ slot hart reply d low here. subst AreFileWords (sym (slot_same slot hart reply d.control)) here;
+  ended = λ d here. end_words d;
 }
 
 fit_at : (domains : List Domain) (d : ℕ) → IfSome (slice_get domains d) Keeps → AllByRecursion ProgramFits domains →

@@ -5,6 +5,7 @@ pub mod Hypercalls
 pub mod Steps
 pub mod Moments
 pub mod Openings
+pub mod Endings
 pub mod Programs
 pub mod Turns
 pub mod Runs
@@ -15,3 +16,7 @@ pub mod RootRuns
 pub mod Words
 pub mod Files
 pub mod FileRuns
+pub mod Flags
+pub mod Gone
+pub mod Told
+pub mod EndedRuns

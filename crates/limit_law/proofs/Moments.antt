@@ -14,15 +14,15 @@ use Rattle.kernel_isolation.proofs.Isolated.{of_opened}
 abbrev pub IsKept : (Joint → Type 0) → List ℕ → Type 0
 IsKept P schedule = (m : Moment) → m.schedule ≡ schedule → P m.joint → P (joint_step m).joint
 
-module _ (P : Joint → Type 0) (schedule : List ℕ) (kept : IsKept P schedule) where
-  -- the steps that follow one
-  following : (stop : Option Stop) (later : Moment → List Turn) (m : Moment) (n : ℕ) → P m.joint →
-      P (joint_after m.joint (take n (later m))) → P (joint_after m.joint (take n (unless_stopped stop later m)))
-  unfolding joint_after
-  following None later m n here rest = rest
-  following (Some cause) later m zero here rest = here
-  following (Some cause) later m (suc n) here rest = here
+-- the steps that follow one
+pub following : (P : Joint → Type 0) (stop : Option Stop) (later : Moment → List Turn) (m : Moment) (n : ℕ) → P m.joint →
+    P (joint_after m.joint (take n (later m))) → P (joint_after m.joint (take n (unless_stopped stop later m)))
+unfolding joint_after
+following P None later m n here rest = rest
+following P (Some cause) later m zero here rest = here
+following P (Some cause) later m (suc n) here rest = here
 
+module _ (P : Joint → Type 0) (schedule : List ℕ) (kept : IsKept P schedule) where
   after_steps : (budget n : ℕ) (m : Moment) → m.schedule ≡ schedule → P m.joint →
       P (joint_after m.joint (take n (turns_from budget m)))
   unfolding turns_from joint_after
@@ -32,7 +32,7 @@ module _ (P : Joint → Type 0) (schedule : List ℕ) (kept : IsKept P schedule)
   after_steps (suc budget) (suc n) m same here =
       let t : Turn = joint_step m in
       let next = kept m same here in
-      following (stop_of t) (turns_from budget) (after_turn m t) n next
+      following P (stop_of t) (turns_from budget) (after_turn m t) n next
       (after_steps budget n (after_turn m t) same next)
 
 abbrev AtAll : (Joint → Type 0) → Run → Type 0

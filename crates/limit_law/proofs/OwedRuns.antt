@@ -1,6 +1,7 @@
 -- No page is owed by two frames: over each step, and in a run.
-use Rattle.std.proofs.Common.{◌≡◌, ℕ, zero, suc, Bool, true, false, List, find, replicate, Option, Some, None, IfSome, Result, Ok, Err, sym, ◌∙◌}
+use Rattle.std.proofs.Common.{◌≡◌, ℕ, zero, suc, Bool, true, false, List, find, replicate, slice_get, Option, Some, None, IfSome, Result, Ok, Err, sym, ◌∙◌}
 use Rattle.cloak_base.specs.Random.{Random}
+use Rattle.cloak_base.specs.declared.causes.Violation.{Violation}
 use Rattle.cloak_base.specs.declared.names.PageId.{PageId}
 use Rattle.cloak_model.specs.declared.context.ResumeFault.{ResumeFault}
 use Rattle.cloak_model.specs.declared.image.Bundle.{Bundle}
@@ -16,10 +17,11 @@ use Rattle.cloak_model.specs.Cloaking.{CloakedMemory, AfterSettling, settle}
 use Rattle.cloak_model.specs.Contexts.{Admitted, context_at, domain_of, slot_of}
 use Rattle.cloak_model.specs.DomainState.{Control, Domain}
 use Rattle.cloak_model.specs.DomainStep.{DomainStepped, domain_step}
+use Rattle.cloak_model.specs.Ending.{ask_end, cloak_for}
 use Rattle.cloak_model.specs.Events.{Event}
 use Rattle.cloak_model.specs.Hart.{Hart}
 use Rattle.cloak_model.specs.Hypercalls.{Stepped}
-use Rattle.cloak_model.specs.Joint.{Moment, next_hart, cloak_of, cloak_outside, memory_of, outside_ended, after_outside, outside_step, domain_ended, after_domain_step, pages_for, interrupt_ended, after_interrupt, by_interrupt, inside_step, turn_of, joint_step}
+use Rattle.cloak_model.specs.Joint.{Moment, Turn, next_hart, cloak_of, cloak_outside, memory_of, outside_ended, after_outside, outside_step, domain_ended, after_domain_step, pages_for, interrupt_ended, after_interrupt, by_interrupt, by_running, inside_step, turn_of, end_domain, step_before_end, joint_step}
 use Rattle.cloak_model.specs.KernelStep.{ticked}
 use Rattle.cloak_model.specs.Opening.{Opened, opening, started_joint, started_ledger, started_memory}
 use Rattle.cloak_model.specs.PageMoves.{copy_pages, drop_pages, place_with}
@@ -30,7 +32,9 @@ use Rattle.resource_map.proofs.Lists.{get_or-replicate_none}
 use Rattle.script_fold.proofs.Folding.{step_keeps}
 use Rattle.script_fold.proofs.Questions.{Kept}
 use Rattle.script_fold.proofs.ByQuestions.{kept_by}
+use Rattle.script_fold.proofs.Endings.{keeps_end}
 use Rattle.limit_law.specs.Owed.{IsOnce, PagesAreOwedOnce}
+use Rattle.limit_law.proofs.Endings.{answers_keep}
 use Rattle.limit_law.proofs.Moments.{at_every_moment}
 use Rattle.limit_law.proofs.Openings.{begins_by_memory}
 use Rattle.limit_law.proofs.Owed.{Keeps, settle_once, offer_once}
@@ -209,21 +213,35 @@ due_once false j number h d slot was once =
     stepped_once j number h d _ once
     ((program_step slot was (Cloaked (cloak_of j.memory h d (pages_for was (context_at was.control.contexts slot))))).by once)
 
-inside_once : (j : Joint) (number : ℕ) (h : Hart) (d slot : ℕ) (found : Option Domain) → JointOnce j →
-    JointOnce (inside_step j number h d slot found).joint
+running_once : (runs : Bool) (j : Joint) (number : ℕ) (h : Hart) (ctx : ℕ) (was : Domain) → JointOnce j →
+    JointOnce (by_running runs j number h ctx was).joint
+unfolding by_running
+running_once false j number h ctx was once = once
+running_once true j number h ctx was once = due_once _ j number h (domain_of ctx) (slot_of ctx) was once
+
+inside_once : (j : Joint) (number : ℕ) (h : Hart) (ctx : ℕ) (found : Option Domain) → JointOnce j →
+    JointOnce (inside_step j number h ctx found).joint
 unfolding inside_step
-inside_once j number h d slot None once = once
-inside_once j number h d slot (Some was) once = due_once _ j number h d slot was once
+inside_once j number h ctx None once = once
+inside_once j number h ctx (Some was) once = running_once _ j number h ctx was once
 
 turn_once : (j : Joint) (number : ℕ) (h : Hart) (inside : Option ℕ) → JointOnce j →
     JointOnce (turn_of j number h inside).joint
 unfolding turn_of
 turn_once j number h None once = kernel_once j number h once
-turn_once j number h (Some ctx) once = inside_once j number (ticked h) (domain_of ctx) (slot_of ctx) _ once
+turn_once j number h (Some ctx) once = inside_once j number (ticked h) ctx _ once
+
+end_once : (d : ℕ) (was : Domain) (v : Violation) (t : Turn) → slice_get t.joint.domains d ≡ Some was →
+    JointOnce t.joint → JointOnce (end_domain d was v t).joint
+unfolding end_domain
+end_once d was v t is once =
+    let w = Cloaked (cloak_for t.joint.memory d) in
+    memory_once (ask_end d w).world t.joint.memory ((keeps_end StaysOnce changes forget_world d w).by once) once
 
 step_once : (m : Moment) → JointOnce m.joint → JointOnce (joint_step m).joint
 unfolding joint_step
-step_once m once = turn_once m.joint (next_hart m) _ _ once
+step_once m once =
+    answers_keep JointOnce (λ t here. here) end_once _ _ (step_before_end m) (turn_once m.joint (next_hart m) _ _ once)
 
 -- The opening.
 

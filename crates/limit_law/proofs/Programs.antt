@@ -1,5 +1,6 @@
--- What programs keep as they step, are interrupted and are resumed, they keep over each step of the joint machine.
-use Rattle.std.proofs.Common.{ℕ, zero, suc, ◌<◌, Bool, true, false, List, [], ◌∷◌, slice_get, slice_set, Option, Some, None, IfSome, Result, Ok, Err}
+-- What programs keep as they step, are interrupted, are resumed and end, they keep over each step of the joint machine.
+use Rattle.std.proofs.Common.{◌≡◌, ℕ, zero, suc, ◌<◌, Bool, true, false, List, [], ◌∷◌, slice_get, slice_set, Option, Some, None, IfSome, Result, Ok, Err, subst}
+use Rattle.cloak_base.specs.declared.causes.Violation.{Violation}
 use Rattle.cloak_model.specs.declared.context.ResumeFault.{ResumeFault}
 use Rattle.cloak_model.specs.declared.inside.Went.{Went}
 use Rattle.cloak_model.specs.declared.inside.Went.TheVariants as went
@@ -10,13 +11,15 @@ use Rattle.cloak_model.specs.Asking.{Told}
 use Rattle.cloak_model.specs.Contexts.{Admitted, domain_of, slot_of}
 use Rattle.cloak_model.specs.DomainState.{Control, Domain}
 use Rattle.cloak_model.specs.DomainStep.{DomainStepped, domain_step, interrupt, resume_slot}
+use Rattle.cloak_model.specs.Ending.{ended_domain}
 use Rattle.cloak_model.specs.Hart.{Hart}
 use Rattle.cloak_model.specs.Hypercalls.{Stepped}
-use Rattle.cloak_model.specs.Joint.{Moment, next_hart, outside_ended, after_outside, outside_step, domain_ended, after_domain_step, interrupt_ended, after_interrupt, by_interrupt, inside_step, turn_of, joint_step}
+use Rattle.cloak_model.specs.Joint.{Moment, Turn, next_hart, outside_ended, after_outside, outside_step, domain_ended, after_domain_step, interrupt_ended, after_interrupt, by_interrupt, by_running, inside_step, turn_of, end_domain, step_before_end, joint_step}
 use Rattle.cloak_model.specs.KernelStep.{ticked}
 use Rattle.cloak_model.specs.Parts.{Joint}
 use Rattle.cloak_model.specs.Resuming.{by_root, by_context, by_domain, resume}
 use Rattle.cloak_model.specs.World.{World}
+use Rattle.limit_law.proofs.Endings.{answers_keep}
 
 abbrev pub AllOf : (Domain → Type 0) → List Domain → Type 0
 AllOf Q domains = (d : ℕ) → IfSome (slice_get domains d) Q
@@ -27,6 +30,7 @@ pub record KeptInside (K Q : Domain → Type 0) : Type 0 where
   pub interrupted : (slot : ℕ) (d : Domain) → Q d → Q (record d { control = (interrupt slot d.control).control })
   pub resumed : (slot hart reply : ℕ) (d : Domain) → hart < 4 → Q d →
       Q (record d { control = (resume_slot slot hart reply d.control).control })
+  pub ended : (d : Domain) → Q d → Q (ended_domain d)
 
 set_all : (Q : Domain → Type 0) (domains : List Domain) (i : ℕ) (x : Domain) → AllOf Q domains → Q x →
     AllOf Q (slice_set domains i x)
@@ -35,6 +39,10 @@ set_all Q (y ∷ domains) zero x all here zero = here
 set_all Q (y ∷ domains) zero x all here (suc d) = all (suc d)
 set_all Q (y ∷ domains) (suc i) x all here zero = all zero
 set_all Q (y ∷ domains) (suc i) x all here (suc d) = set_all Q domains i x (λ k. all (suc k)) here d
+
+all_at : (Q : Domain → Type 0) (domains : List Domain) (d : ℕ) (x : Domain) → slice_get domains d ≡ Some x →
+    AllOf Q domains → Q x
+all_at Q domains d x is all = subst (λ (o : Option Domain). IfSome o Q) is (all d)
 
 module _ (K Q : Domain → Type 0) (k : KeptInside K Q) where
   -- Resuming.
@@ -119,20 +127,37 @@ module _ (K Q : Domain → Type 0) (k : KeptInside K Q) where
   due_all true j number h d slot was all known here = left_all j number h d was _ all (k.interrupted slot was here)
   due_all false j number h d slot was all known here = stepped_all j number h d _ all (k.step slot was _ known here)
 
-  inside_all : (j : Joint) (number : ℕ) (h : Hart) (d slot : ℕ) (found : Option Domain) → AllOf Q j.domains →
-      IfSome found K → IfSome found Q → AllOf Q (inside_step j number h d slot found).joint.domains
+  running_all : (runs : Bool) (j : Joint) (number : ℕ) (h : Hart) (ctx : ℕ) (was : Domain) → AllOf Q j.domains → K was →
+      Q was → AllOf Q (by_running runs j number h ctx was).joint.domains
+  unfolding by_running
+  running_all false j number h ctx was all known here = all
+  running_all true j number h ctx was all known here =
+      due_all _ j number h (domain_of ctx) (slot_of ctx) was all known here
+
+  inside_all : (j : Joint) (number : ℕ) (h : Hart) (ctx : ℕ) (found : Option Domain) → AllOf Q j.domains →
+      IfSome found K → IfSome found Q → AllOf Q (inside_step j number h ctx found).joint.domains
   unfolding inside_step
-  inside_all j number h d slot None all known here = all
-  inside_all j number h d slot (Some was) all known here = due_all _ j number h d slot was all known here
+  inside_all j number h ctx None all known here = all
+  inside_all j number h ctx (Some was) all known here = running_all _ j number h ctx was all known here
 
   turn_all : (j : Joint) (number : ℕ) (h : Hart) (inside : Option ℕ) → number < 4 → AllOf K j.domains →
       AllOf Q j.domains → AllOf Q (turn_of j number h inside).joint.domains
   unfolding turn_of
   turn_all j number h None low known all = outside_all j number h low all
   turn_all j number h (Some ctx) low known all =
-      inside_all j number (ticked h) (domain_of ctx) (slot_of ctx) _ all (known (domain_of ctx)) (all (domain_of ctx))
+      inside_all j number (ticked h) ctx _ all (known (domain_of ctx)) (all (domain_of ctx))
+
+  -- A domain ends.
+
+  end_all : (d : ℕ) (was : Domain) (v : Violation) (t : Turn) → slice_get t.joint.domains d ≡ Some was →
+      AllOf Q t.joint.domains → AllOf Q (end_domain d was v t).joint.domains
+  unfolding end_domain
+  end_all d was v t is all =
+      set_all Q t.joint.domains d (ended_domain was) all (k.ended was (all_at Q t.joint.domains d was is all))
 
   pub step_all : (m : Moment) → next_hart m < 4 → AllOf K m.joint.domains → AllOf Q m.joint.domains →
       AllOf Q (joint_step m).joint.domains
   unfolding joint_step
-  step_all m low known all = turn_all m.joint (next_hart m) _ _ low known all
+  step_all m low known all =
+      answers_keep (λ (j : Joint). AllOf Q j.domains) (λ t here. here) end_all _ _ (step_before_end m)
+      (turn_all m.joint (next_hart m) _ _ low known all)

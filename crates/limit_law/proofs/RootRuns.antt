@@ -3,6 +3,7 @@ use Rattle.std.proofs.Common.{◌≡◌, ◌∙◌, ℕ, zero, suc, Bool, true, 
 use Rattle.std.specs.Prelude.{IsSomeAnd, is_some, nat_eq}
 use Rattle.std.proofs.lemmas.Bool.{false≢true, and_from, and_parts, eqb-true, eq-eqb}
 use Rattle.cloak_base.specs.Random.{Random}
+use Rattle.cloak_base.specs.declared.causes.Violation.{Violation}
 use Rattle.cloak_base.specs.declared.names.PageId.{PageId}
 use Rattle.cloak_base.specs.declared.names.SpaceId.{SpaceId}
 use Rattle.cloak_model.specs.declared.context.ResumeFault.{ResumeFault}
@@ -20,9 +21,10 @@ use Rattle.cloak_model.specs.Cloaking.{CloakedMemory, AfterSettling, settle}
 use Rattle.cloak_model.specs.Contexts.{Context, Admitted, admit, is_root, context_at, domain_of, slot_of, same_space, with_space, resume_if, resume_at}
 use Rattle.cloak_model.specs.DomainState.{Control, Domain}
 use Rattle.cloak_model.specs.DomainStep.{DomainStepped, domain_step, interrupt_if, interrupt, answer_taken, resume_told, resume_slot}
+use Rattle.cloak_model.specs.Ending.{ask_end, cloak_for, without_roots, ended_domain}
 use Rattle.cloak_model.specs.Hart.{Hart}
 use Rattle.cloak_model.specs.Hypercalls.{Stepped}
-use Rattle.cloak_model.specs.Joint.{Moment, next_hart, cloak_of, cloak_outside, memory_of, outside_ended, after_outside, outside_step, domain_ended, after_domain_step, pages_for, interrupt_ended, after_interrupt, by_interrupt, inside_step, turn_of, joint_step}
+use Rattle.cloak_model.specs.Joint.{Moment, Turn, next_hart, cloak_of, cloak_outside, memory_of, outside_ended, after_outside, outside_step, domain_ended, after_domain_step, pages_for, interrupt_ended, after_interrupt, by_interrupt, by_running, inside_step, turn_of, end_domain, step_before_end, joint_step}
 use Rattle.cloak_model.specs.KernelStep.{ticked}
 use Rattle.cloak_model.specs.Opening.{Opened, opening, started_joint, started_ledger, started_memory}
 use Rattle.cloak_model.specs.PageMoves.{place_with}
@@ -32,10 +34,11 @@ use Rattle.cloak_model.specs.Resuming.{space_of, by_root, by_context, by_domain,
 use Rattle.cloak_model.specs.World.{World, Flat, Cloaked, Alone}
 use Rattle.resource_map.specs.Kept.{IsInUse}
 use Rattle.script_fold.specs.Tables.{recorded_tables}
-use Rattle.script_fold.proofs.Rooted.{settle_root, rooted_domain_step}
+use Rattle.script_fold.proofs.Rooted.{settle_root, rooted_domain_step, rooted_end}
 use Rattle.limit_law.specs.Limits.{IsContext, KeepsLimits}
 use Rattle.limit_law.specs.Roots.{RootsAreOfSpacesInUse}
 use Rattle.limit_law.proofs.Roots.{LeavesUsed, step_uses}
+use Rattle.limit_law.proofs.Endings.{answers_keep}
 use Rattle.limit_law.proofs.Turns.{Keeps, AllKeep}
 use Rattle.limit_law.proofs.Moments.{IsKept, at_every_moment}
 use Rattle.limit_law.proofs.Openings.{begins_by_memory}
@@ -281,23 +284,50 @@ due_rooted false j number h d slot was is keeps rooted =
     stepped_rooted j number h d (domain_step slot was w) was is (step_uses slot was w keeps).used
     (rooted_domain_step slot was w).root rooted
 
-inside_rooted : (j : Joint) (number : ℕ) (h : Hart) (d slot : ℕ) (found : Option Domain) →
-    slice_get j.domains d ≡ found → IfSome found Keeps → JointRooted j →
-    JointRooted (inside_step j number h d slot found).joint
+running_rooted : (runs : Bool) (j : Joint) (number : ℕ) (h : Hart) (ctx : ℕ) (was : Domain) →
+    slice_get j.domains (domain_of ctx) ≡ Some was → Keeps was → JointRooted j →
+    JointRooted (by_running runs j number h ctx was).joint
+unfolding by_running
+running_rooted false j number h ctx was is keeps rooted = rooted
+running_rooted true j number h ctx was is keeps rooted =
+    due_rooted _ j number h (domain_of ctx) (slot_of ctx) was is keeps rooted
+
+inside_rooted : (j : Joint) (number : ℕ) (h : Hart) (ctx : ℕ) (found : Option Domain) →
+    slice_get j.domains (domain_of ctx) ≡ found → IfSome found Keeps → JointRooted j →
+    JointRooted (inside_step j number h ctx found).joint
 unfolding inside_step
-inside_rooted j number h d slot None is keeps rooted = rooted
-inside_rooted j number h d slot (Some was) is keeps rooted = due_rooted _ j number h d slot was is keeps rooted
+inside_rooted j number h ctx None is keeps rooted = rooted
+inside_rooted j number h ctx (Some was) is keeps rooted = running_rooted _ j number h ctx was is keeps rooted
 
 turn_rooted : (j : Joint) (number : ℕ) (h : Hart) (inside : Option ℕ) → AllKeep j.domains → JointRooted j →
     JointRooted (turn_of j number h inside).joint
 unfolding turn_of
 turn_rooted j number h None all rooted = kernel_rooted j number h all rooted
-turn_rooted j number h (Some ctx) all rooted =
-    inside_rooted j number (ticked h) (domain_of ctx) (slot_of ctx) _ refl (all (domain_of ctx)) rooted
+turn_rooted j number h (Some ctx) all rooted = inside_rooted j number (ticked h) ctx _ refl (all (domain_of ctx)) rooted
+
+-- A domain ends: no page table is recorded of its spaces, and all other domains are as they were.
+
+rooted_without : (root : SpaceId → Option ℕ) (domains : List Domain) (d : ℕ) (was new : Domain) →
+    slice_get domains d ≡ Some was → Rooted root domains → Rooted (without_roots d root) (slice_set domains d new)
+rooted_without root domains d was new is rooted s some =
+    forget_by (nat_eq s.domain d) (root s) (IsSomeAnd (slice_get (slice_set domains d new) s.domain) (HasSpace s.number))
+    (λ other old. there_set domains d s.domain s.number was new is
+    (λ own used. absurd (false≢true (sym other ∙ eq-eqb s.domain d own))) (rooted s old)) some
+
+end_rooted : (d : ℕ) (was : Domain) (v : Violation) (t : Turn) → slice_get t.joint.domains d ≡ Some was →
+    JointRooted t.joint → JointRooted (end_domain d was v t).joint
+unfolding end_domain
+end_rooted d was v t is rooted =
+    let w = Cloaked (cloak_for t.joint.memory d) in
+    subst (λ (root : SpaceId → Option ℕ). Rooted (without_roots d root) (slice_set t.joint.domains d (ended_domain was)))
+    (sym (memory_root (ask_end d w).world t.joint.memory (rooted_end d w).root))
+    (rooted_without t.joint.memory.ledger.root t.joint.domains d was (ended_domain was) is rooted)
 
 step_rooted : (m : Moment) → AllKeep m.joint.domains → JointRooted m.joint → JointRooted (joint_step m).joint
 unfolding joint_step
-step_rooted m all rooted = turn_rooted m.joint (next_hart m) _ _ all rooted
+step_rooted m all rooted =
+    answers_keep JointRooted (λ t here. here) end_rooted _ _ (step_before_end m)
+    (turn_rooted m.joint (next_hart m) _ _ all rooted)
 
 -- The opening: no page table is recorded.
 

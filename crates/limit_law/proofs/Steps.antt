@@ -1,7 +1,8 @@
--- A step of a program, an interrupt and a resuming, whatever is answered.
-use Rattle.std.proofs.Common.{◌≡◌, ◌⊎◌, inl, inr, ℕ, zero, suc, ◌<◌, Bool, true, false, cond, List, [], ◌∷◌, slice_set, slice_index_or, Option, Some, None, Ok, Err, refl, sym, ap, subst}
-use Rattle.std.specs.Prelude.{IfSome, is_some}
+-- A step of a program, an interrupt, a resuming and an end, whatever is answered.
+use Rattle.std.proofs.Common.{◌≡◌, ◌⊎◌, inl, inr, ℕ, zero, suc, ◌<◌, Bool, true, false, cond, List, [], ◌∷◌, slice_set, slice_index_or, Option, Some, None, Ok, Err, refl, sym, ap, subst, arith}
+use Rattle.std.specs.Prelude.{All, IfSome, is_some, replicate, unwrap_or}
 use Rattle.std.proofs.lemmas.List.{set-set}
+use Rattle.std.proofs.lemmas.List.Elements.{All-nil}
 use Rattle.cloak_base.specs.declared.names.HartId.{HartId}
 use Rattle.cloak_model.specs.declared.context.Phase.{Phase}
 use Rattle.cloak_model.specs.declared.context.Phase.TheVariants.{Plain, CopyIn, Waiting, CopyOut}
@@ -11,18 +12,23 @@ use Rattle.cloak_model.specs.declared.inside.Copied.{Copied}
 use Rattle.cloak_model.specs.declared.inside.Copied.TheVariants as copied
 use Rattle.cloak_model.specs.declared.inside.Ran.{Ran}
 use Rattle.cloak_model.specs.declared.inside.Ran.TheVariants as ran
+use Rattle.cloak_model.specs.declared.resource.Region.{Region}
+use Rattle.cloak_model.specs.declared.resource.Resource.{Resource}
 use Rattle.cloak_model.specs.Calls.{Copy, finish_call}
 use Rattle.cloak_model.specs.Contexts.{Context, with_context, Resumed, resume_if, resume_at}
 use Rattle.cloak_model.specs.DomainState.{Control, Domain}
 use Rattle.cloak_model.specs.DomainStep.{instruction_ended, copy_ended, phase_step, step_if, domain_step, interrupt_if, interrupt, answer_in, answer_taken, resume_told, resume_slot}
+use Rattle.cloak_model.specs.Ending.{ended_domain}
 use Rattle.cloak_model.specs.InsideStep.{AfterInstruction}
 use Rattle.cloak_model.specs.Resources.{Resources}
 use Rattle.cloak_model.specs.World.{World}
-use Rattle.resource_map.specs.Kept.{IsInUse}
-use Rattle.limit_law.specs.Limits.{IsPhase, WaitsOnNoHart, IsSteady, IsContext, KeepsLimits}
+use Rattle.resource_map.specs.Kept.{IsInUse, IsHeld, IsMapped, IsSound}
+use Rattle.resource_map.proofs.Lists.{get_or-replicate_none}
+use Rattle.limit_law.specs.Limits.{IsPhase, WaitsOnNoHart, IsSteady, IsContext, IsSpace, KeepsLimits}
 use Rattle.limit_law.proofs.Contexts.{AfterOne, instruction_one}
 use Rattle.limit_law.proofs.Copies.{StaysIdle, AfterCopy, copy_in_one, copy_out_one, finish_one}
 use Rattle.limit_law.proofs.Hypercalls.{IsRunning, runs, stays_kept, leaves_kept, idle_plain, slot_kept, hypercall_kept}
+use Rattle.limit_law.proofs.Resources.{no_regions}
 
 moved : (r : Resources) (c k : Context) → IsRunning r c → IsSteady k → k.space ≡ c.space → k.on ≡ c.on → IsRunning r k
 moved r c k here s space on = record {
@@ -201,3 +207,30 @@ pub resume_kept : (slot hart answer : ℕ) (d : Control) → hart < 4 → KeepsL
     KeepsLimits (resume_slot slot hart answer d).control
 unfolding resume_slot resume_at
 resume_kept slot hart answer d low keeps = resume_if_kept slot hart answer _ d low keeps (keeps.contexts slot)
+
+-- The end: nothing is left that a limit could be broken by.
+
+nothing_sound : IsSound (record { held = replicate 16 None; spaces = replicate 8 None })
+nothing_sound =
+    let r : Resources = record { held = replicate 16 None; spaces = replicate 8 None } in
+    record {
+      numbers = refl;
+      places = refl;
+      held = λ n. subst (λ (o : Option Resource). IfSome o (IsHeld r)) (sym (get_or-replicate_none 16 n)) tt;
+      few = omega arith;
+      files = λ number. omega arith;
+      mapped = λ space. subst (λ (o : Option (List Region)). All (IsMapped r space) (unwrap_or o []))
+          (sym (get_or-replicate_none 8 space)) (All-nil (IsMapped r space));
+    }
+
+pub end_kept : (d : Domain) → KeepsLimits (ended_domain d).control
+unfolding ended_domain
+end_kept d =
+    let r : Resources = record { held = replicate 16 None; spaces = replicate 8 None } in
+    record {
+      slots = refl;
+      contexts = λ slot. subst (λ (o : Option Context). IfSome o (IsContext r)) (sym (get_or-replicate_none 8 slot)) tt;
+      resources = nothing_sound;
+      regions = λ space. subst (λ (o : Option (List Region)). IsSpace (unwrap_or o [])) (sym (get_or-replicate_none 8 space))
+          no_regions;
+    }

@@ -32,7 +32,7 @@ program_words d fits = record {
 }
 
 hart_words : (h : Hart) → HartFits h → HasHartWords h
-hart_words h fits = record { regs = fits.regs; csrs = fits.csrs; pc = fits.pc }
+hart_words h fits = record { regs = fits.regs; csrs = fits.csrs; pc = fits.pc; inside = fits.inside }
 
 words : (j : Joint) → JointFits j → HasWords j
 words j fits = record {

@@ -3,3 +3,4 @@ pub mod Owed
 pub mod Roots
 pub mod Words
 pub mod Files
+pub mod Endings

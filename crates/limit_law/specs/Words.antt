@@ -1,5 +1,5 @@
 -- Harts and contexts hold words, at every moment of a run.
-use Rattle.std.specs.Prelude.{ℕ, ◌≡◌, ◌<◌, List, Option, Some, None, Ok}
+use Rattle.std.specs.Prelude.{ℕ, ◌≡◌, ◌<◌, List, IfSome, Option, Some, None, Ok}
 use Rattle.std.specs.List.{AllByRecursion}
 use Rattle.cloak_base.specs.Random.{Random}
 use Rattle.cloak_model.specs.declared.image.Bundle.{Bundle}
@@ -18,13 +18,14 @@ abbrev pub AreWords : List ℕ → Type 0
 AreWords words = AllByRecursion IsWord words
 
 -- A hart has words in its registers, in its control and status registers (listed by their numbers), and as its program
--- counter.
+-- counter. The number of the context that it is inside is a word.
 pub record HasHartWords (h : Hart) : Type 0 where
   pub regs : AreWords h.regs
   pub csrs : AllByRecursion (λ (entry : ℕ × ℕ). IsWord entry.1) h.csrs
   pub pc : IsWord h.pc
+  pub inside : IfSome h.inside IsWord
 
--- So has a context in its registers and as its program counter.
+-- A context has words in its registers and as its program counter.
 pub record HasContextWords (c : Context) : Type 0 where
   pub regs : AreWords c.regs
   pub pc : IsWord c.pc

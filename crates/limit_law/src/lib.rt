@@ -2,16 +2,19 @@
 //! last step, whatever the kernel does. Each program keeps its limits: each of its contexts is of a space in use, at a
 //! word of the program and has the registers that its phase needs, and its resources and regions fit together. No page
 //! is owed by two frames. A page table is recorded only of a space in use, of a program that there is. Registers,
-//! program counters and the numbers of files are words. The laws are of images in the grammar, under every stream and
-//! budget; that on owed pages is of all images, and those on words are of images and streams of bytes.
+//! program counters and the numbers of files are words. Nothing is left of a program that has ended, and its place tells
+//! that it has. Each step refuses one resuming at most. The laws are of images in the grammar, under every stream and
+//! budget; those on owed pages and on refusals are of all images, and those on words are of images and streams of bytes.
 //!
 //! No body turns a law, so there is no wrong body to refuse here. These changes were tried on a copy, and with none of
 //! them did the proofs go through. Of the limits: 15 regions in a space; harts below 3; program counters that are
 //! multiples of 8; no context waits. Of the definitions: THREAD does not test its program counter; EXIT ends its space
 //! though another context is in it; an offer does not settle the frame that is owed the page; the page table of a space
-//! that ended stays recorded.
+//! that ended stays recorded. Of the end of a domain: its contexts stay; its page tables stay recorded; what ended it is
+//! not kept; a refusal counts twice.
 #![tactic(auto)]
 
+ghost use Rattle.limit_law.specs.Endings.{EndedAreGone, EndedAreTold, RefusalsAreFew};
 ghost use Rattle.limit_law.specs.Files.{RunsHaveFileWords};
 ghost use Rattle.limit_law.specs.Limits.{RunsKeepLimits};
 ghost use Rattle.limit_law.specs.Owed.{PagesAreOwedOnce};
@@ -41,4 +44,20 @@ pub fn law_of_words()
 /// The numbers of files are words. It does nothing: its contract is the law.
 pub fn law_of_file_words()
     ensures { RunsHaveFileWords }
+{}
+
+/// A program that has ended has no context, space, resource or recorded page table. It does nothing: its contract is the
+/// law.
+pub fn law_of_endings()
+    ensures { EndedAreGone }
+{}
+
+/// The place for what ended a program is taken exactly if it has ended. It does nothing: its contract is the law.
+pub fn law_of_ended_places()
+    ensures { EndedAreTold }
+{}
+
+/// There are no more refusals than steps. It does nothing: its contract is the law.
+pub fn law_of_refusals()
+    ensures { RefusalsAreFew }
 {}

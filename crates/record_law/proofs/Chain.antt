@@ -41,3 +41,4 @@ wrong_item-tests s tag.Word fields = one_field (may_stand s tag.Word) true (leng
 wrong_item-tests s tag.Timer fields = one_field (may_stand s tag.Timer) true (length fields) 1
 wrong_item-tests s tag.Resume fields = one_field (may_stand s tag.Resume) true (length fields) 9
 wrong_item-tests s tag.Stopped fields = one_field (may_stand s tag.Stopped) true (length fields) 1
+wrong_item-tests s tag.Ended fields = one_field (may_stand s tag.Ended) true (length fields) 1

@@ -43,6 +43,7 @@ numbered_same s (item.Word domain value) n e = refl
 numbered_same s (item.Timer domain) n e = refl
 numbered_same s (item.Resume domain ctx answer) n e = refl
 numbered_same s (item.Stopped domain) n e = refl
+numbered_same s (item.Ended domain) n e = refl
 
 pub tag_again : (t : Tag) → tag_of (byte_of t) ≡ Some t
 tag_again tag.Cipher = refl
@@ -57,6 +58,7 @@ tag_again tag.Word = refl
 tag_again tag.Timer = refl
 tag_again tag.Resume = refl
 tag_again tag.Stopped = refl
+tag_again tag.Ended = refl
 
 abbrev some : Tag → Option Tag
 some t = Some t
@@ -74,7 +76,7 @@ none_some b t e = absurd cc
 pub tag_known : (b : ℕ) (t : Tag) → tag_of b ≡ some t → byte_of t ≡ b
 tag_known b t e =
     pick b 0x01 tag.Cipher _ t _ refl refl (pick b 0x02 tag.Put _ t _ refl refl (pick b 0x03 tag.Leave _ t _ refl refl (pick b 0x10 tag.Step _ t _ refl refl (pick b 0x11 tag.Close _ t _ refl refl (pick b 0x12 tag.End _ t _ refl refl
-    (pick b 0x20 tag.Ok _ t _ refl refl (pick b 0x21 tag.Absent _ t _ refl refl (pick b 0x22 tag.Word _ t _ refl refl (pick b 0x23 tag.Timer _ t _ refl refl (pick b 0x24 tag.Resume _ t _ refl refl (pick b 0x25 tag.Stopped _ t _ refl refl (none_some b t)))))))))))) e
+    (pick b 0x20 tag.Ok _ t _ refl refl (pick b 0x21 tag.Absent _ t _ refl refl (pick b 0x22 tag.Word _ t _ refl refl (pick b 0x23 tag.Timer _ t _ refl refl (pick b 0x24 tag.Resume _ t _ refl refl (pick b 0x25 tag.Stopped _ t _ refl refl (pick b 0x26 tag.Ended _ t _ refl refl (none_some b t))))))))))))) e
 
 -- ---- an item that may stand there is not wrong
 

@@ -71,6 +71,7 @@ of_step_follows n (item.Word domain value) is = (follows _ (item.Word domain val
 of_step_follows n (item.Timer domain) is = (follows _ (item.Timer domain) refl refl, refl)
 of_step_follows n (item.Resume domain ctx answer) is = (follows _ (item.Resume domain ctx answer) refl refl, refl)
 of_step_follows n (item.Stopped domain) is = (follows _ (item.Stopped domain) refl refl, refl)
+of_step_follows n (item.Ended domain) is = (follows _ (item.Ended domain) refl refl, refl)
 
 step_ends : (n : ℕ) (step items : List Item) → AllByRecursion IsOfStep step → Ends (Steps n) items → Ends (Steps n) (step ++ items)
 step_ends n [] items all e = e
@@ -181,6 +182,7 @@ steps_rest n (item.Word domain value ∷ items) e = one_of_step n _ items refl (
 steps_rest n (item.Timer domain ∷ items) e = one_of_step n _ items refl (steps_rest n items (e.0.1, e.1))
 steps_rest n (item.Resume domain ctx answer ∷ items) e = one_of_step n _ items refl (steps_rest n items (e.0.1, e.1))
 steps_rest n (item.Stopped domain ∷ items) e = one_of_step n _ items refl (steps_rest n items (e.0.1, e.1))
+steps_rest n (item.Ended domain ∷ items) e = one_of_step n _ items refl (steps_rest n items (e.0.1, e.1))
 
 pub ends_exchange : (items : List Item) → Ends Opening items → IsExchange items
 unfolding stage_behind steps_items

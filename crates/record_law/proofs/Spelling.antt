@@ -31,6 +31,7 @@ tag_at (item.Word domain value) = tag.Word
 tag_at (item.Timer domain) = tag.Timer
 tag_at (item.Resume domain ctx answer) = tag.Resume
 tag_at (item.Stopped domain) = tag.Stopped
+tag_at (item.Ended domain) = tag.Ended
 
 -- the number of a Step or a Close
 abbrev pub IsNumbered : Item → ℕ → Type 0
@@ -89,6 +90,7 @@ fields_of (item.Word domain value) = domain ∷ word value
 fields_of (item.Timer domain) = domain ∷ []
 fields_of (item.Resume domain ctx answer) = domain ∷ (word ctx ++ word answer)
 fields_of (item.Stopped domain) = domain ∷ []
+fields_of (item.Ended domain) = domain ∷ []
 
 pub item_bytes-parts : (i : Item) → item_bytes i ≡ byte_of (tag_at i) ∷ fields_of i
 unfolding item_bytes fields_of
@@ -104,6 +106,7 @@ item_bytes-parts (item.Word domain value) = refl
 item_bytes-parts (item.Timer domain) = refl
 item_bytes-parts (item.Resume domain ctx answer) = refl
 item_bytes-parts (item.Stopped domain) = refl
+item_bytes-parts (item.Ended domain) = refl
 
 abbrev again : (n : ℕ) → n < 2 ^ 32 → from_le_bytes w32 (to_le_bytes w32 n) ≡ n
 again n lt = from_le_bytes-to_le_bytes_4 n lt
@@ -177,6 +180,7 @@ fields_read (item.Word domain value) rest fits = record { width = refl; whole = 
 fields_read (item.Timer domain) rest fits = record { width = refl; whole = omega arith; number = tt; item = refl; behind = refl }
 fields_read (item.Resume domain ctx answer) rest fits = record { width = refl; whole = omega arith; number = tt; item = resume_is domain _ ctx _ answer (again ctx fits.0) (again answer fits.1); behind = refl }
 fields_read (item.Stopped domain) rest fits = record { width = refl; whole = omega arith; number = tt; item = refl; behind = refl }
+fields_read (item.Ended domain) rest fits = record { width = refl; whole = omega arith; number = tt; item = refl; behind = refl }
 
 -- ---- what is read is spelled
 
@@ -266,3 +270,4 @@ fields_spelled tag.Resume fields bytes le width = record {
   number = tt;
 }
 fields_spelled tag.Stopped fields bytes le width = record { spelled = cell 0 fields le; fits = tt; tag = refl; number = tt }
+fields_spelled tag.Ended fields bytes le width = record { spelled = cell 0 fields le; fits = tt; tag = refl; number = tt }

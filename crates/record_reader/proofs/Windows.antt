@@ -56,6 +56,7 @@ width_front tag.Word k fields le = refl
 width_front tag.Timer k fields le = refl
 width_front tag.Resume k fields le = refl
 width_front tag.Stopped k fields le = refl
+width_front tag.Ended k fields le = refl
 
 abbrev some : Tag → Option Tag
 some t = Some t
@@ -77,6 +78,7 @@ fields_fit n o long cipher tag.Word e = omega arith
 fields_fit n o long cipher tag.Timer e = omega arith
 fields_fit n o long cipher tag.Resume e = omega arith
 fields_fit n o long cipher tag.Stopped e = omega arith
+fields_fit n o long cipher tag.Ended e = omega arith
 
 item_front : (s : Stage) (o : Option Tag) (k : ℕ) (fields : List ℕ) → 40 ≤ k → ((t : Tag) → o ≡ Some t → size_of t < suc k) → wrong_item s o (take k fields) ≡ wrong_item s o fields
 unfolding wrong_item

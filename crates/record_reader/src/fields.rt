@@ -137,6 +137,7 @@ pub fn set_item(tag: Tag, fields: &[u8], item: &mut Item)
             }
         }
         Tag::Stopped => *item = Item::Stopped { domain: fields[0] },
+        Tag::Ended => *item = Item::Ended { domain: fields[0] },
     }
 }
 

@@ -22,6 +22,7 @@ pub fn tag_of(byte: u8) -> Option<Tag>
         0x23 => Some(Tag::Timer),
         0x24 => Some(Tag::Resume),
         0x25 => Some(Tag::Stopped),
+        0x26 => Some(Tag::Ended),
         _ => None,
     }
 }
@@ -36,7 +37,7 @@ pub fn size_of(tag: Tag) -> usize
         Tag::Leave => 40,
         Tag::Step | Tag::Close => 4,
         Tag::End => 0,
-        Tag::Ok | Tag::Timer | Tag::Stopped => 1,
+        Tag::Ok | Tag::Timer | Tag::Stopped | Tag::Ended => 1,
         Tag::Absent | Tag::Word => 5,
         Tag::Resume => 9,
     }

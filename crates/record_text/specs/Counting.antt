@@ -8,7 +8,7 @@ use Rattle.record_text.specs.declared.selection.Selection.{Selection}
 use Rattle.record_text.specs.declared.place.Place.{Place}
 use Rattle.record_text.specs.declared.place.Place.TheVariants as place
 use Rattle.record_text.specs.Kinds.{NamedKind, has_item, is_of_kind, kind_names, place_marked}
-use Rattle.record_text.specs.Kinds.{only_cipher, only_put, only_leave, only_ok, only_absent, only_word, only_timer, only_resume, only_stopped}
+use Rattle.record_text.specs.Kinds.{only_cipher, only_put, only_leave, only_ok, only_absent, only_word, only_timer, only_resume, only_stopped, only_ended}
 
 -- Items that are chosen, and the place of what comes next.
 pub record Chosen : Type 0 where
@@ -45,3 +45,4 @@ pub record AreCounts (c : Counts) (items : List Item) : Type 0 where
   pub timer : c.timer ≡ count_by (is_of_kind only_timer) items
   pub resume : c.resume ≡ count_by (is_of_kind only_resume) items
   pub stopped : c.stopped ≡ count_by (is_of_kind only_stopped) items
+  pub ended : c.ended ≡ count_by (is_of_kind only_ended) items

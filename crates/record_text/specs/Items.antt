@@ -64,4 +64,5 @@ item_text (item.Absent domain cause) = absent_text domain cause
 item_text (item.Word domain value) = word_text domain value
 item_text (item.Timer domain) = inward_text domain (codes " is interrupted by the timer")
 item_text (item.Resume domain ctx answer) = resume_text domain ctx answer
-item_text (item.Stopped domain) = inward_text domain (codes " asks what stops the run")
+item_text (item.Stopped domain) = inward_text domain (codes " asks what ends it or stops the run")
+item_text (item.Ended domain) = inward_text domain (codes " is ended")

@@ -21,6 +21,7 @@ is_of_kind k (item.Word domain value) = k.word
 is_of_kind k (item.Timer domain) = k.timer
 is_of_kind k (item.Resume domain ctx answer) = k.resume
 is_of_kind k (item.Stopped domain) = k.stopped
+is_of_kind k (item.Ended domain) = k.ended
 
 abbrev pub no_kind : Kinds
 no_kind = record {
@@ -33,6 +34,7 @@ no_kind = record {
   timer = false;
   resume = false;
   stopped = false;
+  ended = false;
 }
 
 abbrev pub only_cipher : Kinds
@@ -62,6 +64,9 @@ only_resume = record no_kind { resume = true }
 abbrev pub only_stopped : Kinds
 only_stopped = record no_kind { stopped = true }
 
+abbrev pub only_ended : Kinds
+only_ended = record no_kind { ended = true }
+
 -- a kind under its name
 pub record NamedKind : Type 0 where
   pub name : List ℕ
@@ -78,6 +83,7 @@ kind_names =
     ∷ record { name = codes "timer"; kind = only_timer }
     ∷ record { name = codes "resume"; kind = only_resume }
     ∷ record { name = codes "stopped"; kind = only_stopped }
+    ∷ record { name = codes "ended"; kind = only_ended }
     ∷ []
 
 -- What of a record is chosen.

@@ -1,4 +1,5 @@
--- The names of causes, as the privileged manual has them (scause), and of calls.
+-- The names of causes, as the privileged manual has them (scause), and of calls. Cause 24 is that of a context that does
+-- not run on the hart which is inside it.
 use Rattle.std.specs.Prelude.{ℕ, ◌==◌, List, codes, if◌then◌else◌}
 
 unfoldable pub cause_name : ℕ → List ℕ
@@ -15,6 +16,7 @@ cause_name cause =
     if cause == 12 then codes "instruction page fault" else
     if cause == 13 then codes "load page fault" else
     if cause == 15 then codes "store page fault" else
+    if cause == 24 then codes "it does not run here" else
     if cause == 0x80000005 then codes "supervisor timer interrupt" else codes "unknown cause"
 
 -- a call to the kernel, or the number that a context ends with

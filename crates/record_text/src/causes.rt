@@ -7,7 +7,8 @@ ghost use Rattle.record_text.specs.Names as spec;
 use kernel_report::lines::{SoFar, hexadecimal, text};
 use outside_io::Sink;
 
-/// The name of the cause of a trap (RISC-V privileged manual, scause).
+/// The name of the cause of a trap (RISC-V privileged manual, scause). 24 is the one of a context that does not run on the
+/// hart which is inside it.
 #[tactic(auto, unfolding(crate::specs::Names::cause_name))]
 pub fn cause_name(cause: u32) -> &'static str
     ensures { result.now ≡ spec.cause_name cause }
@@ -25,6 +26,7 @@ pub fn cause_name(cause: u32) -> &'static str
         12 => "instruction page fault",
         13 => "load page fault",
         15 => "store page fault",
+        24 => "it does not run here",
         0x8000_0005 => "supervisor timer interrupt",
         _ => "unknown cause",
     }

@@ -24,6 +24,7 @@ pub struct Counts {
     timer: u64,
     resume: u64,
     stopped: u64,
+    ended: u64,
 }
 
 /// How many items are of a kind, behind one more.
@@ -62,6 +63,7 @@ impl Counts {
             timer: 0,
             resume: 0,
             stopped: 0,
+            ended: 0,
         }
     }
 
@@ -79,6 +81,7 @@ impl Counts {
         self.timer = counted(self.timer, Kinds::TIMER, item);
         self.resume = counted(self.resume, Kinds::RESUME, item);
         self.stopped = counted(self.stopped, Kinds::STOPPED, item);
+        self.ended = counted(self.ended, Kinds::ENDED, item);
     }
 
     /// A line for each kind.
@@ -94,6 +97,7 @@ impl Counts {
         let so_far = put_count(out, so_far, b"word ", self.word);
         let so_far = put_count(out, so_far, b"timer ", self.timer);
         let so_far = put_count(out, so_far, b"resume ", self.resume);
-        put_count(out, so_far, b"stopped ", self.stopped)
+        let so_far = put_count(out, so_far, b"stopped ", self.stopped);
+        put_count(out, so_far, b"ended ", self.ended)
     }
 }

@@ -169,7 +169,8 @@ pub fn put_item<O: Sink>(out: &mut O, so_far: SoFar, item: &Item) -> SoFar
             answer,
         } => put_resume(out, so_far, *domain, *ctx, *answer),
         Item::Stopped { domain } => {
-            put_inward(out, so_far, *domain, b" asks what stops the run")
+            put_inward(out, so_far, *domain, b" asks what ends it or stops the run")
         }
+        Item::Ended { domain } => put_inward(out, so_far, *domain, b" is ended"),
     }
 }

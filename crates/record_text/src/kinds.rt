@@ -16,6 +16,7 @@ pub struct Kinds {
     pub timer: bool,
     pub resume: bool,
     pub stopped: bool,
+    pub ended: bool,
 }
 
 impl Kinds {
@@ -30,6 +31,7 @@ impl Kinds {
         timer: false,
         resume: false,
         stopped: false,
+        ended: false,
     };
 
     pub const CIPHER: Kinds = Kinds {
@@ -76,6 +78,12 @@ impl Kinds {
         stopped: true,
         ..Kinds::NONE
     };
+
+    pub const ENDED: Kinds = Kinds {
+        ended: true,
+        ..Kinds::NONE
+    };
+
     /// What the kernel could see.
     pub const OUTWARD: Kinds = Kinds {
         cipher: true,
@@ -91,6 +99,7 @@ impl Kinds {
         timer: true,
         resume: true,
         stopped: true,
+        ended: true,
         ..Kinds::NONE
     };
 
@@ -111,6 +120,7 @@ impl Kinds {
             Item::Timer { .. } => self.timer,
             Item::Resume { .. } => self.resume,
             Item::Stopped { .. } => self.stopped,
+            Item::Ended { .. } => self.ended,
         }
     }
 }

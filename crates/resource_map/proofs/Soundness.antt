@@ -1,5 +1,5 @@
 -- Resources that fit together still do after each call.
-use Rattle.std.proofs.Common.{◌≡◌, ◌≢◌, ℕ, zero, suc, ◌+◌, ◌<◌, ◌≤◌, Bool, true, false, cond, List, [], length, get_or, set, Option, None, Some, unwrap_or, if◌then◌else◌, refl, ap, sym, ◌∙◌, subst, inl, inr, arith}
+use Rattle.std.proofs.Common.{◌≡◌, ◌≢◌, ℕ, zero, suc, ◌+◌, ◌<◌, ◌≤◌, Bool, true, false, cond, List, [], length, get_or, set, replicate, Option, None, Some, unwrap_or, if◌then◌else◌, refl, ap, sym, ◌∙◌, subst, inl, inr, arith}
 use Rattle.std.specs.Prelude.{All, IfSome, IsSome, IsNone, IsSomeAnd, position, count_by, slice_set}
 use Rattle.std.proofs.lemmas.Bool.{cases_eq, eqb-true, eqb-false, eq-eqb, ne_eqb}
 use Rattle.std.proofs.lemmas.List.{get_or-set_same, get_or-set_other, length-set, length-map}
@@ -41,6 +41,23 @@ IsSound-started pages base some few = record {
   few = omega arith;
   files = λ number. omega arith;
   mapped = mapped_at_start pages base;
+}
+
+-- As a domain ends.
+
+abbrev nothing_held : Resources
+nothing_held = record { held = replicate 16 None; spaces = replicate 8 None }
+
+pub IsSound-nothing : IsSound nothing_held
+IsSound-nothing = record {
+  numbers = refl;
+  places = refl;
+  held = λ n. subst (λ (o : Option Resource). IfSome o (IsHeld nothing_held)) (sym (get_or-replicate_none 16 n)) tt;
+  few = omega arith;
+  files = λ number. omega arith;
+  mapped = λ space.
+      subst (λ (o : Option (List Region)). All (IsMapped nothing_held space) (unwrap_or o [])) (sym (get_or-replicate_none 8 space))
+      (All-nil (IsMapped nothing_held space));
 }
 
 -- A resource is made.

@@ -31,7 +31,7 @@ use Rattle.run_command.specs.declared.outlet.Outlet.{Outlet}
 use Rattle.program_parts.specs.Outside.{Raised, Output, Outside, OnlyRead, outside}
 use Rattle.run_command.specs.Outlet.{pieces_left, FailedAt, WroteAll, WroteFront, Writes, Gave}
 use Rattle.program_parts.specs.Refusal.{status_of_refusal}
-use Rattle.run_command.specs.Running.{NoClash, IsStatusOfStop, status_of}
+use Rattle.run_command.specs.Running.{NoClash, IsStatusOfStop, run_status, status_of, unless_refused}
 use Rattle.run_command.specs.Preparing.{IsPrepared}
 use Rattle.run_command.specs.Recording.{Records, GrowsSome}
 use Rattle.program_parts.specs.Refusing.{Refuses}
@@ -40,10 +40,11 @@ use Rattle.latest_store.proofs.Histories.{runs_give_latest}
 use Rattle.store_law.proofs.Ciphers.{ciphers_show_pages}
 use Rattle.store_law.proofs.OwnDraws.{ciphers_have_own_draws}
 use Rattle.cause_law.proofs.Closed.{closing_owes_nothing}
-use Rattle.cause_law.proofs.Runs.{violation_has_cause, presented_is_refused}
+use Rattle.cause_law.proofs.Runs.{count_has_cause, end_has_cause, listed_have_ended, presented_is_refused, stopped_ends, violation_has_cause}
 use Rattle.kernel_isolation.proofs.Isolated.{kernel_ends_alone}
 use Rattle.domain_isolation.proofs.Isolated.{domain_ends_alone}
 use Rattle.program_parts.specs.NoRun.{NoRun, IsRefused}
+use Rattle.run_command.specs.Refusing.{RefusesRightly}
 use Rattle.run_command.specs.ReadingBack.{ComesToEnds, FitsAlone, ReadsBack}
 use Rattle.run_command.specs.Answering.{AsksRun, IsLawful, HasRun, RunAnswers, KeepsFiles}
 
@@ -128,7 +129,7 @@ records_front {S} {O} name before mid after r pieces w all empty others reading 
 -- the record was begun, and the run was written whole
 records_all : {S O : Type 0} (name : List ℕ) (before mid after : Outside S O) (given : Status) (r : Run)
     (pieces : List Piece) → WroteAll name mid after pieces → (NoClash r → WroteAll name mid after (due r)) →
-    IsStatusOfStop given → (NoClash r → given ≡ status_of r.stop) →
+    IsStatusOfStop given → (NoClash r → given ≡ run_status r) →
     Tells (mid.files.held name) [] → OtherFiles name before.files.held mid.files.held →
     mid.files.reading ≡ before.files.reading → mid.files.writing ≡ before.files.writing → mid.output ≡ before.output →
     Records name before after given r
@@ -180,7 +181,7 @@ pub recorded_all : {S O : Type 0} {of_shelf : shelves.Ghosts S} {of_sink : sinks
     Gave of_shelf of_sink first now pieces →
     (NoClash r → Gave of_shelf of_sink first now (due r)) → first.pen.failed ≡ false →
     now.pen.failed ≡ false → s' ≡ now.pen.shelf.now → o' ≡ now.out.now → IsStatusOfStop given →
-    (NoClash r → given ≡ status_of r.stop) →
+    (NoClash r → given ≡ run_status r) →
     Tells (of_shelf.held first.pen.shelf.now first.pen.name.now) [] →
     OtherFiles first.pen.name.now (of_shelf.held old) (of_shelf.held first.pen.shelf.now) →
     of_shelf.reading_faults first.pen.shelf.now ≡ of_shelf.reading_faults old →
@@ -201,19 +202,23 @@ recorded_all {S} {O} {of_shelf} {of_sink} {first} {now} {pieces} old s' o' given
 -- A run over a machine that was prepared.
 
 -- the status of a run says that it was made
-answers_stop : {S O : Type 0} (asked : spec.Asked) (before after : Outside S O) (cause : Stop) →
-    HasRun asked (status_of cause) before after → RunAnswers asked before after (status_of cause)
-answers_stop asked before after (stop.Halt value) run = run
-answers_stop asked before after stop.Budget run = run
-answers_stop asked before after (stop.Violation violation) run = run
-answers_stop asked before after stop.NoRandom run = inr run
+answers_unless : {S O : Type 0} (asked : spec.Asked) (before after : Outside S O) (refused : Bool) →
+    HasRun asked (unless_refused refused) before after → RunAnswers asked before after (unless_refused refused)
+answers_unless asked before after true run = run
+answers_unless asked before after false run = run
+
+answers_stop : {S O : Type 0} (asked : spec.Asked) (before after : Outside S O) (cause : Stop) (refused : Bool) →
+    HasRun asked (status_of cause refused) before after → RunAnswers asked before after (status_of cause refused)
+answers_stop asked before after (stop.Halt value) refused run = answers_unless asked before after refused run
+answers_stop asked before after stop.Budget refused run = answers_unless asked before after refused run
+answers_stop asked before after stop.NoRandom refused run = inr run
 
 answers_some_stop : {S O : Type 0} (asked : spec.Asked) (before after : Outside S O) (given : Status) →
     IsStatusOfStop given → HasRun asked given before after → RunAnswers asked before after given
 answers_some_stop {S} {O} asked before after given some run =
-    subst (λ (s : Status). RunAnswers asked before after s) (sym some.1)
-    (answers_stop asked before after some.0
-    (subst (λ (s : Status). HasRun asked s before after) some.1 run))
+    subst (λ (s : Status). RunAnswers asked before after s) (sym some.2)
+    (answers_stop asked before after some.0 some.1
+    (subst (λ (s : Status). HasRun asked s before after) some.2 run))
 
 failed_above : {S O : Type 0} (piece : Piece) (before after : Outside S O) → before.files.writing < 2 ^ 64 - 1 →
     before.output.faults < 2 ^ 64 - 1 → FailedAt Rose piece before after → FailedAt Raised piece before after
@@ -269,6 +274,17 @@ reads_back b stream budget r grammar bytes all few runs =
       ends = ends;
     }
 
+refuses_rightly : (b : Bundle) (stream : Random) (budget : ℕ) (r : Run) → joint_run b stream budget ≡ Ok r →
+    RefusesRightly b r
+refuses_rightly b stream budget r runs = record {
+  met = violation_has_cause b stream budget r runs;
+  ended = end_has_cause b stream budget r runs;
+  listed = listed_have_ended b stream budget r runs;
+  counted = count_has_cause b stream budget r runs;
+  presented = presented_is_refused b stream budget r runs;
+  stopped = stopped_ends b stream budget r runs;
+}
+
 pub lawful_run : {asked : spec.Asked} {held : List ℕ → Option (List ℕ)} {record_name : List ℕ} {steps : ℕ}
     {machine : Machine} (prepared : IsPrepared asked held (Some record_name) steps machine) →
     IsLawful (asks_run prepared).bundle (asks_run prepared).stream (run_of prepared.bundle steps prepared.opened)
@@ -282,8 +298,7 @@ lawful_run {asked} {held} {record_name} {steps} {machine} prepared =
       latest = runs_give_latest prepared.bundle prepared.stream steps r prepared.asks.file.in_grammar runs;
       ciphers = ciphers_show_pages prepared.bundle prepared.stream steps r runs;
       draws = ciphers_have_own_draws prepared.bundle prepared.stream steps r runs;
-      cause = violation_has_cause prepared.bundle prepared.stream steps r runs;
-      refused = presented_is_refused prepared.bundle prepared.stream steps r runs;
+      refuses = refuses_rightly prepared.bundle prepared.stream steps r runs;
       closed = closing_owes_nothing prepared.bundle prepared.stream steps r runs;
     }
 

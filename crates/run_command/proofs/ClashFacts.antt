@@ -5,12 +5,12 @@ use Rattle.cloak_model.specs.declared.image.Bundle.{Bundle}
 use Rattle.cloak_model.specs.Joint.{Moment, Turn, joint_step, next_hart, after_turn, stop_of}
 use Rattle.cloak_model.specs.Opening.{Opened}
 use Rattle.cloak_model.specs.Run.{first_moment, joint_after, run_of, turns_from, unless_stopped}
-use Rattle.joint_machine.proofs.Clashed.{closing_unclashed, turn_unclashed}
+use Rattle.joint_machine.proofs.Clashed.{closing_unclashed, step_unclashed}
 use Rattle.run_command.specs.Running.{NoClash, NoClashYet}
 
-step_unclashed : (m : Moment) → NoClashYet (joint_step m).joint → NoClashYet m.joint
+before_step : (m : Moment) → NoClashYet (joint_step m).joint → NoClashYet m.joint
 unfolding joint_step
-step_unclashed m none = turn_unclashed m.joint (next_hart m) none
+before_step m none = step_unclashed m.joint (next_hart m) none
 
 -- what follows a step, where none clashed in what may follow it
 pub rest_unclashed : (stopped : Option Stop) (more : Moment → List Turn) (m : Moment) →
@@ -25,7 +25,7 @@ unfolding turns_from joint_after
 turns_unclashed zero m none = none
 turns_unclashed (suc n) m none =
     let t = joint_step m in
-    step_unclashed m
+    before_step m
     (rest_unclashed (stop_of t) (turns_from n) (after_turn m t) (turns_unclashed n (after_turn m t)) none)
 
 -- and none behind the steps of a run in which none did

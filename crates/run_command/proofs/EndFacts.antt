@@ -9,7 +9,7 @@ use Rattle.cloak_model.specs.declared.image.Bundle.{Bundle}
 use Rattle.cloak_model.specs.Exchange.{Piece}
 use Rattle.cloak_model.specs.Joint.{Moment}
 use Rattle.cloak_model.specs.Opening.{Opened}
-use Rattle.cloak_model.specs.Run.{cause_of, closing, first_moment, joint_after, last_stop, run_of, turns_from}
+use Rattle.cloak_model.specs.Run.{any_refused, cause_of, closing, first_moment, joint_after, last_stop, run_of, turns_from}
 use Rattle.cloak_machine.specs.declared.end.End.{End}
 use Rattle.cloak_machine.specs.declared.machine.Machine.{Machine}
 use Rattle.cloak_machine.specs.Ending.{short_report}
@@ -34,6 +34,7 @@ end_of {E} {gave} {e} {f} b steps o machine stopped cause end all unwrapped each
     let count : 0 + length turns ≡ length turns = omega arith in
     record {
       stop = stop_is;
+      refused = λ i. any_refused (ends.ended i) (ends.refused i);
       short = ends.short ∙ (λ i. short_report (stop_is i) (count i) closed.joint);
     }
 

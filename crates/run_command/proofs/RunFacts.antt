@@ -12,10 +12,10 @@ use Rattle.cloak_model.specs.Parts.{Joint}
 use Rattle.cloak_model.specs.Report.{report}
 use Rattle.cloak_model.specs.Joint.{Moment, Turn, joint_step, after_turn, stop_of}
 use Rattle.cloak_model.specs.Run.{unless_stopped, turns_from, joint_after, last_stop, turn_pieces, turns_pieces}
-use Rattle.cloak_model.specs.Run.{closing, cause_of, first_moment, run_of, due}
+use Rattle.cloak_model.specs.Run.{any_refused, closing, cause_of, first_moment, run_of, due}
 use Rattle.cloak_machine.specs.declared.machine.Machine.{Machine}
 use Rattle.cloak_machine.specs.Standing.{StandsForMoment, ShowsOpening, MakesTurn, FinishesAs}
-use Rattle.cloak_machine.specs.Ending.{end_report}
+use Rattle.cloak_machine.specs.Ending.{end_is_refused, end_report}
 use Rattle.cloak_machine.specs.declared.end.End.{End}
 use Rattle.program_parts.specs.declared.status.Status.{Status}
 use Rattle.run_command.specs.Running.{NoClashYet, RunsSteps, EndsRun, WritesRun, last_pieces, moment_behind, status_of}
@@ -323,17 +323,18 @@ writes-whole {E} gave mid_failed failed e f g h i opened machine stopped cause g
       emits = emits_as (pieces_of_run b steps o) (emits_then first (emits_then opens.emits (emits_then runs.emits
           (emits_as (λ k. last_pieces (same k) ((let e : 0 + length turns ≡ length turns = omega arith in e) k)
           closed) end.emits))));
-      status = λ unfailed. end.status ∙ ap status_of same;
+      status = λ unfailed. end.status
+          ∙ ap (λ (s : Stop). status_of s (any_refused closed.joint.ended closed.joint.refused)) same;
     }
 
 -- the end of a run, by what the machine's end emits and says
 pub ends_run : {E : Type 0} {gave : E → E → List Piece → Type 0} {e f g h : E} {end : End} {stopped : Stop}
     {m : Moment} {closed : Opened} {given : Status} →
     FinishesAs gave e f end stopped m closed → Emits gave f g (shown (codes "\n") ∷ []) →
-    Emits gave g h (shown (end_report end) ∷ []) → given ≡ status_of end.stop →
+    Emits gave g h (shown (end_report end) ∷ []) → given ≡ status_of end.stop (end_is_refused end) →
     EndsRun gave e h given stopped m.steps closed
 ends_run {E} {gave} {e} {f} {g} {h} {end} {stopped} {m} {closed} {given} ends line lines is = record {
   emits = emits_then ends.emits
       (emits_then line (emits_text (ends.report ∙ ap (λ (s : Stop). report s m.steps closed.joint) ends.stop) lines));
-  status = is ∙ ap status_of ends.stop;
+  status = is ∙ (λ i. status_of (ends.stop i) (any_refused (ends.ended i) (ends.refused i)));
 }

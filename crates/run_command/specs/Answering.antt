@@ -5,9 +5,6 @@ use Rattle.outside_io.specs.Told.{Tells, SameFiles, OtherFiles}
 use Rattle.cloak_model.specs.declared.image.Bundle.{Bundle}
 use Rattle.cloak_model.specs.Cloaking.{owed_in}
 use Rattle.cloak_model.specs.Run.{Run, joint_run}
-use Rattle.cloak_base.specs.declared.causes.Violation.{Violation}
-use Rattle.cloak_base.specs.declared.causes.Stop.TheVariants as stop
-use Rattle.cause_law.specs.Causes.{LastStepPresents, RefusesPresented}
 use Rattle.cause_law.specs.Closing.{closed_memory}
 use Rattle.latest_store.specs.LatestStore.{GivesLatest}
 use Rattle.store_law.specs.Ciphers.{HaveOwnDraws, ShowsPages}
@@ -16,6 +13,7 @@ use Rattle.program_parts.specs.declared.status.Status.{Status}
 use Rattle.program_parts.specs.declared.status.Status.TheVariants as status
 use Rattle.program_parts.specs.NoRun.{AsksBundle, IsRefused, LineFailed}
 use Rattle.program_parts.specs.Outside.{Outside, Raised, NothingRose}
+use Rattle.run_command.specs.Refusing.{RefusesRightly}
 use Rattle.run_command.specs.Recording.{IsWritten, IsCutOff, GrowsSome, FailedSome}
 use Rattle.run_command.specs.ReadingBack.{ReadsBack}
 use Rattle.run_command.specs.Running.{NoClash}
@@ -31,17 +29,16 @@ pub record AsksRun (asked : spec.Asked) (held : List ℕ → Option (List ℕ)) 
 
 -- The run.
 
--- What is so of a run, whatever its kernel does: its record reads back; its programs' loads give what was stored last; the
--- kernel is shown pages as ciphertexts alone, each under a draw of its own; where it stopped with a violation, its last
--- step presented what that names, and where a step presented such a thing, the run stopped so; and as it was closed, no
+-- What is true of a run, whatever its kernel does: its record reads back; its programs' loads give what was stored last;
+-- the kernel is shown pages as ciphertexts alone, each under a draw of its own; a domain ended only if the kernel's side
+-- presented something other than what is recorded, and all that it presented so was refused; and as the run was closed, no
 -- frame was owed a page any more.
 pub record IsLawful (b : Bundle) (stream : Random) (r : Run) : Type 0 where
   pub reads_back : ReadsBack b r
   pub latest : GivesLatest b r
   pub ciphers : ShowsPages b stream r
   pub draws : HaveOwnDraws b r
-  pub cause : (v : Violation) → r.stop ≡ stop.Violation v → LastStepPresents b r v
-  pub refused : RefusesPresented b r
+  pub refuses : RefusesRightly b r
   pub closed : (frame : ℕ) → owed_in (closed_memory r) frame ≡ None
 
 -- The run was made. Where no pages clashed in it, all that is due of it was written.

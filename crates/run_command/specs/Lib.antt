@@ -4,5 +4,6 @@ pub mod Running
 pub mod Recording
 pub mod Preparing
 pub mod ReadingBack
+pub mod Refusing
 pub mod Answering
 pub mod Unheard

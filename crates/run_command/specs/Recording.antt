@@ -7,12 +7,12 @@ use Rattle.program_parts.specs.declared.status.Status.{Status}
 use Rattle.program_parts.specs.declared.status.Status.TheVariants as status
 use Rattle.program_parts.specs.Outside.{Outside, NothingRose}
 use Rattle.run_command.specs.Outlet.{Cut, pieces_left, FailedAt}
-use Rattle.run_command.specs.Running.{NoClash, IsStatusOfStop, status_of}
+use Rattle.run_command.specs.Running.{NoClash, IsStatusOfStop, run_status}
 
--- what is due of a run was written whole, and the answer is the status of its stop
+-- what is due of a run was written whole, and the answer is its status
 pub record IsWritten {S O : Type 0} (r : Run) (name : List ℕ) (given : Status) (before after : Outside S O) : Type 0
   where
-    pub status : given ≡ status_of r.stop
+    pub status : given ≡ run_status r
     pub file : Tells (after.files.held name) (recorded_bytes (due r))
     pub output : Grows before.output.taken after.output.taken (shown_bytes (due r))
 

@@ -1,5 +1,5 @@
 -- A run over an outlet.
-use Rattle.std.specs.Prelude.{ℕ, suc, ◌≡◌, ◌+◌, Bool, false, List, [], ◌∷◌, ◌++◌, length, codes, Option, Some}
+use Rattle.std.specs.Prelude.{ℕ, suc, ◌≡◌, ◌+◌, Bool, true, false, List, [], ◌∷◌, ◌++◌, length, codes, Option, Some}
 use Rattle.std.specs.Prelude.{None}
 use Rattle.cloak_base.specs.declared.causes.Stop.{Stop}
 use Rattle.cloak_base.specs.declared.causes.Stop.TheVariants as stop
@@ -9,10 +9,10 @@ use Rattle.cloak_model.specs.Opening.{Opened}
 use Rattle.cloak_model.specs.Report.{report}
 use Rattle.cloak_model.specs.Parts.{Joint}
 use Rattle.cloak_model.specs.Joint.{Moment, Turn}
-use Rattle.cloak_model.specs.Run.{Run, joint_after, last_stop, turns_pieces, cause_of, due}
+use Rattle.cloak_model.specs.Run.{Run, joint_after, last_stop, turns_pieces, cause_of, due, any_refused, is_refused}
 use Rattle.cloak_machine.specs.declared.end.End.{End}
 use Rattle.cloak_machine.specs.declared.machine.Machine.{Machine}
-use Rattle.cloak_machine.specs.Ending.{end_short_report, short_report}
+use Rattle.cloak_machine.specs.Ending.{end_is_refused, end_short_report, short_report}
 use Rattle.cloak_machine.specs.Standing.{StandsForMoment}
 use Rattle.program_parts.specs.declared.status.Status.{Status}
 use Rattle.program_parts.specs.declared.status.Status.TheVariants as status
@@ -45,6 +45,7 @@ last_pieces cause steps closed =
 -- the end of a machine is that of a run
 pub record IsEndOf (end : End) (r : Run) : Type 0 where
   pub stop : end.stop ≡ r.stop
+  pub refused : end_is_refused end ≡ is_refused r
   pub short : end_short_report end ≡ short_report r.stop (length r.turns) r.closed.joint
 
 -- Up to now no two different pages that were compared had one digest.
@@ -55,25 +56,35 @@ NoClashYet j = j.memory.ledger.clashed ≡ false
 abbrev pub NoClash : Run → Type 0
 NoClash r = NoClashYet r.closed.joint
 
+-- the status of a run that no missing draw stopped, by whether a domain ended or a resuming was refused of which none was
+-- left to end
+abbrev pub unless_refused : Bool → Status
+unless_refused true = status.Violation
+unless_refused false = status.Done
+
 -- the status of a run that this stopped
-abbrev pub status_of : Stop → Status
-status_of (stop.Halt value) = status.Done
-status_of stop.Budget = status.Done
-status_of (stop.Violation violation) = status.Violation
-status_of stop.NoRandom = status.NoRandom
+abbrev pub status_of : Stop → Bool → Status
+status_of (stop.Halt value) refused = unless_refused refused
+status_of stop.Budget refused = unless_refused refused
+status_of stop.NoRandom refused = status.NoRandom
+
+-- the status of a run
+abbrev pub run_status : Run → Status
+run_status r = status_of r.stop (is_refused r)
 
 -- a status that some run has
 abbrev pub IsStatusOfStop : Status → Type 0
-IsStatusOfStop given = (cause : Stop) × (given ≡ status_of cause)
+IsStatusOfStop given = (cause : Stop) × (refused : Bool) × (given ≡ status_of cause refused)
 
 -- The end of a run that this stopped behind so many steps, and that closed so, was given, and its status answered.
 pub record EndsRun {E : Type 0} (gave : E → E → List Piece → Type 0) (e e' : E) (given : Status) (stopped : Stop)
     (steps : ℕ) (closed : Opened) : Type 0 where
   pub emits : Emits gave e e' (last_pieces (cause_of closed.joint (Some stopped)) steps closed)
-  pub status : given ≡ status_of (cause_of closed.joint (Some stopped))
+  pub status : given
+      ≡ status_of (cause_of closed.joint (Some stopped)) (any_refused closed.joint.ended closed.joint.refused)
 
 -- what is due of a run was given, and the answer is its status unless the outlet failed
 pub record WritesRun {E : Type 0} (gave : E → E → List Piece → Type 0) (failed : Bool) (e e' : E) (given : Status)
     (r : Run) : Type 0 where
   pub emits : Emits gave e e' (due r)
-  pub status : failed ≡ false → given ≡ status_of r.stop
+  pub status : failed ≡ false → given ≡ run_status r

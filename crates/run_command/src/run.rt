@@ -11,7 +11,7 @@ ghost use Rattle.cloak_machine.specs.Standing.{StandsForMoment, placings_of, ste
 ghost use Rattle.joint_machine.specs.Placings.{placing};
 ghost use Rattle.run_command.specs.Outlet.{Gave};
 ghost use Rattle.run_command.specs.Running.{EndsRun, IsStatusOfStop, NoClash, NoClashYet, RunsSteps, WritesRun};
-ghost use Rattle.run_command.specs.Running.{status_of};
+ghost use Rattle.run_command.specs.Running.{status_of, unless_refused};
 
 use crate::outlet::Outlet;
 use cloak_base::Stop;
@@ -48,14 +48,24 @@ fn run_steps<S: Shelf, O: Sink>(
     None
 }
 
-/// The status of a run that this stopped.
-pub fn stop_status(stop: &Stop) -> Status
-    ensures { result ≡ status_of stop.now }
+/// The status of a run that this stopped, by whether a domain ended or a resuming was refused.
+pub fn stop_status(stop: &Stop, refused: bool) -> Status
+    ensures { result ≡ status_of stop.now refused }
 {
     match *stop {
-        Stop::Halt(_) | Stop::Budget => Status::Done,
-        Stop::Violation(_) => Status::Violation,
         Stop::NoRandom => Status::NoRandom,
+        Stop::Halt(_) | Stop::Budget => ended_status(refused),
+    }
+}
+
+/// The status of a run that no missing draw stopped.
+fn ended_status(refused: bool) -> Status
+    ensures { result ≡ unless_refused refused }
+{
+    if refused {
+        Status::Violation
+    } else {
+        Status::Done
     }
 }
 
@@ -76,7 +86,7 @@ fn write_end<S: Shelf, O: Sink>(
     let end = machine.finish(stop, outlet);
     outlet.show(b"\n");
     outlet.report(&end);
-    stop_status(&end.stop)
+    stop_status(&end.stop, end.is_refused())
 }
 
 /// Makes a run whose record is begun, and writes it.

@@ -1,5 +1,5 @@
 -- How far a record is read, and how that ends.
-use Rattle.std.proofs.Common.{◌≡◌, ◌∙◌, ℕ, List, [], ◌∷◌, ◌++◌, Option, Some, None, IfSome, Result, Ok, Err, subst}
+use Rattle.std.proofs.Common.{◌≡◌, ℕ, List, [], ◌∷◌, ◌++◌, Option, Some, None, IfErr, IfSome, Result, Ok, Err, subst}
 use Rattle.cloak_model.specs.declared.item.Item.{Item}
 use Rattle.cloak_model.specs.Record.{IsRecord}
 use Rattle.record_reader.specs.Ahead.{readable}
@@ -71,13 +71,19 @@ lacks_item told before now (untold.Ended ending.Whole) counts lacks = absurd lac
 lacks_item told before now (untold.Ended (ending.Fault fault)) counts lacks = absurd lacks
 lacks_item told before now (untold.Ended ending.Unread) counts lacks = absurd lacks
 
--- a whole record was read, and then once more
-pub tells_since : {A : Type 0} (told now : Option (List ℕ)) (m n k : ℕ) (r : Result A Untold) → now ≡ told →
-    ReadingEnds told m n ending.Whole → TellsDeeds now n k r → TellsStory told m k r
-tells_since {A} told now m n k (Ok a) same whole tells = (whole.0, tells ∙ whole.1)
-tells_since {A} told now m n k (Err why) same whole tells = lacks_since told now m n k why same whole.1 tells
+-- what was read of a record, and how that ended
+pub deeds_told : {A : Type 0} (told : Option (List ℕ)) (before now : ℕ) (r : Result A Untold) →
+    TellsStory told before now r → TellsDeeds told before now r
+deeds_told {A} told before now (Ok a) tells = tells.1
+deeds_told {A} told before now (Err why) tells = tells
 
--- the same since the bundle was read
+-- more was told, and nothing failed
+pub tells_more : {A : Type 0} (told : Option (List ℕ)) (before now : ℕ) (r : Result A Untold) → now ≡ before →
+    IfErr r LacksItem → TellsDeeds told before now r
+tells_more {A} told before now (Ok a) counts lacks = counts
+tells_more {A} told before now (Err why) counts lacks = lacks_item told before now why counts lacks
+
+-- a story was told since the bundle was read
 pub tells_behind : {A : Type 0} (told now : Option (List ℕ)) (m n k : ℕ) (r : Result A Untold) → now ≡ told → n ≡ m →
     TellsStory now n k r → TellsStory told m k r
 tells_behind {A} told now m n k (Ok a) same counts tells = ends_since told now m n k ending.Whole same counts tells

@@ -46,7 +46,7 @@ LacksItem untold.NoMemory = Unit {0}
 LacksItem (untold.Ended (ending.Unfit step)) = Unit {0}
 LacksItem (untold.Ended _) = ⊥
 
--- what a record has, read once more
+-- more of a record was told, or why it was not
 abbrev pub TellsDeeds : {A : Type 0} → Option (List ℕ) → ℕ → ℕ → Result A Untold → Type 0
 TellsDeeds told before now (Ok deeds) = now ≡ before
 TellsDeeds told before now (Err why) = LacksStory told before now why

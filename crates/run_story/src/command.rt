@@ -6,8 +6,9 @@ ghost use Rattle.cloak_model.specs.Bundle.{IsInGrammar};
 ghost use Rattle.run_story.specs.Answering.{ExplainAnswers, LacksItem, ReadingEnds, ShowsStory, ShowsUntold, TellsDeeds, TellsStory};
 
 use crate::deeds::Deeds;
-use crate::stop::{Presented, Target, question_target, resume_target};
-use crate::telling::Story;
+use crate::presented::Presented;
+use crate::story::Story;
+use crate::telling::Passage;
 use crate::untold::Untold;
 use crate::watch::Watch;
 use cloak_model::{Bundle, Item};
@@ -17,35 +18,6 @@ use read_back::{Ending, show_fault, status};
 use record_reader::{KeptItems, Reader};
 use record_text::next_item;
 use std::alloc::Global;
-
-/// Reads a record, and tells what was presented as its run stopped, and how reading ended.
-fn target_of<S: Shelf>(watch: &mut Watch, name: &str, shelf: &mut S) -> (Target, Ending)
-    requires { S.is_settled shelf.old }
-    ensures ends { ReadingEnds (S.held shelf.old name.now)
-        (S.reading_faults shelf.old) (S.reading_faults shelf.new) result.1 }
-    ensures files { SameFiles (S.held shelf.old) (S.held shelf.new) }
-    ensures writing { S.writing_faults shelf.new ≡ S.writing_faults shelf.old }
-    ensures settled { S.is_settled shelf.new }
-{
-    let mut reader = Reader::open(name);
-    let mut kept = KeptItems::new();
-    let mut target = Target::Nothing;
-    loop {
-        let item = match next_item(&mut reader, shelf, &mut kept) {
-            Ok(tag) => kept.item(tag),
-            Err(ending) => return (target, ending),
-        };
-        let was_inside = watch.inside().is_some();
-        if let Err(unfit) = watch.take(item) {
-            return (target, Ending::Unfit(unfit.step));
-        }
-        match item {
-            Item::Stopped { domain } => target = question_target(watch, *domain),
-            Item::Close { .. } if !was_inside => target = resume_target(watch),
-            _ => {}
-        }
-    }
-}
 
 /// Takes an item, and notes what it shows of a page and what the kernel's step did that it ends.
 fn note_item(deeds: &mut Deeds, watch: &mut Watch, item: &Item) -> Result<(), Untold>
@@ -70,18 +42,23 @@ fn note_item(deeds: &mut Deeds, watch: &mut Watch, item: &Item) -> Result<(), Un
     }
 }
 
-/// What was gathered where there is no item more.
-fn ended(deeds: Deeds, ending: Ending) -> Result<Deeds, Untold>
+/// What was gathered, if there is no item more.
+fn ended<A: Drop>(gathered: A, ending: Ending) -> Result<A, Untold>
     ensures { (told : Option (List ℕ)) (before now : ℕ) → ReadingEnds told before now ending →
-        TellsDeeds told before now result }
+        TellsStory told before now result }
 {
     match ending {
-        Ending::Whole => Ok(deeds),
+        Ending::Whole => Ok(gathered),
         ending => Err(Untold::Ended(ending)),
     }
 }
 
-/// Reads a record once more up to its run's end, and gathers what was done to a page.
+/// The item is the question that was stopped by this page.
+fn is_stopped(watch: &Watch, presented: &Presented, item: &Item) -> bool {
+    matches!(item, Item::Stopped { .. }) && watch.step() == presented.step
+}
+
+/// Reads a record once more up to a violation, and gathers what was done to the page of it.
 fn deeds_of<S: Shelf>(
     alloc: Global,
     watch: &mut Watch,
@@ -104,7 +81,7 @@ fn deeds_of<S: Shelf>(
             Ok(tag) => kept.item(tag),
             Err(ending) => return ended(deeds, ending),
         };
-        if matches!(item, Item::Close { .. }) {
+        if is_stopped(watch, presented, item) {
             return Ok(deeds);
         }
         if let Err(untold) = note_item(&mut deeds, watch, item) {
@@ -113,41 +90,57 @@ fn deeds_of<S: Shelf>(
     }
 }
 
-/// Tells what was presented, with what was done to it before where it was a page.
-fn tell_target<S: Shelf>(
+/// Tells of a page that was presented, with what was done to it before.
+fn tell_page<S: Shelf>(
     alloc: Global,
     bundle: &Bundle,
-    watch: &Watch,
-    target: Target,
+    story: &mut Story,
+    presented: &Presented,
     name: &str,
     shelf: &mut S,
-) -> Result<Story, Untold>
+) -> Result<(), Untold>
     requires settled { S.is_settled shelf.old }
     requires bundle { IsInGrammar bundle.now }
     ensures tells { TellsDeeds (S.held shelf.old name.now)
         (S.reading_faults shelf.old) (S.reading_faults shelf.new) result }
     ensures files { SameFiles (S.held shelf.old) (S.held shelf.new) }
     ensures writing { S.writing_faults shelf.new ≡ S.writing_faults shelf.old }
+    ensures settled { S.is_settled shelf.new }
 {
-    let presented = match target {
-        Target::Page(presented) => presented,
-        Target::Context(asking, refused) => return Ok(Story::Resume(asking, refused)),
-        Target::Nothing => {
-            return Ok(Story::NoViolation {
-                steps: watch.step(),
-            });
-        }
-    };
     let Ok(mut watch) = Watch::open(alloc, bundle) else {
         return Err(Untold::NoMemory);
     };
-    match deeds_of(alloc, &mut watch, &presented, name, shelf) {
-        Ok(deeds) => Ok(Story::Page(presented, deeds)),
+    match deeds_of(alloc, &mut watch, presented, name, shelf) {
+        Ok(deeds) => story.tell(&Passage::Page(*presented, deeds)),
         Err(untold) => Err(untold),
     }
 }
 
-/// Tells why the run of a record stopped.
+/// Takes an item of a record, and tells the violation that it ends with.
+fn tell_item<S: Shelf>(
+    alloc: Global,
+    bundle: &Bundle,
+    story: &mut Story,
+    item: &Item,
+    name: &str,
+    shelf: &mut S,
+) -> Result<(), Untold>
+    requires settled { S.is_settled shelf.old }
+    requires bundle { IsInGrammar bundle.now }
+    ensures tells { TellsDeeds (S.held shelf.old name.now)
+        (S.reading_faults shelf.old) (S.reading_faults shelf.new) result }
+    ensures files { SameFiles (S.held shelf.old) (S.held shelf.new) }
+    ensures writing { S.writing_faults shelf.new ≡ S.writing_faults shelf.old }
+    ensures settled { S.is_settled shelf.new }
+{
+    match story.take(item) {
+        Ok(Some(presented)) => tell_page(alloc, bundle, story, &presented, name, shelf),
+        Ok(None) => Ok(()),
+        Err(untold) => Err(untold),
+    }
+}
+
+/// Tells the run of a record.
 fn tell<S: Shelf>(
     alloc: Global,
     bundle: &Bundle,
@@ -161,15 +154,23 @@ fn tell<S: Shelf>(
     ensures files { SameFiles (S.held shelf.old) (S.held shelf.new) }
     ensures writing { S.writing_faults shelf.new ≡ S.writing_faults shelf.old }
 {
-    let Ok(mut watch) = Watch::open(alloc, bundle) else {
+    let Ok(mut story) = Story::open(alloc, bundle) else {
         return Err(Untold::NoMemory);
     };
-    let (target, ending) = target_of(&mut watch, name, shelf);
-    match ending {
-        Ending::Whole => tell_target(alloc, bundle, &watch, target, name, shelf),
-        ending => Err(Untold::Ended(ending)),
+    let mut reader = Reader::open(name);
+    let mut kept = KeptItems::new();
+    loop {
+        let item = match next_item(&mut reader, shelf, &mut kept) {
+            Ok(tag) => kept.item(tag),
+            Err(ending) => return ended(story, ending),
+        };
+        match tell_item(alloc, bundle, &mut story, item, name, shelf) {
+            Ok(()) => {}
+            Err(untold) => return Err(untold),
+        }
     }
 }
+
 /// Shows a story.
 fn show_story<O: Sink>(alloc: Global, story: &Story, out: &mut O) -> Status
     ensures { ShowsStory (O.faults out.old) (O.faults out.new) result }
@@ -196,8 +197,8 @@ fn show_untold<O: Sink>(untold: Untold, out: &mut O) -> Status
     }
 }
 
-/// Tells in sentences why the run of a record was stopped by a violation: what was presented, what the kernel did to it
-/// before, and which rule it broke. Of any other run it says that there was none.
+/// Tells in sentences each violation of the run of a record: what was presented, what the kernel did to it before, and
+/// which rule it broke; and in the end how many programs ended and how many resumes were refused, or that there was none.
 pub fn explain_command<S: Shelf, O: Sink>(
     alloc: Global,
     bundle_name: &str,

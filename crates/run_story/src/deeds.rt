@@ -1,8 +1,8 @@
-//! What was done to a page, and to the frames that it was shown and presented in, up to the stop.
+//! What was done to a page, and to the frames that it was shown and presented in, up to the violation.
 
 use crate::frames::{DiskCall, disk_call};
 use crate::pages::Showing;
-use crate::stop::Presented;
+use crate::presented::Presented;
 use crate::watch::Watch;
 use cloak_base::{NoMemory, PageId};
 use std::alloc::Global;

@@ -1,10 +1,12 @@
-//! Why a run was stopped by a violation, told from its image and its record.
+//! The violations of a run, told from its image and its record.
 //!
 //! The record has neither the kernel's own steps nor the page that a frame holds. Both follow from it: the kernel alone makes
-//! its steps anew, and each program alone tells the page of each of its questions (`alone_views`). `Watch` is the run as it
-//! is made anew from items, `Target` is what was presented as it stopped, and `Deed` is what was done before to the page
-//! and its frames. A record is read twice: for what was presented, and then for the deeds; so what is kept of it does not
-//! grow. `explain_command` is the command `explain`. That its text is the right one is tested, and no clause says it.
+//! its steps again, and each program alone tells the page of each of its questions (`alone_views`). `Watch` is the run as it
+//! is made again from items, `Target` is what was presented in a step, and `Deed` is what was done before to the page and
+//! its frames. That a violation was met the record itself says: a program ended, or a hart asked for a context and there is
+//! neither a resume nor a program left. The record is read once for these, and once more up to each page that was
+//! presented, for the deeds; so nothing is kept of it but the text. `explain_command` is the command `explain`. That its
+//! text is the right one is tested, and no clause says it.
 #![tactic(auto)]
 
 mod command;
@@ -12,8 +14,9 @@ mod contexts;
 mod deeds;
 mod frames;
 mod pages;
+mod presented;
 mod silent;
-mod stop;
+mod story;
 mod telling;
 mod untold;
 mod watch;

@@ -19,7 +19,7 @@ pub struct Showing {
 pub struct Pages {
     /// The page that each frame holds: a program reached it there, and it was not shown since.
     held: Vec<Option<PageId>>,
-    /// What was last shown of each page.
+    /// What was last shown of each page, where that is known.
     last: Vec<Option<Showing>>,
 }
 
@@ -61,16 +61,6 @@ impl Pages {
         }
     }
 
-    /// The page that a frame holds.
-    pub fn held_in(&self, frame: usize) -> Option<PageId> {
-        *self.held.get(frame)?
-    }
-
-    /// A frame holds this page.
-    pub fn is_held(&self, page: PageId) -> bool {
-        self.held.iter().any(|held| *held == Some(page))
-    }
-
     /// What was last shown of a page.
     pub fn shown(&self, page: PageId) -> Option<Showing> {
         *self.last.get(place_of(page))?
@@ -91,6 +81,17 @@ impl Pages {
             *last = Some(showing);
         }
         Some(showing)
+    }
+
+    /// A space of a program ended, and pages with it: what is shown of a page from now on may be of another one.
+    pub fn forget(&mut self, domain: u32) {
+        for last in self.last.iter_mut() {
+            if let Some(showing) = last {
+                if showing.page.domain == domain {
+                    *last = None;
+                }
+            }
+        }
     }
 
     /// A frame shows zeros: the page that it held is no more.

@@ -4,19 +4,29 @@ use crate::contexts::{FirstTable, Told};
 use crate::deeds::{Change, Deed, Deeds, Event};
 use crate::frames::DiskCall;
 use crate::pages::Showing;
-use crate::stop::{Asking, Presented, Refused};
+use crate::presented::{Asking, Presented, Refused};
 use cloak_base::{Kind, PageId};
 use std::fmt;
 
-/// Why a run stopped.
+/// A violation, as it is told.
 #[derive(Drop)]
-pub enum Story {
-    /// By no violation, after so many steps.
-    NoViolation { steps: u32 },
-    /// By a context that was to be resumed.
+pub enum Passage {
+    /// A program ended by a context that was to be resumed.
     Resume(Asking, Refused),
-    /// By the page that a frame was presented for, with what was done to it before.
+    /// A resume was refused: there is no such program, or it ended in a step before.
+    Refused {
+        step: u32,
+        hart: u32,
+        ctx: u32,
+        ended: Option<u32>,
+    },
+    /// A program ended by the page that a frame was presented for, with what was done to it before.
     Page(Presented, Deeds),
+    /// A program ended by a page, of which no more is told.
+    Question {
+        step: u32,
+        domain: u32,
+    },
 }
 
 /// A page, by its numbers.
@@ -153,22 +163,26 @@ impl fmt::Display for Event {
     }
 }
 
-impl fmt::Display for Asking {
-    fn fmt<W: fmt::Write>(&self, f: &mut fmt::Formatter<W>) -> fmt::Result {
-        let Asking {
-            step,
-            hart,
-            ctx,
-            ..
-        } = *self;
-        write!(
-            f,
-            "The run was stopped at step {step}. The kernel, on hart {hart}, asked to resume context {ctx}.\n"
-        )
-    }
+/// A hart's asking to resume a context.
+fn write_asking<W: fmt::Write>(
+    step: u32,
+    hart: u32,
+    ctx: u32,
+    f: &mut fmt::Formatter<W>,
+) -> fmt::Result {
+    write!(
+        f,
+        "A violation at step {step}: the kernel, on hart {hart}, "
+    )?;
+    write!(f, "asked to resume context {ctx}.\n")
 }
 
-/// The program's access that stopped the run.
+/// A program's end.
+fn write_end<W: fmt::Write>(domain: u32, f: &mut fmt::Formatter<W>) -> fmt::Result {
+    write!(f, "So program {domain} ended.\n")
+}
+
+/// The program's access that was stopped.
 fn write_access<W: fmt::Write>(presented: &Presented, f: &mut fmt::Formatter<W>) -> fmt::Result {
     let Presented {
         step,
@@ -181,7 +195,7 @@ fn write_access<W: fmt::Write>(presented: &Presented, f: &mut fmt::Formatter<W>)
     let (access, page) = (AccessName(presented.kind), PageName(presented.page));
     write!(
         f,
-        "The run was stopped at step {step}. Context {ctx}, on hart {hart}, "
+        "A violation at step {step}: context {ctx}, on hart {hart}, "
     )?;
     write!(f, "{access} at {address:08x}, which is {page}.\n")?;
     write!(
@@ -190,7 +204,7 @@ fn write_access<W: fmt::Write>(presented: &Presented, f: &mut fmt::Formatter<W>)
     )?;
     f.write_str(match presented.showing {
         Some(_) => "the page.\n",
-        None => "the page from which a fork copied this one.\n",
+        None => "the page, or of the page from which a fork copied it, up to that fork.\n",
     })
 }
 
@@ -241,7 +255,18 @@ fn write_page<W: fmt::Write>(
     write_found(presented, deeds.origin(), f)?;
     f.write_str(
         "The rule: a frame that the kernel presents for a cloaked page has exactly the bytes that were last shown of that page.\n",
-    )
+    )?;
+    write_end(presented.page.domain, f)
+}
+
+/// A page of which no more is told.
+fn write_question<W: fmt::Write>(step: u32, domain: u32, f: &mut fmt::Formatter<W>) -> fmt::Result {
+    write!(
+        f,
+        "A violation at step {step}: what the kernel presented for a page of program {domain} "
+    )?;
+    f.write_str("is not what was last shown of that page.\n")?;
+    write_end(domain, f)
 }
 
 /// A context that runs.
@@ -285,12 +310,13 @@ fn write_mapping<W: fmt::Write>(
     write!(f, "{was:08x}, at step {step}.\n")
 }
 
-/// Why a context is not resumed, and the rule that asking for it broke.
-fn write_refused<W: fmt::Write>(
+/// A program that ended by the context that was to be resumed, why it was not resumed, and the rule that asking for it broke.
+fn write_resume<W: fmt::Write>(
     asking: &Asking,
     refused: Refused,
     f: &mut fmt::Formatter<W>,
 ) -> fmt::Result {
+    write_asking(asking.step, asking.hart, asking.ctx, f)?;
     match refused {
         Refused::Running { on, told } => write_running(on.0, told, f)?,
         Refused::Gone { told } => write_gone(told, f)?,
@@ -303,26 +329,38 @@ fn write_refused<W: fmt::Write>(
         Refused::Mapping { .. } => {
             "The rule: each space of a program is resumed under one page table, the first one.\n"
         }
-    })
+    })?;
+    write_end(asking.ctx / 8, f)
 }
 
-impl fmt::Display for Story {
+/// Why no program was left to end.
+fn write_refused<W: fmt::Write>(
+    domain: u32,
+    ended: Option<u32>,
+    f: &mut fmt::Formatter<W>,
+) -> fmt::Result {
+    f.write_str("The resume was refused: ")?;
+    match ended {
+        None => write!(f, "there is no program {domain}.\n"),
+        Some(step) => write!(f, "program {domain} ended at step {step}.\n"),
+    }
+}
+
+impl fmt::Display for Passage {
     fn fmt<W: fmt::Write>(&self, f: &mut fmt::Formatter<W>) -> fmt::Result {
         match self {
-            Story::NoViolation { steps } => {
-                write!(
-                    f,
-                    "The run was not stopped by a violation: it has {steps} steps, "
-                )?;
-                f.write_str(
-                    "and ended by a halt, by its number of steps, or for want of randomness.\n",
-                )
+            Passage::Resume(asking, refused) => write_resume(asking, *refused, f),
+            Passage::Refused {
+                step,
+                hart,
+                ctx,
+                ended,
+            } => {
+                write_asking(*step, *hart, *ctx, f)?;
+                write_refused(*ctx / 8, *ended, f)
             }
-            Story::Resume(asking, refused) => {
-                write!(f, "{asking}")?;
-                write_refused(asking, *refused, f)
-            }
-            Story::Page(presented, deeds) => write_page(presented, deeds, f),
+            Passage::Page(presented, deeds) => write_page(presented, deeds, f),
+            Passage::Question { step, domain } => write_question(*step, *domain, f),
         }
     }
 }

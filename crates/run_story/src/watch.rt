@@ -1,4 +1,4 @@
-//! A run as it is made anew from the items of its record: the kernel, the programs, and which page each frame shows.
+//! A run as it is made again from the items of its record: the kernel, the programs, and which page each frame shows.
 ghost use Rattle.cloak_model.specs.Bundle.{IsInGrammar};
 
 use crate::contexts::{Contexts, FirstTable, Told};
@@ -26,6 +26,8 @@ pub struct Watch {
     answers: usize,
     /// A context was resumed in it.
     has_resumed: bool,
+    /// The context for which a hart asked in the step that ended last, if the record has no resume of it.
+    asked: Option<u32>,
 }
 
 /// The programs of a bundle, each by itself.
@@ -60,6 +62,7 @@ impl Watch {
             step: 0,
             answers: 0,
             has_resumed: false,
+            asked: None,
         })
     }
 
@@ -112,9 +115,14 @@ impl Watch {
         &self.pages
     }
 
-    /// A context was resumed in the last step.
-    pub fn has_resumed(&self) -> bool {
-        self.has_resumed
+    /// The context for which a hart asked in the step that ended last, if the record has no resume of it.
+    pub fn asked(&self) -> Option<u32> {
+        self.asked
+    }
+
+    /// There is a program of this number.
+    pub fn has_program(&self, domain: u32) -> bool {
+        (domain as usize) < self.programs.len()
     }
 
     /// What the record tells of a context.
@@ -208,10 +216,20 @@ impl Watch {
         }
         self.contexts.end(shown.ctx, self.step);
         for space in 0..32 {
-            if self.is_empty(space) {
+            if self.table(space).is_some() && self.is_empty(space) {
                 self.contexts.unmap(space);
+                self.pages.forget(space / 8);
             }
         }
+    }
+
+    /// A step ended. The kernel alone goes inside when it asks to, and a resume that was granted is in the record.
+    fn note_made(&mut self, was_inside: bool) {
+        self.asked = if was_inside || self.has_resumed {
+            None
+        } else {
+            self.inside()
+        };
     }
 
     /// What an item says, once the machines took it.
@@ -241,9 +259,15 @@ impl Watch {
 
     /// Takes the next item. Answers what it shows of a page, if it does.
     pub fn take(&mut self, item: &Item) -> Result<Option<Showing>, Unfit> {
+        let was_inside = self.inside().is_some();
         self.give(item)?;
         match item {
+            Item::Close { .. } => {
+                self.note_made(was_inside);
+                Ok(None)
+            }
             Item::Step { number } => {
+                self.note_made(was_inside);
                 self.step = *number;
                 self.answers = 0;
                 self.has_resumed = false;

@@ -153,7 +153,7 @@ static RUNS: [(&str, &str, Outcome, &[u8]); 5] = [
 #[test]
 fn whole_runs(rt: HostRuntime) -> Result<(), Fail> {
     for (line, code, said, record) in RUNS {
-        let bundle = image(rt.alloc(), &[0], &[code], 0, "")?;
+        let bundle = image(rt.alloc(), &[0], &[code], 0, &[])?;
         let shown = report(rt.alloc(), said)?;
         let want = (Status::Done, shown.as_str(), record);
         comes_to(&rt, rt.alloc(), line, bundle.as_slice(), (0, 0), want)?;
@@ -163,7 +163,7 @@ fn whole_runs(rt: HostRuntime) -> Result<(), Fail> {
 
 #[test]
 fn counts_of_a_run(rt: HostRuntime) -> Result<(), Fail> {
-    let bundle = image(rt.alloc(), &[0], &[SMALLEST], 0, "")?;
+    let bundle = image(rt.alloc(), &[0], &[SMALLEST], 0, &[])?;
     let line = "stats a.b --steps 10 --number 0";
     let want = (Status::Done, COUNTS, b"".as_slice());
     comes_to(&rt, rt.alloc(), line, bundle.as_slice(), (0, 0), want)
@@ -230,7 +230,7 @@ static REFUSED: [(&str, Status, &str); 20] = [
 
 #[test]
 fn refused_words(rt: HostRuntime) -> Result<(), Fail> {
-    let bundle = image(rt.alloc(), &[0], &[SMALLEST], 0, "")?;
+    let bundle = image(rt.alloc(), &[0], &[SMALLEST], 0, &[])?;
     for (line, status, output) in REFUSED {
         let want = (status, output, b"".as_slice());
         comes_to(&rt, rt.alloc(), line, bundle.as_slice(), (0, 0), want)?;
@@ -262,7 +262,7 @@ static DAMAGED: [(u64, usize, u8, &str); 8] = [
 
 #[test]
 fn damaged_files(rt: HostRuntime) -> Result<(), Fail> {
-    let whole = image(rt.alloc(), &[0], &[SMALLEST], 0, "")?;
+    let whole = image(rt.alloc(), &[0], &[SMALLEST], 0, &[])?;
     for (length, at, byte, line) in DAMAGED {
         let file = damaged(rt.alloc(), whole.as_slice(), length, at, byte)?;
         let want = (Status::BadBundle, line, b"".as_slice());
@@ -290,7 +290,7 @@ static FAILING: [(u64, u64, Status, Option<&str>, usize); 11] = [
 
 #[test]
 fn failing_calls(rt: HostRuntime) -> Result<(), Fail> {
-    let bundle = image(rt.alloc(), &[0], &[SMALLEST], 0, "")?;
+    let bundle = image(rt.alloc(), &[0], &[SMALLEST], 0, &[])?;
     let shown = report(rt.alloc(), WHOLE_RUN)?;
     for (file_call, output_call, status, output, record) in FAILING {
         let failing = (file_call, output_call);
@@ -320,7 +320,7 @@ static FAILING_VIEWS: [(u64, &str); 4] = [(1, ""), (2, ""), (3, "\n"), (4, "\n")
 
 #[test]
 fn failing_calls_of_view(rt: HostRuntime) -> Result<(), Fail> {
-    let bundle = image(rt.alloc(), &[0], &[SMALLEST], 0, "")?;
+    let bundle = image(rt.alloc(), &[0], &[SMALLEST], 0, &[])?;
     for (call, before) in FAILING_VIEWS {
         let left = called(
             rt.alloc(),

@@ -33,36 +33,48 @@ fn add_segments(alloc: Global, file: &mut Vec<u8>, texts: &[&str]) -> Result<(),
     Ok(())
 }
 
-/// Adds a program of one page in frame 8, which has these words and then zeros.
-fn add_program(alloc: Global, file: &mut Vec<u8>, text: &str) -> Result<(), Fail> {
+/// Of the first and the second program: its pages, its frame, its base, its entry and its stack pointer.
+const HEADERS: [[u32; 5]; 2] = [
+    [1, 8, 0x8000_8000, 0x8000_8000, 0x8000_8100],
+    [1, 9, 0x8000_9000, 0x8000_9000, 0x8000_9100],
+];
+
+/// Adds a program of one page, which has these words and then zeros.
+fn add_program(
+    alloc: Global,
+    file: &mut Vec<u8>,
+    header: &[u32; 5],
+    text: &str,
+) -> Result<(), Fail> {
     let mut page = assembled(alloc, text).ok_or("the program is assembled")?;
     page.resize(1024, 0)?;
-    add_words(file, &[1, 8, 0x8000_8000, 0x8000_8000, 0x8000_8100])?;
+    add_words(file, header)?;
     add_words(file, page.as_slice())
 }
 
-/// An image of 64 frames whose harts take these turns, with segments, blocks of zeros, and a program where its text is
-/// not empty.
+/// An image of 64 frames whose harts take these turns, with segments, blocks of zeros, and up to two programs.
 pub fn image(
     alloc: Global,
     turns: &[u8],
     segments: &[&str],
     blocks: u32,
-    program: &str,
+    programs: &[&str],
 ) -> Result<Vec<u8>, Fail> {
     let harts = u32::from(turns.iter().copied().max().unwrap_or(0)) + 1;
     let counts = [turns.len().min(64) as u32, segments.len().min(16) as u32];
-    let programs = u32::from(!program.is_empty());
     let mut file = Vec::from_slice(alloc, b"CLOAKBND")?;
     add_words(&mut file, &[1, 64, harts, counts[0], 0x8000_0000])?;
-    add_words(&mut file, &[counts[1], blocks, programs])?;
+    add_words(
+        &mut file,
+        &[counts[1], blocks, programs.len().min(2) as u32],
+    )?;
     file.extend_from_slice(turns)?;
     add_segments(alloc, &mut file, segments)?;
     for _ in 0..blocks {
         file.extend_from_slice(&[0; 4096])?;
     }
-    if programs == 1 {
-        add_program(alloc, &mut file, program)?;
+    for (header, text) in HEADERS.iter().zip(programs) {
+        add_program(alloc, &mut file, header, text)?;
     }
     Ok(file)
 }

@@ -6,9 +6,6 @@ use crate::reports::{EMPTY, Outcome, report};
 use program_parts::Status;
 use std::test::*;
 
-/// No program has a context that could be resumed.
-const RESUMES: &str = "lui x17, 0x4F560\necall";
-
 /// A READ of block 64, and then a halt.
 const READS_BLOCK_64: &str = "
     addi x17, x0, 2
@@ -44,25 +41,11 @@ const LOADS_BY_A_TABLE: &str = "
 ";
 
 /// The digests are those of the stores and registers above, by another program.
-static CODES: [(&str, &str, u32, Status, Outcome); 3] = [
-    (
-        "a resume",
-        RESUMES,
-        0,
-        Status::Violation,
-        Outcome {
-            ends: ("violation context 0", 2, 0),
-            console: ("", EMPTY),
-            ram: "2a879d3d489960a572916ff3896c3a9e7e2e3678675c7f7e9ca09d576ee66161",
-            disk: EMPTY,
-            harts: &[("U pc 00001000 inside 0", &[])],
-        },
-    ),
+static CODES: [(&str, &str, u32, Outcome); 2] = [
     (
         "a refused READ",
         READS_BLOCK_64,
         64,
-        Status::Done,
         Outcome {
             ends: ("halt 1", 6, 0),
             console: ("", EMPTY),
@@ -78,7 +61,6 @@ static CODES: [(&str, &str, u32, Status, Outcome); 3] = [
         "a load by a page table",
         LOADS_BY_A_TABLE,
         0,
-        Status::Done,
         Outcome {
             ends: ("halt 7", 28, 0),
             console: ("", EMPTY),
@@ -101,10 +83,10 @@ static CODES: [(&str, &str, u32, Status, Outcome); 3] = [
 #[test]
 fn runs_of_code(rt: HostRuntime) -> Result<(), Fail> {
     let line = "run a.b a.r --steps 100 --number 0";
-    for (name, code, blocks, status, said) in CODES {
-        let bundle = image(rt.alloc(), &[0], &[code], blocks, "")?;
+    for (name, code, blocks, said) in CODES {
+        let bundle = image(rt.alloc(), &[0], &[code], blocks, &[])?;
         let left = called(rt.alloc(), line, bundle.as_slice(), b"", (0, 0))?;
-        assert_eq!(rt; left.status, status, "{name}");
+        assert_eq!(rt; left.status, Status::Done, "{name}");
         assert_eq!(rt;
             left.sink.taken(),
             report(rt.alloc(), said)?.as_bytes(),
@@ -129,7 +111,7 @@ const TURNS: Outcome = Outcome {
 #[test]
 fn harts_take_their_turns(rt: HostRuntime) -> Result<(), Fail> {
     let segments = ["addi x10, x0, 65", "addi x11, x0, 66"];
-    let bundle = image(rt.alloc(), &[0, 1, 1], &segments, 0, "")?;
+    let bundle = image(rt.alloc(), &[0, 1, 1], &segments, 0, &[])?;
     let line = "run a.b a.r --steps 3 --number 0";
     let left = called(rt.alloc(), line, bundle.as_slice(), b"", (0, 0))?;
     assert_eq!(rt; left.status, Status::Done);

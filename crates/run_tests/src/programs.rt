@@ -1,4 +1,4 @@
-//! Runs of a guest image with one program, of one page in frame 8.
+//! Runs of guest images with programs of one page.
 
 use crate::calls::{Left, called};
 use crate::images::image;
@@ -8,14 +8,14 @@ use program_parts::Status;
 use std::alloc::Global;
 use std::test::*;
 
-/// The run of an image for 100 steps under a stream of so many bytes: 0, 1, 2 and so on.
-fn ran(alloc: Global, bundle: &[u8], bytes: u8) -> Result<Left, Fail> {
+/// The run of an image for this many steps under a stream of this many bytes: 0, 1, 2 and so on.
+fn ran(alloc: Global, bundle: &[u8], steps: u32, bytes: u8) -> Result<Left, Fail> {
     let mut stream = Vec::new(alloc);
     for byte in 0..bytes {
         stream.push(byte)?;
     }
-    let line = "run a.b a.r --steps 100 --stream other";
-    called(alloc, line, bundle, stream.as_slice(), (0, 0))
+    let line = format!(in alloc; "run a.b a.r --steps {steps} --stream other")?;
+    called(alloc, &line, bundle, stream.as_slice(), (0, 0))
 }
 
 /// Sets the trap's vector to the handler behind it, and resumes context 0.
@@ -40,6 +40,22 @@ const REMAPS: &str = "lui x6, 0x400\ncsrrw x0, 0x180, x6\nlui x17, 0x4F560\necal
 const RESUMES_AGAIN: &str = "lui x17, 0x4F560\necall";
 
 const RESUMES_CONTEXT_3: &str = "addi x5, x0, 3\nlui x17, 0x4F560\necall";
+
+/// Resumes context 3, which is not there, and whatever comes then, context 8, which is the second program's.
+const RESUMES_3_AND_8: &str = "
+    la x6, handler
+    csrrw x0, 0x105, x6
+    addi x5, x0, 3
+    lui x17, 0x4F560
+    ecall
+handler:
+    addi x5, x0, 8
+    lui x17, 0x4F560
+    ecall
+";
+
+/// Resumes context 8.
+const RESUMES_8: &str = "addi x5, x0, 8\nlui x17, 0x4F560\necall";
 
 /// Stores 7, loads it, and calls number 9.
 const CALLS: &str = "
@@ -97,7 +113,7 @@ static ENDS: [(u8, Status, Option<&str>, usize); 6] = [
 #[test]
 fn streams_that_end(rt: HostRuntime) -> Result<(), Fail> {
     let kernel = format!(in rt.alloc(); "{START}\n{HALTS}")?;
-    let bundle = image(rt.alloc(), &[0], &[kernel.as_str()], 0, CALLS)?;
+    let bundle = image(rt.alloc(), &[0], &[kernel.as_str()], 0, &[CALLS])?;
     let mut shown = report(rt.alloc(), CALLED)?;
     shown.push_str(CALLED_LINE)?;
     for (bytes, status, begins, record) in ENDS {
@@ -105,7 +121,7 @@ fn streams_that_end(rt: HostRuntime) -> Result<(), Fail> {
             Some(text) => text.as_bytes(),
             None => shown.as_bytes(),
         };
-        let left = ran(rt.alloc(), bundle.as_slice(), bytes)?;
+        let left = ran(rt.alloc(), bundle.as_slice(), 100, bytes)?;
         assert_eq!(rt; left.status, status, "{bytes} bytes");
         assert!(rt; left.sink.taken().starts_with(begins), "{bytes} bytes");
         assert_eq!(rt; left.shelf.bytes("a.r").len(), record, "{bytes} bytes");
@@ -113,31 +129,112 @@ fn streams_that_end(rt: HostRuntime) -> Result<(), Fail> {
     Ok(())
 }
 
-/// Turns, the two parts of a kernel, programs, and what the line `stop` says behind `violation`, with lines behind it.
-static VIOLATIONS: [(&[u8], &str, &str, &str, &str); 5] = [
+/// Turns, the two parts of a kernel, a program, the steps, and what the report says after them. In the last step of each the
+/// hart leaves with cause 24. The kernel that flips a bit resumes again and again, also with 100 steps.
+static VIOLATIONS: [(&[u8], &str, &str, &str, u32, &str); 6] = [
     (
         &[0],
         START,
         FLIPS,
         CALLS,
-        "page domain 0 resource 0 page 0 frame 8\nsteps 19\ndraws 2",
+        20,
+        "draws 2\nviolation page domain 0 resource 0 page 0 frame 8\nconsole",
     ),
-    (&[0], START, REMAPS, CALLS, "mapping 0 root 00400000"),
-    (&[0], START, RESUMES_AGAIN, EXITS, "context 0"),
-    (&[0], "", RESUMES_CONTEXT_3, CALLS, "context 3"),
-    (&[0, 1], START, HALTS, CALLS, "context 0"),
+    (
+        &[0],
+        START,
+        FLIPS,
+        CALLS,
+        100,
+        "draws 2\nviolation page domain 0 resource 0 page 0 frame 8\nrefused 11\nconsole",
+    ),
+    (
+        &[0],
+        START,
+        REMAPS,
+        CALLS,
+        17,
+        "draws 2\nviolation mapping 0 root 00400000\nconsole",
+    ),
+    (
+        &[0],
+        START,
+        RESUMES_AGAIN,
+        EXITS,
+        11,
+        "draws 1\nviolation context 0\nconsole",
+    ),
+    (
+        &[0],
+        "",
+        RESUMES_CONTEXT_3,
+        CALLS,
+        7,
+        "draws 1\nviolation context 3\nconsole",
+    ),
+    (
+        &[0, 1],
+        START,
+        HALTS,
+        CALLS,
+        11,
+        "draws 1\nviolation context 0\nconsole",
+    ),
 ];
 
 #[test]
 fn violations(rt: HostRuntime) -> Result<(), Fail> {
-    for (turns, start, handler, program, said) in VIOLATIONS {
+    for (turns, start, handler, program, steps, said) in VIOLATIONS {
         let kernel = format!(in rt.alloc(); "{start}\n{handler}")?;
-        let bundle = image(rt.alloc(), turns, &[kernel.as_str()], 0, program)?;
-        let left = ran(rt.alloc(), bundle.as_slice(), 255)?;
-        let begins = format!(in rt.alloc(); "\nstop violation {said}\n")?;
+        let bundle = image(rt.alloc(), turns, &[kernel.as_str()], 0, &[program])?;
+        let left = ran(rt.alloc(), bundle.as_slice(), steps, 255)?;
+        let begins = format!(in rt.alloc(); "\nstop budget\nsteps {steps}\n{said}")?;
         assert_eq!(rt; left.status, Status::Violation, "{said}");
         assert!(rt; left.sink.taken().starts_with(begins.as_bytes()), "{said}");
     }
+    Ok(())
+}
+
+/// A resume where there is no program is counted.
+#[test]
+fn refused_without_a_program(rt: HostRuntime) -> Result<(), Fail> {
+    let bundle = image(rt.alloc(), &[0], &[RESUMES_AGAIN], 0, &[])?;
+    let left = ran(rt.alloc(), bundle.as_slice(), 2, 255)?;
+    assert_eq!(rt; left.status, Status::Violation);
+    let begins = b"\nstop budget\nsteps 2\ndraws 0\nrefused 1\nconsole";
+    assert!(rt; left.sink.taken().starts_with(begins));
+    Ok(())
+}
+
+/// Of a program that ended: nothing is left, and there was no load.
+const ENDED_LINE: &str =
+    "domain 0 state 66687aadf862bd776c8fc18b8e9f8e20089714856ee233b3902a591d0d5f2925 \
+    loads 0 e3b0c44298fc1c149afbf4c8996fb92427ae41e4649b934ca495991b7852b855\n";
+
+/// The digest of the load of a 7 from 0x80009100, by another program.
+const SECOND_LOADS: &str =
+    "loads 1 422eeafc3b7a7b5fca03d3ddd88fe48acaa5af12d12eadbcf3a3a2d697427a68\n";
+
+/// The first program ends by a resume that is refused, and the kernel runs the second one on the same hart. This one comes to
+/// what it comes to where the first one is left alone.
+#[test]
+fn the_other_program_goes_on(rt: HostRuntime) -> Result<(), Fail> {
+    let programs = [CALLS, CALLS];
+    let bundle = image(rt.alloc(), &[0], &[RESUMES_3_AND_8], 0, &programs)?;
+    let attacked = ran(rt.alloc(), bundle.as_slice(), 17, 255)?;
+    assert_eq!(rt; attacked.status, Status::Violation);
+    let begins = b"\nstop budget\nsteps 17\ndraws 3\nviolation context 3\nconsole 0 ";
+    assert!(rt; attacked.sink.taken().starts_with(begins));
+    let bundle = image(rt.alloc(), &[0], &[RESUMES_8], 0, &programs)?;
+    let left = ran(rt.alloc(), bundle.as_slice(), 10, 255)?;
+    assert_eq!(rt; left.status, Status::Done);
+    let second = left.sink.taken().rsplit(|byte| *byte == b'\n').nth(1);
+    let second = second.ok_or("there is a line of the second program")?;
+    let mut ends = Vec::from_slice(rt.alloc(), ENDED_LINE.as_bytes())?;
+    ends.extend_from_slice(second)?;
+    ends.extend_from_slice(b"\n")?;
+    assert!(rt; attacked.sink.taken().ends_with(ends.as_slice()));
+    assert!(rt; attacked.sink.taken().ends_with(SECOND_LOADS.as_bytes()));
     Ok(())
 }
 

@@ -15,7 +15,7 @@ const RECORD_DIGEST: [u8; 32] = [
 #[test]
 fn the_smallest_run_where_no_call_fails(rt: HostRuntime) -> Result<(), Fail> {
     let code = "addi x10, x0, 65\necall\naddi x17, x0, 4\necall";
-    let bundle = image(rt.alloc(), &[0], &[code], 0, "")?;
+    let bundle = image(rt.alloc(), &[0], &[code], 0, &[])?;
     let mut shelf = NeverShelf::open(rt.alloc());
     shelf.add("a.b", bundle.as_slice())?;
     let mut sink = NeverSink::open();

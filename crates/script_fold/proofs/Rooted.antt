@@ -1,4 +1,4 @@
--- No step of a cloaked program changes the page tables that are recorded.
+-- No step of a cloaked program changes the page tables that are recorded, nor does what the end of a domain asks.
 use Rattle.std.proofs.Common.{◌≡◌, ◌∙◌, true, false, ℕ, Bool, List, refl, [], Option, Some, None, slice_index_or, if◌then◌else◌}
 use Rattle.cloak_base.specs.declared.names.PageId.{PageId}
 use Rattle.cloak_model.specs.Events.{Event}
@@ -7,9 +7,11 @@ use Rattle.cloak_model.specs.declared.item.Item.{Item}
 use Rattle.cloak_model.specs.AskPages.{ask_copy, ask_forget}
 use Rattle.cloak_model.specs.DomainState.{Domain}
 use Rattle.cloak_model.specs.DomainStep.{domain_step}
+use Rattle.cloak_model.specs.Ending.{ask_end}
 use Rattle.script_fold.proofs.Folding.{step_keeps}
 use Rattle.script_fold.proofs.Questions.{Kept}
 use Rattle.script_fold.proofs.ByQuestions.{kept_by}
+use Rattle.script_fold.proofs.Endings.{keeps_end}
 use Rattle.std.specs.Str.{bytes_eq}
 use Rattle.cloak_base.specs.Random.{Random}
 use Rattle.cloak_model.specs.Ledger.{vector_of}
@@ -128,3 +130,6 @@ root_changes = record {
 
 pub rooted_domain_step : (slot : ℕ) (d : Domain) (w : World) → SameRoot w (domain_step slot d w).world
 rooted_domain_step slot d w = step_keeps SameRoot slot d (kept_by SameRoot root_changes rooted_copy rooted_forget d.control.number) w
+
+pub rooted_end : (d : ℕ) (w : World) → SameRoot w (ask_end d w).world
+rooted_end d w = keeps_end SameRoot root_changes rooted_forget d w

@@ -41,7 +41,8 @@ unfolding
     touched.access_frames touched.transfer_frames touched.effect_frames touched.touched_after touched.touched
     ahead.settle_while ahead.settle_touched ahead.made_after ahead.settled_step
     opening.started_ledger
-    joint.outside_ended joint.after_outside joint.outside_step joint.turn_of joint.joint_step run.turns_from
+    joint.outside_ended joint.after_outside joint.outside_step joint.turn_of joint.ends_once joint.ends_resumed joint.ends_asked joint.answers_violation joint.joint_step
+    run.turns_from
     pages.same_page pages.is_of
     entries.is_for entries.is_target entries.is_table entries.is_of_space
     events.after_step events.after_turns

@@ -1,13 +1,17 @@
 -- What the steps of a joint run ask, and the fold over its events.
 use Rattle.std.specs.Prelude.{ℕ, Bool, true, false, List, [], ◌∷◌, ◌++◌, length, slice_get, Option, Some, None}
+use Rattle.cloak_base.specs.declared.causes.Violation.{Violation}
 use Rattle.cloak_model.specs.declared.inside.Went.{Went}
 use Rattle.cloak_model.specs.declared.inside.Went.TheVariants as went
 use Rattle.cloak_model.specs.Csr.{interrupt_due}
 use Rattle.cloak_model.specs.Contexts.{Context, context_at, domain_of, slot_of}
+use Rattle.cloak_model.specs.Cloaking.{CloakedMemory}
+use Rattle.cloak_model.specs.DomainAlone.{runs_on}
 use Rattle.cloak_model.specs.DomainState.{Domain}
 use Rattle.cloak_model.specs.DomainStep.{domain_step}
+use Rattle.cloak_model.specs.Ending.{ask_end, cloak_for, spaces_of}
 use Rattle.cloak_model.specs.Hart.{Hart}
-use Rattle.cloak_model.specs.Joint.{Moment, Turn, next_hart, hart_in, cloak_of, cloak_outside, pages_for, after_turn}
+use Rattle.cloak_model.specs.Joint.{Moment, Turn, next_hart, hart_in, cloak_of, cloak_outside, pages_for, turn_of, domain_met, after_turn}
 use Rattle.cloak_model.specs.KernelStep.{kernel_step, ticked}
 use Rattle.cloak_model.specs.Opening.{Opened}
 use Rattle.cloak_model.specs.Parts.{Joint}
@@ -47,24 +51,67 @@ asked_by j h d slot domain c =
 abbrev pub nothing_asked : Asked
 nothing_asked = record { space = None; events = []; items = []; changed = [] }
 
--- a step that takes an interrupt asks nothing
+-- a step that takes an interrupt asks nothing, and so does one of a hart whose context does not run on it
 abbrev pub asked_if : Bool → Joint → Hart → ℕ → ℕ → Domain → Option Context → Asked
 asked_if true j h d slot domain c = nothing_asked
 asked_if false j h d slot domain None = nothing_asked
 asked_if false j h d slot domain (Some c) = asked_by j h d slot domain c
 
-abbrev pub asked_inside : Joint → Hart → ℕ → ℕ → Option Domain → Asked
-asked_inside j h d slot None = nothing_asked
-asked_inside j h d slot (Some domain) =
+abbrev pub asked_running : Bool → Joint → Hart → ℕ → ℕ → Domain → Asked
+asked_running false j h d slot domain = nothing_asked
+asked_running true j h d slot domain =
     asked_if (interrupt_due h.mode h.csrs) j h d slot domain (context_at domain.control.contexts slot)
 
-abbrev pub asked_of : Joint → Hart → Option ℕ → Asked
-asked_of j h None = asked_outside j h
-asked_of j h (Some ctx) = asked_inside j (ticked h) (domain_of ctx) (slot_of ctx) (slice_get j.domains (domain_of ctx))
+abbrev pub asked_inside : Joint → ℕ → Hart → ℕ → ℕ → Option Domain → Asked
+asked_inside j number h d slot None = nothing_asked
+asked_inside j number h d slot (Some domain) =
+    asked_running (runs_on number (context_at domain.control.contexts slot)) j h d slot domain
+
+abbrev pub asked_of : Joint → ℕ → Hart → Option ℕ → Asked
+asked_of j number h None = asked_outside j h
+asked_of j number h (Some ctx) =
+    asked_inside j number (ticked h) (domain_of ctx) (slot_of ctx) (slice_get j.domains (domain_of ctx))
+
+-- The end of a domain after a step: the frames that are settled, the resources that are dropped, and then its spaces.
+abbrev pub with_end : ℕ → Domain → CloakedMemory → Asked → Asked
+with_end d domain m a =
+    let w = (ask_end d (Cloaked (cloak_for m d))).world in
+    record a {
+      events = a.events ++ events_of w;
+      items = a.items ++ items_of w;
+      changed = a.changed ++ spaces_of d domain;
+    }
+
+-- by whether it has ended already
+abbrev pub ended_once : Bool → ℕ → Domain → CloakedMemory → Asked → Asked
+ended_once true d domain m a = a
+ended_once false d domain m a = with_end d domain m a
+
+-- at a resuming, if there is such a domain
+abbrev pub ended_resumed : Option Domain → ℕ → CloakedMemory → Asked → Asked
+ended_resumed None d m a = a
+ended_resumed (Some domain) d m a = ended_once domain.control.ended d domain m a
+
+-- at a question of a context of this domain
+abbrev pub ended_asked : Option Domain → ℕ → CloakedMemory → Asked → Asked
+ended_asked None d m a = a
+ended_asked (Some domain) d m a = with_end d domain m a
+
+-- what a step that ended with this machine asks, with the end of a domain if it met a violation
+abbrev pub ended_by : Option ℕ → Option Violation → Joint → Asked → Asked
+ended_by inside None j a = a
+ended_by None (Some v) j a = ended_resumed (slice_get j.domains (domain_met v)) (domain_met v) j.memory a
+ended_by (Some ctx) (Some v) j a = ended_asked (slice_get j.domains (domain_of ctx)) (domain_of ctx) j.memory a
+
+-- what the step of a hart asks
+abbrev pub asked_with_end : Joint → ℕ → Asked
+asked_with_end j number =
+    let h = hart_in j number in let t = turn_of j number h h.inside in
+    ended_by h.inside t.violation t.joint (asked_of j number h h.inside)
 
 -- what the next step of a run asks
 abbrev pub asked_in : Moment → Asked
-asked_in m = let h = hart_in m.joint (next_hart m) in asked_of m.joint h h.inside
+asked_in m = asked_with_end m.joint (next_hart m)
 
 -- the fold behind it
 unfoldable pub after_step : Moment → Fold → Fold

@@ -1,5 +1,6 @@
 pub mod Births
 pub mod Copying
+pub mod Ended
 pub mod Hypercalls
 pub mod Mapped
 pub mod Outside

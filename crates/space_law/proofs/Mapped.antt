@@ -10,7 +10,8 @@ use Rattle.cloak_model.specs.KernelStep.{ticked}
 use Rattle.cloak_model.specs.Parts.{Joint}
 use Rattle.shadow_fold.specs.Agreement.{IsMapped}
 use Rattle.shadow_fold.specs.Births.{MakeAll}
-use Rattle.shadow_fold.specs.Events.{asked_if, asked_inside, asked_of}
+use Rattle.cloak_model.specs.DomainAlone.{runs_on}
+use Rattle.shadow_fold.specs.Events.{asked_if, asked_running, asked_inside, asked_of}
 use Rattle.shadow_fold.specs.Reads.{Asked}
 use Rattle.space_law.specs.Mapping.{page_of, mapped_in, AreAllWhole, TurnMakesMapped}
 use Rattle.space_law.proofs.Births.{makes_mapped}
@@ -31,16 +32,22 @@ module _ (j : Joint) (whole : AreAllWhole j) where
       (cloak_of j.memory h d (pages_for was (Some c))) is (whole d was there c.space)
       (λ va. ap (λ (found : Option Domain). page_of found c.space va) there) tt
 
-  pub mapped_inside : (h : Hart) (d slot : ℕ) (found : Option Domain) → slice_get j.domains d ≡ found →
-      AskedMapped j (asked_inside j h d slot found)
-  mapped_inside h d slot None there = tt
-  mapped_inside h d slot (Some was) there =
+  pub mapped_running : (runs : Bool) (h : Hart) (d slot : ℕ) (was : Domain) → slice_get j.domains d ≡ Some was →
+      AskedMapped j (asked_running runs j h d slot was)
+  mapped_running false h d slot was there = tt
+  mapped_running true h d slot was there =
       mapped_if (interrupt_due h.mode h.csrs) h d slot was (context_at was.control.contexts slot) there refl
 
-  pub mapped_turn : (h : Hart) (o : Option ℕ) → AskedMapped j (asked_of j h o)
-  mapped_turn h None = makes_outside (mapped_in j) h j.disk (cloak_outside j.memory h) tt
-  mapped_turn h (Some ctx) =
-      mapped_inside (ticked h) (domain_of ctx) (slot_of ctx) (slice_get j.domains (domain_of ctx)) refl
+  pub mapped_inside : (number : ℕ) (h : Hart) (d slot : ℕ) (found : Option Domain) → slice_get j.domains d ≡ found →
+      AskedMapped j (asked_inside j number h d slot found)
+  mapped_inside number h d slot None there = tt
+  mapped_inside number h d slot (Some was) there =
+      mapped_running (runs_on number (context_at was.control.contexts slot)) h d slot was there
+
+  pub mapped_turn : (number : ℕ) (h : Hart) (o : Option ℕ) → AskedMapped j (asked_of j number h o)
+  mapped_turn number h None = makes_outside (mapped_in j) h j.disk (cloak_outside j.memory h) tt
+  mapped_turn number h (Some ctx) =
+      mapped_inside number (ticked h) (domain_of ctx) (slot_of ctx) (slice_get j.domains (domain_of ctx)) refl
 
 pub turn_makes_mapped : TurnMakesMapped
-turn_makes_mapped j number whole = let h = hart_in j number in mapped_turn j whole h h.inside
+turn_makes_mapped j number whole = let h = hart_in j number in mapped_turn j whole number h h.inside

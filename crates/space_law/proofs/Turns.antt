@@ -18,12 +18,13 @@ use Rattle.cloak_model.specs.Csr.{interrupt_due}
 use Rattle.cloak_model.specs.DomainState.{Control, Domain}
 use Rattle.cloak_model.specs.DomainStep.{DomainStepped, domain_step, step_if, interrupt}
 use Rattle.cloak_model.specs.Hart.{Hart}
-use Rattle.cloak_model.specs.Joint.{hart_in, memory_of, after_kernel_step, outside_ended, after_outside, outside_step, cloak_of, cloak_outside, pages_for, domain_ended, with_domain, after_domain_step, interrupt_ended, after_interrupt, by_interrupt, inside_step, turn_of}
+use Rattle.cloak_model.specs.Joint.{hart_in, memory_of, after_kernel_step, outside_ended, after_outside, outside_step, cloak_of, cloak_outside, pages_for, domain_ended, with_domain, after_domain_step, interrupt_ended, after_interrupt, by_interrupt, by_running, inside_step, turn_of}
 use Rattle.cloak_model.specs.KernelStep.{ticked}
 use Rattle.cloak_model.specs.Parts.{Joint}
 use Rattle.cloak_model.specs.Resuming.{by_root, by_context, by_domain, resume}
 use Rattle.cloak_model.specs.World.{World, Cloaked}
-use Rattle.shadow_fold.specs.Events.{changed_by, asked_if, asked_inside, asked_of}
+use Rattle.cloak_model.specs.DomainAlone.{runs_on}
+use Rattle.shadow_fold.specs.Events.{changed_by, asked_if, asked_running, asked_inside, asked_of}
 use Rattle.space_law.specs.Mapping.{page_of, mapped_in, TurnKeepsPages}
 use Rattle.space_law.proofs.Hypercalls.{Spares, Keeps, keeps_page, DomainKeeps, step_keeps, interrupt_keeps, resume_keeps}
 
@@ -187,20 +188,30 @@ module _ (s : SpaceId) (va : ℕ) (q : PageId) where
   due_has false j number h d slot was there out has =
       context_runs j number h d slot was (context_at was.control.contexts slot) there refl out has
 
-  pub inside_has : (j : Joint) (number : ℕ) (h : Hart) (d slot : ℕ) (found : Option Domain) →
-      slice_get j.domains d ≡ found → IsUnchanged (asked_inside j h d slot found).changed → Has j →
-      Has (inside_step j number h d slot found).joint
+  pub running_has : (runs : Bool) (j : Joint) (number : ℕ) (h : Hart) (ctx : ℕ) (was : Domain) →
+      slice_get j.domains (domain_of ctx) ≡ Some was →
+      IsUnchanged (asked_running runs j h (domain_of ctx) (slot_of ctx) was).changed → Has j →
+      Has (by_running runs j number h ctx was).joint
+  unfolding by_running
+  running_has false j number h ctx was there out has = has
+  running_has true j number h ctx was there out has =
+      due_has (interrupt_due h.mode h.csrs) j number h (domain_of ctx) (slot_of ctx) was there out has
+
+  pub inside_has : (j : Joint) (number : ℕ) (h : Hart) (ctx : ℕ) (found : Option Domain) →
+      slice_get j.domains (domain_of ctx) ≡ found →
+      IsUnchanged (asked_inside j number h (domain_of ctx) (slot_of ctx) found).changed → Has j →
+      Has (inside_step j number h ctx found).joint
   unfolding inside_step
-  inside_has j number h d slot None there out has = has
-  inside_has j number h d slot (Some was) there out has =
-      due_has (interrupt_due h.mode h.csrs) j number h d slot was there out has
+  inside_has j number h ctx None there out has = has
+  inside_has j number h ctx (Some was) there out has =
+      running_has (runs_on number (context_at was.control.contexts (slot_of ctx))) j number h ctx was there out has
 
   pub turn_has : (j : Joint) (number : ℕ) (h : Hart) (o : Option ℕ) →
-      IsUnchanged (asked_of j h o).changed → Has j → Has (turn_of j number h o).joint
+      IsUnchanged (asked_of j number h o).changed → Has j → Has (turn_of j number h o).joint
   unfolding turn_of
   turn_has j number h None out has = outside_has j number h has
   turn_has j number h (Some ctx) out has =
-      inside_has j number (ticked h) (domain_of ctx) (slot_of ctx) (slice_get j.domains (domain_of ctx)) refl out has
+      inside_has j number (ticked h) ctx (slice_get j.domains (domain_of ctx)) refl out has
 
 pub turn_keeps_pages : TurnKeepsPages
 turn_keeps_pages j number s va q has out = let h = hart_in j number in turn_has s va q j number h h.inside out has

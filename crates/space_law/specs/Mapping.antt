@@ -8,13 +8,13 @@ use Rattle.cloak_model.specs.DomainState.{Domain}
 use Rattle.cloak_model.specs.DomainStep.{domain_step}
 use Rattle.cloak_model.specs.Hart.{Hart}
 use Rattle.cloak_model.specs.KernelStep.{kernel_step}
-use Rattle.cloak_model.specs.Joint.{hart_in, turn_of}
+use Rattle.cloak_model.specs.Joint.{hart_in, turn_of, answers_violation}
 use Rattle.cloak_model.specs.Parts.{Joint}
 use Rattle.cloak_model.specs.Resources.{page_at}
 use Rattle.cloak_model.specs.World.{Cloak, Cloaked, events_of}
 use Rattle.shadow_fold.specs.Agreement.{IsMapped}
 use Rattle.shadow_fold.specs.Births.{MakeAll}
-use Rattle.shadow_fold.specs.Events.{asked_of}
+use Rattle.shadow_fold.specs.Events.{asked_of, asked_with_end}
 
 -- the page at an address of a space of a program
 abbrev pub page_of : Option Domain → ℕ → ℕ → Option PageId
@@ -49,10 +49,22 @@ AreAllWhole j = (n : ℕ) (d : Domain) → slice_get j.domains n ≡ Some d → 
 -- So it is of all entries that a step makes.
 abbrev pub TurnMakesMapped : Type 0
 TurnMakesMapped = (j : Joint) (number : ℕ) → AreAllWhole j → let h = hart_in j number in
-    let a = asked_of j h h.inside in MakeAll (IsMapped (mapped_in j)) a.space a.events
+    let a = asked_of j number h h.inside in MakeAll (IsMapped (mapped_in j)) a.space a.events
+
+-- The end of a domain after it makes no entry: with it, too, all are of pages that the spaces had before the step.
+abbrev pub StepMakesMapped : Type 0
+StepMakesMapped = (j : Joint) (number : ℕ) → AreAllWhole j →
+    let a = asked_with_end j number in MakeAll (IsMapped (mapped_in j)) a.space a.events
 
 -- A step leaves each page where a space has it, unless it says that the space changed.
 abbrev pub TurnKeepsPages : Type 0
 TurnKeepsPages = (j : Joint) (number : ℕ) (s : SpaceId) (va : ℕ) (q : PageId) → let h = hart_in j number in
-    mapped_in j s va ≡ Some q → list_any (λ x. same_space x s) (asked_of j h h.inside).changed ≡ false
+    mapped_in j s va ≡ Some q → list_any (λ x. same_space x s) (asked_of j number h h.inside).changed ≡ false
     → mapped_in (turn_of j number h h.inside).joint s va ≡ Some q
+
+-- So does the whole step, with the end of a domain after it: of a domain that ends, each space is said to have changed.
+abbrev pub StepKeepsPages : Type 0
+StepKeepsPages = (j : Joint) (number : ℕ) (s : SpaceId) (va : ℕ) (q : PageId) → let h = hart_in j number in
+    let t = turn_of j number h h.inside in
+    mapped_in j s va ≡ Some q → list_any (λ x. same_space x s) (asked_with_end j number).changed ≡ false
+    → mapped_in (answers_violation h.inside t.violation t).joint s va ≡ Some q

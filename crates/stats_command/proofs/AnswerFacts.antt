@@ -1,5 +1,5 @@
 -- What `stats` answers.
-use Rattle.std.proofs.Common.{◌≡◌, ◌<◌, ◌-◌, ◌^◌, ◌∙◌, ℕ, List, None, ap, refl, sym, subst, inl, inr}
+use Rattle.std.proofs.Common.{◌≡◌, ◌<◌, ◌-◌, ◌^◌, ◌∙◌, ℕ, Bool, true, false, List, None, ap, refl, sym, subst, inl, inr}
 use Rattle.cloak_base.specs.declared.causes.Stop.{Stop}
 use Rattle.cloak_base.specs.declared.causes.Stop.TheVariants as stop
 use Rattle.cloak_model.specs.declared.image.Bundle.{Bundle}
@@ -19,7 +19,7 @@ use Rattle.program_parts.specs.Refusing.{Refuses}
 use Rattle.program_parts.proofs.FaultFacts.{raised}
 use Rattle.run_command.proofs.EndFacts.{fixed_front}
 use Rattle.run_command.specs.Preparing.{IsPrepared}
-use Rattle.run_command.specs.Running.{IsStatusOfStop, NoClash, status_of}
+use Rattle.run_command.specs.Running.{IsStatusOfStop, NoClash, status_of, unless_refused}
 use Rattle.stats_command.specs.declared.counting.Counted.{Counted}
 use Rattle.stats_command.specs.Answering.{AsksStats, HasStats, StatsAnswers}
 use Rattle.stats_command.specs.Counting.{IsCountOf}
@@ -36,10 +36,10 @@ lines_counted counted b steps o is = λ i. stats_lines (is.stop i) (is.counts i)
 pub shows_lines : {O : Type 0} (counted : Counted) (b : Bundle) (steps : ℕ) (o : Opened) (before after : Output O)
     (answer : Status) → (NoClash (run_of b steps o) → IsCountOf counted b steps o) →
     Grows before.taken after.taken (stats_lines counted.stop counted.counts) → after.faults ≡ before.faults →
-    answer ≡ status_of counted.stop → ShowsStats b steps o before after answer
+    answer ≡ status_of counted.stop counted.refused → ShowsStats b steps o before after answer
 shows_lines {O} counted b steps o before after answer is grows faults given = inl (record {
-  some_stop = (counted.stop, given);
-  status = λ none. given ∙ ap status_of (is none).stop;
+  some_stop = (counted.stop, counted.refused, given);
+  status = λ none. let same = is none in given ∙ (λ i. status_of (same.stop i) (same.refused i));
   lines = λ none.
       subst (λ (text : List ℕ). Grows before.taken after.taken text) (lines_counted counted b steps o (is none)) grows;
   grows = (stats_lines counted.stop counted.counts, grows);
@@ -89,19 +89,23 @@ answers_no_run {S} {O} {asked} {r} {before} {after} {given} none low (inr front)
 
 -- A run that was made.
 
-answers_stop : {S O : Type 0} (asked : spec.Asked) (before after : Outside S O) (cause : Stop) →
-    HasStats asked (status_of cause) before after → StatsAnswers asked before after (status_of cause)
-answers_stop asked before after (stop.Halt value) has = has
-answers_stop asked before after stop.Budget has = has
-answers_stop asked before after (stop.Violation violation) has = has
-answers_stop asked before after stop.NoRandom has = inr has
+answers_unless : {S O : Type 0} (asked : spec.Asked) (before after : Outside S O) (refused : Bool) →
+    HasStats asked (unless_refused refused) before after → StatsAnswers asked before after (unless_refused refused)
+answers_unless asked before after true has = has
+answers_unless asked before after false has = has
+
+answers_stop : {S O : Type 0} (asked : spec.Asked) (before after : Outside S O) (cause : Stop) (refused : Bool) →
+    HasStats asked (status_of cause refused) before after → StatsAnswers asked before after (status_of cause refused)
+answers_stop asked before after (stop.Halt value) refused has = answers_unless asked before after refused has
+answers_stop asked before after stop.Budget refused has = answers_unless asked before after refused has
+answers_stop asked before after stop.NoRandom refused has = inr has
 
 answers_some_stop : {S O : Type 0} (asked : spec.Asked) (before after : Outside S O) (given : Status) →
     IsStatusOfStop given → HasStats asked given before after → StatsAnswers asked before after given
 answers_some_stop {S} {O} asked before after given some has =
-    subst (λ (s : Status). StatsAnswers asked before after s) (sym some.1)
-    (answers_stop asked before after some.0
-    (subst (λ (s : Status). HasStats asked s before after) some.1 has))
+    subst (λ (s : Status). StatsAnswers asked before after s) (sym some.2)
+    (answers_stop asked before after some.0 some.1
+    (subst (λ (s : Status). HasStats asked s before after) some.2 has))
 
 -- what the words ask for where a machine was prepared
 asks_stats : {asked : spec.Asked} {held : List ℕ → _} {steps : ℕ} {machine : Machine} →

@@ -11,7 +11,7 @@ use Rattle.program_parts.specs.declared.status.Status.TheVariants as status
 use Rattle.program_parts.specs.NoRun.{AsksBundle, IsRefused, LineFailed}
 use Rattle.program_parts.specs.Outside.{OnlyRead, Outside, Raised}
 use Rattle.run_command.specs.Recording.{GrowsSome}
-use Rattle.run_command.specs.Running.{NoClash, status_of}
+use Rattle.run_command.specs.Running.{NoClash, run_status}
 use Rattle.stats_command.specs.Showing.{run_lines}
 
 -- The words ask for the counts of the joint run of this bundle, with at most so many steps, which opens so.
@@ -31,10 +31,10 @@ run_asked asks = run_of asks.bundle asks.steps asks.opened
 abbrev pub lines_asked : {asked : spec.Asked} {held : List ℕ → Option (List ℕ)} → AsksStats asked held → List ℕ
 lines_asked asks = run_lines asks.bundle asks.steps asks.opened
 
--- The run was made. Where no pages clashed in it, its lines were shown, and the answer is the status of its stop.
+-- The run was made. Where no pages clashed in it, its lines were shown, and the answer is its status.
 pub record HasStats {S O : Type 0} (asked : spec.Asked) (answer : Status) (before after : Outside S O) : Type 0 where
   pub asks : AsksStats asked before.files.held
-  pub status : NoClash (run_asked asks) → answer ≡ status_of (run_asked asks).stop
+  pub status : NoClash (run_asked asks) → answer ≡ run_status (run_asked asks)
   pub lines : NoClash (run_asked asks) → Grows before.output.taken after.output.taken (lines_asked asks)
   pub grows : GrowsSome before.output.taken after.output.taken
   pub files : OnlyRead before.files after.files

@@ -10,7 +10,7 @@ use Rattle.program_parts.specs.declared.status.Status.{Status}
 use Rattle.program_parts.specs.declared.status.Status.TheVariants as status
 use Rattle.program_parts.specs.Outside.{Output, Raised}
 use Rattle.run_command.specs.Recording.{GrowsSome}
-use Rattle.run_command.specs.Running.{IsStatusOfStop, NoClash, status_of}
+use Rattle.run_command.specs.Running.{IsStatusOfStop, NoClash, run_status}
 use Rattle.shadow_fold.specs.declared.entry.ShadowCounts.{ShadowCounts}
 use Rattle.shadow_fold.specs.Events.{counts_of}
 
@@ -24,11 +24,11 @@ stats_lines cause counts =
 abbrev pub run_lines : Bundle → ℕ → Opened → List ℕ
 run_lines b steps o = stats_lines (run_of b steps o).stop (counts_of b steps o)
 
--- The lines of a run were shown, and the answer is a stop's status: where no pages clashed in the run, its own.
+-- The lines of a run were shown, and the answer is the status of some run: where no pages clashed in the run, its own.
 pub record ShowsLines {O : Type 0} (b : Bundle) (steps : ℕ) (o : Opened) (before after : Output O) (answer : Status) :
     Type 0 where
   pub some_stop : IsStatusOfStop answer
-  pub status : NoClash (run_of b steps o) → answer ≡ status_of (run_of b steps o).stop
+  pub status : NoClash (run_of b steps o) → answer ≡ run_status (run_of b steps o)
   pub lines : NoClash (run_of b steps o) → Grows before.taken after.taken (run_lines b steps o)
   pub grows : GrowsSome before.taken after.taken
   pub faults : after.faults ≡ before.faults

@@ -31,7 +31,7 @@ fn count_and_show<O: Sink>(machine: Machine, steps: u32, out: &mut O) -> Status
 {
     let counted = count_run(machine, steps);
     match show_stats(out, &counted.stop, &counted.counts) {
-        Ok(()) => stop_status(&counted.stop),
+        Ok(()) => stop_status(&counted.stop, counted.refused),
         Err(_) => Status::WriteFault,
     }
 }

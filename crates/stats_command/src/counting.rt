@@ -17,10 +17,11 @@ use cloak_machine::Machine;
 use run_command::Unheard;
 use shadow_fold::ShadowCounts;
 
-/// What a run comes to: why it ended, and its counts.
+/// What a run comes to: why it ended, whether a domain ended or a resuming was refused, and its counts.
 #[derive(Drop)]
 pub struct Counted {
     pub stop: Stop,
+    pub refused: bool,
     pub counts: ShadowCounts,
 }
 
@@ -60,6 +61,7 @@ pub fn count_run(machine: Machine, steps: u32) -> Counted
     let end = machine.finish(stopped.unwrap_or(Stop::Budget), &mut Unheard {});
     Counted {
         stop: end.stop,
+        refused: end.is_refused(),
         counts,
     }
 }

@@ -81,7 +81,7 @@ words_fault_of _ = codes "the words are faulty"
 abbrev pub cause_of : Option spec.Asked → Status → List ℕ
 cause_of asked status.Done = []
 cause_of asked status.Violation =
-    codes "the kernel broke a rule of cloaking, and the line `stop violation` says what it presented"
+    codes "the kernel broke a rule of cloaking: a program ended by that, or a resuming was refused"
 cause_of asked status.Usage = words_fault_of asked
 cause_of asked status.BadBundle = bundle_of asked
     ++ codes " is no guest image, and the line `bundle` says why (a file that is not there is read as an empty one)"

@@ -47,7 +47,7 @@ fn write_cause<W: fmt::Write>(
     match status {
         Status::Done => Ok(()),
         Status::Violation => f.write_str(
-            "the kernel broke a rule of cloaking, and the line `stop violation` says what it presented",
+            "the kernel broke a rule of cloaking: a program ended by that, or a resuming was refused",
         ),
         Status::Usage => write_words_fault(request, f),
         Status::BadBundle => {

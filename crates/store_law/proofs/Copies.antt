@@ -1,83 +1,88 @@
 -- What a copying step of a call shows, before it changes a page.
-use Rattle.std.proofs.Common.{ℕ, Bool, true, false, Option, Some, None}
+use Rattle.std.proofs.Common.{◌≡◌, ℕ, Bool, true, false, Option, Some, None}
 use Rattle.cloak_base.specs.declared.names.PageId.{PageId}
 use Rattle.cloak_model.specs.declared.answer.Answer.{Answer}
 use Rattle.cloak_model.specs.declared.answer.Answer.TheVariants as told
-use Rattle.cloak_model.specs.Calls.{in_put, in_reached, in_placed, in_step, copy_in_step, out_reached, out_got, out_placed, out_step, copy_out_step}
+use Rattle.cloak_model.specs.declared.inside.Copied.TheVariants as copied
+use Rattle.cloak_model.specs.Asking.{Told}
+use Rattle.cloak_model.specs.Calls.{Copy, in_put, in_reached, in_placed, in_step, copy_in_step, out_reached, out_got, out_placed, out_step, copy_out_step}
 use Rattle.cloak_model.specs.Contexts.{Context}
 use Rattle.cloak_model.specs.Resources.{Resources}
 use Rattle.cloak_model.specs.World.{World}
-use Rattle.store_law.proofs.Worlds.{ShowsFirst, ShowsFirst-refl, ShowsFirst-behind, OnlyChanges-ends}
+use Rattle.store_law.proofs.Worlds.{Shows, Shows-refl, Shows-behind, Shows-changes}
 use Rattle.store_law.proofs.Questions.{shows_reach, shows_read, shows_get, shows_put, changes_write}
 
-ends_in_put : (c : Context) (done byte : ℕ) (a : Answer) (w : World) → ShowsFirst w (in_put c done byte a w).world
+abbrev pub Copying : World → Told Copy → Type 0
+Copying w t = Shows (t.answer.ending ≡ copied.Stopped) w t.world
+
+ends_in_put : (c : Context) (done byte : ℕ) (a : Answer) (w : World) → Copying w (in_put c done byte a w)
 unfolding in_put
-ends_in_put c done byte told.Ok w = ShowsFirst-refl w
-ends_in_put c done byte (told.Absent cause) w = ShowsFirst-refl w
-ends_in_put c done byte (told.Word value) w = ShowsFirst-refl w
-ends_in_put c done byte told.Stopped w = ShowsFirst-refl w
+ends_in_put c done byte told.Ok w = Shows-refl w
+ends_in_put c done byte (told.Absent cause) w = Shows-refl w
+ends_in_put c done byte (told.Word value) w = Shows-refl w
+ends_in_put c done byte told.Stopped w = Shows-refl w
 
 ends_in_reached : (c : Context) (q : PageId) (done : ℕ) (a : Answer) (w : World) →
-    ShowsFirst w (in_reached c q done a w).world
+    Copying w (in_reached c q done a w)
 unfolding in_reached
 ends_in_reached c q done told.Ok w =
-    ShowsFirst-behind _ _ _ (shows_read _ _ _ w)
-    (ShowsFirst-behind _ _ _ (shows_put _ _ _ _) (ends_in_put c done _ _ _))
-ends_in_reached c q done (told.Absent cause) w = ShowsFirst-refl w
-ends_in_reached c q done (told.Word value) w = ShowsFirst-refl w
-ends_in_reached c q done told.Stopped w = ShowsFirst-refl w
+    Shows-behind _ _ _ (shows_read _ _ _ w)
+    (Shows-behind _ _ _ (shows_put _ _ _ _) (ends_in_put c done _ _ _))
+ends_in_reached c q done (told.Absent cause) w = Shows-refl w
+ends_in_reached c q done (told.Word value) w = Shows-refl w
+ends_in_reached c q done told.Stopped w = Shows-refl w
 
 ends_in_placed : (c : Context) (done : ℕ) (place : Option PageId) (cloaked : Bool) (w : World) →
-    ShowsFirst w (in_placed c done place cloaked w).world
+    Copying w (in_placed c done place cloaked w)
 unfolding in_placed
-ends_in_placed c done None cloaked w = ShowsFirst-refl w
-ends_in_placed c done (Some place) true w = ShowsFirst-refl w
+ends_in_placed c done None cloaked w = Shows-refl w
+ends_in_placed c done (Some place) true w = Shows-refl w
 ends_in_placed c done (Some place) false w =
-    ShowsFirst-behind _ _ _ (shows_reach _ _ _ w) (ends_in_reached c _ done _ _)
+    Shows-behind _ _ _ (shows_reach _ _ _ w) (ends_in_reached c _ done _ _)
 
 ends_in_step : (all : Bool) (domain : ℕ) (r : Resources) (c : Context) (done : ℕ) (w : World) →
-    ShowsFirst w (in_step all domain r c done w).world
+    Copying w (in_step all domain r c done w)
 unfolding in_step
-ends_in_step true domain r c done w = ShowsFirst-refl w
+ends_in_step true domain r c done w = Shows-refl w
 ends_in_step false domain r c done w = ends_in_placed c done _ _ w
 
 pub ends_copy_in_step : (domain : ℕ) (r : Resources) (c : Context) (done : ℕ) (w : World) →
-    ShowsFirst w (copy_in_step domain r c done w).world
+    Copying w (copy_in_step domain r c done w)
 unfolding copy_in_step
 ends_copy_in_step domain r c done w = ends_in_step _ domain r c done w
 
 ends_out_reached : (c : Context) (q : PageId) (done total byte : ℕ) (a : Answer) (w : World) →
-    ShowsFirst w (out_reached c q done total byte a w).world
+    Copying w (out_reached c q done total byte a w)
 unfolding out_reached
-ends_out_reached c q done total byte told.Ok w = OnlyChanges-ends w _ (changes_write _ _ _ _ w)
-ends_out_reached c q done total byte (told.Absent cause) w = ShowsFirst-refl w
-ends_out_reached c q done total byte (told.Word value) w = ShowsFirst-refl w
-ends_out_reached c q done total byte told.Stopped w = ShowsFirst-refl w
+ends_out_reached c q done total byte told.Ok w = Shows-changes w _ (changes_write _ _ _ _ w) (λ is. let clash : copied.Going ≡ copied.Stopped = is in cc)
+ends_out_reached c q done total byte (told.Absent cause) w = Shows-refl w
+ends_out_reached c q done total byte (told.Word value) w = Shows-refl w
+ends_out_reached c q done total byte told.Stopped w = Shows-refl w
 
 ends_out_got : (c : Context) (q : PageId) (done total : ℕ) (a : Answer) (w : World) →
-    ShowsFirst w (out_got c q done total a w).world
+    Copying w (out_got c q done total a w)
 unfolding out_got
 ends_out_got c q done total (told.Word byte) w =
-    ShowsFirst-behind _ _ _ (shows_reach _ _ _ w) (ends_out_reached c q done total byte _ _)
-ends_out_got c q done total (told.Absent cause) w = ShowsFirst-refl w
-ends_out_got c q done total told.Ok w = ShowsFirst-refl w
-ends_out_got c q done total told.Stopped w = ShowsFirst-refl w
+    Shows-behind _ _ _ (shows_reach _ _ _ w) (ends_out_reached c q done total byte _ _)
+ends_out_got c q done total (told.Absent cause) w = Shows-refl w
+ends_out_got c q done total told.Ok w = Shows-refl w
+ends_out_got c q done total told.Stopped w = Shows-refl w
 
 ends_out_placed : (c : Context) (done total : ℕ) (place : Option PageId) (cloaked : Bool) (w : World) →
-    ShowsFirst w (out_placed c done total place cloaked w).world
+    Copying w (out_placed c done total place cloaked w)
 unfolding out_placed
-ends_out_placed c done total None cloaked w = ShowsFirst-refl w
-ends_out_placed c done total (Some place) true w = ShowsFirst-refl w
+ends_out_placed c done total None cloaked w = Shows-refl w
+ends_out_placed c done total (Some place) true w = Shows-refl w
 ends_out_placed c done total (Some place) false w =
-    ShowsFirst-behind _ _ _ (shows_get _ _ w) (ends_out_got c _ done total _ _)
+    Shows-behind _ _ _ (shows_get _ _ w) (ends_out_got c _ done total _ _)
 
 ends_out_step : (all : Bool) (domain : ℕ) (r : Resources) (c : Context) (done total : ℕ) (w : World) →
-    ShowsFirst w (out_step all domain r c done total w).world
+    Copying w (out_step all domain r c done total w)
 unfolding out_step
-ends_out_step true domain r c done total w = ShowsFirst-refl w
+ends_out_step true domain r c done total w = Shows-refl w
 ends_out_step false domain r c done total w = ends_out_placed c done total _ _ w
 
 pub ends_copy_out_step : (domain : ℕ) (r : Resources) (c : Context) (done total : ℕ) (w : World) →
-    ShowsFirst w (copy_out_step domain r c done total w).world
+    Copying w (copy_out_step domain r c done total w)
 unfolding copy_out_step
 ends_copy_out_step domain r c done total w = ends_out_step _ domain r c done total w

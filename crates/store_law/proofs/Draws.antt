@@ -69,6 +69,7 @@ one_counts (item.Word domain value) n = omega arith
 one_counts (item.Timer domain) n = omega arith
 one_counts (item.Resume domain ctx answer) n = omega arith
 one_counts (item.Stopped domain) n = omega arith
+one_counts (item.Ended domain) n = omega arith
 
 pub draw_behind_counts : (items : List Item) (n : ℕ) → draw_behind items n ≡ n + ciphers_in items
 draw_behind_counts [] n = omega arith

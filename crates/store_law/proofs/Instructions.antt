@@ -22,14 +22,16 @@ use Rattle.store_law.proofs.Questions.{shows_reach, shows_read, shows_get, shows
 pub record Instructs (w : World) (t : Told AfterInstruction) : Type 0 where
   pub ends : ShowsFirst w t.world
   pub calls : t.answer.ending ≡ ran.Ecall → OnlyShows w t.world
+  pub stops : t.answer.ending ≡ ran.Stopped → OnlyShows w t.world
 
 Instructs-refl : {m : AfterInstruction} (w : World) → Instructs w (record { answer = m; world = w })
-Instructs-refl w = record { ends = OnlyShows-ends w w (OnlyShows-refl w); calls = λ is. OnlyShows-refl w }
+Instructs-refl w = record { ends = OnlyShows-ends w w (OnlyShows-refl w); calls = λ is. OnlyShows-refl w; stops = λ is. OnlyShows-refl w }
 
 Instructs-behind : (u v : World) (t : Told AfterInstruction) → OnlyShows u v → Instructs v t → Instructs u t
 Instructs-behind u v t p q = record {
   ends = ShowsFirst-behind u v t.world p q.ends;
   calls = λ is. OnlyShows-trans u v t.world p (q.calls is);
+  stops = λ is. OnlyShows-trans u v t.world p (q.stops is);
 }
 
 instructs_loaded : (c : Context) (rd va width : ℕ) (signed : Bool) (value : ℕ) (w : World) →
@@ -68,6 +70,7 @@ unfolding store_reached
 instructs_store_reached c q va width value told.Ok w = record {
   ends = OnlyChanges-ends w _ (changes_write _ _ _ _ w);
   calls = λ is. absurd cc;
+  stops = λ is. absurd cc;
 }
 instructs_store_reached c q va width value (told.Absent cause) w = Instructs-refl w
 instructs_store_reached c q va width value (told.Word other) w = Instructs-refl w

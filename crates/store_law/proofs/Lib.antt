@@ -5,6 +5,7 @@ pub mod Questions
 pub mod Instructions
 pub mod Copies
 pub mod Steps
+pub mod Calm
 pub mod Turns
 pub mod Runs
 pub mod Opened

@@ -21,7 +21,10 @@ use Rattle.cloak_model.specs.DomainState.{Control, Domain}
 use Rattle.cloak_model.specs.DomainStep.{instruction_ended, copy_ended, phase_step, step_if, domain_step}
 use Rattle.cloak_model.specs.Hart.{Hart}
 use Rattle.cloak_model.specs.InsideStep.{AfterInstruction}
-use Rattle.cloak_model.specs.Joint.{Moment, Turn, cloak_of, outside_ended, after_outside, outside_step, domain_ended, after_domain_step, pages_for, interrupt_ended, after_interrupt, by_interrupt, inside_step, turn_of, joint_step}
+use Rattle.cloak_base.specs.declared.causes.Violation.{Violation}
+use Rattle.cloak_model.specs.Ending.{ended_domain}
+use Rattle.cloak_model.specs.Joint.{next_hart, hart_in, end_domain, ends_once, ends_resumed, ends_asked, answers_violation}
+use Rattle.cloak_model.specs.Joint.{Moment, Turn, cloak_of, outside_ended, after_outside, outside_step, domain_ended, after_domain_step, pages_for, interrupt_ended, after_interrupt, by_interrupt, by_running, inside_step, turn_of, joint_step}
 use Rattle.cloak_model.specs.KernelStep.{ticked}
 use Rattle.cloak_model.specs.Opening.{Opened, opening}
 use Rattle.cloak_model.specs.Parts.{Joint}
@@ -186,21 +189,91 @@ by_load false j number h e slot found there =
     (set_load j.domains j.memory.plain e found _ there
     (step_loads j.memory.plain slot found (Cloaked c) (record { cloak = c; is = refl; same = refl })))
 
-inside_load : (j : Joint) (number : ℕ) (h : Hart) (e slot : ℕ) (found : Option Domain) → slice_get j.domains e ≡ found →
-    DomainsLoad j.domains j.memory.plain (inside_step j number h e slot found).joint.domains
+running_load : (runs : Bool) (j : Joint) (number : ℕ) (h : Hart) (ctx : ℕ) (found : Domain) →
+    slice_get j.domains (domain_of ctx) ≡ Some found →
+    DomainsLoad j.domains j.memory.plain (by_running runs j number h ctx found).joint.domains
+unfolding by_running
+running_load false j number h ctx found there = same_load j.domains j.memory.plain
+running_load true j number h ctx found there = by_load _ j number h (domain_of ctx) (slot_of ctx) found there
+
+inside_load : (j : Joint) (number : ℕ) (h : Hart) (ctx : ℕ) (found : Option Domain) →
+    slice_get j.domains (domain_of ctx) ≡ found →
+    DomainsLoad j.domains j.memory.plain (inside_step j number h ctx found).joint.domains
 unfolding inside_step
-inside_load j number h e slot None there = same_load j.domains j.memory.plain
-inside_load j number h e slot (Some found) there = by_load _ j number h e slot found there
+inside_load j number h ctx None there = same_load j.domains j.memory.plain
+inside_load j number h ctx (Some found) there = running_load _ j number h ctx found there
 
 turn_load : (j : Joint) (number : ℕ) (h : Hart) (inside : Option ℕ) →
     DomainsLoad j.domains j.memory.plain (turn_of j number h inside).joint.domains
 unfolding turn_of
 turn_load j number h None = outside_load j j.memory.plain number h
-turn_load j number h (Some ctx) = inside_load j number (ticked h) (domain_of ctx) (slot_of ctx) _ refl
+turn_load j number h (Some ctx) = inside_load j number (ticked h) ctx _ refl
+
+-- The end of a domain leaves its loads.
+
+loads_stay : (was : Domain) (plain : PageId → List ℕ) (found made : Domain) → made.loads ≡ found.loads →
+    LoadsNewest was plain found → LoadsNewest was plain made
+loads_stay was plain found made same (NoLoad is) = NoLoad (same ∙ is)
+loads_stay was plain found made same (OneLoad slot c there va value is of) = OneLoad slot c there va value (same ∙ is) of
+
+behind_set : (P : Domain → Type 0) (now : List Domain) (e d : ℕ) (found made new : Domain) →
+    slice_get now e ≡ Some found → slice_get (slice_set now e made) d ≡ Some new →
+    ((x : Domain) → slice_get now d ≡ Some x → P x) → (P found → P made) → P new
+behind_set P [] zero d found made new there is all so = absurd cc
+behind_set P [] (suc e) d found made new there is all so = absurd cc
+behind_set P (x ∷ now) zero zero found made new there is all so =
+    let same : made ≡ new = cc in subst P same (so (all found there))
+behind_set P (x ∷ now) zero (suc d) found made new there is all so = all new is
+behind_set P (x ∷ now) (suc e) zero found made new there is all so = all new is
+behind_set P (x ∷ now) (suc e) (suc d) found made new there is all so =
+    behind_set P now e d found made new there is all so
+
+ended_loads : (w : Domain) → (ended_domain w).loads ≡ w.loads
+unfolding ended_domain
+ended_loads w = refl
+
+end_load : (domains : List Domain) (plain : PageId → List ℕ) (e : ℕ) (found : Domain) (v : Violation) (t : Turn) →
+    slice_get t.joint.domains e ≡ Some found → DomainsLoad domains plain t.joint.domains →
+    DomainsLoad domains plain (end_domain e found v t).joint.domains
+unfolding end_domain
+end_load domains plain e found v t there loads d was new is is' =
+    behind_set (LoadsNewest was plain) t.joint.domains e d found (ended_domain found) new there is'
+    (λ x at. loads d was x is at) (loads_stay was plain found (ended_domain found) (ended_loads found))
+
+once_load : (over : Bool) (domains : List Domain) (plain : PageId → List ℕ) (e : ℕ) (found : Domain) (v : Violation)
+    (t : Turn) → slice_get t.joint.domains e ≡ Some found → DomainsLoad domains plain t.joint.domains →
+    DomainsLoad domains plain (ends_once over e found v t).joint.domains
+unfolding ends_once
+once_load true domains plain e found v t there loads = loads
+once_load false domains plain e found v t there loads = end_load domains plain e found v t there loads
+
+resumed_end_load : (o : Option Domain) (domains : List Domain) (plain : PageId → List ℕ) (e : ℕ) (v : Violation)
+    (t : Turn) → slice_get t.joint.domains e ≡ o → DomainsLoad domains plain t.joint.domains →
+    DomainsLoad domains plain (ends_resumed o e v t).joint.domains
+unfolding ends_resumed
+resumed_end_load None domains plain e v t there loads = loads
+resumed_end_load (Some found) domains plain e v t there loads = once_load _ domains plain e found v t there loads
+
+asked_end_load : (o : Option Domain) (domains : List Domain) (plain : PageId → List ℕ) (e : ℕ) (v : Violation)
+    (t : Turn) → slice_get t.joint.domains e ≡ o → DomainsLoad domains plain t.joint.domains →
+    DomainsLoad domains plain (ends_asked o e v t).joint.domains
+unfolding ends_asked
+asked_end_load None domains plain e v t there loads = loads
+asked_end_load (Some found) domains plain e v t there loads = end_load domains plain e found v t there loads
+
+answers_load : (inside : Option ℕ) (o : Option Violation) (domains : List Domain) (plain : PageId → List ℕ) (t : Turn) →
+    DomainsLoad domains plain t.joint.domains → DomainsLoad domains plain (answers_violation inside o t).joint.domains
+unfolding answers_violation
+answers_load inside None domains plain t loads = loads
+answers_load None (Some v) domains plain t loads = resumed_end_load _ domains plain _ v t refl loads
+answers_load (Some ctx) (Some v) domains plain t loads = asked_end_load _ domains plain _ v t refl loads
 
 joint_load : (m : Moment) → DomainsLoad m.joint.domains m.joint.memory.plain (joint_step m).joint.domains
 unfolding joint_step
-joint_load m = turn_load m.joint _ _ _
+joint_load m =
+    let h = hart_in m.joint (next_hart m) in
+    answers_load h.inside _ m.joint.domains m.joint.memory.plain (turn_of m.joint (next_hart m) h h.inside)
+    (turn_load m.joint (next_hart m) h h.inside)
 
 run_loads : (b : Bundle) (budget : ℕ) (o : Opened) → let r = run_of b budget o in
     (n : ℕ) (t : Turn) → slice_get r.turns n ≡ Some t →

@@ -1,6 +1,6 @@
 -- A step of the kernel, or of another program, leaves the pages of a program as they are.
 use Rattle.std.proofs.Common.{◌≡◌, ◌≢◌, ◌∙◌, ℕ, zero, suc, ◌+◌, ◌%◌, Bool, true, false, List, length, take, slice_get, slice_index, Option, Some, None, Result, Ok, Err, refl, sym, ap, subst, arith, take_all}
-use Rattle.std.specs.Prelude.{option_map}
+use Rattle.std.specs.Prelude.{option_map, ◌||◌}
 use Rattle.cloak_base.specs.Random.{Random}
 use Rattle.cloak_base.specs.declared.causes.Stop.{Stop}
 use Rattle.cloak_base.specs.declared.names.PageId.{PageId}
@@ -18,7 +18,7 @@ use Rattle.cloak_model.specs.Contexts.{Admitted, domain_of, slot_of}
 use Rattle.cloak_model.specs.DomainState.{Control, Domain}
 use Rattle.cloak_model.specs.DomainStep.{DomainStepped, domain_step}
 use Rattle.cloak_model.specs.Hart.{Hart}
-use Rattle.cloak_model.specs.Joint.{Moment, Turn, next_hart, hart_in, cloak_of, memory_of, outside_ended, after_outside, outside_step, domain_ended, after_domain_step, interrupt_ended, after_interrupt, by_interrupt, inside_step, turn_of, joint_step, after_turn, stop_of}
+use Rattle.cloak_model.specs.Joint.{Moment, Turn, next_hart, hart_in, cloak_of, memory_of, outside_ended, after_outside, outside_step, domain_ended, after_domain_step, interrupt_ended, after_interrupt, by_interrupt, by_running, inside_step, turn_of, joint_step, after_turn, stop_of}
 use Rattle.cloak_model.specs.KernelStep.{ticked}
 use Rattle.cloak_model.specs.Opening.{Opened, opening}
 use Rattle.cloak_model.specs.Parts.{Joint, domain_pages}
@@ -37,50 +37,20 @@ use Rattle.store_law.specs.OwnPages.{program_of_step, StepsKeepPages, ClosingKee
 use Rattle.store_law.proofs.Ciphers.{of_opened}
 use Rattle.store_law.proofs.OwnDraws.{is_step}
 use Rattle.store_law.proofs.Runs.{below_draws}
-use Rattle.store_law.proofs.Settlings.{touched_draws}
+use Rattle.store_law.proofs.Calm.{outside_keeps}
+use Rattle.std.proofs.Common.{[], ◌∷◌, ◌++◌, append_assoc, eq-eqb}
+use Rattle.std.proofs.lemmas.Bool.{false≢true}
+use Rattle.std.specs.List.{list_any}
+use Rattle.cloak_base.specs.declared.causes.Violation.{Violation}
+use Rattle.cloak_model.specs.declared.item.Item.TheVariants as item
+use Rattle.cloak_model.specs.Joint.{domain_met, end_domain, ends_once, ends_resumed, ends_asked, answers_violation}
+use Rattle.cloak_model.specs.World.{items_of}
+use Rattle.domain_isolation.proofs.Endings.{end_world, end_leaves}
+use Rattle.store_law.specs.OwnPages.{is_end_of, ends_in}
 
 -- the pages of a program are the same
 abbrev Keeps : ℕ → Joint → Joint → Type 0
 Keeps d j j' = domain_pages d j'.memory.plain ≡ domain_pages d j.memory.plain
-
--- A hart outside.
-
-root_keeps : (j : Joint) (satp ctx reply : ℕ) (w : Domain) (control : Control) (a : Admitted)
-    (answer : Result (Unit {0}) ResumeFault) →
-    (by_root j satp ctx reply w control a answer).joint.memory.plain ≡ j.memory.plain
-unfolding by_root
-root_keeps j satp ctx reply w control a (Err fault) = refl
-root_keeps j satp ctx reply w control a (Ok done) = refl
-
-context_keeps : (j : Joint) (satp ctx reply : ℕ) (w : Domain) (control : Control)
-    (answer : Result (Unit {0}) ResumeFault) →
-    (by_context j satp ctx reply w control answer).joint.memory.plain ≡ j.memory.plain
-unfolding by_context
-context_keeps j satp ctx reply w control (Err fault) = refl
-context_keeps j satp ctx reply w control (Ok done) = root_keeps j satp ctx reply w control _ _
-
-domain_keeps : (j : Joint) (hart satp ctx reply : ℕ) (found : Option Domain) →
-    (by_domain j hart satp ctx reply found).joint.memory.plain ≡ j.memory.plain
-unfolding by_domain
-domain_keeps j hart satp ctx reply None = refl
-domain_keeps j hart satp ctx reply (Some w) = context_keeps j satp ctx reply w _ _
-
-resume_keeps : (j : Joint) (hart satp ctx reply : ℕ) →
-    (resume j hart satp ctx reply).joint.memory.plain ≡ j.memory.plain
-unfolding resume
-resume_keeps j hart satp ctx reply = domain_keeps j hart satp ctx reply _
-
-ended_keeps : (j : Joint) (number : ℕ) (items : List Item) (k : Kernel) →
-    (outside_ended j number items k).joint.memory.plain ≡ j.memory.plain
-unfolding outside_ended
-ended_keeps j number items Stay = refl
-ended_keeps j number items (Put b) = refl
-ended_keeps j number items (Halt value) = refl
-ended_keeps j number items (Resume ctx answer) = resume_keeps j number _ ctx answer
-
-outside_keeps : (j : Joint) (number : ℕ) (h : Hart) → (outside_step j number h).joint.memory.plain ≡ j.memory.plain
-unfolding outside_step after_outside settled_step made_after
-outside_keeps j number h = ended_keeps _ number _ _ ∙ (touched_draws h j.disk j.memory).plain
 
 -- A hart inside.
 
@@ -137,12 +107,19 @@ unfolding by_interrupt after_interrupt
 by_keeps d true j number h e slot was own other = interrupt_ended_keeps d _ number h _ _
 by_keeps d false j number h e slot was own other = step_keeps d slot was j number h e _ own other
 
-inside_keeps : (d : ℕ) (j : Joint) (number : ℕ) (h : Hart) (e slot : ℕ) (found : Option Domain) →
-    slice_get j.domains e ≡ found → AreFrom 0 j.domains → d ≢ e → Keeps d j (inside_step j number h e slot found).joint
+running_keeps : (d : ℕ) (runs : Bool) (j : Joint) (number : ℕ) (h : Hart) (ctx : ℕ) (was : Domain) →
+    was.control.number ≡ domain_of ctx → d ≢ domain_of ctx → Keeps d j (by_running runs j number h ctx was).joint
+unfolding by_running
+running_keeps d false j number h ctx was own other = refl
+running_keeps d true j number h ctx was own other = by_keeps d _ j number h (domain_of ctx) (slot_of ctx) was own other
+
+inside_keeps : (d : ℕ) (j : Joint) (number : ℕ) (h : Hart) (ctx : ℕ) (found : Option Domain) →
+    slice_get j.domains (domain_of ctx) ≡ found → AreFrom 0 j.domains → d ≢ domain_of ctx →
+    Keeps d j (inside_step j number h ctx found).joint
 unfolding inside_step
-inside_keeps d j number h e slot None is programs other = refl
-inside_keeps d j number h e slot (Some was) is programs other =
-    by_keeps d _ j number h e slot was (number_at e j.domains was programs is) other
+inside_keeps d j number h ctx None is programs other = refl
+inside_keeps d j number h ctx (Some was) is programs other =
+    running_keeps d _ j number h ctx was (number_at (domain_of ctx) j.domains was programs is) other
 
 -- Every step.
 
@@ -152,8 +129,55 @@ unfolding turn_of
 turn_keeps d j number h None programs other =
     ap (λ (plain : PageId → List ℕ). domain_pages d plain) (outside_keeps j number h)
 turn_keeps d j number h (Some ctx) programs other =
-    inside_keeps d j number (ticked h) (domain_of ctx) (slot_of ctx) _ refl programs
+    inside_keeps d j number (ticked h) ctx _ refl programs
     (λ same. other (ap (λ (x : ℕ). Some x) (sym same)))
+
+-- The end of another program.
+
+or_true : (b : Bool) → (b || true) ≡ true
+or_true true = refl
+or_true false = refl
+
+end_found : (d e : ℕ) (items : List Item) → e ≡ d → ends_in d (items ++ item.Ended e ∷ []) ≡ true
+end_found d e [] same = ap (λ (b : Bool). b || false) (eq-eqb e d same)
+end_found d e (i ∷ items) same = ap (λ (b : Bool). is_end_of d i || b) (end_found d e items same) ∙ or_true (is_end_of d i)
+
+end_keeps : (d e : ℕ) (j : Joint) (was : Domain) (v : Violation) (t : Turn) → Keeps d j t.joint →
+    ends_in d (end_domain e was v t).items ≡ false → Keeps d j (end_domain e was v t).joint
+unfolding end_domain
+end_keeps d e j was v t kept gone =
+    let w = end_world e t.joint.memory in
+    let told = end_found d e (t.items ++ items_of w) in
+    let other : d ≢ e = λ same. false≢true (sym gone
+    ∙ (ap (ends_in d) (sym (append_assoc t.items (items_of w) (item.Ended e ∷ []))) ∙ told (sym same))) in
+    let leaves = end_leaves e t.joint.memory in
+    ap (λ (plain : PageId → List ℕ). domain_pages d plain) (sym (memory_plain w t.joint.memory leaves.form))
+    ∙ (leaves.others d other ∙ kept)
+
+once_keeps : (d : ℕ) (over : Bool) (e : ℕ) (j : Joint) (was : Domain) (v : Violation) (t : Turn) → Keeps d j t.joint →
+    ends_in d (ends_once over e was v t).items ≡ false → Keeps d j (ends_once over e was v t).joint
+unfolding ends_once
+once_keeps d true e j was v t kept gone = kept
+once_keeps d false e j was v t kept gone = end_keeps d e j was v t kept gone
+
+resumed_end_keeps : (d : ℕ) (found : Option Domain) (e : ℕ) (j : Joint) (v : Violation) (t : Turn) → Keeps d j t.joint →
+    ends_in d (ends_resumed found e v t).items ≡ false → Keeps d j (ends_resumed found e v t).joint
+unfolding ends_resumed
+resumed_end_keeps d None e j v t kept gone = kept
+resumed_end_keeps d (Some was) e j v t kept gone = once_keeps d _ e j was v t kept gone
+
+asked_end_keeps : (d : ℕ) (found : Option Domain) (e : ℕ) (j : Joint) (v : Violation) (t : Turn) → Keeps d j t.joint →
+    ends_in d (ends_asked found e v t).items ≡ false → Keeps d j (ends_asked found e v t).joint
+unfolding ends_asked
+asked_end_keeps d None e j v t kept gone = kept
+asked_end_keeps d (Some was) e j v t kept gone = end_keeps d e j was v t kept gone
+
+answers_keep : (d : ℕ) (inside : Option ℕ) (o : Option Violation) (j : Joint) (t : Turn) → Keeps d j t.joint →
+    ends_in d (answers_violation inside o t).items ≡ false → Keeps d j (answers_violation inside o t).joint
+unfolding answers_violation
+answers_keep d inside None j t kept gone = kept
+answers_keep d None (Some v) j t kept gone = resumed_end_keeps d _ _ j v t kept gone
+answers_keep d (Some ctx) (Some v) j t kept gone = asked_end_keeps d _ _ j v t kept gone
 
 -- the moment behind so many steps
 abbrev pub moment_behind : Moment → ℕ → List Turn → Moment
@@ -197,16 +221,20 @@ step_is (suc budget) (suc n) m t is =
     } in joint_step x) (sym number) ∙ step_is budget n m' t there)
 
 joint_keeps : (d : ℕ) (m : Moment) → AreFrom 0 m.joint.domains →
-    option_map domain_of (hart_in m.joint (next_hart m)).inside ≢ Some d → Keeps d m.joint (joint_step m).joint
+    option_map domain_of (hart_in m.joint (next_hart m)).inside ≢ Some d → ends_in d (joint_step m).items ≡ false →
+    Keeps d m.joint (joint_step m).joint
 unfolding joint_step
-joint_keeps d m programs other = turn_keeps d m.joint (next_hart m) _ _ programs other
+joint_keeps d m programs other gone =
+    let h = hart_in m.joint (next_hart m) in
+    answers_keep d h.inside _ m.joint (turn_of m.joint (next_hart m) h h.inside)
+    (turn_keeps d m.joint (next_hart m) h h.inside programs other) gone
 
 steps_keep : (b : Bundle) (stream : Random) (budget : ℕ) (o : Opened) → opening b stream ≡ Ok o →
     let r = run_of b budget o in
     (n : ℕ) (t : Turn) → slice_get r.turns n ≡ Some t → (d : ℕ) → program_of_step b r n ≢ Some d →
-    domain_pages d t.joint.memory.plain ≡ domain_pages d (joint_until n r).memory.plain
+    ends_in d t.items ≡ false → domain_pages d t.joint.memory.plain ≡ domain_pages d (joint_until n r).memory.plain
 unfolding run_of
-steps_keep b stream budget o opens n t is d other =
+steps_keep b stream budget o opens n t is d other gone =
     let turns : List Turn = turns_from budget (first_moment b o.joint) in
     let low = is_step turns n t is in
     let steady = (until_read b stream budget o opens n (omega (arith, low))).steady in
@@ -214,9 +242,10 @@ steps_keep b stream budget o opens n t is d other =
     let number : m.steps ≡ n = omega arith in
     let hart = ap (λ (k : ℕ). option_map domain_of
     (hart_in m.joint (slice_index b.kernel.schedule (k % length b.kernel.schedule))).inside) number in
-    subst (λ (x : Turn). domain_pages d x.joint.memory.plain ≡ domain_pages d m.joint.memory.plain)
-    (step_is budget n (first_moment b o.joint) t is)
-    (joint_keeps d m steady.programs (λ is'. other (sym hart ∙ is')))
+    let step = step_is budget n (first_moment b o.joint) t is in
+    subst (λ (x : Turn). domain_pages d x.joint.memory.plain ≡ domain_pages d m.joint.memory.plain) step
+    (joint_keeps d m steady.programs (λ is'. other (sym hart ∙ is'))
+    (subst (λ (x : Turn). ends_in d x.items ≡ false) (sym step) gone))
 
 closing_is_kept : (j : Joint) → (closing j).joint.memory.plain ≡ j.memory.plain
 unfolding closing
@@ -235,7 +264,7 @@ pub steps_keep_pages : StepsKeepPages
 steps_keep_pages b stream budget r is =
     of_opened b budget
     (λ (r : Run). (n : ℕ) (t : Turn) → slice_get r.turns n ≡ Some t → (d : ℕ) → program_of_step b r n ≢ Some d →
-    domain_pages d t.joint.memory.plain ≡ domain_pages d (joint_until n r).memory.plain)
+    ends_in d t.items ≡ false → domain_pages d t.joint.memory.plain ≡ domain_pages d (joint_until n r).memory.plain)
     (opening b stream) r is (steps_keep b stream budget)
 
 pub closing_keeps_pages : ClosingKeepsPages

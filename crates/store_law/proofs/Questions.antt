@@ -189,7 +189,7 @@ either_world : (b : Bool) (w v : World) → OnlyShows w v → OnlyShows w (cond 
 either_world true w v later = later
 either_world false w v later = OnlyShows-refl w
 
-shows_if_marked : (domain : ℕ) (marked : List Bool) (f : ℕ) (w : World) →
+pub shows_if_marked : (domain : ℕ) (marked : List Bool) (f : ℕ) (w : World) →
     OnlyShows w (settled_if_marked domain marked f w)
 unfolding settled_if_marked
 shows_if_marked domain marked f w = either_world _ w (settled f w) (shows_settled f w)

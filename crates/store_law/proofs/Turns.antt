@@ -18,7 +18,7 @@ use Rattle.cloak_model.specs.DomainState.{Control, Domain}
 use Rattle.cloak_model.specs.DomainStep.{DomainStepped}
 use Rattle.cloak_model.specs.Hart.{Hart}
 use Rattle.cloak_model.specs.Hypercalls.{Stepped}
-use Rattle.cloak_model.specs.Joint.{Moment, Turn, cloak_of, memory_of, outside_ended, after_outside, outside_step, domain_ended, after_domain_step, pages_for, interrupt_ended, after_interrupt, by_interrupt, inside_step, turn_of, joint_step}
+use Rattle.cloak_model.specs.Joint.{Moment, Turn, cloak_of, memory_of, outside_ended, after_outside, outside_step, domain_ended, after_domain_step, pages_for, interrupt_ended, after_interrupt, by_interrupt, left, by_running, inside_step, turn_of, joint_step}
 use Rattle.cloak_model.specs.KernelStep.{ticked}
 use Rattle.cloak_model.specs.Parts.{Joint}
 use Rattle.cloak_model.specs.Resuming.{AfterResume, by_root, by_context, by_domain, resume}
@@ -26,7 +26,18 @@ use Rattle.cloak_model.specs.World.{World, Cloak, Cloaked, items_of}
 use Rattle.store_law.proofs.Draws.{HasDrawn, draws_stay, draw_behind, draw_behind-append, AreShown, shown-append, Draws}
 use Rattle.store_law.proofs.Settlings.{touched_draws}
 use Rattle.store_law.proofs.Worlds.{ShowsFirstFrom}
-use Rattle.store_law.proofs.Steps.{ends_domain_step}
+use Rattle.std.specs.Prelude.{length, slice_get, is_some}
+use Rattle.std.proofs.Common.{zero, suc, ◌+◌}
+use Rattle.cloak_base.specs.declared.causes.Violation.{Violation}
+use Rattle.cloak_model.specs.Ending.{all_marked, settled_for, ask_end, cloak_for}
+use Rattle.cloak_model.specs.AskPages.{settled_if_marked}
+use Rattle.cloak_model.specs.Opening.{numbers_below}
+use Rattle.cloak_model.specs.World.{ram_of}
+use Rattle.cloak_model.specs.Joint.{next_hart, hart_in, end_domain, ends_once, ends_resumed, ends_asked, answers_violation}
+use Rattle.store_law.proofs.Worlds.{OnlyShows, ShowsFirst, OnlyShows-refl, OnlyShows-trans, ShowsFirst-behind, OnlyChanges-ends}
+use Rattle.store_law.proofs.Questions.{shows_if_marked}
+use Rattle.store_law.proofs.Calm.{turn_calm}
+use Rattle.store_law.proofs.Steps.{ends_domain_step, changes_forgets}
 
 -- From one memory to a later one these items were written, and their Ciphers show pages as they were at first.
 pub record Uses (m : CloakedMemory) (items : List Item) (m' : CloakedMemory) : Type 0 where
@@ -183,21 +194,100 @@ unfolding by_interrupt
 domain_uses true j number h d slot was = after_interrupt_uses j number h d was _
 domain_uses false j number h d slot was =
     let c : Cloak = cloak_of j.memory h d (pages_for was (context_at was.control.contexts slot)) in
-    told_uses j number h d c _ refl refl ((ends_domain_step slot was (Cloaked c)).by c refl)
+    told_uses j number h d c _ refl refl ((ends_domain_step slot was (Cloaked c)).ends.by c refl)
 
-inside_uses : (j : Joint) (number : ℕ) (h : Hart) (d slot : ℕ) (found : Option Domain) →
-    TurnUses j (inside_step j number h d slot found)
+left_uses : (j : Joint) (number : ℕ) (h : Hart) (s : Shown) → TurnUses j (left j number h [] s)
+left_uses j number h s =
+    uses_more j.memory _ _ [] _ (uses_none j.memory) (silent_leave s) (record { key = refl; stream = refl })
+
+running_uses : (runs : Bool) (j : Joint) (number : ℕ) (h : Hart) (ctx : ℕ) (was : Domain) →
+    TurnUses j (by_running runs j number h ctx was)
+unfolding by_running
+running_uses false j number h ctx was = left_uses j number h _
+running_uses true j number h ctx was = domain_uses _ j number h (domain_of ctx) (slot_of ctx) was
+
+inside_uses : (j : Joint) (number : ℕ) (h : Hart) (ctx : ℕ) (found : Option Domain) →
+    TurnUses j (inside_step j number h ctx found)
 unfolding inside_step
-inside_uses j number h d slot None = uses_none j.memory
-inside_uses j number h d slot (Some was) = domain_uses _ j number h d slot was
+inside_uses j number h ctx None = left_uses j number h _
+inside_uses j number h ctx (Some was) = running_uses _ j number h ctx was
 
 -- Every step.
 
 turn_uses : (j : Joint) (number : ℕ) (h : Hart) (inside : Option ℕ) → TurnUses j (turn_of j number h inside)
 unfolding turn_of
 turn_uses j number h None = outside_uses j number h
-turn_uses j number h (Some ctx) = inside_uses j number (ticked h) (domain_of ctx) (slot_of ctx) _
+turn_uses j number h (Some ctx) = inside_uses j number (ticked h) ctx _
+
+-- The end of a domain.
+
+shows_for : (d f n : ℕ) (w : World) → OnlyShows w (settled_for d f n w)
+unfolding settled_for
+shows_for d f zero w = OnlyShows-refl w
+shows_for d f (suc n) w =
+    OnlyShows-trans _ _ _ (shows_if_marked d all_marked f w) (shows_for d (f + 1) n (settled_if_marked d all_marked f w))
+
+end_shows : (d : ℕ) (w : World) → ShowsFirst w (ask_end d w).world
+unfolding ask_end
+end_shows d w =
+    ShowsFirst-behind _ _ _ (shows_for d 0 (length (ram_of w)) w)
+    (OnlyChanges-ends _ _ (changes_forgets d (numbers_below 16) _))
+
+uses_then : (m m' m'' : CloakedMemory) (a b : List Item) → Uses m a m' → m'.plain ≡ m.plain → Uses m' b m'' →
+    Uses m (a ++ b) m''
+uses_then m m' m'' a b p plain q = record {
+  drawn = λ stream n has.
+      subst (λ (k : ℕ). HasDrawn stream k m''.ledger) (sym (draw_behind-append a b n))
+      (q.drawn stream (draw_behind a n) (p.drawn stream n has));
+  shown = λ stream n has.
+      shown-append stream m.plain n a b (p.shown stream n has)
+      (subst (λ (plain : PageId → List ℕ). AreShown stream plain (draw_behind a n) b) plain
+      (q.shown stream (draw_behind a n) (p.drawn stream n has)));
+}
+
+silent_end : (d : ℕ) → IsSilent (item.Ended d ∷ [])
+silent_end d = record { counts = λ n. refl; shows = λ stream plain n. (tt, tt) }
+
+end_uses : (d : ℕ) (was : Domain) (v : Violation) (j : Joint) (t : Turn) → TurnUses j t →
+    t.joint.memory.plain ≡ j.memory.plain → TurnUses j (end_domain d was v t)
+unfolding end_domain
+end_uses d was v j t u plain =
+    let m = t.joint.memory in
+    let c : Cloak = cloak_for m d in
+    let w = (ask_end d (Cloaked c)).world in
+    uses_then j.memory m _ t.items _ u plain
+    (uses_more m (memory_of w m) _ (items_of w) (item.Ended d ∷ [])
+    (ended_uses m c w refl ((end_shows d (Cloaked c)).by c refl)) (silent_end d) (record { key = refl; stream = refl }))
+
+once_uses : (over : Bool) (d : ℕ) (was : Domain) (v : Violation) (j : Joint) (t : Turn) → TurnUses j t →
+    t.joint.memory.plain ≡ j.memory.plain → TurnUses j (ends_once over d was v t)
+unfolding ends_once
+once_uses true d was v j t u plain = u
+once_uses false d was v j t u plain = end_uses d was v j t u plain
+
+resumed_end_uses : (found : Option Domain) (d : ℕ) (v : Violation) (j : Joint) (t : Turn) → TurnUses j t →
+    t.joint.memory.plain ≡ j.memory.plain → TurnUses j (ends_resumed found d v t)
+unfolding ends_resumed
+resumed_end_uses None d v j t u plain = u
+resumed_end_uses (Some was) d v j t u plain = once_uses _ d was v j t u plain
+
+asked_end_uses : (found : Option Domain) (d : ℕ) (v : Violation) (j : Joint) (t : Turn) → TurnUses j t →
+    t.joint.memory.plain ≡ j.memory.plain → TurnUses j (ends_asked found d v t)
+unfolding ends_asked
+asked_end_uses None d v j t u plain = u
+asked_end_uses (Some was) d v j t u plain = end_uses d was v j t u plain
+
+answers_use : (inside : Option ℕ) (o : Option Violation) (j : Joint) (t : Turn) → TurnUses j t →
+    (is_some o ≡ true → t.joint.memory.plain ≡ j.memory.plain) → TurnUses j (answers_violation inside o t)
+unfolding answers_violation
+answers_use inside None j t u plain = u
+answers_use None (Some v) j t u plain = resumed_end_uses _ _ v j t u (plain refl)
+answers_use (Some ctx) (Some v) j t u plain = asked_end_uses _ _ v j t u (plain refl)
 
 pub step_uses : (m : Moment) → TurnUses m.joint (joint_step m)
 unfolding joint_step
-step_uses m = turn_uses m.joint _ _ _
+step_uses m =
+    let h = hart_in m.joint (next_hart m) in
+    let t : Turn = turn_of m.joint (next_hart m) h h.inside in
+    answers_use h.inside t.violation m.joint t (turn_uses m.joint (next_hart m) h h.inside)
+    (turn_calm m.joint (next_hart m) h h.inside)

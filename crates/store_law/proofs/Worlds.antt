@@ -155,6 +155,29 @@ OnlyShows-refl w = record {
 pub ShowsFirst-refl : (w : World) → ShowsFirst w w
 ShowsFirst-refl w = OnlyShows-ends w w (OnlyShows-refl w)
 
+-- A part that shows first, and that changed no page where it was stopped.
+pub record Shows (P : Type 0) (w v : World) : Type 0 where
+  pub ends : ShowsFirst w v
+  pub stops : P → OnlyShows w v
+
+pub Shows-only : {P : Type 0} (w v : World) → OnlyShows w v → Shows P w v
+Shows-only w v p = record { ends = OnlyShows-ends w v p; stops = λ stopped. p }
+
+pub Shows-refl : {P : Type 0} (w : World) → Shows P w w
+Shows-refl w = Shows-only w w (OnlyShows-refl w)
+
+pub Shows-behind : {P : Type 0} (u v w : World) → OnlyShows u v → Shows P v w → Shows P u w
+Shows-behind u v w p q = record {
+  ends = ShowsFirst-behind u v w p q.ends;
+  stops = λ stopped. OnlyShows-trans u v w p (q.stops stopped);
+}
+
+pub Shows-changes : {P : Type 0} (u v : World) → OnlyChanges u v → (P → ⊥) → Shows P u v
+Shows-changes u v p goes = record { ends = OnlyChanges-ends u v p; stops = λ stopped. absurd (goes stopped) }
+
+pub Shows-so : {P Q : Type 0} (u v : World) → (Q → P) → Shows P u v → Shows Q u v
+Shows-so u v so p = record { ends = p.ends; stops = λ stopped. p.stops (so stopped) }
+
 pub OnlyShows-either : {A : Type 0} (b : Bool) (m n : Told A) (w : World) → OnlyShows w m.world → OnlyShows w n.world →
     OnlyShows w (cond b m n).world
 OnlyShows-either true m n w p q = p

@@ -3,7 +3,7 @@ use Rattle.std.specs.Prelude.{ℕ, ◌||◌, Bool, true, List, codes, fold, if�
 use Rattle.std.specs.Prelude.{Option, Some, None, option_and_then, option_map}
 use Rattle.command_words.specs.Command.{is}
 use Rattle.record_text.specs.Kinds.{no_kind, only_cipher, only_put, only_leave, only_ok, only_absent}
-use Rattle.record_text.specs.Kinds.{only_word, only_timer, only_resume, only_stopped}
+use Rattle.record_text.specs.Kinds.{only_word, only_timer, only_resume, only_stopped, only_ended}
 use Rattle.record_text.specs.declared.kinds.Kinds.{Kinds}
 use Rattle.record_text.specs.declared.selection.Selection.{Selection}
 
@@ -13,7 +13,8 @@ outward_kinds = record no_kind { cipher = true; put = true; leave = true }
 
 -- what programs were answered
 abbrev pub inward_kinds : Kinds
-inward_kinds = record no_kind { ok = true; absent = true; word = true; timer = true; resume = true; stopped = true }
+inward_kinds =
+    record no_kind { ok = true; absent = true; word = true; timer = true; resume = true; stopped = true; ended = true }
 
 abbrev pub kinds_named : List ℕ → Option Kinds
 kinds_named name =
@@ -26,6 +27,7 @@ kinds_named name =
     if is (codes "timer") name then Some only_timer else
     if is (codes "resume") name then Some only_resume else
     if is (codes "stopped") name then Some only_stopped else
+    if is (codes "ended") name then Some only_ended else
     if is (codes "outward") name then Some outward_kinds else
     if is (codes "inward") name then Some inward_kinds else None
 
@@ -40,6 +42,7 @@ joined_kinds a b = record {
   timer = a.timer || b.timer;
   resume = a.resume || b.resume;
   stopped = a.stopped || b.stopped;
+  ended = a.ended || b.ended;
 }
 
 -- kinds with those of one name more, where there are some of this name

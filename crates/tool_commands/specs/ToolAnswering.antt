@@ -34,7 +34,7 @@ abbrev pub ShowAnswers : {S O : Type 0} → Option Selection → List ℕ → Ou
 ShowAnswers None record_name before after answer = Says kinds_line status.Usage before after answer
 ShowAnswers (Some meant) record_name before after answer = ShowsSelection meant record_name before after answer
 
--- Why the run of the record of this name was stopped was told, or why that cannot be, and no file was changed.
+-- The violations of the run of the record of this name were told, or why that cannot be, and no file was changed.
 pub record ExplainsRun {S O : Type 0} (bundle_name record_name : List ℕ) (before after : Outside S O) (answer : Status) : Type 0 where
   pub answers : ExplainAnswers bundle_name record_name before after answer
   pub kept : SameFiles before.files.held after.files.held

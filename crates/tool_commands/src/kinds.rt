@@ -18,6 +18,7 @@ fn kinds_named(name: &str) -> Option<Kinds>
         "timer" => Some(Kinds::TIMER),
         "resume" => Some(Kinds::RESUME),
         "stopped" => Some(Kinds::STOPPED),
+        "ended" => Some(Kinds::ENDED),
         "outward" => Some(Kinds::OUTWARD),
         "inward" => Some(Kinds::INWARD),
         _ => None,
@@ -38,6 +39,7 @@ fn joined(a: Kinds, b: Kinds) -> Kinds
         timer: a.timer | b.timer,
         resume: a.resume | b.resume,
         stopped: a.stopped | b.stopped,
+        ended: a.ended | b.ended,
     }
 }
 

@@ -14,15 +14,17 @@ const ALL: Selection = Selection {
     counts: false,
 };
 
-/// A resume, two answers, a store and a call; a leave for a page fault; a question that stops the run.
+/// A resume, two answers, a store and a call; a leave for a page fault; a question that ends its program, and the leave
+/// behind that.
 const ITEMS: &[u8] = b"CLOAKREC\
 \x10\x01\0\0\0\x24\0\0\0\0\0\x02\0\0\0\
 \x10\x02\0\0\0\x20\0\x20\0\x02\x10\x80\0\x80\x01\x41\0\0\0\
 \x10\x03\0\0\0\x03\x08\0\0\0\0\0\0\0\0\0\0\0\x01\0\0\0\x01\0\0\0\0\x80\x40\0\x06\0\0\0\0\0\0\0\0\0\0\0\0\0\0\0\
 \x10\x04\0\0\0\
 \x10\x05\0\0\0\x21\x01\x0d\0\0\0\x03\x0d\0\0\0\0\x10\x40\0\x08\0\0\0\0\0\0\0\0\0\0\0\0\0\0\0\0\0\0\0\0\0\0\0\0\0\0\0\0\0\0\0\
-\x10\x06\0\0\0\x25\0\
-\x11\x06\0\0\0\x12";
+\x10\x06\0\0\0\x25\0\x26\0\
+\x10\x07\0\0\0\x03\x18\0\0\0\0\0\0\0\0\0\0\0\0\0\0\0\0\0\0\0\0\0\0\0\0\0\0\0\0\0\0\0\0\0\0\0\0\0\0\0\
+\x11\x07\0\0\0\x12";
 
 const TEXT: &str = "opening
 step 1; context 0 of program 0 is resumed with answer 00000002
@@ -30,8 +32,9 @@ step 2; program 0 is granted its access; program 0 is granted its access; a prog
 step 3; context 0 leaves: environment call from U-mode: WRITE (00000001) with 00000001 00408000 00000006 00000000 00000000 00000000
 step 4
 step 5; program 1 finds its address absent: load page fault; context 8 leaves: load page fault at page 00401000
-step 6; program 0 asks what stops the run
-closing after step 6
+step 6; program 0 asks what ends it or stops the run; program 0 is ended
+step 7; context 0 leaves: it does not run here
+closing after step 7
 end
 ";
 
@@ -82,7 +85,8 @@ step 5; context 8 leaves: load page fault at page 00401000
         ..some
     };
     let sink = shown(rt.alloc(), ITEMS, &counts, Status::Done)?;
-    let want = "cipher 0\nput 1\nleave 2\nok 0\nabsent 0\nword 0\ntimer 0\nresume 0\nstopped 0\n";
+    let want =
+        "cipher 0\nput 1\nleave 2\nok 0\nabsent 0\nword 0\ntimer 0\nresume 0\nstopped 0\nended 0\n";
     assert_eq!(rt; sink.taken(), want.as_bytes());
     Ok(())
 }

@@ -19,7 +19,7 @@ pub data ToolAsked : Type 0 where
   Pack : (manifest bundle_name : List ℕ) → ToolAsked
   -- the text of a record from one step to another, with the items only of kinds that are named, or how many there are
   Show : (record_name : List ℕ) → (from to : ℕ) → (only : Option (List (List ℕ))) → (counts : Bool) → ToolAsked
-  -- why the run of a bundle that wrote a record was stopped
+  -- the violations of the run of a bundle that wrote a record
   Explain : (bundle record_name : List ℕ) → ToolAsked
 
 abbrev pub is_step : List ℕ → Bool

@@ -84,7 +84,7 @@ fn show_form<'a>(alloc: Global) -> Result<Command<'a>, NoMemory>
     let only = kinds_option(
         alloc,
         "only",
-        "Only these items: cipher, put, leave, ok, absent, word, timer, resume, stopped, outward, inward, with commas between",
+        "Only these items: cipher, put, leave, ok, absent, word, timer, resume, stopped, ended, outward, inward, with commas between",
     );
     let counts = flag(
         alloc,
@@ -107,7 +107,7 @@ fn explain_form<'a>(alloc: Global) -> Result<Command<'a>, NoMemory>
     let bundle = position(alloc, "BUNDLE", "The guest image");
     let record = position(alloc, "RECORD", "The record of its run");
     let explain = Command::new(alloc, "explain")
-        .about("Tell why a run was stopped by a violation")
+        .about("Tell the violations of a run")
         .arg(bundle)?
         .arg(record)?;
     Ok(explain)

@@ -24,6 +24,7 @@ use Rattle.cloak_model.specs.InsideStep as inside_step
 use Rattle.cloak_model.specs.Hypercalls as hypercalls
 use Rattle.cloak_model.specs.DomainState as domain_state
 use Rattle.cloak_model.specs.DomainStep as domain_step
+use Rattle.cloak_model.specs.Ending as ending
 use Rattle.cloak_model.specs.Cloaking as cloaking
 use Rattle.cloak_model.specs.PageMoves as page_moves
 use Rattle.cloak_model.specs.Touched as touched
@@ -108,8 +109,9 @@ unfolding
     leaving.shown_registers leaving.leave resuming.by_root resuming.by_context resuming.by_domain resuming.resume
     opening.started_ledger opening.started_kernel opening.started_memory opening.started_joint opening.opened_with
     opening.opened_by joint.outside_ended joint.after_outside joint.outside_step joint.domain_ended
-    joint.after_domain_step joint.interrupt_ended joint.after_interrupt joint.by_interrupt joint.inside_step
-    joint.turn_of joint.joint_step run.turns_from run.joint_after run.last_stop run.settled_below run.closing
+    joint.after_domain_step joint.interrupt_ended joint.after_interrupt joint.by_interrupt joint.by_running
+    joint.inside_step joint.turn_of ending.settled_for ending.ask_end ending.ended_domain joint.end_domain
+    joint.ends_once joint.ends_resumed joint.ends_asked joint.answers_violation joint.joint_step run.turns_from run.joint_after run.last_stop run.settled_below run.closing
     run.run_of run.turns_pieces run.due exchange.item_bytes exchange.steps_items
 joint_steps = tt
 
@@ -133,7 +135,7 @@ lone_kernels = tt
 unfoldable pub lone_programs : Unit {0}
 unfolding
     program_steps domain_alone.tried domain_alone.try_with domain_alone.answered_by domain_alone.take_answer
-    domain_alone.take_timer domain_alone.resumed_by domain_alone.take_resume domain_alone.made_by
+    domain_alone.take_timer domain_alone.resumed_by domain_alone.take_resume domain_alone.take_ended domain_alone.made_by
     domain_alone.domain_step_ended
     domain_alone.slot_on domain_alone.domain_step_begun domain_alone.take_domain_step domain_alone.domain_takes
     domain_alone.take_domain_item

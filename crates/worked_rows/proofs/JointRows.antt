@@ -20,7 +20,7 @@ use Rattle.cloak_model.specs.Contexts.{Context, with_space}
 use Rattle.cloak_model.specs.Exchange as exchange
 use Rattle.cloak_model.specs.Exchange.{record_of}
 use Rattle.cloak_model.specs.Hart.{Hart}
-use Rattle.cloak_model.specs.Joint.{Moment, Turn, joint_step, quiet, stop_of}
+use Rattle.cloak_model.specs.Joint.{end_domain, Moment, Turn, joint_step, quiet, stop_of}
 use Rattle.cloak_model.specs.Memory.{with_value_in}
 use Rattle.cloak_model.specs.Opening.{Lack, Opened, opening, numbers_below}
 use Rattle.cloak_model.specs.Asking.{Told}
@@ -113,7 +113,7 @@ pub other_root : OtherRoot
 unfolding joint_runs turns_to_call zero_page
 other_root =
     read_off-from_call seen_of (boot ++ remap_and_resume) (counted 256) (behind_boot remap_and_resume)
-    (behind_draw 256) 88 refl ∙ refl
+    (behind_draw 256) 5 refl ∙ refl
 
 -- The kernel looks into the program's frame, and maybe flips a bit of it.
 
@@ -224,13 +224,18 @@ flipped_is_other =
     (IsBytes-cbc key draw_2 stored_page (IsBytes-computed 16 key refl refl) (IsBytes-computed 16 draw_2 refl refl)
     (IsBytes-computed 4096 stored_page refl refl))
 
-flip_turn : Turn
-flip_turn = record
+-- the step up to the end of the domain
+flip_met : Turn
+flip_met = record
     (quiet (machine second_hart (program_with answered_context loads)
     (with_comparison flipped closing_cipher (looked_memory (behind_boot flip_and_resume) flipped)))
     (item.Stopped 0 ∷ [])) {
       violation = Some (violation.Page page (record { 0 = 8 }));
     }
+
+flip_turn : Turn
+unfolding flip_met
+flip_turn = end_domain 0 (program_with answered_context loads) (violation.Page page (record { 0 = 8 })) flip_met
 
 flip_told : Told Answer
 unfolding cloak_for
@@ -248,7 +253,7 @@ flip_told =
     }
 
 flip_step : joint_step (looked_moment (behind_boot flip_and_resume) flipped) ≡ flip_turn
-unfolding joint_steps fetched_step flip_told flip_turn
+unfolding joint_steps fetched_step flip_told flip_met flip_turn
 flip_step = joint_step-of 18 second_hart (program_with answered_context loads) answered_context
     (looked_memory (behind_boot flip_and_resume) flipped) flip_turn (record {
       told = flip_told;
@@ -260,24 +265,25 @@ flip_step = joint_step-of 18 second_hart (program_with answered_context loads) a
       ends = refl;
     })
 
-flip_stops : stop_of flip_turn ≡ Some (stop.Violation (violation.Page page (record { 0 = 8 })))
-unfolding flip_turn
-flip_stops = refl
+flip_goes_on_too : stop_of flip_turn ≡ None
+unfolding joint_steps flip_met flip_turn
+flip_goes_on_too = refl
 
-flip_turns : turns_from 88 (left_moment (behind_boot flip_and_resume) (behind_draw 256)) ≡
-    first_turns 6 (left_moment (behind_boot flip_and_resume) (behind_draw 256)) ++ flip_turn ∷ []
+flip_turns : turns_from 8 (left_moment (behind_boot flip_and_resume) (behind_draw 256)) ≡
+    first_turns 6 (left_moment (behind_boot flip_and_resume) (behind_draw 256)) ++ flip_turn ∷ turns_from 1
+    (at_step 19 flip_turn.joint)
 flip_turns =
-    turns_from-plus 6 82 (left_moment (behind_boot flip_and_resume) (behind_draw 256)) flip_goes_on
+    turns_from-plus 6 2 (left_moment (behind_boot flip_and_resume) (behind_draw 256)) flip_goes_on
     ∙ ap (λ (m : Moment). first_turns 6 (left_moment (behind_boot flip_and_resume) (behind_draw 256))
-    ++ turns_from 82 m) flip
+    ++ turns_from 2 m) flip
     ∙ ap (λ (ts : List Turn). first_turns 6 (left_moment (behind_boot flip_and_resume) (behind_draw 256)) ++ ts)
-    (turns_from-last 81 (looked_moment (behind_boot flip_and_resume) flipped) flip_turn _ flip_step flip_stops)
+    (turns_from-step 1 (looked_moment (behind_boot flip_and_resume) flipped) flip_turn flip_step flip_goes_on_too)
 
 pub flipped_bit : FlippedBit
-unfolding joint_runs first_turns turns_to_call zero_page flip_turn
+unfolding joint_runs first_turns turns_to_call zero_page flip_met flip_turn
 flipped_bit =
     read_off-from_call seen_of (boot ++ flip_and_resume) (counted 256) (behind_boot flip_and_resume)
-    (behind_draw 256) 88 refl
+    (behind_draw 256) 8 refl
     ∙ ap (λ (ts : List Turn). there_is (seen_of (run_with flip_and_resume ts))) flip_turns
     ∙ refl
 
@@ -362,30 +368,30 @@ exit_third = let c = exiting 0x80008008 0x4F560007 in
 abbrev gone_moment : Moment
 gone_moment = at_step 8 gone_machine
 
-exit_turns : turns_from 95 (exit_moment 5 started_context) ≡ exit_turn (exiting 0x80008004 0x4F560000) ∷
-    exit_turn (exiting 0x80008008 0x4F560007) ∷ gone_turn ∷ turns_from 92 gone_moment
+exit_turns : turns_from 6 (exit_moment 5 started_context) ≡ exit_turn (exiting 0x80008004 0x4F560000) ∷
+    exit_turn (exiting 0x80008008 0x4F560007) ∷ gone_turn ∷ turns_from 3 gone_moment
 exit_turns =
-    turns_from-step 94 (exit_moment 5 started_context) (exit_turn (exiting 0x80008004 0x4F560000)) exit_first refl
+    turns_from-step 5 (exit_moment 5 started_context) (exit_turn (exiting 0x80008004 0x4F560000)) exit_first refl
     ∙ ap (λ (ts : List Turn). exit_turn (exiting 0x80008004 0x4F560000) ∷ ts)
-    (turns_from-step 93 (exit_moment 6 (exiting 0x80008004 0x4F560000))
+    (turns_from-step 4 (exit_moment 6 (exiting 0x80008004 0x4F560000))
     (exit_turn (exiting 0x80008008 0x4F560007)) exit_second refl)
     ∙ ap (λ (ts : List Turn). exit_turn (exiting 0x80008004 0x4F560000) ∷ exit_turn (exiting 0x80008008 0x4F560007) ∷
-    ts) (turns_from-step 92 (exit_moment 7 (exiting 0x80008008 0x4F560007)) gone_turn exit_third refl)
+    ts) (turns_from-step 3 (exit_moment 7 (exiting 0x80008008 0x4F560007)) gone_turn exit_third refl)
 
 abbrev exit_run : List Turn → Run
 exit_run turns = run_of_turns (opened exit_page exit_rest (behind_draw 256)) turns
 
-exit_opens : seen (image_of 1 (0 ∷ []) (boot ++ resume_words) exit_words) (counted 256) 100 ≡
-    there_is (seen_of (exit_run (turns_from 100 (opened_moment exit_page exit_rest (behind_draw 256)))))
+exit_opens : seen (image_of 1 (0 ∷ []) (boot ++ resume_words) exit_words) (counted 256) 11 ≡
+    there_is (seen_of (exit_run (turns_from 11 (opened_moment exit_page exit_rest (behind_draw 256)))))
 unfolding joint_runs zero_page
 exit_opens = refl
 
-exit_all : turns_from 100 (opened_moment exit_page exit_rest (behind_draw 256)) ≡
+exit_all : turns_from 11 (opened_moment exit_page exit_rest (behind_draw 256)) ≡
     first_turns 5 (opened_moment exit_page exit_rest (behind_draw 256))
     ++ (exit_turn (exiting 0x80008004 0x4F560000) ∷ exit_turn (exiting 0x80008008 0x4F560007) ∷ gone_turn ∷
-    turns_from 92 gone_moment)
+    turns_from 3 gone_moment)
 exit_all =
-    turns_from-boot exit_page exit_rest (behind_draw 256) 95
+    turns_from-boot exit_page exit_rest (behind_draw 256) 6
     ∙ ap (λ (ts : List Turn). first_turns 5 (opened_moment exit_page exit_rest (behind_draw 256)) ++ ts) exit_turns
 
 pub after_exit : AfterExit

@@ -25,7 +25,7 @@ use Rattle.cloak_model.specs.World.{Cloak, Cloaked}
 use Rattle.cloak_model.specs.Asking.{Told, then_ask}
 use Rattle.cloak_model.specs.AskPages.{ask_reach}
 use Rattle.cloak_model.specs.Parts.{Joint}
-use Rattle.cloak_model.specs.Joint.{Moment, Turn, joint_step, quiet, after_domain_step, cloak_of, pages_for}
+use Rattle.cloak_model.specs.Joint.{answers_violation, Moment, Turn, joint_step, quiet, after_domain_step, cloak_of, pages_for}
 use Rattle.cloak_model.specs.Run.{turns_from}
 use Rattle.worked_rows.specs.Images.{boot, words_page}
 use Rattle.worked_rows.specs.Runs.{running, registers_from}
@@ -102,7 +102,15 @@ abbrev pub program_hart : Hart
 program_hart = inside_hart 0 (csrs_of 0x80000014 0 0 0)
 
 abbrev pub machine : Hart → Domain → CloakedMemory → Joint
-machine h d m = record { harts = h ∷ []; disk = []; console = []; memory = m; domains = d ∷ [] }
+machine h d m = record {
+  harts = h ∷ [];
+  disk = [];
+  console = [];
+  memory = m;
+  domains = d ∷ [];
+  ended = replicate 4 None;
+  refused = 0;
+}
 
 -- one hart makes all steps
 abbrev pub at_step : ℕ → Joint → Moment
@@ -139,9 +147,10 @@ turns_from-boot bytes rest stream n =
 unfoldable pub fetched_step : Hart → Domain → Context → CloakedMemory → Told Answer → Turn
 unfolding told_steps
 fetched_step h d c m told =
-    after_domain_step (machine h d m) 0 h 0
+    let t = after_domain_step (machine h d m) 0 h 0
     (then_ask (fetched_inside 0 program_resources c page told.answer)
-    (λ made. instruction_ended 0 d made.context made.ending) told.world)
+    (λ made. instruction_ended 0 d made.context made.ending) told.world) in
+    answers_violation h.inside t.violation t
 
 -- the memory as the context asks
 unfoldable pub cloak_for : Hart → Domain → Context → CloakedMemory → Cloak
@@ -211,9 +220,10 @@ store_step : List ℕ → Random → Told Answer → Turn
 unfolding told_steps
 store_step rest stream told =
     let d = program_with (with_seven 0x80008004) [] in
-    after_domain_step (machine program_hart d (resumed_memory words_page rest stream)) 0 program_hart 0
+    let t = after_domain_step (machine program_hart d (resumed_memory words_page rest stream)) 0 program_hart 0
     (then_ask (store_reached (with_seven 0x80008004) page 0x80008100 4 7 told.answer)
-    (λ made. instruction_ended 0 d made.context made.ending) told.world)
+    (λ made. instruction_ended 0 d made.context made.ending) told.world) in
+    answers_violation program_hart.inside t.violation t
 
 -- the memory as it asks for that, and as it was granted
 storing : List ℕ → Random → Cloak

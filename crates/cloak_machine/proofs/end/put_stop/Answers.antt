@@ -7,8 +7,5 @@ returns-in-Halt g c = rw c.in-Halt.is (then c.text-so_far.ensures c.decimal.ensu
 pub returns-in-Budget : goal.returns-in-Budget
 returns-in-Budget g c = rw c.in-Budget.is c.text.ensures
 
-pub returns-in-Violation : goal.returns-in-Violation
-returns-in-Violation g c = rw c.in-Violation.is (then c.text-so_far-in-Violation.ensures c.put_violation.ensures)
-
 pub returns-in-NoRandom : goal.returns-in-NoRandom
 returns-in-NoRandom g c = rw c.in-NoRandom.is c.text-in-NoRandom.ensures

@@ -1,6 +1,8 @@
+use Rattle.std.proofs.Common.{◌∙◌, ap}
 use Rattle.cloak_base.specs.Random.{numbered}
 use Rattle.guest_kernel.specs.Generated.{generated}
 use Rattle.program_parts.proofs.FaultFacts.{raised}
+use Rattle.run_command.specs.Running.{status_of}
 use Rattle.image_commands.proofs.Runs.{shows_all, shows_front}
 use Rattle.image_commands.proofs.demonstrating.demo_command.Goals as goal
 
@@ -10,7 +12,8 @@ returns-in-Ok-show_demo g c =
     let opens = c.in-Ok.ensures.opens in
     shows_all n c.end_of_run-end.result _ _ c.args.steps opens
     (λ none. c.end_of_run-end.ensures (generated n) (numbered n) opens.opened opens.opens opens.stands none)
-    c.in-Ok-show_demo.ensures.0 c.in-Ok-show_demo.ensures.1 c.status.ensures
+    c.in-Ok-show_demo.ensures.0 c.in-Ok-show_demo.ensures.1
+    (c.stop_status.ensures ∙ ap (status_of c.end_of_run-end.result.stop) c.is_refused.ensures)
 
 pub returns : goal.returns
 returns g c =

@@ -1,13 +1,13 @@
 use Rattle.std.proofs.Common.{◌∙◌, subst, ℕ, ap, false, refl, sym, true}
-use Rattle.std.specs.Prelude.{is_some}
 use Rattle.cloak_model.specs.Csr.{interrupt_due}
 use Rattle.cloak_model.specs.Hart.{Hart}
 use Rattle.cloaked_side.proofs.Emitting.{some_then}
-use Rattle.joint_machine.proofs.Insides.{begun_is, free_slot, turns_interrupted, turns_none, turns_now, turns_stepping, steps_on}
+use Rattle.joint_machine.proofs.Insides.{begun_is, turns_interrupted, turns_now, turns_stepping, steps_on}
 use Rattle.cloak_base.specs.declared.names.SpaceId.{SpaceId}
 use Rattle.space_law.specs.Mapping.{AreWhole}
-use Rattle.joint_machine.proofs.Mapped.{makes_due, makes_free, makes_stepped, whole_of}
-use Rattle.joint_machine.proofs.Tracked.{taken_slot, goes_due, goes_free, goes_stepped}
+use Rattle.joint_machine.proofs.Mapped.{makes_due, makes_stepped, whole_of}
+use Rattle.joint_machine.proofs.Running.{is_taken, taken_slot}
+use Rattle.joint_machine.proofs.Tracked.{goes_due, goes_stepped}
 use Rattle.joint_machine.proofs.inside.step_context.Goals as goal
 
 pub returns-then-due-clause-turns : goal.returns-then-due-clause-turns
@@ -30,13 +30,6 @@ returns-clause-turns g c j number was stands holds are unclashed =
     (λ u. steps_on g.E.Emit.gave _ _ c.step_domain.new.memory c.end_space.new.memory _ _ _ c.end_space.ensures.holds
     (c.step_domain.ensures.steps j.memory was holds stands u)) (λ after w met same. c.go_on.ensures.goes_on after number w met same)) unclashed
 
-pub returns-in_default-clause-turns : goal.returns-in_default-clause-turns
-returns-in_default-clause-turns g c j number was stands holds are unclashed =
-    let due = sym (ap (λ (h : Hart). interrupt_due h.mode h.csrs) c.h.view_is) ∙ sym c.due.ensures ∙ c.if-due.false in
-    let free = free_slot c.args.domain.now was c.args.slot c.context.result (is_some c.context.result) stands c.context.ensures.value refl (ap is_some c.in_default.is) in
-    turns_now g.E.Emit.gave _ _ c.args.h.now _ _ _ _ _ j number c.args.d c.args.slot was _ false due
-    (λ none. turns_none g.E.Emit.gave _ c.args.h.now _ _ _ _ j number c.args.d c.args.slot was free refl stands holds are) unclashed
-
 pub returns-then-due-clause-goes : goal.returns-then-due-clause-goes
 returns-then-due-clause-goes g c j number was stands holds unclashed =
     let due = sym (ap (λ (h : Hart). interrupt_due h.mode h.csrs) c.h.view_is) ∙ sym c.due.ensures ∙ c.if-due.true in
@@ -48,17 +41,11 @@ returns-clause-goes g c j number was stands holds unclashed =
     let v = c.view_of-view.ensures in
     let view = c.view_of-view.result in
     let begins = begun_is j.memory view c.args.slot was c.args.h.now c.args.d v.satp v.sum v.mxr v.domain in
-    let there = taken_slot c.args.domain.now was c.args.slot c.context.result _ stands c.context.ensures.value c.in-Some.is in
+    let there = taken_slot c.args.domain.now was c.args.slot c.args.space stands c.requires.runs in
     goes_stepped c.args.memory.now c.step_domain.new.memory c.end_space.new.memory _ j number c.args.h.now c.args.d c.args.slot was there.0 _ view c.step_domain.new.stepped.went
     due there.1.0 (ap (λ (n : ℕ). let s : SpaceId = record { domain = c.args.d; number = n } in s) there.1.1) begins
     (λ u. ((c.step_domain.ensures.steps j.memory was holds stands u).went, c.step_domain.ensures.goes j.memory was holds stands u))
     c.end_space.ensures.goes unclashed
-
-pub returns-in_default-clause-goes : goal.returns-in_default-clause-goes
-returns-in_default-clause-goes g c j number was stands holds unclashed =
-    let due = sym (ap (λ (h : Hart). interrupt_due h.mode h.csrs) c.h.view_is) ∙ sym c.due.ensures ∙ c.if-due.false in
-    let free = free_slot c.args.domain.now was c.args.slot c.context.result (is_some c.context.result) stands c.context.ensures.value refl (ap is_some c.in_default.is) in
-    goes_free c.args.memory.now _ j c.args.h.now c.args.d c.args.slot was _ due free
 
 pub returns-then-due-clause-makes : goal.returns-then-due-clause-makes
 returns-then-due-clause-makes g c j was mapped stands same =
@@ -68,12 +55,12 @@ returns-then-due-clause-makes g c j was mapped stands same =
 pub returns-clause-makes : goal.returns-clause-makes
 returns-clause-makes g c j was mapped stands same =
     let due = sym (ap (λ (h : Hart). interrupt_due h.mode h.csrs) c.h.view_is) ∙ sym c.due.ensures ∙ c.if-due.false in
-    let there = taken_slot c.args.domain.now was c.args.slot c.context.result _ stands c.context.ensures.value c.in-Some.is in
+    let there = taken_slot c.args.domain.now was c.args.slot c.args.space stands c.requires.runs in
     makes_stepped mapped _ j c.args.h.now c.args.d c.args.slot was there.0 due there.1.0
     (subst (λ (n : ℕ). AreWhole was n) (sym there.1.1) (whole_of c.args.domain.now was _ stands c.whole.ensures)) same
 
-pub returns-in_default-clause-makes : goal.returns-in_default-clause-makes
-returns-in_default-clause-makes g c j was mapped stands same =
-    let due = sym (ap (λ (h : Hart). interrupt_due h.mode h.csrs) c.h.view_is) ∙ sym c.due.ensures ∙ c.if-due.false in
-    let free = free_slot c.args.domain.now was c.args.slot c.context.result (is_some c.context.result) stands c.context.ensures.value refl (ap is_some c.in_default.is) in
-    makes_free mapped _ j c.args.h.now c.args.d c.args.slot was _ due free
+pub take_interrupt-requires : goal.take_interrupt-requires
+take_interrupt-requires g c = record { runs = is_taken _ c.args.space c.requires.runs }
+
+pub step_domain-requires-clause-runs : goal.step_domain-requires-clause-runs
+step_domain-requires-clause-runs g c = is_taken _ c.args.space c.requires.runs

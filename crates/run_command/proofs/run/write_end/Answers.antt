@@ -1,4 +1,5 @@
-use Rattle.std.proofs.Common.{◌∙◌}
+use Rattle.std.proofs.Common.{◌∙◌, ap}
+use Rattle.run_command.specs.Running.{status_of}
 use Rattle.run_command.proofs.OutletFacts.{gave_all}
 use Rattle.run_command.proofs.RunFacts.{ends_run, some_then}
 use Rattle.run_command.proofs.run.write_end.Goals as goal
@@ -6,7 +7,7 @@ use Rattle.run_command.proofs.run.write_end.Goals as goal
 pub returns-clause-ends : goal.returns-clause-ends
 returns-clause-ends g c =
     λ m stands. ends_run (c.finish-end.ensures.ends m stands) c.show.ensures.emits c.report.ensures.emits
-    c.stop_status.ensures
+    (c.stop_status.ensures ∙ ap (status_of c.finish-end.result.stop) c.is_refused.ensures)
 
 pub returns-clause-same_shelf : goal.returns-clause-same_shelf
 returns-clause-same_shelf g c = let given =
@@ -22,4 +23,4 @@ returns-clause-emits_some g c =
     some_then c.finish-end.ensures.emits_some (some_then (_, c.show.ensures.emits) (_, c.report.ensures.emits))
 
 pub returns-clause-some_stop : goal.returns-clause-some_stop
-returns-clause-some_stop g c = (c.finish-end.result.stop, c.stop_status.ensures)
+returns-clause-some_stop g c = (c.finish-end.result.stop, c.is_refused.result, c.stop_status.ensures)

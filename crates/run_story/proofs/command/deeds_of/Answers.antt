@@ -1,7 +1,7 @@
 use Rattle.std.proofs.Common.{◌∙◌, [], refl, ap, arith}
 use Rattle.record_reader.specs.Kept.{kept_item}
 use Rattle.record_text.proofs.Shown.{at_front}
-use Rattle.run_story.proofs.Ends.{lacks_item, reading_ends, stands_on}
+use Rattle.run_story.proofs.Ends.{deeds_told, lacks_item, reading_ends, stands_on}
 use Rattle.run_story.proofs.command.deeds_of.Goals as goal
 
 pub loop-tag-init : goal.loop-tag-init
@@ -35,8 +35,8 @@ returns-in-Err-clause-tells g c =
     let was = c.loop-tag.invariant in
     let same = ap (λ n. g.S.Shelf.held c.loop-tag.shelf n) was.named ∙ was.files c.args.name.now in
     let found = c.in-Err.ensures in
-    c.ended.ensures _ _ _ (reading_ends _ _ c.loop-tag.reader c.next_item.new.reader c.in-Err.ending _ _ _ same was.reading
-    found.next found.counts was.so_far)
+    deeds_told _ _ _ c.ended.result (c.ended.ensures _ _ _ (reading_ends _ _ c.loop-tag.reader c.next_item.new.reader
+    c.in-Err.ending _ _ _ same was.reading found.next found.counts was.so_far))
 
 pub returns-in-Err-note_item-clause-tells : goal.returns-in-Err-note_item-clause-tells
 returns-in-Err-note_item-clause-tells g c =

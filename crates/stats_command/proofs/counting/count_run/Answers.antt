@@ -1,4 +1,4 @@
-use Rattle.std.proofs.Common.{length}
+use Rattle.std.proofs.Common.{length, ◌∙◌}
 use Rattle.cloak_model.specs.Run.{first_moment}
 use Rattle.run_command.proofs.EndFacts.{end_of}
 use Rattle.run_command.proofs.ClashFacts.{run_unclashed}
@@ -17,6 +17,7 @@ returns c = λ b stream o opens stands none.
     c.finish-end.ensures.ends in
     record {
       stop = ends.stop;
+      refused = c.is_refused.ensures ∙ ends.refused;
       counts = counts_told b c.args.steps o _
           (c.counts-counts.ensures.counted _ (c.run_counted-stopped.ensures.counts m fresh still started calm));
     }

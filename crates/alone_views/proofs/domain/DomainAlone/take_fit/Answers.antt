@@ -34,7 +34,11 @@ pub returns-in-Resume-clause-takes : goal.returns-in-Resume-clause-takes
 unfolding domain_takes
 returns-in-Resume-clause-takes c = takes_as_at c.args.self.now _ _ _ c.args.i.now _ c.in-Resume.is c.take_resume_for.ensures.takes
 
+pub returns-in-Ended-clause-takes : goal.returns-in-Ended-clause-takes
+unfolding domain_takes
+returns-in-Ended-clause-takes c = takes_as_at c.args.self.now _ _ _ c.args.i.now _ c.in-Ended.is c.take_ended_for.ensures.takes
+
 pub returns-in_default-clause-takes : goal.returns-in_default-clause-takes
 returns-in_default-clause-takes c = λ s stands.
     ignored c.args.self.now _ _ c.args.i.now s c.in_default.not-Step c.in_default.not-Close c.in_default.not-Ok c.in_default.not-Absent c.in_default.not-Word c.in_default.not-Timer
-    c.in_default.not-Resume c.in_default.not-Stopped (stands_fit c.args.self.now s stands)
+    c.in_default.not-Resume c.in_default.not-Stopped c.in_default.not-Ended (stands_fit c.args.self.now s stands)

@@ -62,3 +62,8 @@ pub returns-in-Stopped-clause-gains : goal.returns-in-Stopped-clause-gains
 unfolding kernel_takes
 returns-in-Stopped-clause-gains g c turns s ranges stands =
     ignores g.E.Emit.gave c.args.e.now c.args.self.now turns s c.args.i.now _ c.in-Stopped.is refl stands
+
+pub returns-in-Ended-clause-gains : goal.returns-in-Ended-clause-gains
+unfolding kernel_takes
+returns-in-Ended-clause-gains g c turns s ranges stands =
+    ignores g.E.Emit.gave c.args.e.now c.args.self.now turns s c.args.i.now _ c.in-Ended.is refl stands

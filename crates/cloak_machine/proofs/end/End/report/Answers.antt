@@ -6,5 +6,5 @@ use Rattle.cloak_machine.proofs.end.End.report.Goals as goal
 pub returns : goal.returns
 returns g c = Puts-all _ _ _ refl
     (then c.put_stop_line-so_far.ensures
-    (then c.put_number-so_far.ensures (then c.put_number-so_far-2.ensures (then c.put_kernel-so_far.ensures
-    (text_is c.put_lines.ensures (ap concat c.all.ensures))))))
+    (then c.put_number-so_far.ensures (then c.put_number-so_far-2.ensures (then c.put_refusals-so_far.ensures (then c.put_kernel-so_far.ensures
+    (text_is c.put_lines.ensures (ap concat c.all.ensures)))))))

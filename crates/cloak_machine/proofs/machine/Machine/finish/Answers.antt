@@ -22,7 +22,7 @@ returns-clause-ends g c m stands =
     subst (λ (x : Memory). Holds x closed.memory) (sym parts.ensures.memory) shows.stands.memory in
     let low : m.steps < 2 ^ 32 = omega (arith, stands.steps) in
     ends_as m parts.result.memory.missed stands c.item.ensures shows c.item-2.ensures holds.missed c.stop_of.ensures
-    refl holds.draws (record {
+    refl holds.draws (parts.ensures.ended ∙ shows.stands.ended) (parts.ensures.refused ∙ shows.stands.refused) (record {
       count = c.kernel_lines_of.ensures.count ∙ stands.console.count
           ∙ ap (λ (l : List ℕ). length l) (sym (closed_console m.joint));
       console = c.kernel_lines_of.ensures.console m.joint.console stands.console ∙ ap sha256 (sym (closed_console m.joint));

@@ -1,4 +1,4 @@
-use Rattle.std.proofs.Common.{◌∙◌, ◌≡◌, ◌≤◌, All, List, ap, length, rules, subst, sym}
+use Rattle.std.proofs.Common.{◌∙◌, ◌≡◌, ◌≤◌, All, List, ap, length, refl, rules, subst, sym}
 use Rattle.cloak_model.specs.declared.image.Bundle.{Bundle}
 use Rattle.cloak_model.specs.declared.image.Program.{Program}
 use Rattle.cloak_model.specs.Bundle.{IsProgramIn}
@@ -44,6 +44,8 @@ returns-clause-opens c =
       domains = subst (λ (ps : List Program). AreDomains c.in_ok-domains.domains.items (started_domains 0 ps))
           c.as_slice-2.ensures c.in_ok-domains.ensures.stand;
       roots = c.open.ensures;
+      ended = refl;
+      refused = refl;
       memory = c.if-not-place_programs.ensures.places m c.in_ok-memory.ensures.holds;
     })
 

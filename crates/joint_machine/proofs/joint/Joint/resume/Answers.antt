@@ -11,7 +11,7 @@ use Rattle.joint_machine.proofs.joint.Joint.resume.Goals as goal
 pub returns-then-d-len-clause-resumes : goal.returns-then-d-len-clause-resumes
 returns-then-d-len-clause-resumes g c j s =
     resumes_none g.E.Emit.gave _ _ _ j c.args.number _ c.args.ctx c.args.answer
-    (record { harts = s.harts; disk = s.disk; memory = s.memory; domains = s.domains; roots = s.roots })
+    (record { harts = s.harts; disk = s.disk; memory = s.memory; domains = s.domains; roots = s.roots; ended = s.ended; refused = s.refused })
     (subst (λ n. n ≤ c.args.ctx / 8) (c.len.ensures ∙ c.args.self.now.domains.ok.0) c.if-d-len.true) refl
 
 pub invariant_of-self-2 : goal.invariant_of-self-2
@@ -37,5 +37,5 @@ returns-clause-resumes g c j s =
     let there = slice_get_read domains c.len.result d x (c.len.ensures ∙ c.args.self.now.domains.ok.0) c.if-d-len.false c.index_mut.ensures.value in
     let hart = hart_is c.args.self.now.harts.items j.harts c.args.number c.index.result.now s.harts c.requires c.index.ensures in
     let satp = c.satp-satp.ensures ∙ ap (λ (h : Hart). satp_of h.csrs) (c.behind-self.view_is ∙ hart) in
-    resumes_there g.E.Emit.gave _ _ c.args.self.now _ _ j c.args.number c.satp-satp.result _ c.args.ctx c.args.answer x c.resume_in.new.domain satp s there refl refl refl refl
+    resumes_there g.E.Emit.gave _ _ c.args.self.now _ _ j c.args.number c.satp-satp.result _ c.args.ctx c.args.answer x c.resume_in.new.domain satp s there refl refl refl refl refl refl
     (λ was at stands. c.resume_in.ensures.resumes j was at stands s.roots)

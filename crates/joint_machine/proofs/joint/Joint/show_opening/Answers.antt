@@ -12,5 +12,7 @@ returns-clause-shows g c b s o opens same stands = record {
     memory = c.show_placed.ensures.read.holds o.joint.memory stands.memory;
     domains = stands.domains;
     roots = stands.roots;
+    ended = stands.ended;
+    refused = stands.refused;
   };
 }

@@ -13,5 +13,6 @@ returns g c = λ items are.
     then (text_is c.put_count-so_far-6.ensures (ap (λ (count : ℕ). number_line (codes "word ") count) are.word)) (
     then (text_is c.put_count-so_far-7.ensures (ap (λ (count : ℕ). number_line (codes "timer ") count) are.timer)) (
     then (text_is c.put_count-so_far-8.ensures (ap (λ (count : ℕ). number_line (codes "resume ") count) are.resume)) (
-    then (text_is c.put_count.ensures (ap (λ (count : ℕ). number_line (codes "stopped ") count) are.stopped)) (
-    PutsMore-none _)))))))))
+    then (text_is c.put_count-so_far-9.ensures (ap (λ (count : ℕ). number_line (codes "stopped ") count) are.stopped)) (
+    then (text_is c.put_count.ensures (ap (λ (count : ℕ). number_line (codes "ended ") count) are.ended)) (
+    PutsMore-none _))))))))))

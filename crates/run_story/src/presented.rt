@@ -1,4 +1,4 @@
-//! What was presented as a run stopped.
+//! What was presented as a violation was met.
 
 use crate::contexts::{FirstTable, Told};
 use crate::frames::Tables;
@@ -45,25 +45,23 @@ pub enum Refused {
     Mapping { first: FirstTable },
 }
 
-/// What was presented as a run stopped.
+/// What was presented in a step, by which a program ends unless a draw is missing.
 #[derive(Clone, Copy)]
 pub enum Target {
-    /// Nothing: the run was not stopped by a violation.
     Nothing,
+    /// A page, of which no more is told.
+    Question,
     Page(Presented),
     Context(Asking, Refused),
 }
 
-/// What a program's question was about that stopped the run. It is nothing where the frame has what was last shown of the page.
-/// Nor where the frame still holds a page, or a frame this one: then a draw lacked to show it, before anything was compared.
+/// The page of a program's question that was stopped, and the frame that was presented for it. Nothing is told if that frame
+/// has what was last shown of the page.
 fn presented_page(watch: &Watch, domain: u8) -> Option<Presented> {
     let (page, frame) = watch.presented(domain)?;
     let Asked::Page { address, kind, .. } = watch.last_asked(domain) else {
         return None;
     };
-    if watch.pages().held_in(frame).is_some() || watch.pages().is_held(page) {
-        return None;
-    }
     let digest = Sha256::digest(watch.frames().get(frame)?.as_slice());
     let showing = watch.pages().shown(page);
     if let Some(shown) = showing {
@@ -85,41 +83,56 @@ fn presented_page(watch: &Watch, domain: u8) -> Option<Presented> {
     })
 }
 
-/// What was presented where a program's question stopped the run.
+/// What was presented as a program's question was stopped.
 pub fn question_target(watch: &Watch, domain: u8) -> Target {
     match presented_page(watch, domain) {
         Some(presented) => Target::Page(presented),
-        None => Target::Nothing,
+        None => Target::Question,
     }
 }
 
-/// The context that a hart was asked to resume in the last step, where nothing says that it was.
-fn asking_of(watch: &Watch) -> Option<Asking> {
-    if watch.has_resumed() {
+/// The context that the hart is inside, or for which it asks if it is outside and its step is a resume.
+pub fn context_met(watch: &Watch) -> Option<u32> {
+    let hart = watch.hart()?;
+    match hart.inside {
+        Some(ctx) => Some(ctx),
+        None => Some(hart.regs.get(5)),
+    }
+}
+
+/// Why a context is not resumed under a page table.
+fn refusal(watch: &Watch, ctx: u32, satp: u32) -> Option<Refused> {
+    let told = watch.told(ctx);
+    let Some((space, on)) = watch.context(ctx) else {
+        return Some(Refused::Gone { told });
+    };
+    if let Some(on) = on {
+        return Some(Refused::Running { on, told });
+    }
+    let first = watch.table(space)?;
+    if first.satp == satp {
         return None;
     }
-    Some(Asking {
-        step: watch.step(),
-        hart: watch.turn(),
-        ctx: watch.inside()?,
-        satp: watch.tables()?.satp,
-    })
+    Some(Refused::Mapping { first })
 }
 
-/// What was presented where the last step, of a hart that was outside, stopped the run. The kernel alone goes inside where it
-/// asks to, and a resume that was granted is in the record.
+/// What was presented as a program ends in a step of a hart outside, which asks to resume a context.
 pub fn resume_target(watch: &Watch) -> Target {
-    let Some(asking) = asking_of(watch) else {
+    let (Some(ctx), Some(tables)) = (context_met(watch), watch.tables()) else {
         return Target::Nothing;
     };
-    let told = watch.told(asking.ctx);
-    let refused = match watch.context(asking.ctx) {
-        None => Refused::Gone { told },
-        Some((_, Some(on))) => Refused::Running { on, told },
-        Some((space, None)) => match watch.table(space) {
-            Some(first) => Refused::Mapping { first },
-            None => return Target::Nothing,
-        },
-    };
-    Target::Context(asking, refused)
+    let satp = tables.satp;
+    match refusal(watch, ctx, satp) {
+        None => Target::Nothing,
+        Some(refused) => {
+            let (step, hart) = (watch.step(), watch.turn());
+            let asking = Asking {
+                step,
+                hart,
+                ctx,
+                satp,
+            };
+            Target::Context(asking, refused)
+        }
+    }
 }

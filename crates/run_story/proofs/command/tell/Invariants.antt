@@ -2,7 +2,7 @@ use Rattle.std.proofs.Common.{◌≡◌, ◌<◌, ◌^◌, ◌-◌}
 use Rattle.outside_io.specs.Told.{SameFiles}
 use Rattle.record_reader.specs.Reading.{reader_offset}
 use Rattle.run_story.proofs.Ends.{StandsSoFar}
-use Rattle.run_story.proofs.command.target_of.Given as goal
+use Rattle.run_story.proofs.command.tell.Given as goal
 
 -- the items so far were read
 abbrev pub invariant-loop-tag : goal.invariant-loop-tag
