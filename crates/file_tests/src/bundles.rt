@@ -1,9 +1,7 @@
 //! Files of guest images, whole, cut short and damaged.
-ghost use Rattle.std.specs.Prelude.{IfOk};
-ghost use Rattle.cloak_model.specs.Bundle.{IsBundle};
 
 use cloak_model::Bundle;
-use guest_bundle::{BundleFault, write};
+use guest_bundle::BundleFault;
 use std::alloc::{AllocError, Global};
 use std::test::*;
 
@@ -25,28 +23,13 @@ fn with_word(at: usize, word: u32) -> [u8; 65] {
 }
 
 /// The bundle of a copy of these bytes.
-fn read(alloc: Global, file: &[u8]) -> Result<Bundle, BundleFault>
-    ensures { IfOk result (λ bundle. IsBundle file.now bundle) }
-{
+fn read(alloc: Global, file: &[u8]) -> Result<Bundle, BundleFault> {
     guest_bundle::read(alloc, Vec::from_slice(alloc, file)?)
 }
 
-/// A file, read and written.
-fn rewritten(alloc: Global, file: &[u8]) -> Result<Vec<u8>, BundleFault> {
-    let bundle = read(alloc, file)?;
-    match write(alloc, &bundle) {
-        Ok(again) => Ok(again),
-        Err(_) => Err(BundleFault::NoMemory),
-    }
-}
-
 #[test]
-fn the_smallest_bundle_is_read_and_written(rt: HostRuntime) -> Result<(), Fail> {
-    let again = rewritten(rt.alloc(), &SMALLEST)
-        .ok()
-        .ok_or("it is a bundle")?;
-    assert_eq!(rt; again.as_slice(), SMALLEST.as_slice());
-    Ok(())
+fn the_smallest_bundle_is_read(rt: HostRuntime) {
+    assert!(rt; read(rt.alloc(), &SMALLEST).is_ok());
 }
 
 #[test]
@@ -134,7 +117,7 @@ fn larger(alloc: Global) -> Result<Vec<u8>, AllocError> {
 }
 
 #[test]
-fn a_larger_bundle_is_read_and_written(rt: HostRuntime) -> Result<(), Fail> {
+fn a_larger_bundle_is_read(rt: HostRuntime) -> Result<(), Fail> {
     let file = larger(rt.alloc())?;
     let bundle = read(rt.alloc(), file.as_slice())
         .ok()
@@ -145,10 +128,6 @@ fn a_larger_bundle_is_read_and_written(rt: HostRuntime) -> Result<(), Fail> {
         assert_eq!(rt; program.place, place);
         assert_eq!(rt; program.bytes.as_slice().len(), pages * 4096);
     }
-    let again = rewritten(rt.alloc(), file.as_slice())
-        .ok()
-        .ok_or("it is a bundle")?;
-    assert_eq!(rt; again.as_slice(), file.as_slice());
     Ok(())
 }
 

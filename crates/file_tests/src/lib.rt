@@ -1,5 +1,5 @@
-//! Tests of the outside (files, output, random bytes), of the files and texts that are read (bundles, records, assembler
-//! text), and of the arena of chains.
+//! Tests of the outside (files, output, random bytes), and of the files and texts that are read (bundles, records,
+//! assembler text).
 #![tactic(auto)]
 
 #[cfg(test)]
@@ -12,8 +12,6 @@ mod file_shelf;
 mod memory_shelf;
 #[cfg(test)]
 mod records;
-#[cfg(test)]
-mod slots;
 #[cfg(test)]
 mod std_sink;
 #[cfg(test)]

@@ -2,13 +2,13 @@
 ghost use Rattle.std.specs.Prelude.{◌<◌};
 
 use aes_block::Schedule;
-use aes_cbc::{open_page, seal_blocks, seal_page};
+use aes_cbc::{seal_blocks, seal_page};
 
 static KEY: u128 = 0x2b7e151628aed2a6abf7158809cf4f3c;
 
 static IV: u128 = 0x000102030405060708090a0b0c0d0e0f;
 
-/// SP 800-38A, F.2.1 and F.2.2: plain blocks and cipher blocks.
+/// SP 800-38A, F.2.1: plain blocks and cipher blocks.
 static CHAIN: [(u128, u128); 4] = [
     (
         0x6bc1bee22e409f96e93d7e117393172a,
@@ -51,19 +51,6 @@ fn seals_the_standards_blocks(rt: HostRuntime) {
     }
 }
 
-#[test]
-fn opens_the_standards_blocks_at_a_pages_head(rt: HostRuntime) {
-    let schedule = Schedule::new(&KEY.to_be_bytes());
-    let mut page = [0; 4096];
-    for (j, (_, sealed)) in CHAIN.iter().enumerate() {
-        page[16 * j..16 * j + 16].copy_from_slice(&sealed.to_be_bytes());
-    }
-    open_page(&schedule, &IV.to_be_bytes(), &mut page);
-    for (j, (plain, _)) in CHAIN.iter().enumerate() {
-        assert_eq!(rt; block_at(&page, j), *plain, "block {j}");
-    }
-}
-
 // The cipher blocks were computed by `openssl enc -aes-128-cbc -nopad`.
 #[test]
 fn seals_a_page_as_openssl_does(rt: HostRuntime) {
@@ -72,7 +59,6 @@ fn seals_a_page_as_openssl_does(rt: HostRuntime) {
     for i in 0..4096 {
         page[i] = ((7 * i + i / 16) % 256) as u8;
     }
-    let plain = page;
     seal_page(&schedule, &IV.to_be_bytes(), &mut page);
     for (j, want) in [
         (0, 0x7f807b311707f722e7e237b65a78a537),
@@ -81,6 +67,4 @@ fn seals_a_page_as_openssl_does(rt: HostRuntime) {
     ] {
         assert_eq!(rt; block_at(&page, j), want, "block {j}");
     }
-    open_page(&schedule, &IV.to_be_bytes(), &mut page);
-    assert!(rt; page == plain);
 }

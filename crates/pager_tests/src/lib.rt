@@ -1,14 +1,10 @@
-//! Tests of the ciphers, the frames, the metadata, the page states, the pager, and the side of a step over it.
+//! Tests of the ciphers, the page states, the pager, and the side of a step over it.
 #![tactic(auto)]
 
 #[cfg(test)]
 mod chain;
 #[cfg(test)]
 mod cipher;
-#[cfg(test)]
-mod frames;
-#[cfg(test)]
-mod metadata;
 #[cfg(test)]
 mod pager;
 #[cfg(test)]

@@ -1,6 +1,6 @@
 //! Words that another assembler made.
 
-use rv_isa::{Instr, decode, encode};
+use rv_isa::{Instr, decode};
 
 /// LLVM 14's assembler for RV32IM (its immediates, shifts and register numbers at their ends): a word, the
 /// mnemonic and the operands in the order of the fields of `Instr`. Of a fence the operand is the word
@@ -312,13 +312,11 @@ fn listing(i: Instr) -> (&'static str, [i64; 3]) {
 }
 
 #[test]
-fn decodes_and_encodes_as_another_assembler(rt: HostRuntime) {
+fn decodes_as_another_assembler(rt: HostRuntime) {
     for (word, mnemonic, operands) in &ASSEMBLED {
-        let i = decode(*word).expect(&rt, mnemonic);
-        let (name, fields) = listing(i);
+        let (name, fields) = listing(decode(*word).expect(&rt, mnemonic));
         assert_eq!(rt; name, *mnemonic, "{word:x}");
         assert_eq!(rt; fields, *operands, "{word:x}");
-        assert_eq!(rt; encode(&i), *word, "{mnemonic}");
     }
 }
 
