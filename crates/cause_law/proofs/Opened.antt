@@ -5,13 +5,13 @@ use Rattle.std.proofs.lemmas.Bool.{cases_lt}
 use Rattle.std.proofs.lemmas.List.{get_or_past, get_or-replicate, length-replicate}
 use Rattle.cloak_base.specs.declared.causes.Violation.{Violation}
 use Rattle.cloak_base.specs.declared.names.PageId.{PageId}
-use Rattle.cloak_base.specs.Random.{Random, next_draw}
+use Rattle.cloak_base.specs.Random.{Random}
 use Rattle.cloak_model.specs.declared.image.Bundle.{Bundle}
 use Rattle.cloak_model.specs.declared.image.KernelImage.{KernelImage}
 use Rattle.cloak_model.specs.declared.image.Program.{Program}
 use Rattle.cloak_model.specs.Cloaking.{CloakedMemory, owed_in}
-use Rattle.cloak_model.specs.Ledger.{vector_of}
-use Rattle.cloak_model.specs.Opening.{Opened, started_ledger, started_memory, started_joint, opening_items, place_pages, place_programs, opened_with, opened_by, opening}
+use Rattle.cloak_model.specs.Ledger.{Keys, vector_of}
+use Rattle.cloak_model.specs.Opening.{key_count, drawn_keys, keys_for, Opened, started_ledger, started_memory, started_joint, opening_items, place_pages, place_programs, opened_with, opened_by, opening}
 use Rattle.cloak_model.specs.PageMoves.{place_with, place}
 use Rattle.cloak_model.specs.Parts.{Joint}
 use Rattle.kernel_isolation.proofs.Opened.{is_opened}
@@ -57,29 +57,30 @@ none_owed frames f none = elim (cases_lt f frames) [
       (subst (λ (n : ℕ). n ≤ f) (sym (length-replicate frames none)) past)
 ]
 
-started_owes : (k : KernelImage) (key : List ℕ) (stream : Random) (f : ℕ) →
-    slice_index_or (started_memory k key stream).ledger.owed f None ≡ None
+started_owes : (k : KernelImage) (keys : Keys) (stream : Random) (f : ℕ) →
+    slice_index_or (started_memory k keys stream).ledger.owed f None ≡ None
 unfolding started_memory started_ledger
-started_owes k key stream f = none_owed k.frames f None
+started_owes k keys stream f = none_owed k.frames f None
 
 -- no frame of a machine is owed a page
 abbrev OwesNothing : Opened → Type 0
 OwesNothing o = (f : ℕ) → owed_in o.joint.memory f ≡ None
 
-with_owes : (b : Bundle) (key : List ℕ) (stream : Random) (placed : Option CloakedMemory) (o : Opened) →
-    HasOwed (started_memory b.kernel key stream).ledger.owed placed → opened_with b placed ≡ Ok o → OwesNothing o
+with_owes : (b : Bundle) (keys : Keys) (stream : Random) (placed : Option CloakedMemory) (o : Opened) →
+    HasOwed (started_memory b.kernel keys stream).ledger.owed placed → opened_with b placed ≡ Ok o → OwesNothing o
 unfolding opened_with started_joint
-with_owes b key stream None o has is = absurd cc
-with_owes b key stream (Some m) o has is =
+with_owes b keys stream None o has is = absurd cc
+with_owes b keys stream (Some m) o has is =
     let same : record { joint = started_joint b m; items = opening_items b.programs m.ram } ≡ o = cc in
     subst OwesNothing same (λ f. ap (λ (l : List (Option PageId)). slice_index_or l f None) has
-    ∙ started_owes b.kernel key stream f)
+    ∙ started_owes b.kernel keys stream f)
 
-by_owes : (b : Bundle) (draw : Option (List ℕ × Random)) (o : Opened) → opened_by b draw ≡ Ok o → OwesNothing o
+by_owes : (b : Bundle) (draw : Option (List (List ℕ) × Random)) (o : Opened) → opened_by b draw ≡ Ok o → OwesNothing o
 unfolding opened_by
 by_owes b None o is = absurd cc
 by_owes b (Some draw) o is =
-    with_owes b draw.0 draw.1 _ o (programs_owed 0 b.programs (started_memory b.kernel draw.0 draw.1)) is
+    let keys = keys_for b.programs draw.0 in
+    with_owes b keys draw.1 _ o (programs_owed 0 b.programs (started_memory b.kernel keys draw.1)) is
 
 -- no program has ended
 abbrev IsStarted : Joint → Type 0
@@ -96,13 +97,13 @@ with_start b (Some m) o is =
     let same : record { joint = started_joint b m; items = opening_items b.programs m.ram } ≡ o = cc in
     subst AtStart same (refl, refl, (started_empty 0 b.programs, started_listed b.programs))
 
-by_start : (b : Bundle) (draw : Option (List ℕ × Random)) (o : Opened) → opened_by b draw ≡ Ok o → AtStart o
+by_start : (b : Bundle) (draw : Option (List (List ℕ) × Random)) (o : Opened) → opened_by b draw ≡ Ok o → AtStart o
 unfolding opened_by
 by_start b None o is = absurd cc
 by_start b (Some draw) o is = with_start b _ o is
 
 pub opened_start : (b : Bundle) (stream : Random) (o : Opened) → opening b stream ≡ Ok o → AtStart o
-opened_start b stream o opens = by_start b (next_draw stream) o opens
+opened_start b stream o opens = by_start b (drawn_keys (key_count b.programs) stream) o opens
 
 pub opened_sound : (b : Bundle) (stream : Random) (o : Opened) → opening b stream ≡ Ok o → IsSound o.joint
 opened_sound b stream o opens =
@@ -113,7 +114,8 @@ opened_sound b stream o opens =
       kept = record {
         places = (is_opened b stream o opens).steady.places;
         once = λ f g q one two.
-            let clash : None ≡ Some q = sym (by_owes b (next_draw stream) o opens f) ∙ one in absurd cc;
+            let none = by_owes b (drawn_keys (key_count b.programs) stream) o opens f in
+            let clash : None ≡ Some q = sym none ∙ one in absurd cc;
       };
       empty = start.2.0;
     }

@@ -11,6 +11,7 @@ use Rattle.program_parts.proofs.FaultFacts.{raised}
 use Rattle.program_parts.proofs.Refused.{only_refuses}
 use Rattle.image_commands.specs.Demonstrating.{DemoAnswers}
 use Rattle.image_commands.specs.Generating.{GenAnswers}
+use Rattle.image_commands.proofs.Upgraded.{upgrade_refuses}
 use Rattle.read_back.proofs.Answered.{view_refuses, solo_refuses}
 use Rattle.run_command.proofs.AnswerFacts.{answers_no_run, same_files}
 use Rattle.stats_command.proofs.AnswerFacts.{answers_no_run as counts_no_run}
@@ -72,6 +73,8 @@ wants_memory (spec.Demo number steps) before after given same low refuses =
     record { answers = demo_lacks number steps before after given low refuses; untouched = same }
 wants_memory (spec.Stats bundle steps randomness) before after given same low refuses =
     counts_no_run {asked = spec.Stats bundle steps randomness} {r = refusal.NoMemory} (no_run _ _ _ same) low refuses
+wants_memory (spec.Upgrade old_name new_name) before after given same low refuses =
+    upgrade_refuses {old_name = old_name} {new_name = new_name} {r = refusal.NoMemory} tt (no_run _ _ _ same) low refuses
 
 -- files that were not touched are kept, whatever the words ask for
 pub keeps_same : (asked : spec.Asked) (given : Status) (held : List ℕ → Option (List ℕ)) → KeepsOthers asked given held held
@@ -83,6 +86,7 @@ keeps_same (spec.Solo domain bundle record_name) given held = λ name. refl
 keeps_same (spec.Gen number bundle_name) given held = λ other apart. refl
 keeps_same (spec.Demo number steps) given held = λ name. refl
 keeps_same (spec.Stats bundle steps randomness) given held = λ name. refl
+keeps_same (spec.Upgrade old_name new_name) given held = λ other apart. refl
 
 -- `gen` changes the file that it writes, and no other
 pub gen_keeps : {S O : Type 0} (number : ℕ) (name : List ℕ) (before after : Outside S O) (given : Status) →

@@ -4,6 +4,7 @@ use Rattle.outside_io.specs.Told.{SameFiles, OtherFiles}
 use Rattle.command_words.specs.Command as spec
 use Rattle.image_commands.specs.Demonstrating.{DemoAnswers}
 use Rattle.image_commands.specs.Generating.{GenAnswers}
+use Rattle.image_commands.specs.Upgrading.{UpgradeAnswers}
 use Rattle.program_parts.specs.declared.status.Status.{Status}
 use Rattle.program_parts.specs.NoRun.{OnlyRefuses}
 use Rattle.program_parts.specs.Outside.{Outside}
@@ -27,9 +28,10 @@ Answers (spec.Gen number bundle_name) before after answer = GenAnswers number bu
 Answers (spec.Demo number steps) before after answer = Demonstrates number steps before after answer
 Answers (spec.Stats bundle steps randomness) before after answer =
     StatsAnswers (spec.Stats bundle steps randomness) before after answer
+Answers (spec.Upgrade old_name new_name) before after answer = UpgradeAnswers old_name new_name before after answer
 
 -- Every file keeps its bytes, save the record of a run that was begun, or might have been, and the bundle that `gen`
--- writes.
+-- or `upgrade` writes.
 abbrev pub KeepsOthers : spec.Asked → Status → (List ℕ → Option (List ℕ)) → (List ℕ → Option (List ℕ)) → Type 0
 KeepsOthers (spec.Faulty fault) answer held held' = SameFiles held held'
 KeepsOthers (spec.Run bundle record_name steps randomness) answer held held' =
@@ -39,3 +41,4 @@ KeepsOthers (spec.Solo domain bundle record_name) answer held held' = SameFiles 
 KeepsOthers (spec.Gen number bundle_name) answer held held' = OtherFiles bundle_name held held'
 KeepsOthers (spec.Demo number steps) answer held held' = SameFiles held held'
 KeepsOthers (spec.Stats bundle steps randomness) answer held held' = SameFiles held held'
+KeepsOthers (spec.Upgrade old_name new_name) answer held held' = OtherFiles new_name held held'

@@ -6,7 +6,7 @@ ghost use Rattle.program_parts.specs.Outside.{outside};
 ghost use Rattle.completeness.specs.Complete.{IsComplete};
 
 use command_words::{Request, read_words};
-use image_commands::{demo_command, gen_command};
+use image_commands::{demo_command, gen_command, upgrade_command};
 use outside_io::{Shelf, Sink};
 use program_parts::{Refusal, Status, refuse};
 use read_back::{solo_command, view_command};
@@ -42,6 +42,9 @@ fn carry_out<S: Shelf, O: Sink>(
         Request::Gen(image) => gen_command(alloc, image.number, image.bundle, shelf, out),
         Request::Demo(demo) => demo_command(alloc, demo.number, demo.steps, out),
         Request::Stats(stats) => stats_command(alloc, &stats, shelf, out),
+        Request::Upgrade(upgrade) => {
+            upgrade_command(alloc, upgrade.old_name, upgrade.new_name, shelf, out)
+        }
     }
 }
 

@@ -27,7 +27,7 @@ pub struct End {
     pub stop: Stop,
     /// The steps that were made.
     pub steps: u32,
-    /// The draws that were made for pages, without the key.
+    /// The draws that were made for pages, without those of the keys.
     pub draws: u64,
     /// For each number of a domain, what ended it.
     pub ended: [Option<Violation>; 4],

@@ -78,9 +78,9 @@ impl Machine {
     ghost use Rattle.shadow_fold.specs.Fold.{Fold, fresh_fold};
     ghost use Rattle.shadow_fold.specs.Reads.{Spends, reads_due};
 
-    /// The machine of a guest image, before its first step. Its key is the first draw of the stream, and each page of
-    /// a program takes the next one. The memory of the image is taken over or given back: the bytes of a program as its
-    /// pages are placed.
+    /// The machine of a guest image, before its first step. Its keys are the first draws of the stream, one for each
+    /// number up to the greatest that a program has, and each page of a program takes the next one. The memory of the
+    /// image is taken over or given back: the bytes of a program as its pages are placed.
     pub fn open(
         alloc: Global,
         kernel: KernelImage,

@@ -17,7 +17,7 @@ pub stays_same : (f : ℕ) (old new : PagerState) → new ≡ old → StaysBut f
 stays_same f old new is = record {
   count = ap (λ (x : PagerState). length x.frames) is;
   domains = ap (λ (x : PagerState). domains_of x.table) is;
-  key = ap (λ (x : PagerState). x.key) is;
+  keys = ap (λ (x : PagerState). x.keys) is;
   rights = λ k n. ap (λ (x : PagerState). right_at x k) is;
   bytes = λ k n. ap (λ (x : PagerState). bytes_in x k) is;
 }
@@ -28,7 +28,7 @@ pub turned_stays : (f : ℕ) (old new : PagerState) (bytes : List ℕ) (h : Held
 turned_stays f old new bytes h metas t = record {
   count = rw t.frames_are (length-set old.frames f bytes);
   domains = t.domains_stay;
-  key = t.key_stays;
+  keys = t.keys_stay;
   rights = λ k n. rw t.rights_are (get_or-set_other old.rights f k h Spent n);
   bytes = λ k n. rw t.frames_are (get_or-set_other old.frames f k bytes [] n);
 }
@@ -39,7 +39,7 @@ pub written_stays : (f : ℕ) (old new : PagerState) (bytes : List ℕ) (metas :
 written_stays f old new bytes metas t = record {
   count = rw t.frames_are (length-set old.frames f bytes);
   domains = t.domains_stay;
-  key = t.key_stays;
+  keys = t.keys_stay;
   rights = λ k n. ap (λ (x : List Held). get_or x k Spent) t.rights_are;
   bytes = λ k n. rw t.frames_are (get_or-set_other old.frames f k bytes [] n);
 }
@@ -50,7 +50,7 @@ pub moved_stays : (f : ℕ) (old new : PagerState) (metas : PageId → Option Me
 moved_stays f old new metas t = record {
   count = ap (λ (x : List (List ℕ)). length x) t.frames_are;
   domains = t.domains_stay;
-  key = t.key_stays;
+  keys = t.keys_stay;
   rights = λ k n. ap (λ (x : List Held). get_or x k Spent) t.rights_are;
   bytes = λ k n. ap (λ (x : List (List ℕ)). get_or x k []) t.frames_are;
 }
@@ -59,7 +59,7 @@ pub read_stays : (f : ℕ) (old new : PagerState) → IsReadOnce old new → Sta
 read_stays f old new once = record {
   count = ap (λ (x : PagerState). length x.frames) once;
   domains = ap (λ (x : PagerState). domains_of x.table) once;
-  key = ap (λ (x : PagerState). x.key) once;
+  keys = ap (λ (x : PagerState). x.keys) once;
   rights = λ k n. ap (λ (x : PagerState). right_at x k) once;
   bytes = λ k n. ap (λ (x : PagerState). bytes_in x k) once;
 }

@@ -7,7 +7,7 @@ use Rattle.cloak_base.specs.declared.names.PageId.{PageId}
 use Rattle.cloak_model.specs.Chain.{cbc}
 use Rattle.cloak_model.specs.Cloaking.{CloakedMemory}
 use Rattle.protect_meta.specs.Table.{meta_at, domains_of}
-use Rattle.cloak_pager.specs.State.{PagerState, IsWholePager, Names, right_at, bytes_in, page_of}
+use Rattle.cloak_pager.specs.State.{PagerState, IsWholePager, key_for, Names, right_at, bytes_in, page_of}
 use Rattle.cloak_pager.specs.Turns.{frame_numbered, StaysBut, CloseTurns, IsClosed, ShowsClosed}
 use Rattle.cloak_pager.specs.Relation.{StandsForMemory}
 use Rattle.cloak_pager.specs.declared.held.Held.{Held}
@@ -27,7 +27,7 @@ pub record ClosedBelow (old now : PagerState) (i : ℕ) : Type 0 where
   pub bytes_later : (k : ℕ) → i ≤ k → bytes_in now k ≡ bytes_in old k
   pub metas_stay : (o : PageId) → meta_at now.table o ≡ meta_at old.table o
   pub domains_stay : domains_of now.table ≡ domains_of old.table
-  pub key_stays : now.key ≡ old.key
+  pub keys_stay : now.keys ≡ old.keys
   pub reads_stay : now.reads ≡ old.reads
 
 pub closed_start : (p : PagerState) → ClosedBelow p p 0
@@ -40,7 +40,7 @@ closed_start p = record {
   bytes_later = λ k h. refl;
   metas_stay = λ o. refl;
   domains_stay = refl;
-  key_stays = refl;
+  keys_stay = refl;
   reads_stay = refl;
 }
 
@@ -57,7 +57,7 @@ closed_end old new i w c all = record {
   bytes = λ k h. c.bytes k (omega arith);
   metas_stay = c.metas_stay;
   domains_stay = c.domains_stay;
-  key_stays = c.key_stays;
+  keys_stay = c.keys_stay;
   reads_stay = c.reads_stay;
 }
 
@@ -91,7 +91,7 @@ closed_with old now next i c x = record {
   bytes_later = λ k h. let n : k ≢ i = omega arith in x.stays.bytes k n ∙ c.bytes_later k (omega arith);
   metas_stay = λ o. x.metas o ∙ c.metas_stay o;
   domains_stay = x.stays.domains ∙ c.domains_stay;
-  key_stays = x.stays.key ∙ c.key_stays;
+  keys_stay = x.stays.keys ∙ c.keys_stay;
   reads_stay = x.reads ∙ c.reads_stay;
 }
 
@@ -116,13 +116,13 @@ closed_more old now next i w c inside turns =
         }))
     by_right (Clean r) at named turns =
         let t = turns.2 in
-        let sealed : List ℕ = cbc now.key turns.0.iv (bytes_in now i) in
+        let sealed : List ℕ = cbc (key_for now r.page) turns.0.iv (bytes_in now i) in
         let within : i < length now.frames = rw c.count inside in
         let within' : i < length now.rights = rw (c.places, w.count) inside in
         let B : Held → Type 0 = λ h. ShowsClosed old i h (bytes_in next i) in
         let shows : bytes_in next i ≡ sealed = rw t.frames_are (get_or-set_same now.frames i sealed [] within) in
         let shown : ShowsClosed old i (Clean r) (bytes_in next i) =
-        (turns.0, sym (c.metas_stay r.page) ∙ turns.1, shows ∙ rw (c.key_stays, c.bytes_later i (omega arith)) refl) in
+        (turns.0, sym (c.metas_stay r.page) ∙ turns.1, shows ∙ rw (c.keys_stay, c.bytes_later i (omega arith)) refl) in
         closed_with old now next i c (record {
           stays = turned_stays i now next sealed _ _ t;
           places = rw (t.rights_are, length-set) refl;

@@ -26,7 +26,7 @@ pub record Moved (p p' : PagerState) (w w' : PageId → Bool) (m m' : CloakedMem
     (metas : PageId → Option Meta) : Type 0 where
   pub turns : MetasTurn p p' metas
   pub ram : m'.ram ≡ m.ram
-  pub key : m'.ledger.key ≡ m.ledger.key
+  pub keys : m'.ledger.keys ≡ m.ledger.keys
   pub owed : m'.ledger.owed ≡ m.ledger.owed
   pub held : (k : ℕ) (o : PageId) → held_in p k ≡ Some o →
       (m'.plain o ≡ m.plain o) × (m'.ledger.recorded o ≡ m.ledger.recorded o) × (metas o ≡ meta_at p.table o)
@@ -41,7 +41,7 @@ stands_moved p p' w w' m m' metas s v =
     let t = v.turns in
     record {
       whole = whole_still p p' p.frames metas s.whole t refl (λ k o held shown. rw (v.held k o held).2 shown);
-      key = v.key ∙ (s.key ∙ sym t.key_stays);
+      keys = v.keys ∙ (s.keys ∙ sym t.keys_stay);
       count = rw (v.ram, t.frames_are) s.count;
       frames = λ f inside.
           let there : f < length p.frames = rw t.frames_are at inside in
@@ -50,7 +50,7 @@ stands_moved p p' w w' m m' metas s v =
           (frame_stays p p' w w' m m' f (right_at p f)
           (ap (λ (x : List (List ℕ)). get_or x f []) t.frames_are)
           (ap (λ (x : List (List ℕ)). get_or x f []) v.ram)
-          v.key
+          v.keys
           (λ o held. let is = v.held f o held in (is.0, is.1, t.metas_are o ∙ is.2, is.3))
           (s.frames f there));
       owed = v.owed ∙ (s.owed ∙ ap (λ (x : List Held). map owed_under x) (sym t.rights_are));
@@ -89,7 +89,7 @@ follows_copy p p' domain from to t shown away w m s =
       stands = stands_moved p p' w w' m m' metas s (record {
         turns = t;
         ram = refl;
-        key = refl;
+        keys = refl;
         owed = refl;
         held = λ k o held.
             let other = away k o held in (
@@ -163,7 +163,7 @@ follows_drop p p' domain resource t away w m s =
       stands = stands_moved p p' w w m m' metas s (record {
         turns = t;
         ram = refl;
-        key = refl;
+        keys = refl;
         owed = refl;
         held = λ k o held.
             let other = away k o held in

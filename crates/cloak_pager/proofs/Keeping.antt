@@ -103,7 +103,7 @@ table_turned p table' metas now = record {
   rights_are = refl;
   metas_are = now.values_are;
   domains_stay = now.domains_stay;
-  key_stays = refl;
+  keys_stay = refl;
   reads_stay = refl;
 }
 

@@ -20,7 +20,7 @@ use Rattle.page_states.specs.Opening.{IsPlain}
 use Rattle.protect_meta.specs.declared.meta.Meta.{Meta}
 use Rattle.protect_meta.specs.Table.{meta_at, domains_of}
 use Rattle.protect_meta.specs.Pages.{IsIn}
-use Rattle.cloak_pager.specs.State.{PagerState, IsWholePager, Names}
+use Rattle.cloak_pager.specs.State.{PagerState, IsWholePager, Names, key_for}
 use Rattle.cloak_pager.specs.State.{page_of, owed_under, right_at, bytes_in, held_in, owed_at}
 use Rattle.cloak_pager.specs.Turns.{holding, HoldsNow, OfferTurns, OfferedTurns, end_of_offer, shown_by_digest}
 use Rattle.cloak_pager.specs.Turns.{ShownTurns}
@@ -38,12 +38,12 @@ use Rattle.cloak_pager.proofs.Touches.{page_is, owed_nothing, settle_none}
 
 -- The pager stands for a memory that differs in what the relation does not speak of.
 pub stands_same : (p : PagerState) (w : PageId → Bool) (m m' : CloakedMemory) → StandsForMemory p w m → m'.ram ≡ m.ram →
-    m'.plain ≡ m.plain → m'.ledger.key ≡ m.ledger.key → m'.ledger.stream ≡ m.ledger.stream →
+    m'.plain ≡ m.plain → m'.ledger.keys ≡ m.ledger.keys → m'.ledger.stream ≡ m.ledger.stream →
     m'.ledger.recorded ≡ m.ledger.recorded → m'.ledger.owed ≡ m.ledger.owed → StandsForMemory p w m'
-stands_same p w m m' s ram plain key stream recorded owed =
+stands_same p w m m' s ram plain keys stream recorded owed =
     let here : StandsForMemory p w mixed = record {
       whole = s.whole;
-      key = s.key;
+      keys = s.keys;
       count = s.count;
       frames = λ f inside. frame_same f (right_at p f) (s.frames f inside);
       owed = s.owed;
@@ -55,7 +55,7 @@ stands_same p w m m' s ram plain key stream recorded owed =
       ram = sym ram i;
       plain = sym plain i;
       ledger =
-          record m'.ledger { key = sym key i; stream = sym stream i; recorded = sym recorded i; owed = sym owed i };
+          record m'.ledger { keys = sym keys i; stream = sym stream i; recorded = sym recorded i; owed = sym owed i };
     } in
     subst (λ (x : CloakedMemory). StandsForMemory p w x) same here
   where
@@ -63,7 +63,7 @@ stands_same p w m m' s ram plain key stream recorded owed =
     mixed : CloakedMemory
     mixed = record m {
       ledger = record m'.ledger {
-        key = m.ledger.key;
+        keys = m.ledger.keys;
         stream = m.ledger.stream;
         recorded = m.ledger.recorded;
         owed = m.ledger.owed;
@@ -117,8 +117,8 @@ stands_changed p p' w m g q bytes s whole inside held alone unowed newest t =
       whole = whole;
       frames = t.frames_are;
       rights = t.rights_are;
-      key = t.key_stays;
-      key_same = refl;
+      keys = t.keys_stay;
+      keys_same = refl;
       ram = refl;
       ram_elsewhere = λ k n. refl;
       owed = refl;
@@ -148,8 +148,8 @@ stands_clean p p' w m g q bytes s whole inside outside nowhere here t =
       whole = whole;
       frames = t.frames_are;
       rights = t.rights_are;
-      key = t.key_stays;
-      key_same = refl;
+      keys = t.keys_stay;
+      keys_same = refl;
       ram = refl;
       ram_elsewhere = λ k n. refl;
       owed = owed_nothing p w m s g none;
@@ -269,12 +269,12 @@ whole_taken p p' g q false plain w inside page alone shown t =
 pub opened_newest : (p : PagerState) (w : PageId → Bool) (m : CloakedMemory) (g : ℕ) (q : PageId) (t : Meta)
     (plain : List ℕ) →
     StandsForMemory p w m → IsUnowed m q → meta_at p.table q ≡ Some t → m.ledger.recorded q ≡ Some (bytes_in p g) →
-    IsPlain p.key t.iv (bytes_in p g) plain → w q ≡ false → plain ≡ m.plain q
+    IsPlain (key_for p q) t.iv (bytes_in p g) plain → w q ≡ false → plain ≡ m.plain q
 opened_newest p w m g q t plain s free shown recorded opens kept =
     let T : Option Meta → Type 0 = λ x. PageStands (w q) m q x in
     let is : IsRecorded (w q) m q t = subst T shown (s.pages q) in
     let same : is.bytes ≡ bytes_in p g = (let e = sym is.is ∙ recorded in cc) in
-    let back : cbc p.key t.iv (m.plain q) ≡ bytes_in p g = rw (← s.key) (sym (is.sealed kept free) ∙ same) in
+    let back : cbc (key_for p q) t.iv (m.plain q) ≡ bytes_in p g = rw (← s.keys) (sym (is.sealed kept free) ∙ same) in
     opens.only_one (m.plain q) (s.plain q kept) back
 
 -- An outside frame that shows what was last shown of the page is opened.
@@ -282,7 +282,7 @@ pub stands_opened : (p p' : PagerState) (w : PageId → Bool) (m : CloakedMemory
     (t : Meta) (plain : List ℕ) →
     StandsForMemory p w m → IsWholePager p' → g < length p.frames → held_in p g ≡ None →
     ((k : ℕ) → held_in p k ≢ Some q) → meta_at p.table q ≡ Some t → get_or m.ram g [] ≡ bytes_in p g →
-    m.ledger.recorded q ≡ Some (bytes_in p g) → IsPlain p.key t.iv (bytes_in p g) plain →
+    m.ledger.recorded q ≡ Some (bytes_in p g) → IsPlain (key_for p q) t.iv (bytes_in p g) plain →
     HoldsNow p p' q g write plain → StandsForMemory p' w (taken q g write m)
 stands_opened p p' w m g q true t plain s whole inside outside nowhere shown sees recorded opens turns =
     let free : IsUnowed m q = unowed_nowhere p w m s q nowhere in
@@ -299,7 +299,7 @@ stands_opened p p' w m g q false t plain s whole inside outside nowhere shown se
       long = rw here opens.long;
       sealed = λ t' at.
           let one : t' ≡ t = (let e = sym at ∙ (turns.metas_are q ∙ shown) in cc) in
-          rw (here, one, s.key, sees) opens.seals_back;
+          rw (here, one, s.keys, sees) opens.seals_back;
     }) turns
 
 -- the marks of a comparison are nothing that the relation speaks of

@@ -5,6 +5,7 @@ use Rattle.std.proofs.lemmas.List.{get_or-map, get_or_past, length-map, length-r
 use Rattle.std.proofs.lemmas.Option.{get_or_from_slice_get}
 use Rattle.std.proofs.lemmas.Bool.{cases_lt}
 use Rattle.cloak_base.specs.declared.names.Frame.{Frame}
+use Rattle.cloak_model.specs.Ledger.{Keys}
 use Rattle.protect_meta.specs.declared.meta.Meta.{Meta}
 use Rattle.cloak_pager.specs.Homes.{HomeTable}
 use Rattle.cloak_pager.specs.State.{PagerState, IsWholePager, IsWholeWithHomes, Names, page_of, owed_under, right_at}
@@ -34,9 +35,9 @@ new_rights n outside rights count named made = record {
 }
 
 -- no frame holds or owes a page
-pub nobody : (n domains : ℕ) (key : List ℕ) (p : PagerState) → IsNewPager n domains key p → (k : ℕ) →
+pub nobody : (n domains : ℕ) (keys : Keys) (p : PagerState) → IsNewPager n domains keys p → (k : ℕ) →
     (held_in p k ≡ None) × (owed_at p k ≡ None)
-nobody n domains key p o k =
+nobody n domains keys p o k =
     elim (cases_lt k n) [
       | inl h ↦ (ap page_of (o.outside k h), ap owed_under (o.outside k h))
       | inr h ↦
@@ -44,23 +45,23 @@ nobody n domains key p o k =
           (ap page_of spent, ap owed_under spent)
     ]
 
-pub opened_whole : (n domains : ℕ) (key : List ℕ) (p : PagerState) → IsNewPager n domains key p → n ≤ 4096 →
+pub opened_whole : (n domains : ℕ) (keys : Keys) (p : PagerState) → IsNewPager n domains keys p → n ≤ 4096 →
     IsWholePager p
-opened_whole n domains key p o few = record {
+opened_whole n domains keys p o few = record {
   count = o.count ∙ sym (rw (o.zeros, length-replicate) refl);
   named = λ k h.
       let there : k < n = rw (o.zeros, length-replicate) at h in
       let N : Held → Type 0 = λ x. Names p.table k x in
       subst N (sym (o.outside k there)) refl;
-  one_home = λ f g q at at'. absurd (let no : None ≡ Some q = sym (nobody n domains key p o f).0 ∙ at in cc);
+  one_home = λ f g q at at'. absurd (let no : None ≡ Some q = sym (nobody n domains keys p o f).0 ∙ at in cc);
   few = rw (o.zeros, length-replicate) few;
 }
 
-pub opened_kept : (n domains : ℕ) (key : List ℕ) (p : PagerState) (homes : HomeTable) → IsNewPager n domains key p →
+pub opened_kept : (n domains : ℕ) (keys : Keys) (p : PagerState) (homes : HomeTable) → IsNewPager n domains keys p →
     n ≤ 4096 → homes.domains ≡ domains → IsWholeWithHomes p homes
-opened_kept n domains key p homes o few is = record {
-  whole = opened_whole n domains key p o few;
-  noted = λ k q held. absurd (let no : None ≡ Some q = sym (nobody n domains key p o k).0 ∙ held in cc);
+opened_kept n domains keys p homes o few is = record {
+  whole = opened_whole n domains keys p o few;
+  noted = λ k q held. absurd (let no : None ≡ Some q = sym (nobody n domains keys p o k).0 ∙ held in cc);
   domains = is ∙ sym o.domains_are;
 }
 
@@ -73,11 +74,11 @@ none_owed (x ∷ xs) h =
     let later = none_owed xs (λ k. h (suc k)) in
     λ i. sym here i ∷ later i
 
-pub opened_stands : (n domains : ℕ) (key : List ℕ) (p : PagerState) → IsNewPager n domains key p → n ≤ 4096 →
-    StandsBlank n key p
-opened_stands n domains key p o few m b = record {
-  whole = opened_whole n domains key p o few;
-  key = b.key_is ∙ sym o.key_is;
+pub opened_stands : (n domains : ℕ) (keys : Keys) (p : PagerState) → IsNewPager n domains keys p → n ≤ 4096 →
+    StandsBlank n keys p
+opened_stands n domains keys p o few m b = record {
+  whole = opened_whole n domains keys p o few;
+  keys = b.keys_are ∙ sym o.keys_are;
   count = ap (λ (x : List (List ℕ)). length x) (b.ram ∙ sym o.zeros);
   frames = λ f h.
       let there : f < n = rw (o.zeros, length-replicate) at h in
@@ -85,7 +86,7 @@ opened_stands n domains key p o few m b = record {
       subst F (sym (o.outside f there)) (ap (λ (x : List (List ℕ)). get_or x f []) (o.zeros ∙ sym b.ram));
   owed =
       b.owed ∙ (ap (λ (k : ℕ). replicate k None) (sym o.count)
-      ∙ none_owed p.rights (λ k. (nobody n domains key p o k).1));
+      ∙ none_owed p.rights (λ k. (nobody n domains keys p o k).1));
   pages = λ q.
       let P : Option Meta → Type 0 = λ x. PageStands false m q x in
       subst P (sym (o.no_metas q)) (b.recorded q, λ kept free. b.plain q);

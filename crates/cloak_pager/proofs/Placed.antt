@@ -10,11 +10,12 @@ use Rattle.cloak_base.specs.declared.names.PageId.{PageId}
 use Rattle.cloak_base.specs.Pages.{with_page}
 use Rattle.cloak_base.specs.Random.{Random, next_draw}
 use Rattle.cloak_model.specs.Chain.{cbc}
+use Rattle.cloak_model.specs.Ledger.{key_of}
 use Rattle.cloak_model.specs.Cloaking.{CloakedMemory, with_shown_frame, with_record}
 use Rattle.cloak_model.specs.PageMoves.{place, place_with, with_newest}
 use Rattle.protect_meta.specs.declared.meta.Meta.{Meta}
 use Rattle.protect_meta.specs.Table.{meta_at}
-use Rattle.cloak_pager.specs.State.{PagerState, IsWholePager, IsFresh, page_of, right_at, held_in}
+use Rattle.cloak_pager.specs.State.{PagerState, IsWholePager, key_for, IsFresh, page_of, right_at, held_in}
 use Rattle.cloak_pager.specs.Turns.{metas_with, IsPlaced, IsRestored}
 use Rattle.cloak_pager.specs.Relation.{StandsForMemory, FrameStands}
 use Rattle.cloak_pager.specs.Asking.{ToldCall, FollowsCallFrom, FollowsCall, after_place, with_restored, StandsRestored}
@@ -43,8 +44,8 @@ restore_stands p p' q t fresh turns w m c plain s bytes sealed digest =
       whole = whole;
       frames = turns.frames_are ∙ sym (set_past p.frames past [] (omega arith));
       rights = turns.rights_are ∙ sym (set_past p.rights past Spent end);
-      key = turns.key_stays;
-      key_same = refl;
+      keys = turns.keys_stay;
+      keys_same = refl;
       ram = refl;
       ram_elsewhere = λ g n. refl;
       owed = sym (set_past m.ledger.owed past None beyond);
@@ -60,7 +61,7 @@ restore_stands p p' q t fresh turns w m c plain s bytes sealed digest =
         is = with_page-same m.ledger.recorded q (Some c);
         digest = digest;
         sealed = λ kept free.
-            sealed ∙ ap (λ (x : List ℕ). cbc m.ledger.key t.iv x) (sym (with_page-same m.plain q plain));
+            sealed ∙ ap (λ (x : List ℕ). cbc (key_of m.ledger q) t.iv x) (sym (with_page-same m.plain q plain));
       });
       newest = λ o e kept.
           let same : q ≡ o = cc in
@@ -74,7 +75,7 @@ restore_stands p p' q t fresh turns w m c plain s bytes sealed digest =
 -- the memory after page q of these bytes was placed in frame f with this draw
 abbrev pub placed_memory : CloakedMemory → PageId → ℕ → List ℕ → List ℕ × Random → CloakedMemory
 placed_memory m q f bytes d =
-    let c = cbc m.ledger.key d.0 bytes in with_record q c d.1 (with_shown_frame f c (with_newest q bytes m))
+    let c = cbc (key_of m.ledger q) d.0 bytes in with_record q c d.1 (with_shown_frame f c (with_newest q bytes m))
 
 pub stands_placed : (p p' : PagerState) (w : PageId → Bool) (m : CloakedMemory) (q : PageId) (f : ℕ) (r : Frame)
     (bytes : List ℕ) (d : List ℕ × Random) →
@@ -82,10 +83,10 @@ pub stands_placed : (p p' : PagerState) (w : PageId → Bool) (m : CloakedMemory
     next_draw m.ledger.stream ≡ Some d → IsPlaced p p' q f bytes d.0 →
     StandsForMemory p' w (placed_memory m q f bytes d)
 stands_placed p p' w m q f r bytes d s right fresh is_page drawn turns =
-    let c : List ℕ = cbc p.key d.0 bytes in
-    let c' : List ℕ = cbc m.ledger.key d.0 bytes in
+    let c : List ℕ = cbc (key_for p q) d.0 bytes in
+    let c' : List ℕ = cbc (key_of m.ledger q) d.0 bytes in
     let m' : CloakedMemory = placed_memory m q f bytes d in
-    let sealed : c ≡ c' = rw s.key refl in
+    let sealed : c ≡ c' = rw s.keys refl in
     let meta : Meta = record { iv = d.0; digest = sha256 c } in
     let whole : IsWholePager p' =
     whole_still p p' (slice_set p.frames f c) (metas_with p q d.0 c) s.whole turns (length-set p.frames f c)
@@ -96,8 +97,8 @@ stands_placed p p' w m q f r bytes d s right fresh is_page drawn turns =
       whole = whole;
       frames = turns.frames_are;
       rights = turns.rights_are ∙ sym (set-get_or p.rights f Spent);
-      key = turns.key_stays;
-      key_same = refl;
+      keys = turns.keys_stay;
+      keys_same = refl;
       ram = length-set m.ram f c';
       ram_elsewhere = λ g n. get_or-set_other m.ram f g c' [] n;
       owed = sym (subst O (owed_by_right p w m s f) (set-get_or m.ledger.owed f None));
@@ -117,7 +118,8 @@ stands_placed p p' w m q f r bytes d s right fresh is_page drawn turns =
             bytes = c';
             is = with_page-same m.ledger.recorded q (Some c');
             digest = ap sha256 (sym sealed);
-            sealed = λ kept free. ap (λ (x : List ℕ). cbc m.ledger.key d.0 x) (sym (with_page-same m.plain q bytes));
+            sealed = λ kept free.
+                ap (λ (x : List ℕ). cbc (key_of m.ledger q) d.0 x) (sym (with_page-same m.plain q bytes));
           });
       newest = λ o e kept.
           let same : q ≡ o = cc in

@@ -6,6 +6,7 @@ use Rattle.std.proofs.Math.ListN.{get_or-map}
 use Rattle.aes_block.specs.Bytes.{IsBytes}
 use Rattle.cloak_base.specs.declared.names.PageId.{PageId}
 use Rattle.cloak_base.specs.Random.{next_draw}
+use Rattle.cloak_model.specs.Ledger.{Keys, key_in, key_of}
 use Rattle.cloak_model.specs.Cloaking.{CloakedMemory, owed_in}
 use Rattle.protect_meta.specs.declared.meta.Meta.{Meta}
 use Rattle.protect_meta.specs.Table.{meta_at}
@@ -35,8 +36,8 @@ pub record Turned (p p' : PagerState) (w w' : PageId → Bool) (m m' : CloakedMe
   pub whole : IsWholePager p'
   pub frames : p'.frames ≡ slice_set p.frames f bytes
   pub rights : p'.rights ≡ slice_set p.rights f h
-  pub key : p'.key ≡ p.key
-  pub key_same : m'.ledger.key ≡ m.ledger.key
+  pub keys : p'.keys ≡ p.keys
+  pub keys_same : m'.ledger.keys ≡ m.ledger.keys
   pub ram : length m'.ram ≡ length m.ram
   pub ram_elsewhere : (g : ℕ) → g ≢ f → get_or m'.ram g [] ≡ get_or m.ram g []
   pub owed : m'.ledger.owed ≡ slice_set m.ledger.owed f (owed_under h)
@@ -56,7 +57,7 @@ pub record Turned (p p' : PagerState) (w w' : PageId → Bool) (m m' : CloakedMe
 -- What is so of page b is so of a page that has the same record. As far as it has to do with newest bytes, that has a
 -- reason of its own.
 pub page_as : (lost lost' : Bool) (m m' : CloakedMemory) (b o : PageId) (t : Option Meta) →
-    m'.ledger.key ≡ m.ledger.key → m'.ledger.recorded o ≡ m.ledger.recorded b →
+    key_of m'.ledger o ≡ key_of m.ledger b → m'.ledger.recorded o ≡ m.ledger.recorded b →
     (lost' ≡ false → IsUnowed m' o → (lost ≡ false) × IsUnowed m b × (m'.plain o ≡ m.plain b)) → PageStands lost m b t →
     PageStands lost' m' o t
 page_as lost lost' m m' b o None k r newest s =
@@ -70,15 +71,16 @@ page_as lost lost' m m' b o (Some t) k r newest s = record {
 
 -- a page of which nothing changed
 pub page_stays : (lost lost' : Bool) (m m' : CloakedMemory) (o : PageId) (t t' : Option Meta) → lost' ≡ lost → t' ≡ t →
-    m'.ledger.key ≡ m.ledger.key → m'.plain o ≡ m.plain o → m'.ledger.recorded o ≡ m.ledger.recorded o →
+    m'.ledger.keys ≡ m.ledger.keys → m'.plain o ≡ m.plain o → m'.ledger.recorded o ≡ m.ledger.recorded o →
     (IsUnowed m' o → IsUnowed m o) → PageStands lost m o t → PageStands lost' m' o t'
 page_stays lost lost' m m' o t t' l e k n r free s =
     subst (λ (x : Option Meta). PageStands lost' m' o x) (sym e)
-    (page_as lost lost' m m' o o t k r (λ kept unowed. (sym l ∙ kept, free unowed, n)) s)
+    (page_as lost lost' m m' o o t (ap (λ (x : Keys). key_in x o) k) r
+    (λ kept unowed. (sym l ∙ kept, free unowed, n)) s)
 
 -- a frame of which nothing changed
 pub frame_stays : (p p' : PagerState) (w w' : PageId → Bool) (m m' : CloakedMemory) (g : ℕ) (h : Held) →
-    bytes_in p' g ≡ bytes_in p g → get_or m'.ram g [] ≡ get_or m.ram g [] → m'.ledger.key ≡ m.ledger.key →
+    bytes_in p' g ≡ bytes_in p g → get_or m'.ram g [] ≡ get_or m.ram g [] → m'.ledger.keys ≡ m.ledger.keys →
     ((o : PageId) → page_of h ≡ Some o → (m'.plain o ≡ m.plain o) × (m'.ledger.recorded o ≡ m.ledger.recorded o)
     × (meta_at p'.table o ≡ meta_at p.table o) × (w' o ≡ w o)) →
     FrameStands p w m g h → FrameStands p' w' m' g h
@@ -101,7 +103,7 @@ pub stands_turned : (p p' : PagerState) (w w' : PageId → Bool) (m m' : Cloaked
     StandsForMemory p w m → Turned p p' w w' m m' f h bytes q → StandsForMemory p' w' m'
 stands_turned p p' w w' m m' f h bytes q s t = record {
   whole = t.whole;
-  key = t.key_same ∙ (s.key ∙ sym t.key);
+  keys = t.keys_same ∙ (s.keys ∙ sym t.keys);
   count = t.ram ∙ (s.count ∙ sym (rw t.frames (length-set p.frames f bytes)));
   frames = λ g inside.
       let there : g < length p.frames = rw (t.frames, length-set) at inside in
@@ -116,7 +118,7 @@ stands_turned p p' w w' m m' f h bytes q s t = record {
             subst (λ (x : Held). FrameStands p' w' m' g x) (sym right)
             (frame_stays p p' w w' m m' g (right_at p g)
             (rw t.frames (get_or-set_other p.frames f g bytes [] n))
-            (t.ram_elsewhere g n) t.key_same
+            (t.ram_elsewhere g n) t.keys_same
             (λ o held. let other : q ≢ Some o = λ e. t.alone g o n e held in
             (t.plain o other, t.recorded o other, t.metas o other, t.lost o other))
             (s.frames g there))
@@ -129,7 +131,7 @@ stands_turned p p' w w' m m' f h bytes q s t = record {
         | inl e ↦ t.page o e
         | inr n ↦
             page_stays (w o) (w' o) m m' o (meta_at p.table o) (meta_at p'.table o) (t.lost o n)
-            (t.metas o n) t.key_same (t.plain o n) (t.recorded o n) (unowed_before o n) (s.pages o)
+            (t.metas o n) t.keys_same (t.plain o n) (t.recorded o n) (unowed_before o n) (s.pages o)
       ];
   plain = λ o kept.
       elim (is_or_not q o) [

@@ -8,13 +8,15 @@ use Rattle.cloak_base.specs.declared.names.PageId.{PageId}
 use Rattle.cloak_base.specs.Pages.{with_page}
 use Rattle.cloak_base.specs.Random.{Random, next_draw}
 use Rattle.cloak_model.specs.Chain.{cbc}
+use Rattle.cloak_model.specs.Ledger.{key_of}
 use Rattle.cloak_base.specs.Pages.{zero_page}
 use Rattle.cloak_model.specs.Cloaking.{CloakedMemory, AfterSettling, settle, settle_if, settle_owed, owed_in}
 use Rattle.cloak_model.specs.Cloaking.{with_shown_frame, with_owed, with_record, with_miss}
 use Rattle.frame_store.specs.Rights.{Holding}
 use Rattle.protect_meta.specs.declared.meta.Meta.{Meta}
 use Rattle.protect_meta.specs.Table.{meta_at}
-use Rattle.cloak_pager.specs.State.{PagerState, IsWholePager, page_of, owed_under, right_at, bytes_in, held_in, owed_at}
+use Rattle.cloak_pager.specs.State.{PagerState, IsWholePager, key_for, page_of, owed_under, right_at, bytes_in}
+use Rattle.cloak_pager.specs.State.{held_in, owed_at}
 use Rattle.cloak_pager.specs.Turns.{frame_numbered, ShowsNow, IsResealed, IsSealed, IsWiped, metas_with}
 use Rattle.cloak_pager.specs.Turns.{TouchTurns, touched_by, left_by}
 use Rattle.cloak_pager.specs.Relation.{StandsForMemory, FrameStands, PageStands, HoldsClean}
@@ -49,14 +51,14 @@ stands_resealed p p' w m f r s whole inside at turns =
     let clean : HoldsClean p (w q) m f q = subst (λ (h : Held). FrameStands p w m f h) at (s.frames f inside) in
     let meta : Meta = turns.0 in
     let t = turns.2 in
-    let bytes : List ℕ = cbc p.key meta.iv (bytes_in p f) in
-    let shows : bytes ≡ get_or m.ram f [] = rw (← s.key) (clean.sealed meta turns.1) in
+    let bytes : List ℕ = cbc (key_for p q) meta.iv (bytes_in p f) in
+    let shows : bytes ≡ get_or m.ram f [] = rw (← s.keys) (clean.sealed meta turns.1) in
     stands_turned p p' w w m m f (Outside (frame_numbered f)) bytes (Some q) s (record {
       whole = whole;
       frames = t.frames_are;
       rights = t.rights_are;
-      key = t.key_stays;
-      key_same = refl;
+      keys = t.keys_stay;
+      keys_same = refl;
       ram = refl;
       ram_elsewhere = λ g n. refl;
       owed = owed_nothing p w m s f (ap owed_under at);
@@ -99,7 +101,7 @@ other_page q o n e = n (ap (λ (x : PageId). Some x) (sym e))
 -- the memory after frame f, owed page q, was settled with this draw
 abbrev pub sealed_memory : CloakedMemory → ℕ → PageId → List ℕ × Random → CloakedMemory
 sealed_memory m f q d =
-    let c = cbc m.ledger.key d.0 (m.plain q) in with_record q c d.1 (with_owed f None (with_shown_frame f c m))
+    let c = cbc (key_of m.ledger q) d.0 (m.plain q) in with_record q c d.1 (with_owed f None (with_shown_frame f c m))
 
 -- and with none
 abbrev pub wiped_memory : CloakedMemory → ℕ → CloakedMemory
@@ -116,17 +118,17 @@ stands_sealed p p' w m f r d s whole inside at drawn t =
     let kept : w q ≡ false = kept_by_draw p w m s q d drawn in
     let stands : Held → Type 0 = λ h. FrameStands p w m f h in
     let same : bytes_in p f ≡ m.plain q = subst stands at (s.frames f inside) kept in
-    let c : List ℕ = cbc p.key d.0 (bytes_in p f) in
-    let c' : List ℕ = cbc m.ledger.key d.0 (m.plain q) in
-    let sealed : c ≡ c' = rw (same, s.key) refl in
+    let c : List ℕ = cbc (key_for p q) d.0 (bytes_in p f) in
+    let c' : List ℕ = cbc (key_of m.ledger q) d.0 (m.plain q) in
+    let sealed : c ≡ c' = rw (same, s.keys) refl in
     let meta : Meta = record { iv = d.0; digest = sha256 c } in
     let meta_there : meta_at p'.table q ≡ Some meta = t.metas_are q ∙ with_page-same (meta_at p.table) q (Some meta) in
     stands_turned p p' w w m m' f (Outside (frame_numbered f)) c (Some q) s (record {
       whole = whole;
       frames = t.frames_are;
       rights = t.rights_are;
-      key = t.key_stays;
-      key_same = refl;
+      keys = t.keys_stay;
+      keys_same = refl;
       ram = length-set m.ram f c';
       ram_elsewhere = λ g n. get_or-set_other m.ram f g c' [] n;
       owed = refl;
@@ -162,8 +164,8 @@ stands_wiped p p' w m f r s whole inside at none t =
       whole = whole;
       frames = t.frames_are;
       rights = t.rights_are;
-      key = t.key_stays;
-      key_same = refl;
+      keys = t.keys_stay;
+      keys_same = refl;
       ram = length-set m.ram f zero_page;
       ram_elsewhere = λ g n. get_or-set_other m.ram f g zero_page [] n;
       owed = refl;
@@ -197,7 +199,7 @@ pub settle_draw : (f : ℕ) (m : CloakedMemory) (q : PageId) (d : List ℕ × Ra
     next_draw m.ledger.stream ≡ Some d →
     settle f m ≡ record {
       memory = sealed_memory m f q d;
-      ciphers = (f, cbc m.ledger.key d.0 (m.plain q)) ∷ [];
+      ciphers = (f, cbc (key_of m.ledger q) d.0 (m.plain q)) ∷ [];
       missed = false;
     }
 unfolding settle settle_if settle_owed
@@ -232,7 +234,8 @@ whole_outside p p' f bytes metas w inside t keeps =
 pub whole_resealed : (p p' : PagerState) (f : ℕ) (r : Holding) → IsWholePager p → f < length p.frames →
     right_at p f ≡ Clean r → IsResealed p p' f r.page → IsWholePager p'
 whole_resealed p p' f r w inside at turns =
-    whole_outside p p' f (cbc p.key turns.0.iv (bytes_in p f)) (meta_at p.table) w inside turns.2 (λ o n. n)
+    whole_outside p p' f (cbc (key_for p r.page) turns.0.iv (bytes_in p f)) (meta_at p.table) w inside turns.2
+    (λ o n. n)
 
 pub touch_follows : (p p' : PagerState) (f : ℕ) (stream left : Random) (result : Touched) → f < length p.frames →
     result ≡ touched_by (right_at p f) (next_draw stream) → left ≡ left_by (right_at p f) (next_draw stream) stream →
@@ -257,7 +260,7 @@ touch_follows p p' f stream left result inside cause drew turns w m s e =
     by_right (Changed r) at (Some d) drawn cause drew turns =
         let owes : owed_in m f ≡ Some r.page = owed_by_right p w m s f ∙ ap owed_under at in
         let there : next_draw m.ledger.stream ≡ Some d = rw e drawn in
-        let c : List ℕ = cbc p.key d.0 (bytes_in p f) in
+        let c : List ℕ = cbc (key_for p r.page) d.0 (bytes_in p f) in
         let meta : Meta = record { iv = d.0; digest = sha256 c } in
         let whole : IsWholePager p' =
         whole_outside p p' f c (metas_with p r.page d.0 c) s.whole inside turns
@@ -267,8 +270,8 @@ touch_follows p p' f stream left result inside cause drew turns w m s e =
         let F : Held → Type 0 = λ h. FrameStands p w m f h in
         let same : bytes_in p f ≡ m.plain r.page =
         subst F at (s.frames f inside) (kept_by_draw p w m s r.page d there) in
-        let shown : bytes_in p' f ≡ cbc m.ledger.key d.0 (m.plain r.page) =
-        rw turns.frames_are (get_or-set_same p.frames f c [] inside ∙ rw (same, s.key) refl) in
+        let shown : bytes_in p' f ≡ cbc (key_of m.ledger r.page) d.0 (m.plain r.page) =
+        rw turns.frames_are (get_or-set_same p.frames f c [] inside ∙ rw (same, s.keys) refl) in
         let M : AfterSettling → Type 0 = λ x. FollowsCallFrom p' left (shown_by Sealed f p') (after_settling x (owed_in m f) w) in
         subst Goal (sym cause) (subst M (sym (settle_draw f m r.page d owes there)) (record {
           answer = ap (λ (x : List ℕ). ((f, x) ∷ [], false)) shown;
@@ -325,7 +328,7 @@ outside_now p p' f h bytes metas right t =
 pub clean_outside : (p p' : PagerState) (f : Frame) (r : Holding) → HasRight p f.0 (Clean r) →
     IsResealed p p' f.0 r.page → right_at p' f.0 ≡ Outside f
 clean_outside p p' f r right turns =
-    outside_now p p' f (Clean r) (cbc p.key turns.0.iv (bytes_in p f.0)) (meta_at p.table) right turns.2
+    outside_now p p' f (Clean r) (cbc (key_for p r.page) turns.0.iv (bytes_in p f.0)) (meta_at p.table) right turns.2
 
 pub quiet_follows : (p : PagerState) (f : ℕ) (r : Frame) (stream : Random) → HasRight p f (Outside r) →
     FollowsCall p stream p stream ([], false) (after_touch f)

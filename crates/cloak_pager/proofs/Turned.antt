@@ -19,7 +19,7 @@ use Rattle.protect_meta.specs.Table.{Table, meta_at}
 use Rattle.protect_meta.specs.Pages.{IsIn}
 use Rattle.cloak_pager.specs.Homes.{HomeTable, home_at}
 use Rattle.cloak_pager.specs.State.{PagerState, IsWholePager, IsWholeWithHomes, Names, AreNoted, page_of, right_at}
-use Rattle.cloak_pager.specs.State.{bytes_in, held_in}
+use Rattle.cloak_pager.specs.State.{key_for, bytes_in, held_in}
 use Rattle.cloak_pager.specs.Turns.{Turns, frame_numbered, holding, IsResealed, IsSealed, IsWiped, IsPlaced, HoldsNow}
 use Rattle.cloak_pager.specs.Turns.{right_for, metas_with, shown_by_digest}
 use Rattle.cloak_pager.specs.declared.held.Held.{Held}
@@ -52,7 +52,7 @@ turns_put p frames' f spent h h' bytes table' metas wrote is now = record {
   rights_are = set-set p.rights f spent h ∙ ap (λ (x : Held). slice_set p.rights f x) is;
   metas_are = now.values_are;
   domains_stay = now.domains_stay;
-  key_stays = refl;
+  keys_stay = refl;
   reads_stay = refl;
 }
 
@@ -116,63 +116,71 @@ set_keeps m q t o there =
 -- Resealing.
 
 pub reseal_kept : {p : PagerState} {homes : HomeTable} {frames' : List (List ℕ)} {f : ℕ} {r : Holding} {out : Frame}
-    (t : Meta) (spent : Held) →
+    (key : List ℕ) (t : Meta) (spent : Held) →
     IsWholeWithHomes p homes → HasRight p f (Clean r) →
-    frames' ≡ slice_set p.frames r.frame.0 (cbc p.key t.iv (bytes_in p r.frame.0)) → out ≡ r.frame →
+    frames' ≡ slice_set p.frames r.frame.0 (cbc key t.iv (bytes_in p r.frame.0)) → out ≡ r.frame →
     IsWholeWithHomes (put p frames' f spent (Outside out) p.table) homes
-reseal_kept {p} {homes} {frames'} {f} {r} {out} t spent k right wrote is =
+reseal_kept {p} {homes} {frames'} {f} {r} {out} key t spent k right wrote is =
     let here : r.frame.0 ≡ f = (named_as right).0 in
-    kept_outside p homes frames' f spent out (cbc p.key t.iv (bytes_in p f)) p.table (meta_at p.table) k right.inside
-    (ap (λ (x : Frame). x.0) is ∙ here) (written p.frames frames' r.frame.0 f (λ old. cbc p.key t.iv old) here wrote)
+    kept_outside p homes frames' f spent out (cbc key t.iv (bytes_in p f)) p.table (meta_at p.table) k right.inside
+    (ap (λ (x : Frame). x.0) is ∙ here) (written p.frames frames' r.frame.0 f (λ old. cbc key t.iv old) here wrote)
     (same_metas p.table) (λ o n. n)
 
 pub reseal_turns : {p : PagerState} {frames' : List (List ℕ)} {f : ℕ} {r : Holding} {t : Meta} {out : Frame}
-    (spent : Held) →
-    HasRight p f (Clean r) → meta_at p.table r.page ≡ Some t →
-    frames' ≡ slice_set p.frames r.frame.0 (cbc p.key t.iv (bytes_in p r.frame.0)) → out ≡ r.frame → (q : PageId) →
+    {key : List ℕ} (spent : Held) →
+    HasRight p f (Clean r) → key ≡ key_for p r.page → meta_at p.table r.page ≡ Some t →
+    frames' ≡ slice_set p.frames r.frame.0 (cbc key t.iv (bytes_in p r.frame.0)) → out ≡ r.frame → (q : PageId) →
     held_in p f ≡ Some q → IsResealed p (put p frames' f spent (Outside out) p.table) f q
-reseal_turns {p} {frames'} {f} {r} {t} {out} spent right meta wrote is =
+reseal_turns {p} {frames'} {f} {r} {t} {out} {key} spent right under meta wrote is =
+    let own : List ℕ = key_for p r.page in
+    let W : List ℕ → Type 0 = λ x. frames' ≡ slice_set p.frames r.frame.0 (cbc x t.iv (bytes_in p r.frame.0)) in
     let here : r.frame.0 ≡ f = (named_as right).0 in
     let p' : PagerState = put p frames' f spent (Outside out) p.table in
     let turns = turns_put p frames' f spent (Outside out) (Outside (frame_numbered f))
-    (cbc p.key t.iv (bytes_in p f)) p.table (meta_at p.table)
-    (written p.frames frames' r.frame.0 f (λ old. cbc p.key t.iv old) here wrote)
+    (cbc own t.iv (bytes_in p f)) p.table (meta_at p.table)
+    (written p.frames frames' r.frame.0 f (λ old. cbc own t.iv old) here (subst W under wrote))
     (outside_is out f (ap (λ (x : Frame). x.0) is ∙ here)) (same_metas p.table) in
     of_held r.page (λ q. IsResealed p p' f q) right refl (t, meta, turns)
 
 -- Sealing.
 
 pub seal_kept : {p : PagerState} {homes : HomeTable} {frames' : List (List ℕ)} {f : ℕ} {r : Holding} {table' : Table}
-    {out : Frame} (iv : List ℕ) (page : PageId) (t : Meta) (spent : Held) →
+    {out : Frame} (key iv : List ℕ) (page : PageId) (t : Meta) (spent : Held) →
     IsWholeWithHomes p homes → HasRight p f (Changed r) →
-    frames' ≡ slice_set p.frames r.frame.0 (cbc p.key iv (bytes_in p r.frame.0)) →
+    frames' ≡ slice_set p.frames r.frame.0 (cbc key iv (bytes_in p r.frame.0)) →
     HasValues p.table table' (with_page (meta_at p.table) page (Some t)) → out ≡ r.frame →
     IsWholeWithHomes (put p frames' f spent (Outside out) table') homes
-seal_kept {p} {homes} {frames'} {f} {r} {table'} {out} iv page t spent k right wrote now is =
+seal_kept {p} {homes} {frames'} {f} {r} {table'} {out} key iv page t spent k right wrote now is =
     let here : r.frame.0 ≡ f = (named_as right).0 in
-    kept_outside p homes frames' f spent out (cbc p.key iv (bytes_in p f)) table'
+    kept_outside p homes frames' f spent out (cbc key iv (bytes_in p f)) table'
     (with_page (meta_at p.table) page (Some t)) k right.inside
-    (ap (λ (x : Frame). x.0) is ∙ here) (written p.frames frames' r.frame.0 f (λ old. cbc p.key iv old) here wrote) now
+    (ap (λ (x : Frame). x.0) is ∙ here) (written p.frames frames' r.frame.0 f (λ old. cbc key iv old) here wrote) now
     (set_keeps (meta_at p.table) page t)
 
 pub seal_turns : {p : PagerState} {frames' : List (List ℕ)} {f : ℕ} {r : Holding} {iv : List ℕ} {table' : Table}
-    {page : PageId} {out : Frame} (t : Meta) (spent : Held) →
-    HasRight p f (Changed r) → frames' ≡ slice_set p.frames r.frame.0 (cbc p.key iv (bytes_in p r.frame.0)) →
-    t.digest ≡ sha256 (cbc p.key iv (bytes_in p r.frame.0)) → t.iv ≡ iv → page ≡ r.page →
+    {page : PageId} {out : Frame} {key : List ℕ} (t : Meta) (spent : Held) →
+    HasRight p f (Changed r) → key ≡ key_for p page →
+    frames' ≡ slice_set p.frames r.frame.0 (cbc key iv (bytes_in p r.frame.0)) →
+    t.digest ≡ sha256 (cbc key iv (bytes_in p r.frame.0)) → t.iv ≡ iv → page ≡ r.page →
     HasValues p.table table' (with_page (meta_at p.table) page (Some t)) → out ≡ r.frame → (q : PageId) →
     held_in p f ≡ Some q → IsSealed p (put p frames' f spent (Outside out) table') f q iv
-seal_turns {p} {frames'} {f} {r} {iv} {table'} {page} {out} t spent right wrote digest drawn of now is =
+seal_turns {p} {frames'} {f} {r} {iv} {table'} {page} {out} {key} t spent right under wrote digest drawn of now is =
     let here : r.frame.0 ≡ f = (named_as right).0 in
     let p' : PagerState = put p frames' f spent (Outside out) table' in
-    let c : List ℕ = cbc p.key iv (bytes_in p f) in
+    let own : List ℕ = key_for p r.page in
+    let owned : key ≡ own = under ∙ ap (λ (x : PageId). key_for p x) of in
+    let W : List ℕ → Type 0 = λ x. frames' ≡ slice_set p.frames r.frame.0 (cbc x iv (bytes_in p r.frame.0)) in
+    let c : List ℕ = cbc own iv (bytes_in p f) in
     let meta : Meta = record { iv = iv; digest = sha256 c } in
-    let sum : t.digest ≡ sha256 c = digest ∙ ap (λ (k : ℕ). sha256 (cbc p.key iv (bytes_in p k))) here in
+    let sum : t.digest ≡ sha256 c =
+    digest ∙ (ap (λ (x : List ℕ). sha256 (cbc x iv (bytes_in p r.frame.0))) owned
+    ∙ ap (λ (k : ℕ). sha256 (cbc own iv (bytes_in p k))) here) in
     let told : t ≡ meta = λ i. record { iv = drawn i; digest = sum i } in
     let M : PageId → Meta → Type 0 = λ x y. HasValues p.table table' (with_page (meta_at p.table) x (Some y)) in
     let metas : M r.page meta = subst (λ (x : PageId). M x meta) of (subst (λ (y : Meta). M page y) told now) in
     of_held r.page (λ q. IsSealed p p' f q iv) right refl
     (turns_put p frames' f spent (Outside out) (Outside (frame_numbered f)) c table' (metas_with p r.page iv c)
-    (written p.frames frames' r.frame.0 f (λ old. cbc p.key iv old) here wrote)
+    (written p.frames frames' r.frame.0 f (λ old. cbc own iv old) here (subst W owned wrote))
     (outside_is out f (ap (λ (x : Frame). x.0) is ∙ here)) metas)
 
 -- Wiping.
@@ -283,24 +291,28 @@ opened_here frames frames' key iv k f is opens =
     subst O is opens
 
 pub open_kept : {p : PagerState} {homes homes' : HomeTable} {frames' : List (List ℕ)} {f : ℕ} {r : Frame} {n : Holding}
-    {q : PageId} {t : Meta} (spent : Held) →
+    {q : PageId} {t : Meta} {key : List ℕ} (spent : Held) →
     IsWholeWithHomes p homes → HasRight p f (Outside r) → meta_at p.table q ≡ Some t →
-    OpensTo p.key t.iv (bytes_in p r.0) (λ plain. frames' ≡ slice_set p.frames r.0 plain) →
+    OpensTo key t.iv (bytes_in p r.0) (λ plain. frames' ≡ slice_set p.frames r.0 plain) →
     n ≡ record { frame = r; page = q } → TakesHome p homes homes' q f →
     IsWholeWithHomes (put p frames' f spent (Clean n) p.table) homes'
-open_kept {p} {homes} {homes'} {frames'} {f} {r} {n} {q} {t} spent k right shown opens is takes =
-    let made = opened_here p.frames frames' p.key t.iv r.0 f (named_as right) opens in
+open_kept {p} {homes} {homes'} {frames'} {f} {r} {n} {q} {t} {key} spent k right shown opens is takes =
+    let made = opened_here p.frames frames' key t.iv r.0 f (named_as right) opens in
     take_kept p homes homes' frames' f spent (Clean n) (Clean (holding f q)) q made.0 k right.inside made.2
     (ap (λ (x : Holding). Clean x) (made_right n q right is))
     (refl, takes.page, λ none. (let no : None ≡ Some t = sym none ∙ shown in cc)) refl takes
 
-pub open_turns : {p : PagerState} {f : ℕ} {r : Frame} {n : Holding} {q : PageId} (frames' : List (List ℕ)) (t : Meta)
-    (spent : Held) →
-    HasRight p f (Outside r) → OpensTo p.key t.iv (bytes_in p r.0) (λ plain. frames' ≡ slice_set p.frames r.0 plain) →
+pub open_turns : {p : PagerState} {f : ℕ} {r : Frame} {n : Holding} {q : PageId} {key : List ℕ}
+    (frames' : List (List ℕ)) (t : Meta) (spent : Held) →
+    HasRight p f (Outside r) → key ≡ key_for p q →
+    OpensTo key t.iv (bytes_in p r.0) (λ plain. frames' ≡ slice_set p.frames r.0 plain) →
     n ≡ record { frame = r; page = q } →
-    OpensTo p.key t.iv (bytes_in p f) (λ plain. HoldsNow p (put p frames' f spent (Clean n) p.table) q f false plain)
-open_turns {p} {f} {r} {n} {q} frames' t spent right opens is =
-    let made = opened_here p.frames frames' p.key t.iv r.0 f (named_as right) opens in
+    OpensTo (key_for p q) t.iv (bytes_in p f)
+    (λ plain. HoldsNow p (put p frames' f spent (Clean n) p.table) q f false plain)
+open_turns {p} {f} {r} {n} {q} {key} frames' t spent right under opens is =
+    let O : List ℕ → Type 0 =
+    λ x. OpensTo x t.iv (bytes_in p r.0) (λ plain. frames' ≡ slice_set p.frames r.0 plain) in
+    let made = opened_here p.frames frames' (key_for p q) t.iv r.0 f (named_as right) (subst O under opens) in
     let turns = turns_put p frames' f spent (Clean n) (Clean (holding f q)) made.0 p.table (meta_at p.table) made.2
     (ap (λ (x : Holding). Clean x) (made_right n q right is)) (same_metas p.table) in
     (made.0, made.1, turns)
@@ -322,12 +334,14 @@ put_back {p} {frames'} {f} {r} {same} spent right is =
 
 -- Placing.
 
-pub place_turns : {p : PagerState} {frames' : List (List ℕ)} {f : ℕ} {r : Frame} {digest c : List ℕ} {table' : Table}
-    (q : PageId) (bytes iv : List ℕ) →
-    HasRight p f (Outside r) → frames' ≡ slice_set p.frames r.0 c → c ≡ cbc p.key iv bytes → digest ≡ sha256 c →
+pub place_turns : {p : PagerState} {frames' : List (List ℕ)} {f : ℕ} {r : Frame} {digest c key : List ℕ}
+    {table' : Table} (q : PageId) (bytes iv : List ℕ) →
+    HasRight p f (Outside r) → frames' ≡ slice_set p.frames r.0 c → key ≡ key_for p q → c ≡ cbc key iv bytes →
+    digest ≡ sha256 c →
     HasValues p.table table' (with_page (meta_at p.table) q (Some (record { iv = iv; digest = digest }))) →
     IsPlaced p (record p { frames = frames'; table = table' }) q f bytes iv
-place_turns {p} {frames'} {f} {r} {digest} {c} {table'} q bytes iv right wrote sealed sum now =
+place_turns {p} {frames'} {f} {r} {digest} {c} {key} {table'} q bytes iv right wrote under made sum now =
+    let sealed : c ≡ cbc (key_for p q) iv bytes = made ∙ ap (λ (x : List ℕ). cbc x iv bytes) under in
     let here : r.0 ≡ f = named_as right in
     let meta : List ℕ → Meta = λ d. record { iv = iv; digest = d } in
     record {
@@ -338,7 +352,7 @@ place_turns {p} {frames'} {f} {r} {digest} {c} {table'} q bytes iv right wrote s
           now.values_are o
           ∙ ap (λ (x : List ℕ). with_page (meta_at p.table) q (Some (meta x)) o) (sum ∙ ap sha256 sealed);
       domains_stay = now.domains_stay;
-      key_stays = refl;
+      keys_stay = refl;
       reads_stay = refl;
     }
 
@@ -358,7 +372,7 @@ changed_then p p' p'' g q plain inside t u =
           ∙ set-set p.rights g (Clean (holding g q)) changed);
       metas_are = λ o. u.metas_are o ∙ t.metas_are o;
       domains_stay = u.domains_stay ∙ t.domains_stay;
-      key_stays = u.key_stays ∙ t.key_stays;
+      keys_stay = u.keys_stay ∙ t.keys_stay;
       reads_stay = u.reads_stay ∙ t.reads_stay;
     }
 

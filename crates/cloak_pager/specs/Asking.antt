@@ -8,6 +8,7 @@ use Rattle.cloak_base.specs.declared.names.PageId.{PageId}
 use Rattle.cloak_base.specs.Pages.{zero_page, with_page, is_of, page_in}
 use Rattle.cloak_base.specs.Random.{Random}
 use Rattle.cloak_model.specs.Chain.{cbc}
+use Rattle.cloak_model.specs.Ledger.{Keys, key_of}
 use Rattle.cloak_model.specs.Memory.{value_in, with_value_in}
 use Rattle.cloak_model.specs.Cloaking.{CloakedMemory, Offer, Ready as Accepted, Mismatch as Refused}
 use Rattle.cloak_model.specs.Cloaking.{settle, offer, owed_in, with_shown_frame}
@@ -105,7 +106,7 @@ with_restored q sealed plain m = record m {
 abbrev pub StandsRestored : PagerState → PagerState → PageId → Meta → Type 0
 StandsRestored old new q t =
     (wiped : PageId → Bool) (m : CloakedMemory) (sealed plain : List ℕ) → StandsForMemory old wiped m →
-    IsBytes 4096 plain → sealed ≡ cbc m.ledger.key t.iv plain → sha256 sealed ≡ t.digest →
+    IsBytes 4096 plain → sealed ≡ cbc (key_of m.ledger q) t.iv plain → sha256 sealed ≡ t.digest →
     StandsForMemory new wiped (with_restored q sealed plain m)
 
 -- Reading and writing. A call that answers nothing answers `tt`.
@@ -162,9 +163,9 @@ after_close wiped m = record { answer = tt; wiped = wiped; memory = m }
 
 -- Opening.
 
--- the memory of so many frames at first, under this key: nothing recorded, nothing owed, all zeros
-pub record IsBlank (frames : ℕ) (key : List ℕ) (m : CloakedMemory) : Type 0 where
-  pub key_is : m.ledger.key ≡ key
+-- the memory of so many frames at first, under these keys: nothing recorded, nothing owed, all zeros
+pub record IsBlank (frames : ℕ) (keys : Keys) (m : CloakedMemory) : Type 0 where
+  pub keys_are : m.ledger.keys ≡ keys
   pub ram : m.ram ≡ replicate frames zero_page
   pub owed : m.ledger.owed ≡ replicate frames None
   pub recorded : (q : PageId) → m.ledger.recorded q ≡ None
@@ -174,5 +175,5 @@ pub record IsBlank (frames : ℕ) (key : List ℕ) (m : CloakedMemory) : Type 0 
 abbrev pub none_wiped : PageId → Bool
 none_wiped q = false
 
-abbrev pub StandsBlank : ℕ → List ℕ → PagerState → Type 0
-StandsBlank frames key p = (m : CloakedMemory) → IsBlank frames key m → StandsForMemory p none_wiped m
+abbrev pub StandsBlank : ℕ → Keys → PagerState → Type 0
+StandsBlank frames keys p = (m : CloakedMemory) → IsBlank frames keys m → StandsForMemory p none_wiped m

@@ -8,7 +8,7 @@ use Rattle.cloak_model.specs.Chain.{cbc}
 use Rattle.cloak_model.specs.Cloaking.{CloakedMemory}
 use Rattle.cloak_model.specs.Memory.{value_in}
 use Rattle.protect_meta.specs.declared.meta.Meta.{Meta}
-use Rattle.cloak_pager.specs.State.{PagerState}
+use Rattle.cloak_pager.specs.State.{PagerState, key_for}
 use Rattle.cloak_pager.specs.Turns.{IsReadOnce}
 use Rattle.cloak_pager.specs.Relation.{StandsForMemory}
 use Rattle.cloak_pager.specs.Asking.{ToldCall, AskingCall, FollowsCall, FollowsCallStill, FollowsCallUnclashed, after_touch, shown_by}
@@ -61,15 +61,15 @@ abbrev pub KeepsRule : PagerState → Random → PagerState → Random → Askin
 KeepsRule old stream new left ask = FollowsCallStill old new tt ask × (left ≡ stream)
 
 -- The call did what its contract ensures of the rules of cloaking. The stream behind a call that takes none is the one
--- before it. Who restores a page owes what was sealed elsewhere: its bytes, sealed under the pager's key.
+-- before it. Who restores a page owes what was sealed elsewhere: its bytes, sealed under the page's key.
 abbrev pub KeptBy : PagerState → Random → PagerState → Random → (call : Call) → AnswerTo call → Type 0
 KeptBy old stream new left (Touch f) answer = FollowsCall old stream new left (shown_by answer f new) (after_touch f)
 KeptBy old stream new left (Offer q g write) answer =
     FollowsCallUnclashed old new (answer_of answer) (after_offer q g write) × (left ≡ stream)
 KeptBy old stream new left (Place q f bytes) answer = FollowsCall old stream new left answer (after_place q f bytes)
 KeptBy old stream new left (Restore q t sealed plain) answer =
-    StandsRestored old new q t × IsBytes 4096 plain × (sealed ≡ cbc old.key t.iv plain) × (sha256 sealed ≡ t.digest)
-    × (left ≡ stream)
+    StandsRestored old new q t × IsBytes 4096 plain × (sealed ≡ cbc (key_for old q) t.iv plain)
+    × (sha256 sealed ≡ t.digest) × (left ≡ stream)
 KeptBy old stream new left (ReadPlain q at width) answer =
     ReadsNewest old q at width answer × (new ≡ old) × (left ≡ stream)
 KeptBy old stream new left (WritePlain q x) answer = KeepsRule old stream new left (after_write_plain q x)

@@ -6,6 +6,7 @@ use Rattle.aes_block.specs.Bytes.{IsBytes}
 use Rattle.cloak_base.specs.declared.names.PageId.{PageId}
 use Rattle.cloak_base.specs.Random.{next_draw}
 use Rattle.cloak_model.specs.Chain.{cbc}
+use Rattle.cloak_model.specs.Ledger.{key_of}
 use Rattle.cloak_base.specs.Pages.{zero_page}
 use Rattle.cloak_model.specs.Cloaking.{CloakedMemory, owed_in}
 use Rattle.protect_meta.specs.declared.meta.Meta.{Meta}
@@ -25,7 +26,7 @@ pub record HoldsClean (p : PagerState) (lost : Bool) (m : CloakedMemory) (f : �
   pub shown : m.ledger.recorded q ≡ Some (slice_index_or m.ram f [])
   pub long : length (bytes_in p f) ≡ 4096
   pub sealed : (t : Meta) → meta_at p.table q ≡ Some t →
-      cbc m.ledger.key t.iv (bytes_in p f) ≡ slice_index_or m.ram f []
+      cbc (key_of m.ledger q) t.iv (bytes_in p f) ≡ slice_index_or m.ram f []
 
 -- what frame f holds under this right
 abbrev pub FrameStands : PagerState → (PageId → Bool) → CloakedMemory → ℕ → Held → Type 0
@@ -39,7 +40,7 @@ pub record IsRecorded (lost : Bool) (m : CloakedMemory) (q : PageId) (t : Meta) 
   pub bytes : List ℕ
   pub is : m.ledger.recorded q ≡ Some bytes
   pub digest : sha256 bytes ≡ t.digest
-  pub sealed : lost ≡ false → IsUnowed m q → bytes ≡ cbc m.ledger.key t.iv (m.plain q)
+  pub sealed : lost ≡ false → IsUnowed m q → bytes ≡ cbc (key_of m.ledger q) t.iv (m.plain q)
 
 -- what is so of page q, by its metadata: without any it was never shown, and is zeros until a frame is owed it
 abbrev pub PageStands : Bool → CloakedMemory → PageId → Option Meta → Type 0
@@ -50,7 +51,7 @@ PageStands lost m q (Some t) = IsRecorded lost m q t
 -- and no draw was left. Of these alone nothing is said that has to do with their newest bytes.
 pub record StandsForMemory (p : PagerState) (wiped : PageId → Bool) (m : CloakedMemory) : Type 0 where
   pub whole : IsWholePager p
-  pub key : m.ledger.key ≡ p.key
+  pub keys : m.ledger.keys ≡ p.keys
   -- each frame holds what it is to hold, and is owed a page exactly where it holds one changed
   pub count : length m.ram ≡ length p.frames
   pub frames : (f : ℕ) → f < length p.frames → FrameStands p wiped m f (right_at p f)

@@ -2,6 +2,7 @@
 use Rattle.std.specs.Prelude.{ℕ, ◌≡◌, ◌≢◌, ◌<◌, ◌≤◌, false, List, [], Option, Some, None, length, slice_index_or}
 use Rattle.cloak_base.specs.declared.names.PageId.{PageId}
 use Rattle.cloak_base.specs.Pages.{is_of}
+use Rattle.cloak_model.specs.Ledger.{Keys, key_in}
 use Rattle.protect_meta.specs.Pages.{IsIn}
 use Rattle.protect_meta.specs.Table.{Table, meta_at, domains_of}
 use Rattle.cloak_pager.specs.Homes.{HomeTable, home_at}
@@ -14,9 +15,13 @@ pub record PagerState : Type 0 where
   pub rights : List Held
   -- the metadata of the pages that were shown
   pub table : Table
-  pub key : List ℕ
+  pub keys : Keys
   -- how often an outside frame was read
   pub reads : ℕ
+
+-- the key under which a page is sealed: that of its domain
+abbrev pub key_for : PagerState → PageId → List ℕ
+key_for p q = key_in p.keys q
 
 -- the page that is held under a right
 abbrev pub page_of : Held → Option PageId

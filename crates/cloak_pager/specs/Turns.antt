@@ -8,11 +8,12 @@ use Rattle.cloak_base.specs.declared.names.PageId.{PageId}
 use Rattle.cloak_base.specs.Pages.{zero_page, with_page, with_resource, with_copied}
 use Rattle.cloak_base.specs.Random.{Random}
 use Rattle.cloak_model.specs.Chain.{cbc}
+use Rattle.cloak_model.specs.Ledger.{Keys}
 use Rattle.protect_meta.specs.declared.meta.Meta.{Meta}
 use Rattle.protect_meta.specs.Table.{meta_at, domains_of}
 use Rattle.frame_store.specs.Rights.{Holding}
 use Rattle.page_states.specs.Opening.{OpensTo}
-use Rattle.cloak_pager.specs.State.{PagerState, right_at, bytes_in, held_in}
+use Rattle.cloak_pager.specs.State.{PagerState, key_for, right_at, bytes_in, held_in}
 use Rattle.cloak_pager.specs.declared.held.Held.{Held}
 use Rattle.cloak_pager.specs.declared.held.Held.TheVariants.{Outside, Clean, Changed, Spent}
 use Rattle.cloak_pager.specs.declared.touching.Touched.{Touched}
@@ -20,7 +21,7 @@ use Rattle.cloak_pager.specs.declared.touching.Touched.TheVariants.{Quiet, Resea
 use Rattle.cloak_pager.specs.declared.offering.Offered.{Offered}
 use Rattle.cloak_pager.specs.declared.offering.Offered.TheVariants.{Ready, Mismatch}
 
--- The pager has these frames, these rights and this metadata now. The key, and how many domains there are and how
+-- The pager has these frames, these rights and this metadata now. The keys, and how many domains there are and how
 -- often frames were read, stay.
 pub record Turns (old new : PagerState) (frames : List (List ℕ)) (rights : List Held) (metas : PageId → Option Meta) :
     Type 0 where
@@ -28,14 +29,14 @@ pub record Turns (old new : PagerState) (frames : List (List ℕ)) (rights : Lis
   pub rights_are : new.rights ≡ rights
   pub metas_are : (o : PageId) → meta_at new.table o ≡ metas o
   pub domains_stay : domains_of new.table ≡ domains_of old.table
-  pub key_stays : new.key ≡ old.key
+  pub keys_stay : new.keys ≡ old.keys
   pub reads_stay : new.reads ≡ old.reads
 
 -- A call changed frame f at most: all other frames are as they were, and there are as many frames and domains.
 pub record StaysBut (f : ℕ) (old new : PagerState) : Type 0 where
   pub count : length new.frames ≡ length old.frames
   pub domains : domains_of new.table ≡ domains_of old.table
-  pub key : new.key ≡ old.key
+  pub keys : new.keys ≡ old.keys
   pub rights : (k : ℕ) → k ≢ f → right_at new k ≡ right_at old k
   pub bytes : (k : ℕ) → k ≢ f → bytes_in new k ≡ bytes_in old k
 
@@ -68,7 +69,7 @@ ShowsNow old new f bytes metas =
 abbrev pub IsResealed : PagerState → PagerState → ℕ → PageId → Type 0
 IsResealed old new f q =
     (t : Meta) × (meta_at old.table q ≡ Some t)
-    × ShowsNow old new f (cbc old.key t.iv (bytes_in old f)) (meta_at old.table)
+    × ShowsNow old new f (cbc (key_for old q) t.iv (bytes_in old f)) (meta_at old.table)
 
 -- the metadata of the pages, where page q was shown as these bytes under this IV
 abbrev pub metas_with : PagerState → PageId → List ℕ → List ℕ → PageId → Option Meta
@@ -76,7 +77,8 @@ metas_with p q iv bytes = with_page (meta_at p.table) q (Some (record { iv = iv;
 
 -- Frame f, held changed as page q, is sealed under this IV, and the page's metadata tells of that.
 abbrev pub IsSealed : PagerState → PagerState → ℕ → PageId → List ℕ → Type 0
-IsSealed old new f q iv = let c = cbc old.key iv (bytes_in old f) in ShowsNow old new f c (metas_with old q iv c)
+IsSealed old new f q iv =
+    let c = cbc (key_for old q) iv (bytes_in old f) in ShowsNow old new f c (metas_with old q iv c)
 
 -- Frame f shows zeros.
 abbrev pub IsWiped : PagerState → PagerState → ℕ → Type 0
@@ -133,7 +135,7 @@ HoldsNow old new q g write plain =
 -- what an offer in an outside frame makes of the pager, where the page was shown
 abbrev pub ShownTurns : Offered → Meta → Bool → PagerState → PagerState → PageId → ℕ → Type 0
 ShownTurns Ready t write old new q g =
-    OpensTo old.key t.iv (bytes_in old g) (λ plain. HoldsNow old new q g write plain)
+    OpensTo (key_for old q) t.iv (bytes_in old g) (λ plain. HoldsNow old new q g write plain)
 ShownTurns Mismatch t write old new q g = new ≡ old
 
 -- what an accepted offer makes of the pager
@@ -155,7 +157,7 @@ OfferedTurns Mismatch h shown write old new q g = new ≡ old
 -- Frame f shows these bytes of page q sealed under this IV, and the page's metadata tells of that.
 abbrev pub IsPlaced : PagerState → PagerState → PageId → ℕ → List ℕ → List ℕ → Type 0
 IsPlaced old new q f bytes iv =
-    let c = cbc old.key iv bytes in
+    let c = cbc (key_for old q) iv bytes in
     Turns old new (slice_set old.frames f c) old.rights (metas_with old q iv c)
 
 abbrev pub PlaceTurns :
@@ -204,7 +206,7 @@ CloseTurns Spent old new f = ⊥
 abbrev pub ShowsClosed : PagerState → ℕ → Held → List ℕ → Type 0
 ShowsClosed old f (Outside r) bytes = bytes ≡ bytes_in old f
 ShowsClosed old f (Clean r) bytes =
-    (t : Meta) × (meta_at old.table r.page ≡ Some t) × (bytes ≡ cbc old.key t.iv (bytes_in old f))
+    (t : Meta) × (meta_at old.table r.page ≡ Some t) × (bytes ≡ cbc (key_for old r.page) t.iv (bytes_in old f))
 ShowsClosed old f (Changed r) bytes = ⊥
 ShowsClosed old f Spent bytes = ⊥
 
@@ -216,17 +218,17 @@ pub record IsClosed (old new : PagerState) : Type 0 where
   pub bytes : (k : ℕ) → k < length old.frames → ShowsClosed old k (right_at old k) (bytes_in new k)
   pub metas_stay : (o : PageId) → meta_at new.table o ≡ meta_at old.table o
   pub domains_stay : domains_of new.table ≡ domains_of old.table
-  pub key_stays : new.key ≡ old.key
+  pub keys_stay : new.keys ≡ old.keys
   pub reads_stay : new.reads ≡ old.reads
 
 -- Opening.
 
 -- what a pager is at first
-pub record IsNewPager (frames domains : ℕ) (key : List ℕ) (p : PagerState) : Type 0 where
+pub record IsNewPager (frames domains : ℕ) (keys : Keys) (p : PagerState) : Type 0 where
   pub zeros : p.frames ≡ replicate frames zero_page
   pub count : length p.rights ≡ frames
   pub outside : (k : ℕ) → k < frames → right_at p k ≡ Outside (frame_numbered k)
   pub no_metas : (o : PageId) → meta_at p.table o ≡ None
   pub domains_are : domains_of p.table ≡ domains
-  pub key_is : p.key ≡ key
+  pub keys_are : p.keys ≡ keys
   pub no_reads : p.reads ≡ 0

@@ -1,8 +1,8 @@
 //! The pager: what each frame of RAM holds, and how a cloaked page comes into a frame and out of it.
 //!
 //! A frame is outside, or holds a cloaked page in plain text, unchanged or changed since it was last shown. The pager
-//! keeps the frames, the right of each, the metadata of the pages that were shown, its key and a count of the reads of
-//! outside frames; beside them only an index of where each page is. There is no second copy of a page, and no plain
+//! keeps the frames, the right of each, the metadata of the pages that were shown, the keys and a count of the reads
+//! of outside frames; beside them only an index of where each page is. There is no second copy of a page, and no plain
 //! byte outside the frames. No call takes memory after the opening.
 //!
 //! The layer above may rely on this: for every memory that the pager stands for (`StandsForMemory`), each call answers
@@ -11,6 +11,7 @@
 #![tactic(auto)]
 
 mod held;
+mod keys;
 mod law;
 mod moves;
 mod offering;

@@ -145,7 +145,7 @@ impl Pager {
         match &self.rights[f.0 as usize] {
             Held::Outside(right) => {
                 let mut page = *bytes;
-                seal_page(&self.key, iv, &mut page);
+                seal_page(self.keys.of(q), iv, &mut page);
                 let digest = Sha256::digest(page.as_slice());
                 *self.frames.outside_mut(right) = page;
                 self.table.set(q, Meta { iv: *iv, digest });
@@ -154,7 +154,7 @@ impl Pager {
         }
     }
 
-    /// Takes the metadata of a page that was sealed elsewhere under the same key.
+    /// Takes the metadata of a page that was sealed elsewhere under its key.
     pub fn restore(&mut self, q: PageId, m: Meta)
         requires page { IsIn (domains_of self.old.table) q }
         requires fresh { IsFresh self.old q }

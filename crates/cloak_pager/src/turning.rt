@@ -14,7 +14,7 @@ use std::mem;
 impl Pager {
     ghost use Rattle.protect_meta.specs.Pages.{IsIn};
     ghost use Rattle.protect_meta.specs.Table.{meta_at, domains_of};
-    ghost use Rattle.cloak_pager.specs.State.{right_at, held_in, owed_at, bytes_in};
+    ghost use Rattle.cloak_pager.specs.State.{key_for, right_at, held_in, owed_at, bytes_in};
     ghost use Rattle.page_states.specs.Opening.{OpensTo};
     ghost use Rattle.cloak_pager.specs.Turns.{IsClean, IsChanged, IsResealed, IsSealed, IsWiped, HoldsNow};
 
@@ -27,13 +27,14 @@ impl Pager {
     {
         match mem::replace(&mut self.rights[f.0 as usize], Held::Spent) {
             Held::Clean(right) => {
-                match self.table.get(right.page()) {
+                let page = right.page();
+                match self.table.get(page) {
                     Some(meta) => {
                         self.rights[f.0 as usize] = Held::Outside(reseal(
                             &mut self.frames,
                             right,
                             &meta,
-                            &self.key,
+                            self.keys.of(page),
                         ));
                     }
                     None => unreachable!(),
@@ -53,7 +54,7 @@ impl Pager {
         match mem::replace(&mut self.rights[f.0 as usize], Held::Spent) {
             Held::Changed(right) => {
                 let page = right.page();
-                let (right, meta) = seal(&mut self.frames, right, iv, &self.key);
+                let (right, meta) = seal(&mut self.frames, right, iv, self.keys.of(page));
                 self.table.set(page, meta);
                 self.rights[f.0 as usize] = Held::Outside(right);
             }
@@ -85,13 +86,13 @@ impl Pager {
         requires shown { meta_at self.old.table q ≡ Some m.now }
         ensures recorded { result ≡ true → sha256 (bytes_in self.old g.0) ≡ m.now.digest }
         ensures opened { result ≡ true →
-            OpensTo self.old.key m.now.iv (bytes_in self.old g.0) (HoldsNow self.old self.new q g.0 false) }
+            OpensTo (key_for self.old q) m.now.iv (bytes_in self.old g.0) (HoldsNow self.old self.new q g.0 false) }
         ensures clean { result ≡ true → IsClean (right_at self.new g.0) × (held_in self.new g.0 ≡ Some q) }
         ensures refused { result ≡ false → (sha256 (bytes_in self.old g.0) ≢ m.now.digest) × (self.new ≡ self.old) }
     {
         match mem::replace(&mut self.rights[g.0 as usize], Held::Spent) {
             Held::Outside(right) => {
-                match open_page(&mut self.frames, right, q, m, &self.key) {
+                match open_page(&mut self.frames, right, q, m, self.keys.of(q)) {
                     Ok(opened) => {
                         self.rights[g.0 as usize] = Held::Clean(opened);
                         self.homes.set(q, g);

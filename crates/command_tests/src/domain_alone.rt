@@ -2,6 +2,7 @@
 ghost use Rattle.std.specs.Prelude.{◌≡◌, ◌≤◌, length, IfOk};
 ghost use Rattle.cloak_model.specs.Bundle.{IsKernelImage, IsProgramIn};
 
+use crate::checks::{holds, same};
 use crate::code::code_of;
 use alone_views::DomainAlone;
 use cloak_base::{NoMemory, Start};
@@ -41,6 +42,7 @@ fn program(alloc: Global, code: &[u8]) -> Result<Program, NoMemory>
             entry: 0x8000_8000,
             sp: 0x8000_8100,
         },
+        key: 0,
         bytes: Sequence::new(bytes),
     })
 }
@@ -90,11 +92,15 @@ fn reports_the_line_of_the_run(rt: HostRuntime) -> Result<(), Fail> {
     let p = program(rt.alloc(), code.as_slice())?;
     let mut machine = DomainAlone::open(rt.alloc(), &k, 0, &p)?;
     for number in 1..15 {
-        assert!(rt; take_step(&mut machine, number), "step {number}");
+        holds(&rt, take_step(&mut machine, number), number);
     }
-    assert!(rt; machine.take(&Item::Close { steps: 14 }).is_ok());
+    holds(
+        &rt,
+        machine.take(&Item::Close { steps: 14 }).is_ok(),
+        "close",
+    );
     let mut sink = MemorySink::open(rt.alloc(), Vec::new(rt.alloc()));
-    assert!(rt; machine.report(&mut sink).is_ok());
-    assert_eq!(rt; sink.taken(), LINE.as_bytes());
+    holds(&rt, machine.report(&mut sink).is_ok(), "report");
+    same(&rt, &sink.taken(), &LINE.as_bytes(), "line");
     Ok(())
 }

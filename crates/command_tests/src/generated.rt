@@ -1,5 +1,6 @@
 //! The bundled kernel, the demo program, and the images of numbers.
 
+use crate::checks::same;
 use crate::code::assembled;
 use crate::demo_text::DEMO_TEXT;
 use crate::kernel_text::KERNEL_TEXT;
@@ -12,9 +13,9 @@ use std::test::*;
 #[test]
 fn the_texts_make_the_tables(rt: HostRuntime) -> Result<(), Fail> {
     let kernel = assembled(rt.alloc(), KERNEL_TEXT).ok_or("the kernel is assembled")?;
-    assert_eq!(rt; kernel.as_slice(), kernel_words());
+    same(&rt, &kernel.as_slice(), &kernel_words(), "kernel");
     let demo = assembled(rt.alloc(), DEMO_TEXT).ok_or("the demo program is assembled")?;
-    assert_eq!(rt; demo.as_slice(), demo_words());
+    same(&rt, &demo.as_slice(), &demo_words(), "demo program");
     Ok(())
 }
 
@@ -44,30 +45,30 @@ fn has_line(alloc: Global, n: u64, line: &str) -> Option<bool> {
 static IMAGES: [(u64, usize, &[u8], &str); 3] = [
     (
         0,
-        267_040,
+        267_044,
         &[34],
-        "gen 0 harts 1 programs 1 frames 256 bytes 267040\n",
+        "gen 0 harts 1 programs 1 frames 256 bytes 267044\n",
     ),
     (
         9,
-        275_280,
+        275_292,
         &[33, 57, 57],
-        "gen 9 harts 2 programs 3 frames 256 bytes 275280\n",
+        "gen 9 harts 2 programs 3 frames 256 bytes 275292\n",
     ),
     (
         15,
-        279_400,
+        279_416,
         &[35, 30, 57, 26],
-        "gen 15 harts 4 programs 4 frames 256 bytes 279400\n",
+        "gen 15 harts 4 programs 4 frames 256 bytes 279416\n",
     ),
 ];
 
 #[test]
 fn images_of_numbers(rt: HostRuntime) {
-    for (n, length, rounds, line) in IMAGES {
+    for &(n, length, rounds, line) in &IMAGES {
         let file = file_of(rt.alloc(), n);
-        assert_eq!(rt; file.map(|file| file.len()), Some(length), "{n}");
-        assert_eq!(rt; has_rounds(rt.alloc(), n, rounds), Some(true), "{n}");
-        assert_eq!(rt; has_line(rt.alloc(), n, line), Some(true), "{n}");
+        same(&rt, &file.map(|file| file.len()), &Some(length), n);
+        same(&rt, &has_rounds(rt.alloc(), n, rounds), &Some(true), n);
+        same(&rt, &has_line(rt.alloc(), n, line), &Some(true), n);
     }
 }

@@ -1,5 +1,6 @@
 //! Images of numbers, written and run.
 
+use crate::checks::same;
 use image_commands::{demo_command, gen_command};
 use outside_io::{MemoryShelf, MemorySink, Shelf};
 use program_parts::Status;
@@ -7,7 +8,7 @@ use std::alloc::Global;
 use std::test::*;
 
 /// The lines of `demo 9`. What its run comes to was computed by a program from elsewhere.
-const LINES_OF_NINE: &str = "gen 9 harts 2 programs 3 frames 256 bytes 275280
+const LINES_OF_NINE: &str = "gen 9 harts 2 programs 3 frames 256 bytes 275292
 stop halt 0
 steps 19687
 draws 49
@@ -35,15 +36,25 @@ fn generated(
 #[test]
 fn gen_writes_an_image_and_its_line(rt: HostRuntime) -> Result<(), Fail> {
     let alloc = rt.alloc();
-    let line = "gen 0 harts 1 programs 1 frames 256 bytes 267040\n";
+    let line = "gen 0 harts 1 programs 1 frames 256 bytes 267044\n";
     let none = Vec::new(alloc);
     let done = generated(alloc, 0, none, Vec::new(alloc), line);
-    assert_eq!(rt; done, (Status::Done, Some(267_040), true));
+    same(&rt, &done, &(Status::Done, Some(267_044), true), "done");
     // The calls are `begin`, `append` and `flush`.
     let no_begin = generated(alloc, 0, vec![in alloc; 1]?, Vec::new(alloc), "");
-    assert_eq!(rt; no_begin, (Status::WriteFault, Some(0), true));
+    same(
+        &rt,
+        &no_begin,
+        &(Status::WriteFault, Some(0), true),
+        "no begin",
+    );
     let no_line = generated(alloc, 0, Vec::new(alloc), vec![in alloc; 1]?, "");
-    assert_eq!(rt; no_line, (Status::WriteFault, Some(267_040), true));
+    same(
+        &rt,
+        &no_line,
+        &(Status::WriteFault, Some(267_044), true),
+        "no line",
+    );
     Ok(())
 }
 
@@ -51,6 +62,6 @@ fn gen_writes_an_image_and_its_line(rt: HostRuntime) -> Result<(), Fail> {
 fn demo_shows_what_a_run_comes_to(rt: HostRuntime) {
     let mut out = MemorySink::open(rt.alloc(), Vec::new(rt.alloc()));
     let status = demo_command(rt.alloc(), 9, 200_000, &mut out);
-    assert_eq!(rt; status, Status::Done);
-    assert_eq!(rt; out.taken(), LINES_OF_NINE.as_bytes());
+    same(&rt, &status, &Status::Done, "status");
+    same(&rt, &out.taken(), &LINES_OF_NINE.as_bytes(), "lines");
 }

@@ -2,6 +2,7 @@
 ghost use Rattle.std.specs.Prelude.{◌≤◌, length, IfOk};
 ghost use Rattle.cloak_model.specs.Bundle.{IsKernelImage};
 
+use crate::checks::{holds, same};
 use crate::code::code_of;
 use alone_views::{KernelAlone, Unfit};
 use cloak_base::NoMemory;
@@ -93,19 +94,35 @@ fn takes_the_smallest_run(rt: HostRuntime) -> Result<(), Fail> {
         others: 0,
     };
     for number in 1..5 {
-        assert_eq!(rt;
-            kernel.take(&Item::Step { number }, &mut e),
-            Ok(()),
-            "{number}"
+        same(
+            &rt,
+            &kernel.take(&Item::Step { number }, &mut e),
+            &Ok(()),
+            number,
         );
     }
-    assert_eq!(rt; kernel.take(&Item::Close { steps: 4 }, &mut e), Ok(()));
-    assert_eq!(rt; kernel.take(&Item::End, &mut e), Ok(()));
-    assert_eq!(rt; (e.last, e.shown, e.others), (65, 1, 0));
+    same(
+        &rt,
+        &kernel.take(&Item::Close { steps: 4 }, &mut e),
+        &Ok(()),
+        "close",
+    );
+    same(&rt, &kernel.take(&Item::End, &mut e), &Ok(()), "end");
+    same(&rt, &(e.last, e.shown, e.others), &(65, 1, 0), "pieces");
     let unfit = Err(Unfit { step: 4 });
-    assert_eq!(rt; kernel.take(&Item::Step { number: 5 }, &mut e), unfit);
+    same(
+        &rt,
+        &kernel.take(&Item::Step { number: 5 }, &mut e),
+        &unfit,
+        "a step after the halt",
+    );
     let mut out = MemorySink::open(rt.alloc(), Vec::new(rt.alloc()));
-    assert!(rt; kernel.report(&mut out).is_ok());
-    assert_eq!(rt; out.taken(), report(rt.alloc(), LINES, 17, 4)?.as_bytes());
+    holds(&rt, kernel.report(&mut out).is_ok(), "report");
+    same(
+        &rt,
+        &out.taken(),
+        &report(rt.alloc(), LINES, 17, 4)?.as_bytes(),
+        "lines",
+    );
     Ok(())
 }

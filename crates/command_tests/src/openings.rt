@@ -2,6 +2,7 @@
 ghost use Rattle.std.specs.Prelude.{◌≤◌, ◌+◌, IfOk};
 ghost use Rattle.cloak_model.specs.Bundle.{IsInGrammar, IsProgramIn};
 
+use crate::checks::{holds, same};
 use cloak_base::{NoMemory, Start};
 use cloak_model::{Bundle, Emit, Item, KernelImage, Program, Sequence};
 use joint_machine::{Joint, placings_of};
@@ -46,6 +47,7 @@ fn program(alloc: Global, place: u32) -> Result<Program, NoMemory>
             entry: 0x8000,
             sp: 0x9000,
         },
+        key: 0,
         bytes: Sequence::new(bytes),
     })
 }
@@ -81,12 +83,12 @@ fn shows_each_frame_once(rt: HostRuntime) -> Result<(), Fail> {
     let Bundle { kernel, programs } = image(rt.alloc())?;
     let placings = placings_of(programs.as_slice());
     let opened = Joint::open(rt.alloc(), kernel, programs, Stream::numbered(0));
-    assert!(rt; opened.is_ok());
+    holds(&rt, opened.is_ok(), "open");
     if let Ok(mut joint) = opened {
         joint.show_opening(placings.as_slice(), &mut e);
-        assert_eq!(rt; (e.frames, e.others), (789, 0));
+        same(&rt, &(e.frames, e.others), &(789, 0), "opening");
         joint.close(&mut e);
-        assert_eq!(rt; (e.frames, e.others), (789, 0));
+        same(&rt, &(e.frames, e.others), &(789, 0), "closing");
     }
     Ok(())
 }

@@ -1,5 +1,6 @@
 //! Words, and what they ask for.
 
+use crate::checks::same;
 use cloak_base::NoMemory;
 use command_words::{
     Randomness, Request, RunRequest, SoloRequest, StatsRequest, UsageFault, read_words,
@@ -61,6 +62,9 @@ fn text_of(alloc: Global, request: &Request<'_>) -> Result<String, AllocError> {
         Request::Gen(image) => format!(in alloc; "gen {} {}", image.number, image.bundle),
         Request::Demo(demo) => format!(in alloc; "demo {} {}", demo.number, demo.steps),
         Request::Stats(stats) => stats_text(alloc, stats),
+        Request::Upgrade(upgrade) => {
+            format!(in alloc; "upgrade {} {}", upgrade.old_name, upgrade.new_name)
+        }
     }
 }
 
@@ -72,13 +76,16 @@ fn shown(alloc: Global, line: &[&str]) -> Result<String, NoMemory> {
 }
 
 /// Words, and what they ask for by the rules of the words.
-static LINES: [(&[&str], &str); 51] = [
+static LINES: [(&[&str], &str); 54] = [
     (&[], "no command"),
     (&["stats", "a.b"], "words"),
+    (&["upgrade", "a.b"], "words"),
+    (&["upgrade", "a.b", "b.b", "--steps=1"], "words"),
+    (&["upgrade", "a.b", "--", "-b"], "upgrade a.b -b"),
     (&["walk"], "unknown command"),
     (&["Run", "a.b", "a.r"], "unknown command"),
     (&["--steps", "10"], "unknown command"),
-    // Options stand before, between and behind the positions.
+    // Options stand before, between and after the positions.
     (
         &["run", "--number=0", "--steps=10", "a.b", "a.r"],
         "run a.b a.r 10 number 0",
@@ -265,11 +272,10 @@ static LINES: [(&[&str], &str); 51] = [
 
 #[test]
 fn lines_as_they_are_read(rt: HostRuntime) -> Result<(), Fail> {
-    for (line, want) in LINES {
+    for &(line, want) in &LINES {
         let text = shown(rt.alloc(), line).ok().ok_or("no memory")?;
-        let found = text.as_str();
-        let command = line.first();
-        assert_eq!(rt; found, want, "{command:?}: {found}");
+        let command = *line.first().unwrap_or(&"");
+        same(&rt, &text.as_str(), &want, command);
     }
     Ok(())
 }

@@ -43,6 +43,8 @@ pub data Asked : Type 0 where
   Demo : (number steps : ℕ) → Asked
   -- the counts of the joint run of a bundle, with its budget of steps and its randomness
   Stats : (bundle : List ℕ) → (steps : ℕ) → Randomness → Asked
+  -- the bundle of a file, written in version 2 to a file, which may be the same
+  Upgrade : (old_name new_name : List ℕ) → Asked
 
 -- the word is this text
 abbrev pub is : List ℕ → List ℕ → Bool
@@ -122,6 +124,7 @@ asked_with name.Demo rows =
 asked_with name.Stats rows =
     run_of_texts (needed_text (codes "BUNDLE") rows) None
     (needed_text (codes "steps") rows) (first_of (codes "stream") rows) (first_of (codes "number") rows)
+asked_with name.Upgrade rows = Upgrade (needed_text (codes "OLD") rows) (needed_text (codes "NEW") rows)
 
 -- the command of this name
 abbrev pub command_named : List ℕ → Option CommandName
@@ -131,7 +134,8 @@ command_named w =
     if is (codes "solo") w then Some name.Solo else
     if is (codes "gen") w then Some name.Gen else
     if is (codes "demo") w then Some name.Demo else
-    if is (codes "stats") w then Some name.Stats else None
+    if is (codes "stats") w then Some name.Stats else
+    if is (codes "upgrade") w then Some name.Upgrade else None
 
 -- the texts that a command finds in the words, where it refuses nothing
 abbrev pub unless_refused : Kinds → List Row → Option (List Row)

@@ -1,7 +1,7 @@
 -- What a request stands for.
 use Rattle.command_words.specs.Command as spec
 use Rattle.command_words.specs.declared.request.Request.{Request}
-use Rattle.command_words.specs.declared.request.Request.TheVariants.{Faulty, Run, View, Solo, Gen, Demo, Stats}
+use Rattle.command_words.specs.declared.request.Request.TheVariants.{Faulty, Run, View, Solo, Gen, Demo, Stats, Upgrade}
 use Rattle.command_words.specs.declared.run_request.Randomness.{Randomness}
 use Rattle.command_words.specs.declared.run_request.Randomness.TheVariants.{Numbered, FromFile}
 use Rattle.command_words.specs.declared.run_request.RunRequest.{RunRequest}
@@ -10,6 +10,7 @@ use Rattle.command_words.specs.declared.record_request.RecordRequest.{RecordRequ
 use Rattle.command_words.specs.declared.record_request.SoloRequest.{SoloRequest}
 use Rattle.command_words.specs.declared.generated_request.GenRequest.{GenRequest}
 use Rattle.command_words.specs.declared.generated_request.DemoRequest.{DemoRequest}
+use Rattle.command_words.specs.declared.upgrade_request.UpgradeRequest.{UpgradeRequest}
 
 abbrev pub randomness_of : Randomness → spec.Randomness
 randomness_of (Numbered number) = spec.Numbered number
@@ -33,6 +34,9 @@ asked_of_demo demo = spec.Demo demo.number demo.steps
 abbrev pub asked_of_stats : StatsRequest → spec.Asked
 asked_of_stats stats = spec.Stats stats.bundle.now stats.steps (randomness_of stats.randomness)
 
+abbrev pub asked_of_upgrade : UpgradeRequest → spec.Asked
+asked_of_upgrade upgrade = spec.Upgrade upgrade.old_name.now upgrade.new_name.now
+
 abbrev pub asked_of : Request → spec.Asked
 asked_of (Faulty fault) = spec.Faulty fault
 asked_of (Run run) = asked_of_run run
@@ -41,3 +45,4 @@ asked_of (Solo solo) = asked_of_solo solo
 asked_of (Gen generated) = asked_of_gen generated
 asked_of (Demo demo) = asked_of_demo demo
 asked_of (Stats stats) = asked_of_stats stats
+asked_of (Upgrade upgrade) = asked_of_upgrade upgrade

@@ -8,4 +8,5 @@ pub enum CommandName {
     Gen,
     Demo,
     Stats,
+    Upgrade,
 }

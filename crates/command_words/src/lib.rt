@@ -12,10 +12,12 @@ mod number;
 mod record_request;
 mod request;
 mod run_request;
+mod upgrade_request;
 mod usage_fault;
 
 pub use generated_request::{DemoRequest, GenRequest};
 pub use record_request::{RecordRequest, SoloRequest};
 pub use request::{Request, read_words};
 pub use run_request::{Randomness, RunRequest, StatsRequest};
+pub use upgrade_request::UpgradeRequest;
 pub use usage_fault::UsageFault;

@@ -12,6 +12,7 @@ use crate::generated_request::{DemoRequest, GenRequest};
 use crate::number::number_up_to;
 use crate::record_request::{RecordRequest, SoloRequest};
 use crate::run_request::{Randomness, RunRequest, StatsRequest};
+use crate::upgrade_request::UpgradeRequest;
 use crate::usage_fault::UsageFault;
 use clap::ArgMatches;
 use cloak_base::NoMemory;
@@ -33,6 +34,7 @@ pub enum Request<'a> {
     Gen(GenRequest<'a>),
     Demo(DemoRequest),
     Stats(StatsRequest<'a>),
+    Upgrade(UpgradeRequest<'a>),
 }
 
 /// A run with its record, or with none.
@@ -186,6 +188,10 @@ fn asked_with<'a>(command: CommandName, matches: &ArgMatches<'a>) -> Request<'a>
             given_text(matches, "stream"),
             given_text(matches, "number"),
         ),
+        CommandName::Upgrade => Request::Upgrade(UpgradeRequest {
+            old_name: needed_text(matches, "OLD"),
+            new_name: needed_text(matches, "NEW"),
+        }),
     }
 }
 
@@ -200,6 +206,7 @@ fn command_named(word: &str) -> Option<CommandName>
         "gen" => Some(CommandName::Gen),
         "demo" => Some(CommandName::Demo),
         "stats" => Some(CommandName::Stats),
+        "upgrade" => Some(CommandName::Upgrade),
         _ => None,
     }
 }

@@ -12,7 +12,7 @@ gens_are_complete S O n name status.Done before after given nothing = inr (recor
 gens_are_complete S O n name status.WriteFault before after (inl given) nothing =
     absurd (never_rose _ _ nothing.writing given.file.writing)
 gens_are_complete S O n name status.WriteFault before after (inr (inl given)) nothing =
-    absurd (never_rose _ _ nothing.faults given.line.faults)
+    absurd (never_rose _ _ nothing.faults given.line_cut.faults)
 gens_are_complete S O n name status.WriteFault before after (inr (inr given)) nothing =
     absurd (never_rose _ _ nothing.faults given.line.faults)
 gens_are_complete S O n name status.NoMemory before after given nothing = inl (record {

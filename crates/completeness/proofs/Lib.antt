@@ -4,4 +4,5 @@ pub mod Runs
 pub mod Views
 pub mod Images
 pub mod Stats
+pub mod Upgrades
 pub mod ReadingBack

@@ -186,7 +186,7 @@ refused {S} {O} asked name b answer before after refusal.NoPageDraw named right 
 refused {S} {O} asked name b answer before after refusal.NoSuchDomain named right has lacks file nothing cause is line =
     absurd (has cause)
 
-by_refusal : {S O : Type 0} (asked : spec.Asked) (name : List ℕ) (b : Bundle) (answer : Status)
+pub by_refusal : {S O : Type 0} (asked : spec.Asked) (name : List ℕ) (b : Bundle) (answer : Status)
     (before after : Outside S O) → bundle_named asked ≡ Some name →
     ((fault : UsageFault) → asked ≡ spec.Faulty fault → ⊥) →
     (IsNoSuchDomain asked before.files after.files → ⊥) → ((lack : Lack) → IsLack asked lack before.files after.files → ⊥) →

@@ -6,6 +6,7 @@ use Rattle.program_parts.specs.Outside.{Outside, NothingRose}
 use Rattle.completeness.specs.Images.{CompletesDemo, CompletesGen}
 use Rattle.completeness.specs.Runs.{CompletesRun}
 use Rattle.completeness.specs.Stats.{CompletesStats}
+use Rattle.completeness.specs.Upgrades.{CompletesUpgrade}
 use Rattle.completeness.specs.Views.{CompletesSolo, CompletesView}
 
 -- By what the words ask for: faulty ones are refused with their line.
@@ -21,3 +22,5 @@ IsComplete (spec.Gen number bundle_name) answer before after = CompletesGen numb
 IsComplete (spec.Demo number steps) answer before after = CompletesDemo number steps answer before.output after.output
 IsComplete (spec.Stats bundle steps randomness) answer before after =
     CompletesStats bundle steps randomness answer before after
+IsComplete (spec.Upgrade old_name new_name) answer before after =
+    CompletesUpgrade old_name new_name answer before after

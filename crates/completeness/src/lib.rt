@@ -13,6 +13,7 @@ ghost use Rattle.completeness.specs.Stats.{StatsAreComplete};
 ghost use Rattle.completeness.specs.Views.{SolosAreComplete, ViewsAreComplete};
 ghost use Rattle.completeness.specs.ReadingBack.{RunsAreSoloed, RunsAreViewed};
 ghost use Rattle.completeness.specs.Images.{DemosAreComplete, GensAreComplete};
+ghost use Rattle.completeness.specs.Upgrades.{UpgradesAreComplete};
 
 use outside_io::{Shelf, Sink};
 
@@ -33,11 +34,12 @@ pub fn law_of_complete_views<S: Shelf, O: Sink>()
     ensures solos { SolosAreComplete S O }
 {}
 
-/// Where no call fails, `gen` writes its image, and `demo` comes to what the joint run of its image says. It does nothing:
-/// its contract is the law.
+/// Where no call fails, `gen` writes its image, `demo` comes to what the joint run of its image says, and `upgrade` writes
+/// version 2 of its bundle, or that is too large. It does nothing: its contract is the law.
 pub fn law_of_complete_images<S: Shelf, O: Sink>()
     ensures gens { GensAreComplete S O }
     ensures demos { DemosAreComplete O }
+    ensures upgrades { UpgradesAreComplete S O }
 {}
 
 /// `view` and `solo` of the record that a run wrote show the lines of that run. It does nothing: its contract is the law.

@@ -3,7 +3,7 @@ use Rattle.std.proofs.Common.{◌≡◌, ◌≢◌, ◌∙◌, inl, inr, ◌+◌
 use mathlib.Core.Path.{fun_ext}
 use Rattle.std.specs.Prelude.{◌&&◌, ◌||◌, ◌==◌, option_and_then, slice_get, slice_index_or}
 use Rattle.std.proofs.lemmas.Bool.{cases_lt, false≢true}
-use Rattle.cloak_base.specs.Random.{Random, next_draw}
+use Rattle.cloak_base.specs.Random.{Random}
 use Rattle.cloak_base.specs.Pages.{zero_page, same_page, with_page}
 use Rattle.cloak_base.specs.declared.names.PageId.{PageId}
 use Rattle.cloak_base.specs.declared.names.Start.{Start}
@@ -11,7 +11,7 @@ use Rattle.cloak_model.specs.declared.image.Bundle.{Bundle}
 use Rattle.cloak_model.specs.declared.image.Program.{Program}
 use Rattle.cloak_model.specs.declared.item.Item.TheVariants.{Cipher}
 use Rattle.cloak_model.specs.Hart.{Hart, started}
-use Rattle.cloak_model.specs.Ledger.{vector_of}
+use Rattle.cloak_model.specs.Ledger.{Keys, vector_of}
 use Rattle.cloak_model.specs.Halves.{inward_half}
 use Rattle.cloak_model.specs.Cloaking.{CloakedMemory, settle}
 use Rattle.cloak_model.specs.PageMoves.{place, place_with}
@@ -19,7 +19,7 @@ use Rattle.cloak_model.specs.World.{Cloak}
 use Rattle.cloak_model.specs.Contexts.{Context, started_contexts, new_context}
 use Rattle.cloak_model.specs.DomainState.{Domain, started_control, started_domain}
 use Rattle.cloak_model.specs.Parts.{Joint, DomainPart, domain_pages}
-use Rattle.cloak_model.specs.Opening.{started_harts, started_kernel, started_memory, started_domains, started_joint, program_page, numbers_below, is_placed, place_pages, place_programs, opening_items, Opened, opened_with, opened_by, opening}
+use Rattle.cloak_model.specs.Opening.{key_count, drawn_keys, keys_for, started_harts, started_kernel, started_memory, started_domains, started_joint, program_page, numbers_below, is_placed, place_pages, place_programs, opening_items, Opened, opened_with, opened_by, opening}
 use Rattle.cloak_model.specs.Joint.{hart_in, cloak_outside}
 use Rattle.cloak_model.specs.Run.{settled_below, closing}
 use Rattle.cloak_model.specs.DomainAlone.{started_page, is_hart}
@@ -247,10 +247,10 @@ harts_counted entry (suc n) =
 
 -- a run is opened so
 pub record IsOpened (b : Bundle) (o : Opened) : Type 0 where
-  pub key : List ℕ
+  pub keys : Keys
   pub stream : Random
   pub memory : CloakedMemory
-  pub placed : place_programs 0 b.programs (started_memory b.kernel key stream) ≡ Some memory
+  pub placed : place_programs 0 b.programs (started_memory b.kernel keys stream) ≡ Some memory
   pub joint : o.joint ≡ started_joint b memory
   pub items : o.items ≡ opening_items b.programs memory.ram
 
@@ -258,15 +258,15 @@ ok_value : {A E : Type 0} → A → Result A E → A
 ok_value d (Ok a) = a
 ok_value d (Err e) = d
 
-opened_of : (b : Bundle) (key : List ℕ) (stream : Random) (memory : Option CloakedMemory) (o : Opened) →
-    place_programs 0 b.programs (started_memory b.kernel key stream) ≡ memory → opened_with b memory ≡ Ok o →
+opened_of : (b : Bundle) (keys : Keys) (stream : Random) (memory : Option CloakedMemory) (o : Opened) →
+    place_programs 0 b.programs (started_memory b.kernel keys stream) ≡ memory → opened_with b memory ≡ Ok o →
     IsOpened b o
 unfolding opened_with ok_value
-opened_of b key stream None o is made = absurd cc
-opened_of b key stream (Some m) o is made =
+opened_of b keys stream None o is made = absurd cc
+opened_of b keys stream (Some m) o is made =
     let it = ap (ok_value o) made in
     record {
-      key = key;
+      keys = keys;
       stream = stream;
       memory = m;
       placed = is;
@@ -275,14 +275,16 @@ opened_of b key stream (Some m) o is made =
       items = ap (λ (x : Opened). x.items) (sym it);
     }
 
-opened_from : (b : Bundle) (draw : Option (List ℕ × Random)) (o : Opened) → opened_by b draw ≡ Ok o → IsOpened b o
+opened_from : (b : Bundle) (draw : Option (List (List ℕ) × Random)) (o : Opened) → opened_by b draw ≡ Ok o →
+    IsOpened b o
 unfolding opened_by
 opened_from b None o made = absurd cc
 opened_from b (Some draw) o made =
-    opened_of b draw.0 draw.1 (place_programs 0 b.programs (started_memory b.kernel draw.0 draw.1)) o refl made
+    let keys = keys_for b.programs draw.0 in
+    opened_of b keys draw.1 (place_programs 0 b.programs (started_memory b.kernel keys draw.1)) o refl made
 
 pub is_opened : (b : Bundle) (stream : Random) (o : Opened) → opening b stream ≡ Ok o → IsOpened b o
-is_opened b stream o made = opened_from b (next_draw stream) o made
+is_opened b stream o made = opened_from b (drawn_keys (key_count b.programs) stream) o made
 
 -- the part of a program as it begins
 abbrev pub started_part : ℕ → Program → DomainPart
@@ -311,10 +313,10 @@ opened_order b o opened =
           absurd (false≢true (sym ((domains_idle 0 d b.programs domain found).idle hart slot) ∙ on));
     })
 
-opened_zeros : (b : Bundle) (key : List ℕ) (stream : Random) (e : ℕ) →
-    domain_pages e (started_memory b.kernel key stream).plain ≡ (λ resource page. zero_page)
+opened_zeros : (b : Bundle) (keys : Keys) (stream : Random) (e : ℕ) →
+    domain_pages e (started_memory b.kernel keys stream).plain ≡ (λ resource page. zero_page)
 unfolding started_memory
-opened_zeros b key stream e = refl
+opened_zeros b keys stream e = refl
 
 pub opened_has : (b : Bundle) (o : Opened) (d : ℕ) (p : Program) → IsOpened b o → slice_get b.programs d ≡ Some p →
     HoldsPart d o.joint (started_part d p)
@@ -327,7 +329,7 @@ opened_has b o d p opened found =
       plain =
           ap (λ (e : ℕ). domain_pages e opened.memory.plain) (sym same)
           ∙ programs_placed 0 d b.programs p _ opened.memory opened.placed found
-          (λ e more. opened_zeros b opened.key opened.stream e);
+          (λ e more. opened_zeros b opened.keys opened.stream e);
     })
 
 -- The closing.

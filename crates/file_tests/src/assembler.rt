@@ -1,6 +1,9 @@
 //! Texts, and what another assembler makes of them.
 
+use crate::checks::same;
 use rv_asm::{AsmFault, assemble};
+use std::alloc::{AllocError, Global};
+use std::process::Abort;
 use std::test::*;
 
 /// One line of every mnemonic and what clang 14 (`--target=riscv32 -march=rv32im`) makes of it, between the
@@ -168,42 +171,49 @@ static FAULTY: [(&str, AsmFault); 51] = [
 ];
 
 /// What the assembler makes of a text, all of which here are short.
-fn words_of(rt: &HostRuntime, text: &str) -> Result<Vec<u32>, AsmFault> {
+fn words_of(alloc: Global, text: &str) -> Result<Vec<u32>, AsmFault> {
     if text.len() >= 1 << 32 {
         return Err(AsmFault::NoMemory);
     }
-    assemble(rt.alloc(), text)
+    assemble(alloc, text)
+}
+
+/// The lines of the listing between its labels.
+fn listing(alloc: Global) -> Result<String, AllocError> {
+    let mut text = String::from_str(alloc, "start:\n")?;
+    for (line, _) in &LISTING {
+        text.push_str(line)?;
+        text.push_str("\n")?;
+    }
+    text.push_str("end:")?;
+    Ok(text)
 }
 
 #[test]
 fn assembles_as_another_assembler(rt: HostRuntime) -> Result<(), Fail> {
-    let mut text = String::from_str(rt.alloc(), "start:\n")
-        .ok()
-        .ok_or("memory")?;
-    for (line, _) in &LISTING {
-        text.push_str(line).ok().ok_or("memory")?;
-        text.push_str("\n").ok().ok_or("memory")?;
-    }
-    text.push_str("end:").ok().ok_or("memory")?;
-    let words = words_of(&rt, text.as_str())
-        .ok()
-        .ok_or("the text has no fault")?;
-    assert_eq!(rt; words.len(), LISTING.len());
+    let text = listing(rt.alloc())?;
+    let words = words_of(rt.alloc(), text.as_str())?;
+    same(&rt, &words.len(), &LISTING.len(), "words of the listing");
     for (word, (line, expected)) in words.iter().zip(&LISTING) {
-        assert_eq!(rt; *word, *expected, "{line}");
+        same(&rt, word, expected, *line);
     }
+    Ok(())
+}
+
+/// A text is assembled to these words.
+fn assembles(rt: &impl Abort, alloc: Global, text: &str, expected: &[u32]) -> Result<(), Fail> {
+    let words = words_of(alloc, text)?;
+    same(rt, &words.as_slice(), &expected, text);
     Ok(())
 }
 
 #[test]
 fn assembles_other_lines(rt: HostRuntime) -> Result<(), Fail> {
     for (text, expected) in &LINES {
-        let words = words_of(&rt, text).ok().ok_or("the text has no fault")?;
-        assert_eq!(rt; words.as_slice(), [*expected].as_slice(), "{text}");
+        assembles(&rt, rt.alloc(), text, &[*expected])?;
     }
     for (text, expected) in &NUMBERS {
-        let words = words_of(&rt, text).ok().ok_or("the text has no fault")?;
-        assert_eq!(rt; words.as_slice(), expected.as_slice(), "{text}");
+        assembles(&rt, rt.alloc(), text, expected)?;
     }
     Ok(())
 }
@@ -211,17 +221,17 @@ fn assembles_other_lines(rt: HostRuntime) -> Result<(), Fail> {
 #[test]
 fn names_the_first_fault(rt: HostRuntime) {
     for (text, fault) in &FAULTY {
-        assert_eq!(rt; words_of(&rt, text).err(), Some(*fault), "{text}");
+        same(&rt, &words_of(rt.alloc(), text).err(), &Some(*fault), *text);
     }
 }
 
 /// Lines, over and over, between others.
-fn long(rt: &HostRuntime, first: &str, count: u32, last: &str) -> Result<String, Fail> {
-    let mut text = String::from_str(rt.alloc(), first).ok().ok_or("memory")?;
+fn long(alloc: Global, first: &str, count: u32, last: &str) -> Result<String, AllocError> {
+    let mut text = String::from_str(alloc, first)?;
     for _ in 0..count {
-        text.push_str("wfi\n").ok().ok_or("memory")?;
+        text.push_str("wfi\n")?;
     }
-    text.push_str(last).ok().ok_or("memory")?;
+    text.push_str(last)?;
     Ok(text)
 }
 
@@ -238,12 +248,10 @@ static REACHING: [(&str, u32, &str, usize, u32); 6] = [
 
 #[test]
 fn reaches_so_far(rt: HostRuntime) -> Result<(), Fail> {
-    for (first, count, last, place, word) in REACHING {
-        let text = long(&rt, first, count, last)?;
-        let words = words_of(&rt, text.as_str())
-            .ok()
-            .ok_or("it reaches so far")?;
-        assert_eq!(rt; words.get(place).copied(), Some(word), "{first}");
+    for &(first, count, last, place, word) in &REACHING {
+        let text = long(rt.alloc(), first, count, last)?;
+        let words = words_of(rt.alloc(), text.as_str())?;
+        same(&rt, &words.get(place).copied(), &Some(word), first);
     }
     Ok(())
 }
@@ -257,26 +265,31 @@ static TOO_FAR: [(&str, u32, &str, u32); 2] = [
 #[test]
 fn reaches_no_further(rt: HostRuntime) -> Result<(), Fail> {
     for (first, count, last, line) in TOO_FAR {
-        let text = long(&rt, first, count, last)?;
-        let fault = words_of(&rt, text.as_str()).err();
-        assert_eq!(rt; fault, Some(AsmFault::OutOfReach(line)), "{first}");
+        let text = long(rt.alloc(), first, count, last)?;
+        let fault = words_of(rt.alloc(), text.as_str()).err();
+        same(&rt, &fault, &Some(AsmFault::OutOfReach(line)), first);
     }
     Ok(())
 }
 
 #[test]
 fn takes_so_many_words(rt: HostRuntime) -> Result<(), Fail> {
-    let most = long(&rt, "", 65_536, "")?;
-    let words = words_of(&rt, most.as_str())
-        .ok()
-        .ok_or("65,536 words are taken")?;
-    assert_eq!(rt; words.len(), 65_536);
-    let more = long(&rt, "", 65_537, "")?;
-    assert_eq!(rt; words_of(&rt, more.as_str()).err(), Some(AsmFault::TooLong));
-    let faulty = long(&rt, "", 65_537, "nop")?;
-    assert_eq!(rt;
-        words_of(&rt, faulty.as_str()).err(),
-        Some(AsmFault::UnknownWord(65_538))
+    let most = long(rt.alloc(), "", 65_536, "")?;
+    let words = words_of(rt.alloc(), most.as_str())?;
+    same(&rt, &words.len(), &65_536, "words");
+    let more = long(rt.alloc(), "", 65_537, "")?;
+    same(
+        &rt,
+        &words_of(rt.alloc(), more.as_str()).err(),
+        &Some(AsmFault::TooLong),
+        "a word more",
+    );
+    let faulty = long(rt.alloc(), "", 65_537, "nop")?;
+    same(
+        &rt,
+        &words_of(rt.alloc(), faulty.as_str()).err(),
+        &Some(AsmFault::UnknownWord(65_538)),
+        "a fault after them",
     );
     Ok(())
 }

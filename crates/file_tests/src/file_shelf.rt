@@ -1,5 +1,6 @@
 //! Files of the system, by turns, ahead, and with faults.
 
+use crate::checks::{holds, same};
 use cloak_base::Failed;
 use outside_io::{FileShelf, Shelf};
 use std::fs;
@@ -16,9 +17,9 @@ fn appended_pieces_stand_in_their_files(rt: HostRuntime) -> Result<(), Fail> {
     for (name, piece) in [(a, "hello"), (b, "two"), (a, ", "), (a, "world")] {
         shelf.append(name, piece.as_bytes())?;
     }
-    assert_eq!(rt; shelf.size(b), Ok(3));
+    same(&rt, &shelf.size(b), &Ok(3), "size");
     for (name, text) in [(a, "hello, world"), (b, "two")] {
-        assert_eq!(rt; fs::read_to_string(&rt, name)?.as_str(), text);
+        same(&rt, &fs::read_to_string(&rt, name)?.as_str(), &text, name);
         fs::remove_file(&rt, name)?;
     }
     Ok(())
@@ -54,8 +55,12 @@ fn pieces_that_are_read_follow_one_another(rt: HostRuntime) -> Result<(), Fail> 
     for length in [999, 65_536, 70_000] {
         let mut piece = vec![in rt.alloc(); 0u8; length]?;
         let mut seen = Vec::new(rt.alloc());
-        assert!(rt; read_in_pieces(&mut shelf, name, &mut piece, &mut seen));
-        assert!(rt; seen.as_slice() == bytes.as_slice());
+        holds(
+            &rt,
+            read_in_pieces(&mut shelf, name, &mut piece, &mut seen),
+            length,
+        );
+        holds(&rt, seen.as_slice() == bytes.as_slice(), length);
     }
     fs::remove_file(&rt, name)?;
     Ok(())
@@ -81,8 +86,8 @@ fn what_was_read_ahead_is_forgotten(rt: HostRuntime) -> Result<(), Fail> {
     let name = "file_shelf_test_ahead.bytes";
     let mut shelf = FileShelf::open(rt.clone()?)?;
     for (other, text) in [(name, "old"), ("./file_shelf_test_ahead.bytes", "new!")] {
-        assert!(rt; is_put(&mut shelf, other, text), "{text}");
-        assert!(rt; is_read(&mut shelf, name, text), "{text}");
+        holds(&rt, is_put(&mut shelf, other, text), text);
+        holds(&rt, is_read(&mut shelf, name, text), text);
     }
     fs::remove_file(&rt, name)?;
     Ok(())
@@ -152,8 +157,8 @@ static CALLS: [(Call, &str, Option<u64>); 17] = [
 #[test]
 fn faults_are_answered(rt: HostRuntime) -> Result<(), Fail> {
     let mut shelf = FileShelf::open(rt.clone()?)?;
-    for (call, name, answered) in CALLS {
-        assert_eq!(rt; answer(&mut shelf, call, name), answered, "{name}");
+    for &(call, name, answered) in &CALLS {
+        same(&rt, &answer(&mut shelf, call, name), &answered, name);
     }
     Ok(())
 }

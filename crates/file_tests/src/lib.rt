@@ -7,6 +7,8 @@ mod assembler;
 #[cfg(test)]
 mod bundles;
 #[cfg(test)]
+mod checks;
+#[cfg(test)]
 mod file_shelf;
 #[cfg(test)]
 mod memory_shelf;

@@ -1,5 +1,6 @@
 //! Files in memory.
 
+use crate::checks::same;
 use outside_io::{MemoryShelf, Shelf};
 use std::test::Fail;
 
@@ -13,10 +14,15 @@ fn files_take_their_pieces(rt: HostRuntime) -> Result<(), Fail> {
         .iter()
         .enumerate()
     {
-        assert_eq!(rt; shelf.append(name, piece.as_bytes()).is_ok(), call < 3);
+        same(
+            &rt,
+            &shelf.append(name, piece.as_bytes()).is_ok(),
+            &(call < 3),
+            *name,
+        );
     }
     for (name, bytes) in [("a", "oldone"), ("b", "two"), ("c", "three")] {
-        assert_eq!(rt; shelf.bytes(name), bytes.as_bytes());
+        same(&rt, &shelf.bytes(name), &bytes.as_bytes(), name);
     }
     Ok(())
 }

@@ -1,5 +1,6 @@
 //! Records that were written, and files that are none.
 
+use crate::checks::{holds, same};
 use cloak_base::Shown;
 use cloak_model::{Item, RecordFault};
 use exchange_log::{LONGEST, write_item};
@@ -79,65 +80,75 @@ fn what_was_written_is_read(rt: HostRuntime) -> Result<(), Fail> {
     }
     let mut reader = Reader::open("r");
     let mut kept = KeptItems::new();
-    for item in items {
+    for item in &items {
         match reader.next(&mut shelf, &mut kept) {
-            Ok(Some(tag)) => assert_eq!(rt; *kept.item(tag), item),
+            Ok(Some(tag)) => same(&rt, kept.item(tag), item, "an item"),
             _ => assert!(rt; false, "no item"),
         }
     }
     for _ in 0..2 {
-        assert!(rt; matches!(reader.next(&mut shelf, &mut kept), Ok(None)));
+        holds(
+            &rt,
+            matches!(reader.next(&mut shelf, &mut kept), Ok(None)),
+            "behind the last item",
+        );
     }
     Ok(())
 }
 
 /// Files, how many items stand before their first fault, and the fault: the rules of the record's format.
+static DAMAGED: [(&[u8], usize, RecordFault); 18] = [
+    (b"", 0, RecordFault::Short(0)),
+    (b"CLOAKRE", 0, RecordFault::Short(7)),
+    (b"CLOAKBND", 0, RecordFault::BadMagic),
+    (b"CLOAKREC", 0, RecordFault::Short(8)),
+    (b"CLOAKREC\x12", 0, RecordFault::BadTag(8)),
+    (b"CLOAKREC\x13", 0, RecordFault::BadTag(8)),
+    (b"CLOAKREC\x20\0", 0, RecordFault::BadTag(8)),
+    (b"CLOAKREC\x01\0\0\0\0\xff", 0, RecordFault::Short(14)),
+    (b"CLOAKREC\x10\x01\0\0", 0, RecordFault::Short(12)),
+    (b"CLOAKREC\x10\x02\0\0\0", 0, RecordFault::StepOrder(8)),
+    (b"CLOAKREC\x11\x01\0\0\0", 0, RecordFault::StepOrder(8)),
+    (b"CLOAKREC\x10\x01\0\0\0\x12", 1, RecordFault::BadTag(13)),
+    (
+        b"CLOAKREC\x10\x01\0\0\0\x10\x01\0\0\0",
+        1,
+        RecordFault::StepOrder(13),
+    ),
+    (
+        b"CLOAKREC\x10\x01\0\0\0\x02\0\0\0\x80",
+        1,
+        RecordFault::Short(18),
+    ),
+    (
+        b"CLOAKREC\x10\x01\0\0\0\x02\0\0\0\x80\x03",
+        1,
+        RecordFault::BadTag(13),
+    ),
+    (
+        b"CLOAKREC\x11\0\0\0\0\x02\0\0\0\x80\x01\0\0\0\0",
+        1,
+        RecordFault::BadTag(13),
+    ),
+    (b"CLOAKREC\x11\0\0\0\0", 1, RecordFault::Short(13)),
+    (b"CLOAKREC\x11\0\0\0\0\x12\0", 2, RecordFault::Extra(14)),
+];
+
 #[test]
 fn damaged_files(rt: HostRuntime) -> Result<(), Fail> {
-    let rows: [(&[u8], usize, RecordFault); 18] = [
-        (b"", 0, RecordFault::Short(0)),
-        (b"CLOAKRE", 0, RecordFault::Short(7)),
-        (b"CLOAKBND", 0, RecordFault::BadMagic),
-        (b"CLOAKREC", 0, RecordFault::Short(8)),
-        (b"CLOAKREC\x12", 0, RecordFault::BadTag(8)),
-        (b"CLOAKREC\x13", 0, RecordFault::BadTag(8)),
-        (b"CLOAKREC\x20\0", 0, RecordFault::BadTag(8)),
-        (b"CLOAKREC\x01\0\0\0\0\xff", 0, RecordFault::Short(14)),
-        (b"CLOAKREC\x10\x01\0\0", 0, RecordFault::Short(12)),
-        (b"CLOAKREC\x10\x02\0\0\0", 0, RecordFault::StepOrder(8)),
-        (b"CLOAKREC\x11\x01\0\0\0", 0, RecordFault::StepOrder(8)),
-        (b"CLOAKREC\x10\x01\0\0\0\x12", 1, RecordFault::BadTag(13)),
-        (
-            b"CLOAKREC\x10\x01\0\0\0\x10\x01\0\0\0",
-            1,
-            RecordFault::StepOrder(13),
-        ),
-        (
-            b"CLOAKREC\x10\x01\0\0\0\x02\0\0\0\x80",
-            1,
-            RecordFault::Short(18),
-        ),
-        (
-            b"CLOAKREC\x10\x01\0\0\0\x02\0\0\0\x80\x03",
-            1,
-            RecordFault::BadTag(13),
-        ),
-        (
-            b"CLOAKREC\x11\0\0\0\0\x02\0\0\0\x80\x01\0\0\0\0",
-            1,
-            RecordFault::BadTag(13),
-        ),
-        (b"CLOAKREC\x11\0\0\0\0", 1, RecordFault::Short(13)),
-        (b"CLOAKREC\x11\0\0\0\0\x12\0", 2, RecordFault::Extra(14)),
-    ];
-    for (file, count, fault) in rows {
+    for &(file, count, fault) in &DAMAGED {
         let mut shelf = MemoryShelf::open(rt.alloc(), Vec::new(rt.alloc()));
         shelf.add("r", file)?;
         let mut reader = Reader::open("r");
         let first = read_on(&mut shelf, &mut reader);
-        assert_eq!(rt; first, (count, Err(NextFault::Record(fault))), "{fault:?}");
+        same(
+            &rt,
+            &first,
+            &(count, Err(NextFault::Record(fault))),
+            "first",
+        );
         let again = read_on(&mut shelf, &mut reader);
-        assert_eq!(rt; again, (0, Err(NextFault::Record(fault))), "{fault:?}");
+        same(&rt, &again, &(0, Err(NextFault::Record(fault))), "again");
     }
     Ok(())
 }
@@ -151,9 +162,9 @@ fn failing_calls(rt: HostRuntime) -> Result<(), Fail> {
         shelf.add("r", b"CLOAKREC\x11\0\0\0\0\x12")?;
         let mut reader = Reader::open("r");
         let first = read_on(&mut shelf, &mut reader);
-        assert_eq!(rt; first, (count, Err(NextFault::Read)), "{call}");
+        same(&rt, &first, &(count, Err(NextFault::Read)), call);
         let again = read_on(&mut shelf, &mut reader);
-        assert_eq!(rt; again, (2 - count, Ok(())), "{call}");
+        same(&rt, &again, &(2 - count, Ok(())), call);
     }
     Ok(())
 }

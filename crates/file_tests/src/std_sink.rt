@@ -1,5 +1,6 @@
 //! An output whose calls fail.
 
+use crate::checks::same;
 use outside_io::{Sink, StdSink, put_all};
 use std::cell::Cell;
 use std::fmt::Display;
@@ -56,12 +57,17 @@ fn a_line_shows_at_its_end(rt: HostRuntime) -> Result<(), Fail> {
         ("o\n", false, 0x6865),
         ("o\n", true, 0x6865_6c6c_6f0a),
     ] {
-        assert_eq!(rt; put_all(&mut sink, piece.as_bytes()).is_ok(), is_ok);
-        assert_eq!(rt; shown.get(), on_screen);
+        same(
+            &rt,
+            &put_all(&mut sink, piece.as_bytes()).is_ok(),
+            &is_ok,
+            piece,
+        );
+        same(&rt, &shown.get(), &on_screen, piece);
     }
     put_all(&mut sink, b"!")?;
     sink.flush()?;
-    assert_eq!(rt; shown.get(), 0x6865_6c6c_6f0a_21);
+    same(&rt, &shown.get(), &0x6865_6c6c_6f0a_21, "at the end");
     Ok(())
 }
 
@@ -85,16 +91,16 @@ fn a_piece_is_taken_up_to_a_fault(rt: HostRuntime) -> Result<(), Fail> {
             shown: &shown,
         };
         let mut sink = StdSink::open((screen, rt.alloc()))?;
-        assert_eq!(rt; sink.put(b"abc\n"), Ok(2));
+        same(&rt, &sink.put(b"abc\n"), &Ok(2), "a piece");
         for (piece, done) in [(next, false), ("c\n", true), ("d", true)] {
-            assert_eq!(rt; is_done(&mut sink, piece), done);
+            same(&rt, &is_done(&mut sink, piece), &done, piece);
         }
         // The next call fails.
         calls.set(1);
         for done in [false, true] {
-            assert_eq!(rt; is_done(&mut sink, ""), done);
+            same(&rt, &is_done(&mut sink, ""), &done, "written out");
         }
-        assert_eq!(rt; shown.get(), 0x6162_630a_64);
+        same(&rt, &shown.get(), &0x6162_630a_64, next);
     }
     Ok(())
 }
@@ -114,8 +120,8 @@ fn a_long_piece_stands_behind_what_is_gathered(rt: HostRuntime) -> Result<(), Fa
     // So many calls were before, and the second one fails.
     for (before, taken) in [(1, None), (0, None), (0, Some(2)), (2, None)] {
         calls.set(before);
-        assert_eq!(rt; sink.put(&long).ok(), taken);
+        same(&rt, &sink.put(&long).ok(), &taken, before);
     }
-    assert_eq!(rt; shown.get(), 0x6162_7878);
+    same(&rt, &shown.get(), &0x6162_7878, "at the end");
     Ok(())
 }

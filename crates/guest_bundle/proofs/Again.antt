@@ -1,5 +1,5 @@
 -- What is spelled so is read.
-use Rattle.std.proofs.Common.{◌≡◌, ℕ, ◌+◌, ◌-◌, ◌*◌, ◌%◌, ◌^◌, ◌<◌, ◌≤◌, true, false, ltb, leb, eqb, List, [], ◌∷◌}
+use Rattle.std.proofs.Common.{◌≡◌, ℕ, ◌+◌, ◌-◌, ◌*◌, ◌%◌, ◌^◌, ◌<◌, ◌≤◌, Bool, true, false, ltb, leb, eqb, List, [], ◌∷◌}
 use Rattle.std.proofs.Common.{◌++◌, length, get_or, drop, Result, Ok, refl, sym, ap, ◌∙◌, append_assoc, add-zero}
 use Rattle.std.proofs.Common.{length-drop, length-append, arith}
 use Rattle.std.specs.Int.{w32, from_le_bytes}
@@ -14,8 +14,9 @@ use Rattle.cloak_model.specs.declared.image.Segment.{Segment}
 use Rattle.cloak_model.specs.declared.image.Program.{Program}
 use Rattle.cloak_model.specs.declared.fault.BundleFault.{BundleFault}
 use Rattle.guest_bundle.specs.Fields.{bytes_at, pages_at, number_at, count_at, entry_at}
-use Rattle.guest_bundle.specs.Reading.{turn_at, segment_at, place_at, base_at, program_at, parts_at}
-use Rattle.guest_bundle.proofs.Steps.{behind}
+use Rattle.guest_bundle.specs.Reading.{turn_at, segment_at, place_at, base_at, key_at, program_at, parts_at}
+use Rattle.guest_bundle.specs.Places.{key_size}
+use Rattle.guest_bundle.proofs.Steps.{behind, KeyFits, key_text, key_text-length}
 
 -- so many bytes are left
 is_left : (file : List ℕ) (at : ℕ) (text rest : List ℕ) (n : ℕ) → drop at file ≡ text ++ rest → length text ≡ n →
@@ -91,34 +92,46 @@ base_again pages file at n rest some multiple top e =
     let test : eqb (n % 4096) 0 ≡ true = eq-eqb _ _ multiple in
     rw (number_again file at n rest (omega arith) e, test, le-leb (n + 4096 * pages) (2 ^ 32) top) refl
 
-pub program_again : (frames : ℕ) (file : List ℕ) (at : ℕ) (p : Program) (rest : List ℕ) → frames ≤ 4096 →
-    IsProgramIn frames p → drop at file ≡ program_bytes p ++ rest → program_at frames file at ≡ Ok p
+key_again : (keys : Bool) (file : List ℕ) (at key : ℕ) (rest : List ℕ) → KeyFits keys key →
+    drop at file ≡ key_text keys key ++ rest → key_at keys file at ≡ Ok key
+unfolding key_at
+key_again true file at key rest fits e = count_again file at 0 3 key rest (omega arith) (omega arith) (omega arith) e
+key_again false file at key rest fits e = ap (λ k. Ok k) (sym fits)
+
+pub program_again : (version frames : ℕ) (file : List ℕ) (at : ℕ) (p : Program) (rest : List ℕ) → frames ≤ 4096 →
+    IsProgramIn frames p × KeyFits (eqb version 2) p.key → drop at file ≡ program_bytes version p ++ rest →
+    program_at (eqb version 2) frames file at ≡ Ok p
 unfolding program_at
-program_again frames file at p rest few inside e =
+program_again version frames file at p rest few inside e =
+    let keys = eqb version 2 in
+    let fits = inside.0 in
     let x = p.start in
-    let e4 = behind file at (word x.pages)
-    (word p.place ++ (word x.base ++ (word x.entry ++ (word x.sp ++ (p.bytes ++ rest))))) e in
-    let e8 = behind file at (word x.pages ++ word p.place)
-    (word x.base ++ (word x.entry ++ (word x.sp ++ (p.bytes ++ rest)))) e in
-    let e12 = behind file at (word x.pages ++ (word p.place ++ word x.base))
-    (word x.entry ++ (word x.sp ++ (p.bytes ++ rest))) e in
-    let e16 = behind file at (word x.pages ++ (word p.place ++ (word x.base ++ word x.entry)))
-    (word x.sp ++ (p.bytes ++ rest)) e in
-    let e20 = behind file at (word x.pages ++ (word p.place ++ (word x.base ++ (word x.entry ++ word x.sp))))
-    (p.bytes ++ rest) e in
+    let r24 = p.bytes ++ rest in
+    let r20 = key_text keys p.key ++ r24 in
+    let r16 = word x.sp ++ r20 in
+    let r12 = word x.entry ++ r16 in
+    let r8 = word x.base ++ r12 in
+    let r4 = word p.place ++ r8 in
+    let e0 : drop at file ≡ word x.pages ++ r4 =
+    e ∙ ap (λ r. word x.pages ++ (word p.place ++ (word x.base ++ (word x.entry ++ (word x.sp ++ r)))))
+    (append_assoc (key_text keys p.key) p.bytes rest) in
+    let e4 = behind file at (word x.pages) r4 e0 in
+    let e8 = behind file at (word x.pages ++ word p.place) r8 e0 in
+    let e12 = behind file at (word x.pages ++ (word p.place ++ word x.base)) r12 e0 in
+    let e16 = behind file at (word x.pages ++ (word p.place ++ (word x.base ++ word x.entry))) r16 e0 in
+    let e20 = behind file at (word x.pages ++ (word p.place ++ (word x.base ++ (word x.entry ++ word x.sp)))) r20 e0 in
+    let e24 : drop (at + 20 + key_size keys) file ≡ r24 =
+    ap (λ n. drop (at + 20 + n) file) (sym (key_text-length keys p.key))
+    ∙ behind file (at + 20) (key_text keys p.key) r24 e20 in
     let pages : count_at file at 1 1024 ≡ Ok x.pages =
-    count_again file at 1 1024 x.pages
-    (word p.place ++ (word x.base ++ (word x.entry ++ (word x.sp ++ (p.bytes ++ rest))))) (omega arith)
-    inside.some_pages inside.few_pages e in
-    let place = place_again frames x.pages file (at + 4) p.place
-    (word x.base ++ (word x.entry ++ (word x.sp ++ (p.bytes ++ rest)))) few inside.place e4 in
-    let base = base_again x.pages file (at + 8) x.base (word x.entry ++ (word x.sp ++ (p.bytes ++ rest)))
-    inside.some_pages inside.base inside.top e8 in
-    let entry = entry_again file (at + 12) x.entry (word x.sp ++ (p.bytes ++ rest)) inside.entry inside.entry_fits e12
-    in
-    let sp = number_again file (at + 16) x.sp (p.bytes ++ rest) inside.sp_fits e16 in
-    let bytes = pages_again file (at + 20) x.pages p.bytes rest e20 inside.bytes in
-    rw (pages, place, base, entry, sp, bytes) refl
+    count_again file at 1 1024 x.pages r4 (omega arith) fits.some_pages fits.few_pages e0 in
+    let place = place_again frames x.pages file (at + 4) p.place r8 few fits.place e4 in
+    let base = base_again x.pages file (at + 8) x.base r12 fits.some_pages fits.base fits.top e8 in
+    let entry = entry_again file (at + 12) x.entry r16 fits.entry fits.entry_fits e12 in
+    let sp = number_again file (at + 16) x.sp r20 fits.sp_fits e16 in
+    let key = key_again keys file (at + 20) p.key r24 inside.1 e20 in
+    let bytes = pages_again file (at + 20 + key_size keys) x.pages p.bytes rest e24 fits.bytes in
+    rw (pages, place, base, entry, sp, key, bytes) refl
 
 -- parts one after the other
 pub parts_again : {X : Type 0} (text : X → List ℕ) (Fits : X → Type 0) (file : List ℕ) (part_at : ℕ →

@@ -1,6 +1,6 @@
 -- What reading a file meets is its first fault.
-use Rattle.std.proofs.Common.{◌≡◌, ℕ, ◌+◌, ◌*◌, ◌%◌, Bool, true, false, cond, ltb, leb, eqb, List, [], ◌∷◌, ◌++◌}
-use Rattle.std.proofs.Common.{length, take, codes, Option, Some, None, Result, Ok, Err, refl, sym, ap, subst, ◌∙◌}
+use Rattle.std.proofs.Common.{◌≡◌, ℕ, ◌+◌, ◌%◌, Bool, true, false, cond, ltb, leb, eqb, List, [], ◌∷◌, ◌++◌}
+use Rattle.std.proofs.Common.{length, take, codes, Option, Some, None, Result, Ok, Err, refl, sym, ap, subst, ◌∙◌, arith}
 use Rattle.std.specs.Str.{bytes_eq}
 use Rattle.cloak_base.specs.Constants.{largest_bundle}
 use Rattle.cloak_model.specs.declared.image.Segment.{Segment}
@@ -12,15 +12,17 @@ use Rattle.cloak_model.specs.declared.fault.BundleFault.TheVariants.{Extra}
 use Rattle.guest_bundle.specs.declared.header.Header.{Header}
 use Rattle.guest_bundle.specs.Fields.{◌>>=◌, bytes_at, pages_at, number_at, count_at, entry_at}
 use Rattle.guest_bundle.specs.Reading.{version_at, header_at, turn_at, segment_at, segment_size, place_at, base_at}
-use Rattle.guest_bundle.specs.Reading.{program_at, program_size, parts_at, bundle_of, bundle_at}
+use Rattle.guest_bundle.specs.Reading.{key_at, program_at, program_size, parts_at, bundle_of, bundle_at}
+use Rattle.guest_bundle.specs.Places.{key_size}
+use Rattle.cloak_model.specs.Bundle.{is_version}
 use Rattle.cloak_model.specs.BundleFault.{lies_in_ram, is_base_of}
 use Rattle.cloak_model.specs.BundleFault as format
 use Rattle.cloak_model.specs.Fields as grammar
 use Rattle.cloak_model.specs.Fields.{first_of, fault_in, first_in, number}
 use Rattle.cloak_model.specs.BundleFault.{BundleField, any_at, ruled_at, bundle_fault}
 use Rattle.guest_bundle.proofs.Steps.{bind_ok, passed, ok_is}
-use Rattle.guest_bundle.proofs.Takes.{bytes_take, pages_take}
-use Rattle.guest_bundle.proofs.Found.{header_from, header_steps}
+use Rattle.guest_bundle.proofs.Takes.{bytes_take, pages_take, program_steps}
+use Rattle.guest_bundle.proofs.Found.{version_steps, header_from, header_steps}
 use Rattle.guest_bundle.proofs.Tells.{Tells, first_of-none, first_of-assoc, first_in-append, bind_tells, refused_tells}
 use Rattle.guest_bundle.proofs.Tells.{passed_tells, ruled_tells, guarded_tells, short, field_tells, number_tells}
 use Rattle.guest_bundle.proofs.Tells.{number_is, bytes_tell, bytes_are, count_tells, count_is, entry_tells, place_tells}
@@ -73,15 +75,40 @@ after_segment_is file frames at s e =
     let size : number file (at + 4) ≡ length c.0 = number_is file (at + 4) b.0 b.1 ∙ sym t.1 in
     ap (λ n. at + (8 + n)) size ∙ ap (λ x. at + segment_size x) (ok_is (made a.0 c.0) s c.2)
 
-pub program_tells : (file : List ℕ) (frames at : ℕ) → number file 12 ≡ frames →
-    Tells (program_at frames file at) (first_in file (format.program file at))
+-- the fields of a key
+abbrev key_fields : List ℕ → ℕ → Bool → List BundleField
+key_fields file at keys = cond keys (format.count file at 0 3 ∷ []) []
+
+key_tells : (keys : Bool) (file : List ℕ) (at : ℕ) →
+    Tells (key_at keys file at) (first_in file (key_fields file at keys))
+unfolding key_at
+key_tells true file at =
+    let field = fault_in file (format.count file at 0 3) in
+    subst (Tells (count_at file at 0 3)) (sym (first_of-none field)) (count_tells file at 0 3)
+key_tells false file at = refl
+
+-- what stands before the bytes of a program's pages
+header_is : (keys : Bool) → cond keys 24 20 ≡ 20 + key_size keys
+header_is true = refl
+header_is false = refl
+
+pages_at_is : (keys : Bool) (at : ℕ) → at + 20 + key_size keys ≡ at + cond keys 24 20
+pages_at_is keys at = omega (arith, header_is keys)
+
+pub program_tells : (file : List ℕ) (keys : Bool) (frames at : ℕ) → format.has_keys file ≡ keys →
+    number file 12 ≡ frames → Tells (program_at keys frames file at) (first_in file (format.program file at))
 unfolding program_at
-program_tells file frames at is =
-    let made : ℕ → ℕ → ℕ → ℕ → ℕ → List ℕ → Result Program BundleFault =
-    λ pages place base entry sp bytes. Ok
-    (record { place = place; start = record { pages = pages; base = base; entry = entry; sp = sp }; bytes = bytes })
-    in
-    let k5 = λ (pages place base entry sp : ℕ). pages_at file (at + 20) pages >>= made pages place base entry sp in
+program_tells file keys frames at has is =
+    let made : ℕ → ℕ → ℕ → ℕ → ℕ → ℕ → List ℕ → Result Program BundleFault =
+    λ pages place base entry sp key bytes. Ok (record {
+      place = place;
+      start = record { pages = pages; base = base; entry = entry; sp = sp };
+      key = key;
+      bytes = bytes;
+    }) in
+    let k6 = λ (pages place base entry sp key : ℕ). pages_at file (at + 20 + key_size keys) pages >>=
+    made pages place base entry sp key in
+    let k5 = λ (pages place base entry sp : ℕ). key_at keys file (at + 20) >>= k6 pages place base entry sp in
     let k4 = λ (pages place base entry : ℕ). number_at file (at + 16) >>= k5 pages place base entry in
     let k3 = λ (pages place base : ℕ). entry_at file (at + 12) >>= k4 pages place base in
     let k2 = λ (pages place : ℕ). base_at pages file (at + 8) >>= k3 pages place in
@@ -90,87 +117,77 @@ program_tells file frames at is =
     let f2 : ℕ → BundleField = λ pages. ruled_at (at + 8) 4 (is_base_of pages (number file (at + 8))) (BadRange (at + 8)) in
     let f3 : BundleField = ruled_at (at + 12) 4 (eqb (number file (at + 12) % 4) 0) (BadRange (at + 12)) in
     let f4 : BundleField = any_at (at + 16) 4 in
-    let tail : ℕ → List BundleField = λ pages. format.pages pages (at + 20) in
-    let t5 : (pages place base entry sp : ℕ) → Tells (k5 pages place base entry sp) (first_in file (tail pages)) =
+    let last : Bool → ℕ → List BundleField = λ k pages. format.pages pages (at + cond k 24 20) in
+    let tail : Bool → ℕ → List BundleField = λ k pages. key_fields file (at + 20) k ++ last k pages in
+    let t6 : (pages place base entry sp key : ℕ) →
+    Tells (k6 pages place base entry sp key) (first_in file (last keys pages)) =
+    λ pages place base entry sp key.
+    let told = pages_tell file (at + 20 + key_size keys) pages in
+    let fault = first_in file (last keys pages) in
+    subst (Tells (k6 pages place base entry sp key)) (first_of-none fault)
+    (bind_tells (pages_at file (at + 20 + key_size keys) pages) (made pages place base entry sp key) fault None
+    (subst (λ n. Tells (pages_at file (at + 20 + key_size keys) pages) (first_in file (format.pages pages n)))
+    (pages_at_is keys at) told) (λ _ _. refl)) in
+    let t5 : (pages place base entry sp : ℕ) → Tells (k5 pages place base entry sp) (first_in file (tail keys pages)) =
     λ pages place base entry sp.
-    subst (Tells (k5 pages place base entry sp)) (first_of-none (first_in file (tail pages)))
-    (bind_tells (pages_at file (at + 20) pages) (made pages place base entry sp) (first_in file (tail pages)) None
-    (pages_tell file (at + 20) pages) (λ _ _. refl)) in
-    let t4 : (pages place base entry : ℕ) → Tells (k4 pages place base entry) (first_in file (f4 ∷ tail pages)) =
+    subst (Tells (k5 pages place base entry sp))
+    (sym (first_in-append file (key_fields file (at + 20) keys) (last keys pages)))
+    (bind_tells (key_at keys file (at + 20)) (k6 pages place base entry sp)
+    (first_in file (key_fields file (at + 20) keys)) (first_in file (last keys pages)) (key_tells keys file (at + 20))
+    (λ key _. t6 pages place base entry sp key)) in
+    let t4 : (pages place base entry : ℕ) → Tells (k4 pages place base entry) (first_in file (f4 ∷ tail keys pages)) =
     λ pages place base entry.
-    field_tells file f4 (tail pages) (number_at file (at + 16)) (k5 pages place base entry)
+    field_tells file f4 (tail keys pages) (number_at file (at + 16)) (k5 pages place base entry)
     (number_tells file (at + 16)) (λ sp _. t5 pages place base entry sp) in
-    let t3 : (pages place base : ℕ) → Tells (k3 pages place base) (first_in file (f3 ∷ f4 ∷ tail pages)) =
+    let t3 : (pages place base : ℕ) → Tells (k3 pages place base) (first_in file (f3 ∷ f4 ∷ tail keys pages)) =
     λ pages place base.
-    bind_tells (entry_at file (at + 12)) (k4 pages place base) (fault_in file f3) (first_in file (f4 ∷ tail pages))
+    bind_tells (entry_at file (at + 12)) (k4 pages place base) (fault_in file f3) (first_in file (f4 ∷ tail keys pages))
     (entry_tells file (at + 12)) (λ entry _. t4 pages place base entry) in
-    let t2 : (pages place : ℕ) → Tells (k2 pages place) (first_in file (f2 pages ∷ f3 ∷ f4 ∷ tail pages)) =
+    let t2 : (pages place : ℕ) → Tells (k2 pages place) (first_in file (f2 pages ∷ f3 ∷ f4 ∷ tail keys pages)) =
     λ pages place.
     bind_tells (base_at pages file (at + 8)) (k3 pages place) (fault_in file (f2 pages))
-    (first_in file (f3 ∷ f4 ∷ tail pages)) (base_tells pages file (at + 8)) (λ base _. t3 pages place base) in
-    let t1 : (pages : ℕ) → Tells (k1 pages) (first_in file (f1 frames pages ∷ f2 pages ∷ f3 ∷ f4 ∷ tail pages)) =
+    (first_in file (f3 ∷ f4 ∷ tail keys pages)) (base_tells pages file (at + 8)) (λ base _. t3 pages place base) in
+    let t1 : (pages : ℕ) → Tells (k1 pages) (first_in file (f1 frames pages ∷ f2 pages ∷ f3 ∷ f4 ∷ tail keys pages)) =
     λ pages.
     bind_tells (place_at frames pages file (at + 4)) (k2 pages) (fault_in file (f1 frames pages))
-    (first_in file (f2 pages ∷ f3 ∷ f4 ∷ tail pages)) (place_tells frames pages file (at + 4))
+    (first_in file (f2 pages ∷ f3 ∷ f4 ∷ tail keys pages)) (place_tells frames pages file (at + 4))
     (λ place _. t2 pages place) in
-    let rest : ℕ → ℕ → Option BundleFault = λ f pages. first_in file (f1 f pages ∷ f2 pages ∷ f3 ∷ f4 ∷ tail pages) in
+    let rest : Bool → ℕ → ℕ → Option BundleFault =
+    λ k f pages. first_in file (f1 f pages ∷ f2 pages ∷ f3 ∷ f4 ∷ tail k pages) in
     bind_tells (count_at file at 1 1024) k1 (fault_in file (format.count file at 1 1024))
-    (rest (number file 12) (number file at)) (count_tells file at 1 1024) (λ pages e.
-    subst (λ f. Tells (k1 pages) (rest f (number file at))) (sym is)
-    (subst (λ n. Tells (k1 pages) (rest frames n)) (sym (count_is file at 1 1024 pages e)) (t1 pages)))
+    (rest (format.has_keys file) (number file 12) (number file at)) (count_tells file at 1 1024) (λ pages e.
+    subst (λ k. Tells (k1 pages) (rest k (number file 12) (number file at))) (sym has)
+    (subst (λ f. Tells (k1 pages) (rest keys f (number file at))) (sym is)
+    (subst (λ n. Tells (k1 pages) (rest keys frames n)) (sym (count_is file at 1 1024 pages e)) (t1 pages))))
 
-pub after_program_is : (file : List ℕ) (frames at : ℕ) (p : Program) → program_at frames file at ≡ Ok p →
-    format.after_program file at ≡ at + program_size p
-unfolding program_at
-after_program_is file frames at p e =
-    let made : ℕ → ℕ → ℕ → ℕ → ℕ → List ℕ → Program =
-    λ pages place base entry sp bytes. record {
-      place = place;
-      start =
-          record { pages = pages; base = base; entry = entry; sp = sp };
-      bytes = bytes;
-    } in
-    let a = bind_ok (count_at file at 1 1024)
-    (λ pages. place_at frames pages file (at + 4) >>= λ place. base_at pages file (at + 8) >>= λ base. entry_at file
-    (at + 12) >>= λ entry. number_at file (at + 16) >>= λ sp. pages_at file (at + 20) pages >>= λ bytes. Ok
-    (made pages place base entry sp bytes)) p e in
-    let b = bind_ok (place_at frames a.0 file (at + 4))
-    (λ place. base_at a.0 file (at + 8) >>= λ base. entry_at file (at + 12) >>= λ entry. number_at file (at + 16)
-    >>= λ sp. pages_at file (at + 20) a.0 >>= λ bytes. Ok (made a.0 place base entry sp bytes)) p a.2 in
-    let c = bind_ok (base_at a.0 file (at + 8))
-    (λ base. entry_at file (at + 12) >>= λ entry. number_at file (at + 16) >>= λ sp. pages_at file (at + 20) a.0 >>=
-    λ bytes. Ok (made a.0 b.0 base entry sp bytes)) p b.2 in
-    let d = bind_ok (entry_at file (at + 12))
-    (λ entry. number_at file (at + 16) >>= λ sp. pages_at file (at + 20) a.0 >>= λ bytes. Ok
-    (made a.0 b.0 c.0 entry sp bytes)) p c.2 in
-    let s = bind_ok (number_at file (at + 16))
-    (λ sp. pages_at file (at + 20) a.0 >>= λ bytes. Ok (made a.0 b.0 c.0 d.0 sp bytes)) p d.2 in
-    let t = bind_ok (pages_at file (at + 20) a.0) (λ bytes. Ok (made a.0 b.0 c.0 d.0 s.0 bytes)) p s.2 in
-    let bytes = pages_take file (at + 20) a.0 t.0 t.1 in
-    let size : 4096 * number file at ≡ length t.0 =
-    ap (λ n. 4096 * n) (count_is file at 1 1024 a.0 a.1) ∙ sym bytes.1 in
-    ap (λ n. at + (20 + n)) size ∙ ap (λ x. at + program_size x) (ok_is (made a.0 b.0 c.0 d.0 s.0 t.0) p t.2)
+pub after_program_is : (file : List ℕ) (keys : Bool) (frames at : ℕ) (p : Program) → format.has_keys file ≡ keys →
+    program_at keys frames file at ≡ Ok p → format.after_program file at ≡ at + program_size keys p
+after_program_is file keys frames at p has e =
+    let s = program_steps keys frames file at p e in
+    let bytes = pages_take file (at + 20 + key_size keys) p.start.pages p.bytes s.bytes in
+    let header : format.program_header file ≡ 20 + key_size keys = ap (λ k. cond k 24 20) has ∙ header_is keys in
+    omega (arith, header, count_is file at 1 1024 p.start.pages s.pages, bytes.1)
 
 -- ---- the header
 
 version_tells : (file : List ℕ) →
     Tells (version_at file) (first_in file
-    (ruled_at 0 8 (bytes_eq (take 8 file) (codes "CLOAKBND")) BadMagic ∷ ruled_at 8 4 (eqb (number file 8) 1)
+    (ruled_at 0 8 (bytes_eq (take 8 file) (codes "CLOAKBND")) BadMagic ∷ ruled_at 8 4 (is_version (number file 8))
     (BadVersion (number file 8)) ∷ []))
 unfolding version_at
 version_tells file =
     let is_magic : List ℕ → Bool = λ bytes. bytes_eq bytes (codes "CLOAKBND") in
-    let k2 : ℕ → Result ℕ BundleFault = λ n. cond (eqb n 1) (Ok n) (Err (BadVersion n)) in
+    let k2 : ℕ → Result ℕ BundleFault = λ n. cond (is_version n) (Ok n) (Err (BadVersion n)) in
     let after_magic : List ℕ → Result ℕ BundleFault =
     λ bytes. cond (is_magic bytes) (number_at file 8) (Err BadMagic) in
     let k1 : List ℕ → Result ℕ BundleFault = λ bytes. after_magic bytes >>= k2 in
     let wrong_magic : List ℕ → Option BundleFault = λ bytes. cond (is_magic bytes) None (Some BadMagic) in
-    let wrong_version : ℕ → Option BundleFault = λ n. cond (eqb n 1) None (Some (BadVersion n)) in
-    let version : BundleField = ruled_at 8 4 (eqb (number file 8) 1) (BadVersion (number file 8)) in
+    let wrong_version : ℕ → Option BundleFault = λ n. cond (is_version n) None (Some (BadVersion n)) in
+    let version : BundleField = ruled_at 8 4 (is_version (number file 8)) (BadVersion (number file 8)) in
     let second : Tells (number_at file 8 >>= k2) (first_in file (version ∷ [])) =
     field_tells file version [] (number_at file 8) k2 (number_tells file 8) (λ n e.
     subst (λ m. Tells (k2 n) (first_of (wrong_version m) None)) (sym (number_is file 8 n e))
-    (subst (Tells (k2 n)) (sym (first_of-none (wrong_version n))) (ruled_tells (eqb n 1) (BadVersion n) n))) in
+    (subst (Tells (k2 n)) (sym (first_of-none (wrong_version n))) (ruled_tells (is_version n) (BadVersion n) n))) in
     field_tells file (ruled_at 0 8 (is_magic (take 8 file)) BadMagic) (version ∷ []) (bytes_at file 0 8) k1
     (bytes_tell file 0 8) (λ bytes e.
     subst (λ m. Tells (k1 bytes) (first_of (wrong_magic m) (first_in file (version ∷ []))))
@@ -203,7 +220,7 @@ pub header_tells : (file : List ℕ) → Tells (header_at file) (first_in file (
 unfolding header_at header_from format.header
 header_tells file =
     let m : BundleField = ruled_at 0 8 (bytes_eq (take 8 file) (codes "CLOAKBND")) BadMagic in
-    let v : BundleField = ruled_at 8 4 (eqb (number file 8) 1) (BadVersion (number file 8)) in
+    let v : BundleField = ruled_at 8 4 (is_version (number file 8)) (BadVersion (number file 8)) in
     let c1 = format.count file 12 64 4096 in
     let c2 = format.count file 16 1 4 in
     let c3 = format.count file 20 1 64 in
@@ -236,6 +253,7 @@ refused_bind false e r k = refl
 
 -- the numbers of a header that was read
 record NumbersAre (file : List ℕ) (h : Header) : Type 0 where
+  keys : format.has_keys file ≡ h.keys
   frames : number file 12 ≡ h.frames
   harts : number file 16 ≡ h.harts
   turns : number file 20 ≡ h.turns
@@ -248,7 +266,10 @@ unfolding header_at header_from
 numbers_are file h e =
     let s = header_steps (version_at file) (count_at file 12 64 4096) (count_at file 16 1 4) (count_at file 20 1 64)
     (entry_at file 24) (count_at file 28 0 16) (count_at file 32 0 4096) (count_at file 36 0 4) h e in
+    let version : number file 8 ≡ s.version.0 =
+    number_is file 8 s.version.0 (version_steps file s.version.0 s.version.1).number in
     record {
+      keys = ap (λ n. eqb n 2) version ∙ sym s.version.2;
       frames = count_is file 12 64 4096 h.frames s.frames;
       harts = count_is file 16 1 4 h.harts s.harts;
       turns = count_is file 20 1 64 h.turns s.turns;
@@ -264,8 +285,8 @@ at_end file h schedule segments disk programs =
 
 abbrev after_disk : List ℕ → Header → List ℕ → List Segment × ℕ → List ℕ → Result Bundle BundleFault
 after_disk file h schedule segments disk =
-    parts_at (program_at h.frames file) program_size h.programs (segments.1 + length disk) >>= at_end file h schedule
-    segments.0 disk
+    parts_at (program_at h.keys h.frames file) (program_size h.keys) h.programs (segments.1 + length disk)
+    >>= at_end file h schedule segments.0 disk
 
 abbrev after_segments : List ℕ → Header → List ℕ → List Segment × ℕ → Result Bundle BundleFault
 after_segments file h schedule segments = pages_at file segments.1 h.blocks >>= after_disk file h schedule segments
@@ -304,17 +325,18 @@ programs_tell : (file : List ℕ) (h : Header) (schedule : List ℕ) (segments :
     → Tells (after_disk file h schedule segments disk) (programs_fault file (number file 36) at)
 programs_tell file h schedule segments disk at numbers is =
     let from = segments.1 + length disk in
-    let next = λ (at : ℕ) (p : Program) (e : program_at h.frames file at ≡ Ok p). after_program_is file h.frames at p e
+    let next = λ (at : ℕ) (p : Program) (e : program_at h.keys h.frames file at ≡ Ok p). after_program_is file h.keys
+    h.frames at p numbers.keys e in
+    let read = parts_tell file (format.program file) (format.after_program file) (program_at h.keys h.frames file)
+    (program_size h.keys) (λ at. program_tells file h.keys h.frames at numbers.keys numbers.frames) next h.programs from
     in
-    let read = parts_tell file (format.program file) (format.after_program file) (program_at h.frames file) program_size
-    (λ at. program_tells file h.frames at numbers.frames) next h.programs from in
-    rw (numbers.programs, is) (bind_tells (parts_at (program_at h.frames file) program_size h.programs from)
+    rw (numbers.programs, is) (bind_tells (parts_at (program_at h.keys h.frames file) (program_size h.keys) h.programs from)
     (at_end file h schedule segments.0 disk)
     (first_in file (grammar.parts (format.program file) (format.after_program file) h.programs from))
     (end_fault file (grammar.after_parts (format.after_program file) h.programs from)) read (λ programs e.
     subst (λ k. Tells (at_end file h schedule segments.0 disk programs) (end_fault file k))
-    (sym (parts_end (format.after_program file) (program_at h.frames file) program_size next h.programs from
-    programs e))
+    (sym (parts_end (format.after_program file) (program_at h.keys h.frames file) (program_size h.keys) next h.programs
+    from programs e))
     (ruled_tells (eqb programs.1 (length file)) (Extra programs.1) (bundle_of h schedule segments.0 disk programs.0))))
 
 disk_tells : (file : List ℕ) (h : Header) (schedule : List ℕ) (segments : List Segment × ℕ) (at : ℕ) →

@@ -2,8 +2,10 @@ pub mod Places
 pub mod Loop
 pub mod Steps
 pub mod Takes
+pub mod Lengths
 pub mod Found
 pub mod Again
 pub mod Only
 pub mod Tells
 pub mod Faulty
+pub mod Versions

@@ -1,5 +1,5 @@
 -- Places of parts, and what is moved out from the last one on.
-use Rattle.std.proofs.Common.{◌≡◌, ℕ, ◌+◌, ◌-◌, ◌≤◌, List, [], ◌∷◌, ◌++◌, length, map, take, drop, reverse, refl, sym, ap, subst, ◌∙◌}
+use Rattle.std.proofs.Common.{◌≡◌, ℕ, ◌+◌, ◌-◌, ◌≤◌, Bool, List, [], ◌∷◌, ◌++◌, length, map, take, drop, reverse, refl, sym, ap, subst, ◌∙◌}
 use Rattle.std.proofs.Common.{append_assoc, arith}
 use Rattle.std.proofs.lemmas.List.{length-take, length-drop, drop-take, take-take, take-append-drop, reverse-append, map-append}
 use Rattle.std.proofs.lemmas.List.{drop-append-le}
@@ -80,9 +80,9 @@ pub segment_end : (file : List ℕ) (at : ℕ) (p : SegmentPlace) → IsSegmentP
 segment_end file at p h =
     omega (arith, length-take (p.to - p.from) (drop p.from file), length-drop p.from file, h.from, h.order, h.within)
 
-pub program_end : (file : List ℕ) (at : ℕ) (p : ProgramPlace) → IsProgramPlace (length file) at p →
-    at + program_size (program_of file p) ≡ p.to
-program_end file at p h =
+pub program_end : (keys : Bool) (file : List ℕ) (at : ℕ) (p : ProgramPlace) → IsProgramPlace keys (length file) at p →
+    at + program_size keys (program_of file p) ≡ p.to
+program_end keys file at p h =
     omega (arith, length-take (p.to - p.from) (drop p.from file), length-drop p.from file, h.from, h.order, h.within)
 
 -- A piece more is moved.

@@ -1,10 +1,12 @@
 -- Steps of reading that did not fail.
-use Rattle.std.proofs.Common.{◌≡◌, ℕ, ◌+◌, ◌<◌, Bool, true, false, cond, List, ◌++◌, length, get_or, take, drop, Result}
+use Rattle.std.proofs.Common.{◌≡◌, ℕ, ◌+◌, ◌<◌, Bool, true, false, cond, List, [], ◌++◌, length, get_or, take, drop, Result}
 use Rattle.std.proofs.Common.{Ok, Err, refl, sym, ap, ◌∙◌, arith, inl, inr}
 use Rattle.std.proofs.lemmas.Bool.{cases_lt}
 use Rattle.std.proofs.lemmas.List.{drop-drop, drop_at, length-take, get_or-drop, get_or-take, get_or_past, append_assoc}
 use Rattle.cloak_model.specs.declared.fault.BundleFault.{BundleFault}
+use Rattle.cloak_model.specs.Bits.{word}
 use Rattle.guest_bundle.specs.Fields.{◌>>=◌}
+use Rattle.guest_bundle.specs.Places.{key_size}
 
 -- the value of a step that did not fail
 pub bind_ok : {A B : Type 0} (r : Result A BundleFault) (f : A → Result B BundleFault) (y : B) → (r >>= f) ≡ Ok y →
@@ -43,6 +45,27 @@ IsBytes-take n bytes h i =
       | inl lt ↦ rw (get_or-take n bytes i 0 lt) (h i)
       | inr le ↦ rw (get_or_past (take n bytes) i 0 (omega (arith, length-take n bytes))) (omega arith)
     ]
+
+-- ---- keys
+
+-- what is known of a key, in a file with keys and in one without
+abbrev pub KeyFits : Bool → ℕ → Type 0
+KeyFits true key = key < 4
+KeyFits false key = key ≡ 0
+
+pub key_small : (keys : Bool) (key : ℕ) → KeyFits keys key → key < 4
+key_small true key h = h
+key_small false key h = omega arith
+
+-- the bytes of a key
+abbrev pub key_text : Bool → ℕ → List ℕ
+key_text keys key = cond keys (word key) []
+
+pub key_text-length : (keys : Bool) (key : ℕ) → length (key_text keys key) ≡ key_size keys
+key_text-length true key = refl
+key_text-length false key = refl
+
+-- ---- texts
 
 -- a text stands in the file from one offset to another
 pub record Stands (file : List ℕ) (at : ℕ) (text : List ℕ) (next : ℕ) : Type 0 where

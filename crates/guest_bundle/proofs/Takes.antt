@@ -1,5 +1,5 @@
 -- What is read is spelled so.
-use Rattle.std.proofs.Common.{◌≡◌, ℕ, zero, suc, ◌+◌, ◌-◌, ◌*◌, ◌%◌, ◌^◌, ◌<◌, ◌≤◌, Bool, true, false, ◌&&◌, add-one}
+use Rattle.std.proofs.Common.{◌≡◌, ℕ, zero, suc, ◌+◌, ◌-◌, ◌*◌, ◌%◌, ◌^◌, ◌<◌, ◌≤◌, Bool, true, false, ◌&&◌, add-one, add-zero}
 use Rattle.std.proofs.Common.{drop-cons, length-drop, cond, ltb, leb, eqb, List, [], ◌∷◌, ◌++◌, length, get_or, take}
 use Rattle.std.proofs.Common.{drop, Result, Ok, Err, refl, sym, ap, subst, ◌∙◌, arith}
 use Rattle.std.specs.Int.{w32, from_le_bytes}
@@ -15,11 +15,12 @@ use Rattle.cloak_model.specs.declared.image.Program.{Program}
 use Rattle.cloak_model.specs.declared.fault.BundleFault.{BundleFault}
 use Rattle.cloak_model.specs.declared.fault.BundleFault.TheVariants.{Short, BadCount, TooLarge, BadRange}
 use Rattle.guest_bundle.specs.Fields.{◌>>=◌, bytes_at, pages_at, number_at, count_at, entry_at}
-use Rattle.guest_bundle.specs.Reading.{turn_at, segment_at, segment_size, place_at, base_at, program_at, program_size}
-use Rattle.guest_bundle.specs.Reading.{parts_at}
+use Rattle.guest_bundle.specs.Reading.{turn_at, segment_at, segment_size, place_at, base_at, key_at, program_at}
+use Rattle.guest_bundle.specs.Reading.{program_size, parts_at}
+use Rattle.guest_bundle.specs.Places.{key_size}
 use Rattle.cloak_model.specs.BundleFault.{lies_in_ram, is_base_of}
 use Rattle.guest_bundle.proofs.Steps.{bind_ok, refused_not, passed, ok_is, IsBytes, IsBytes-drop, IsBytes-take, Stands}
-use Rattle.guest_bundle.proofs.Steps.{Stands-then}
+use Rattle.guest_bundle.proofs.Steps.{Stands-then, KeyFits, key_small, key_text}
 
 front_stands : (file : List ℕ) (at n : ℕ) → Stands file at (take n (drop at file)) (at + n)
 front_stands file at n = record {
@@ -153,72 +154,102 @@ base_takes pages file at n fits e =
     subst (λ m. NumberStands file at m × (m % 4096 ≡ 0) × (m + 4096 * pages ≤ 2 ^ 32)) (ok_is _ _ g.1)
     (number_takes file at b.0 fits b.1, eqb-true _ _ tests.0, leb-true _ _ tests.1)
 
-pub program_takes : (frames : ℕ) (file : List ℕ) (at : ℕ) (p : Program) → IsBytes file →
-    program_at frames file at ≡ Ok p → Stands file at (program_bytes p) (at + program_size p) × IsProgramIn frames p
+key_takes : (keys : Bool) (file : List ℕ) (at key : ℕ) → IsBytes file → key_at keys file at ≡ Ok key →
+    Stands file at (key_text keys key) (at + key_size keys) × KeyFits keys key
+unfolding key_at
+key_takes true file at key fits e =
+    let n = count_takes file at 0 3 key fits e in (n.0.text, omega (arith, n.2))
+key_takes false file at key fits e =
+    let none : Stands file at [] (at + 0) = record { parts = rw add-zero refl } in
+    (none, sym (ok_is 0 key e))
+
+-- what a program that was read says of its fields
+pub record ProgramSteps (keys : Bool) (frames : ℕ) (file : List ℕ) (at : ℕ) (p : Program) : Type 0 where
+  pub pages : count_at file at 1 1024 ≡ Ok p.start.pages
+  pub place : place_at frames p.start.pages file (at + 4) ≡ Ok p.place
+  pub base : base_at p.start.pages file (at + 8) ≡ Ok p.start.base
+  pub entry : entry_at file (at + 12) ≡ Ok p.start.entry
+  pub sp : number_at file (at + 16) ≡ Ok p.start.sp
+  pub key : key_at keys file (at + 20) ≡ Ok p.key
+  pub bytes : pages_at file (at + 20 + key_size keys) p.start.pages ≡ Ok p.bytes
+
+pub program_steps : (keys : Bool) (frames : ℕ) (file : List ℕ) (at : ℕ) (p : Program) →
+    program_at keys frames file at ≡ Ok p → ProgramSteps keys frames file at p
 unfolding program_at
-program_takes frames file at p fits e =
-    let made : ℕ → ℕ → ℕ → ℕ → ℕ → List ℕ → Program =
-    λ pages place base entry sp bytes. record {
+program_steps keys frames file at p e =
+    let made : ℕ → ℕ → ℕ → ℕ → ℕ → ℕ → List ℕ → Program =
+    λ pages place base entry sp key bytes. record {
       place = place;
-      start =
-          record { pages = pages; base = base; entry = entry; sp = sp };
+      start = record { pages = pages; base = base; entry = entry; sp = sp };
+      key = key;
       bytes = bytes;
     } in
-    let a = bind_ok (count_at file at 1 1024)
-    (λ pages. place_at frames pages file (at + 4) >>= λ place. base_at pages file (at + 8) >>= λ base. entry_at file
-    (at + 12) >>= λ entry. number_at file (at + 16) >>= λ sp. pages_at file (at + 20) pages >>= λ bytes. Ok
-    (made pages place base entry sp bytes)) p e in
-    let b = bind_ok (place_at frames a.0 file (at + 4))
-    (λ place. base_at a.0 file (at + 8) >>= λ base. entry_at file (at + 12) >>= λ entry. number_at file (at + 16)
-    >>= λ sp. pages_at file (at + 20) a.0 >>= λ bytes. Ok (made a.0 place base entry sp bytes)) p a.2 in
-    let c = bind_ok (base_at a.0 file (at + 8))
-    (λ base. entry_at file (at + 12) >>= λ entry. number_at file (at + 16) >>= λ sp. pages_at file (at + 20) a.0 >>=
-    λ bytes. Ok (made a.0 b.0 base entry sp bytes)) p b.2 in
-    let d = bind_ok (entry_at file (at + 12))
-    (λ entry. number_at file (at + 16) >>= λ sp. pages_at file (at + 20) a.0 >>= λ bytes. Ok
-    (made a.0 b.0 c.0 entry sp bytes)) p c.2 in
-    let s = bind_ok (number_at file (at + 16))
-    (λ sp. pages_at file (at + 20) a.0 >>= λ bytes. Ok (made a.0 b.0 c.0 d.0 sp bytes)) p d.2 in
-    let t = bind_ok (pages_at file (at + 20) a.0) (λ bytes. Ok (made a.0 b.0 c.0 d.0 s.0 bytes)) p s.2 in
-    let pages = count_takes file at 1 1024 a.0 fits a.1 in
-    let place = place_takes frames a.0 file (at + 4) b.0 fits b.1 in
-    let base = base_takes a.0 file (at + 8) c.0 fits c.1 in
-    let entry = entry_takes file (at + 12) d.0 fits d.1 in
-    let sp = number_takes file (at + 16) s.0 fits s.1 in
-    let bytes = pages_take file (at + 20) a.0 t.0 t.1 in
-    let x1 : Stands file (at + 4) (word b.0) (at + 8) =
-    subst (λ k. Stands file (at + 4) (word b.0) k) (omega arith) place.0.text in
-    let x2 : Stands file (at + 8) (word c.0) (at + 12) =
-    subst (λ k. Stands file (at + 8) (word c.0) k) (omega arith) base.0.text in
-    let x3 : Stands file (at + 12) (word d.0) (at + 16) =
-    subst (λ k. Stands file (at + 12) (word d.0) k) (omega arith) entry.0.text in
-    let x4 : Stands file (at + 16) (word s.0) (at + 20) =
-    subst (λ k. Stands file (at + 16) (word s.0) k) (omega arith) sp.text in
-    let end : at + 20 + 4096 * a.0 ≡ at + (20 + length t.0) = omega (arith, bytes.1) in
-    let x5 : Stands file (at + 20) t.0 (at + (20 + length t.0)) =
-    subst (λ k. Stands file (at + 20) t.0 k) end bytes.0 in
-    let last = at + (20 + length t.0) in
-    let text = Stands-then file at (word a.0) (at + 4) (word b.0 ++ (word c.0 ++ (word d.0 ++ (word s.0 ++ t.0)))) last
-    pages.0.text
-    (Stands-then file (at + 4) (word b.0) (at + 8) (word c.0 ++ (word d.0 ++ (word s.0 ++ t.0))) last x1
-    (Stands-then file (at + 8) (word c.0) (at + 12) (word d.0 ++ (word s.0 ++ t.0)) last x2
-    (Stands-then file (at + 12) (word d.0) (at + 16) (word s.0 ++ t.0) last x3
-    (Stands-then file (at + 16) (word s.0) (at + 20) t.0 last x4 x5)))) in
-    let inside : IsProgramIn frames (made a.0 b.0 c.0 d.0 s.0 t.0) =
-    record {
+    let k6 = λ (pages place base entry sp key : ℕ). pages_at file (at + 20 + key_size keys) pages >>= λ bytes. Ok
+    (made pages place base entry sp key bytes) in
+    let k5 = λ (pages place base entry sp : ℕ). key_at keys file (at + 20) >>= k6 pages place base entry sp in
+    let k4 = λ (pages place base entry : ℕ). number_at file (at + 16) >>= k5 pages place base entry in
+    let k3 = λ (pages place base : ℕ). entry_at file (at + 12) >>= k4 pages place base in
+    let k2 = λ (pages place : ℕ). base_at pages file (at + 8) >>= k3 pages place in
+    let k1 = λ (pages : ℕ). place_at frames pages file (at + 4) >>= k2 pages in
+    let a = bind_ok (count_at file at 1 1024) k1 p e in
+    let b = bind_ok (place_at frames a.0 file (at + 4)) (k2 a.0) p a.2 in
+    let c = bind_ok (base_at a.0 file (at + 8)) (k3 a.0 b.0) p b.2 in
+    let d = bind_ok (entry_at file (at + 12)) (k4 a.0 b.0 c.0) p c.2 in
+    let s = bind_ok (number_at file (at + 16)) (k5 a.0 b.0 c.0 d.0) p d.2 in
+    let k = bind_ok (key_at keys file (at + 20)) (k6 a.0 b.0 c.0 d.0 s.0) p s.2 in
+    let t = bind_ok (pages_at file (at + 20 + key_size keys) a.0)
+    (λ bytes. Ok (made a.0 b.0 c.0 d.0 s.0 k.0 bytes)) p k.2 in
+    subst (ProgramSteps keys frames file at) (ok_is (made a.0 b.0 c.0 d.0 s.0 k.0 t.0) p t.2)
+    (record { pages = a.1; place = b.1; base = c.1; entry = d.1; sp = s.1; key = k.1; bytes = t.1 })
+
+pub program_takes : (version frames : ℕ) (file : List ℕ) (at : ℕ) (p : Program) → IsBytes file →
+    program_at (eqb version 2) frames file at ≡ Ok p →
+    Stands file at (program_bytes version p) (at + program_size (eqb version 2) p)
+    × (IsProgramIn frames p × KeyFits (eqb version 2) p.key)
+program_takes version frames file at p fits e =
+    let keys = eqb version 2 in
+    let x = p.start in
+    let s = program_steps keys frames file at p e in
+    let pages = count_takes file at 1 1024 x.pages fits s.pages in
+    let place = place_takes frames x.pages file (at + 4) p.place fits s.place in
+    let base = base_takes x.pages file (at + 8) x.base fits s.base in
+    let entry = entry_takes file (at + 12) x.entry fits s.entry in
+    let sp = number_takes file (at + 16) x.sp fits s.sp in
+    let key = key_takes keys file (at + 20) p.key fits s.key in
+    let bytes = pages_take file (at + 20 + key_size keys) x.pages p.bytes s.bytes in
+    let last = at + program_size keys p in
+    let x1 : Stands file (at + 4) (word p.place) (at + 8) =
+    subst (λ k. Stands file (at + 4) (word p.place) k) (omega arith) place.0.text in
+    let x2 : Stands file (at + 8) (word x.base) (at + 12) =
+    subst (λ k. Stands file (at + 8) (word x.base) k) (omega arith) base.0.text in
+    let x3 : Stands file (at + 12) (word x.entry) (at + 16) =
+    subst (λ k. Stands file (at + 12) (word x.entry) k) (omega arith) entry.0.text in
+    let x4 : Stands file (at + 16) (word x.sp) (at + 20) =
+    subst (λ k. Stands file (at + 16) (word x.sp) k) (omega arith) sp.text in
+    let end : at + 20 + key_size keys + 4096 * x.pages ≡ last = omega (arith, bytes.1) in
+    let x5 : Stands file (at + 20 + key_size keys) p.bytes last =
+    subst (λ k. Stands file (at + 20 + key_size keys) p.bytes k) end bytes.0 in
+    let r5 = key_text keys p.key ++ p.bytes in
+    let text = Stands-then file at (word x.pages) (at + 4)
+    (word p.place ++ (word x.base ++ (word x.entry ++ (word x.sp ++ r5)))) last pages.0.text
+    (Stands-then file (at + 4) (word p.place) (at + 8) (word x.base ++ (word x.entry ++ (word x.sp ++ r5))) last x1
+    (Stands-then file (at + 8) (word x.base) (at + 12) (word x.entry ++ (word x.sp ++ r5)) last x2
+    (Stands-then file (at + 12) (word x.entry) (at + 16) (word x.sp ++ r5) last x3
+    (Stands-then file (at + 16) (word x.sp) (at + 20) r5 last x4
+    (Stands-then file (at + 20) (key_text keys p.key) (at + 20 + key_size keys) p.bytes last key.0 x5))))) in
+    let inside : IsProgramIn frames p = record {
       some_pages = pages.1;
       few_pages = pages.2;
       place = place.1;
       base = base.1;
       top = base.2;
-      entry =
-          entry.1;
+      entry = entry.1;
       entry_fits = entry.0.small;
       sp_fits = sp.small;
+      key = key_small keys p.key key.1;
       bytes = bytes.1;
     } in
-    subst (λ (x : Program). Stands file at (program_bytes x) (at + program_size x) × IsProgramIn frames x)
-    (ok_is (made a.0 b.0 c.0 d.0 s.0 t.0) p t.2) (text, inside)
+    (text, (inside, key.1))
 
 -- parts one after the other
 pub parts_take : {X : Type 0} (text : X → List ℕ) (Fits : X → Type 0) (file : List ℕ) (part_at : ℕ →

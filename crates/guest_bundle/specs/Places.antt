@@ -1,5 +1,5 @@
 -- Where the parts of a file stand in it.
-use Rattle.std.specs.Prelude.{ℕ, ◌≡◌, ◌+◌, ◌-◌, ◌≤◌, List, [], ◌∷◌, take, drop}
+use Rattle.std.specs.Prelude.{ℕ, ◌≡◌, ◌+◌, ◌-◌, ◌≤◌, Bool, List, [], ◌∷◌, take, drop, if◌then◌else◌}
 use Rattle.cloak_model.specs.declared.image.Segment.{Segment}
 use Rattle.cloak_model.specs.declared.image.Program.{Program}
 use Rattle.guest_bundle.specs.declared.parts.SegmentPlace.{SegmentPlace}
@@ -13,7 +13,8 @@ abbrev pub segment_of : List ℕ → SegmentPlace → Segment
 segment_of file p = record { address = p.address; bytes = bytes_between file p.from p.to }
 
 abbrev pub program_of : List ℕ → ProgramPlace → Program
-program_of file p = record { place = p.place; start = p.start; bytes = bytes_between file p.from p.to }
+program_of file p =
+    record { place = p.place; start = p.start; key = p.key; bytes = bytes_between file p.from p.to }
 
 -- a part whose fields begin at an offset of a file of so many bytes
 pub record IsSegmentPlace (size at : ℕ) (p : SegmentPlace) : Type 0 where
@@ -21,8 +22,12 @@ pub record IsSegmentPlace (size at : ℕ) (p : SegmentPlace) : Type 0 where
   pub order : p.from ≤ p.to
   pub within : p.to ≤ size
 
-pub record IsProgramPlace (size at : ℕ) (p : ProgramPlace) : Type 0 where
-  pub from : p.from ≡ at + 20
+-- how many bytes the number of a key takes, in a file with keys and without
+abbrev pub key_size : Bool → ℕ
+key_size keys = if keys then 4 else 0
+
+pub record IsProgramPlace (keys : Bool) (size at : ℕ) (p : ProgramPlace) : Type 0 where
+  pub from : p.from ≡ at + 20 + key_size keys
   pub order : p.from ≤ p.to
   pub within : p.to ≤ size
 

@@ -1,8 +1,9 @@
 -- A file is read from left to right, each field tested as soon as it is read whole.
-use Rattle.std.specs.Prelude.{ℕ, zero, suc, ◌+◌, ◌-◌, ◌==◌, List, [], ◌∷◌, length, slice_index}
+use Rattle.std.specs.Prelude.{ℕ, zero, suc, ◌+◌, ◌-◌, ◌==◌, Bool, List, [], ◌∷◌, length, slice_index}
 use Rattle.std.specs.Prelude.{codes, Result, Ok, Err, nat_lt, nat_le, if◌then◌else◌}
 use Rattle.std.specs.Str.{bytes_eq}
 use Rattle.cloak_base.specs.Constants.{largest_bundle}
+use Rattle.cloak_model.specs.Bundle.{is_version}
 use Rattle.cloak_model.specs.declared.image.Segment.{Segment}
 use Rattle.cloak_model.specs.declared.image.KernelImage.{KernelImage}
 use Rattle.cloak_model.specs.declared.image.Program.{Program}
@@ -13,6 +14,7 @@ use Rattle.cloak_model.specs.declared.fault.BundleFault.TheVariants.{Extra}
 use Rattle.cloak_model.specs.BundleFault.{lies_in_ram, is_base_of}
 use Rattle.guest_bundle.specs.declared.header.Header.{Header}
 use Rattle.guest_bundle.specs.Fields.{◌>>=◌, bytes_at, pages_at, number_at, count_at, entry_at}
+use Rattle.guest_bundle.specs.Places.{key_size}
 
 -- n parts of one kind and the offset after them, each part as long as its size says
 unfoldable pub parts_at : {X : Type 0} → (ℕ → Result X BundleFault) → (X → ℕ) → ℕ → ℕ → Result (List X × ℕ) BundleFault
@@ -27,7 +29,7 @@ unfoldable pub version_at : List ℕ → Result ℕ BundleFault
 version_at file = do
   magic ← bytes_at file 0 8
   version ← if bytes_eq magic (codes "CLOAKBND") then number_at file 8 else Err BadMagic
-  if version == 1 then Ok version else Err (BadVersion version)
+  if is_version version then Ok version else Err (BadVersion version)
 
 unfoldable pub header_at : List ℕ → Result Header BundleFault
 header_at file = do
@@ -40,6 +42,7 @@ header_at file = do
   blocks ← count_at file 32 0 4096
   programs ← count_at file 36 0 4
   Ok (record {
+    keys = version == 2;
     frames = frames;
     harts = harts;
     turns = turns;
@@ -77,18 +80,29 @@ base_at pages file at = do
   base ← number_at file at
   if is_base_of pages base then Ok base else Err (BadRange at)
 
-unfoldable pub program_at : ℕ → List ℕ → ℕ → Result Program BundleFault
-program_at frames file at = do
+-- the number of a key, which is 0 in a file without keys
+unfoldable pub key_at : Bool → List ℕ → ℕ → Result ℕ BundleFault
+key_at keys file at = if keys then count_at file at 0 3 else Ok 0
+
+-- a program of a file with keys, or without
+unfoldable pub program_at : Bool → ℕ → List ℕ → ℕ → Result Program BundleFault
+program_at keys frames file at = do
   pages ← count_at file at 1 1024
   place ← place_at frames pages file (at + 4)
   base ← base_at pages file (at + 8)
   entry ← entry_at file (at + 12)
   sp ← number_at file (at + 16)
-  bytes ← pages_at file (at + 20) pages
-  Ok (record { place = place; start = record { pages = pages; base = base; entry = entry; sp = sp }; bytes = bytes })
+  key ← key_at keys file (at + 20)
+  bytes ← pages_at file (at + 20 + key_size keys) pages
+  Ok (record {
+    place = place;
+    start = record { pages = pages; base = base; entry = entry; sp = sp };
+    key = key;
+    bytes = bytes;
+  })
 
-abbrev pub program_size : Program → ℕ
-program_size p = 20 + length p.bytes
+abbrev pub program_size : Bool → Program → ℕ
+program_size keys p = 20 + key_size keys + length p.bytes
 
 abbrev pub bundle_of : Header → List ℕ → List Segment → List ℕ → List Program → Bundle
 bundle_of h schedule segments disk programs =
@@ -108,5 +122,5 @@ bundle_at file = do
   schedule ← parts_at (turn_at h.harts file) (λ _. 1) h.turns 40
   segments ← parts_at (segment_at h.frames file) segment_size h.segments schedule.1
   disk ← pages_at file segments.1 h.blocks
-  programs ← parts_at (program_at h.frames file) program_size h.programs (segments.1 + length disk)
+  programs ← parts_at (program_at h.keys h.frames file) (program_size h.keys) h.programs (segments.1 + length disk)
   if programs.1 == length file then Ok (bundle_of h schedule.0 segments.0 disk programs.0) else Err (Extra programs.1)

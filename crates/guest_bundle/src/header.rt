@@ -1,4 +1,5 @@
 ghost use Rattle.std.specs.Prelude.{◌≡◌, ◌≤◌, length, OnOk};
+ghost use Rattle.cloak_model.specs.Bundle.{is_version};
 ghost use Rattle.guest_bundle.specs.Reading.{version_at, header_at};
 
 use crate::BundleFault;
@@ -7,6 +8,8 @@ use crate::fields::{bytes, count, entry, number};
 /// The numbers of fixed places that a file begins with.
 #[derive(Clone, Copy)]
 pub struct Header {
+    /// Each program has the number of a key.
+    pub keys: bool,
     pub frames: u32,
     pub harts: u32,
     /// The length of the schedule.
@@ -15,6 +18,13 @@ pub struct Header {
     pub segments: u32,
     pub blocks: u32,
     pub programs: u32,
+}
+
+/// There is a version of this number.
+fn is_known(version: u32) -> bool
+    ensures { result ≡ is_version version }
+{
+    version == 1 || version == 2
 }
 
 #[tactic(auto, unfolding(crate::specs::Reading::version_at))]
@@ -27,7 +37,7 @@ fn version(file: &[u8]) -> Result<u32, BundleFault>
         return Err(BundleFault::BadMagic);
     }
     let version = number(file, 8)?;
-    if version != 1 {
+    if !is_known(version) {
         return Err(BundleFault::BadVersion(version));
     }
     Ok(version)
@@ -38,7 +48,7 @@ pub fn read_header(file: &[u8]) -> Result<Header, BundleFault>
     ensures fields { result ≡ header_at file.now }
     ensures whole { OnOk result (40 ≤ length file.now) }
 {
-    version(file)?;
+    let version = version(file)?;
     let frames = count(file, 12, 64, 4096)?;
     let harts = count(file, 16, 1, 4)?;
     let turns = count(file, 20, 1, 64)?;
@@ -47,6 +57,7 @@ pub fn read_header(file: &[u8]) -> Result<Header, BundleFault>
     let blocks = count(file, 32, 0, 4096)?;
     let programs = count(file, 36, 0, 4)?;
     Ok(Header {
+        keys: version == 2,
         frames,
         harts,
         turns,

@@ -96,6 +96,7 @@ pub fn move_programs(
         programs.push(Program {
             place: p.place,
             start: p.start,
+            key: p.key,
             bytes,
         })?;
     }

@@ -1,10 +1,10 @@
 ghost use Rattle.std.specs.Prelude.{◌≡◌, ◌≤◌, length, map, IfOk, OnOk, ◌+◌};
 ghost use Rattle.guest_bundle.specs.Fields.{Gives, Shows};
 ghost use Rattle.guest_bundle.specs.Places.{segment_of, program_of, IsSegmentPlace, IsProgramPlace, AreSegmentPlaces};
-ghost use Rattle.guest_bundle.specs.Places.{AreProgramPlaces};
+ghost use Rattle.guest_bundle.specs.Places.{AreProgramPlaces, key_size};
 ghost use Rattle.cloak_model.specs.BundleFault.{lies_in_ram, is_base_of};
 ghost use Rattle.guest_bundle.specs.Reading.{turn_at, segment_at, segment_size, place_at, base_at, program_at};
-ghost use Rattle.guest_bundle.specs.Reading.{program_size, parts_at};
+ghost use Rattle.guest_bundle.specs.Reading.{key_at, program_size, parts_at};
 
 use crate::BundleFault;
 use crate::fields::{bytes, count, entry, number, pages};
@@ -19,11 +19,12 @@ pub struct SegmentPlace {
     pub to: usize,
 }
 
-/// A program of a file: its place and start, and where its bytes begin and end.
+/// A program of a file: its place, start and key, and where its bytes begin and end.
 #[derive(Clone, Copy)]
 pub struct ProgramPlace {
     pub place: u32,
     pub start: Start,
+    pub key: u32,
     pub from: usize,
     pub to: usize,
 }
@@ -152,19 +153,41 @@ fn base(file: &[u8], at: usize, pages: u32) -> Result<u32, BundleFault>
     Ok(base)
 }
 
+/// How many bytes the number of a key takes.
+fn size_of_key(keys: bool) -> usize
+    ensures { result ≡ key_size keys }
+{
+    if keys { 4 } else { 0 }
+}
+
+/// The number of a program's key, which is 0 in a file without keys.
+#[tactic(auto, unfolding(crate::specs::Reading::key_at))]
+fn key(file: &[u8], at: usize, keys: bool) -> Result<u32, BundleFault>
+    requires { at ≤ length file.now }
+    ensures field { result ≡ key_at keys file.now at }
+    ensures whole { OnOk result (at + key_size keys ≤ length file.now) }
+{
+    if !keys {
+        return Ok(0);
+    }
+    count(file, at, 0, 3)
+}
+
 /// A program.
 #[tactic(auto, unfolding(crate::specs::Reading::program_at))]
-fn program(file: &[u8], at: usize, frames: u32) -> Result<ProgramPlace, BundleFault>
+fn program(file: &[u8], at: usize, frames: u32, keys: bool) -> Result<ProgramPlace, BundleFault>
     requires { at ≤ length file.now }
-    ensures field { Shows (program_of file.now) result (program_at frames file.now at) }
-    ensures whole { IfOk result (λ p. IsProgramPlace (length file.now) at p) }
+    ensures field { Shows (program_of file.now) result (program_at keys frames file.now at) }
+    ensures whole { IfOk result (λ p. IsProgramPlace keys (length file.now) at p) }
 {
     let page_count = count(file, at, 1, 1024)?;
     let place = place(file, at + 4, frames, page_count)?;
     let base = base(file, at + 8, page_count)?;
     let entry = entry(file, at + 12)?;
     let sp = number(file, at + 16)?;
-    pages(file, at + 20, page_count)?;
+    let key = key(file, at + 20, keys)?;
+    let from = at + 20 + size_of_key(keys);
+    pages(file, from, page_count)?;
     let start = Start {
         pages: page_count,
         base,
@@ -174,8 +197,9 @@ fn program(file: &[u8], at: usize, frames: u32) -> Result<ProgramPlace, BundleFa
     Ok(ProgramPlace {
         place,
         start,
-        from: at + 20,
-        to: at + 20 + 4096 * page_count as usize,
+        key,
+        from,
+        to: from + 4096 * page_count as usize,
     })
 }
 
@@ -185,18 +209,19 @@ pub fn programs(
     file: &[u8],
     from: usize,
     frames: u32,
+    keys: bool,
     n: u32,
 ) -> Result<(Vec<ProgramPlace>, usize), BundleFault>
     requires { from ≤ length file.now }
     ensures fields { Gives (λ x. (map (program_of file.now) x.0.items, x.1)) result
-        (parts_at (program_at frames file.now) program_size n from) }
+        (parts_at (program_at keys frames file.now) (program_size keys) n from) }
     ensures places { IfOk result (λ x. AreProgramPlaces from x.0.items x.1) }
     ensures whole { IfOk result (λ x. x.1 ≤ length file.now) }
 {
     let mut places = Vec::new(alloc);
     let mut at = from;
     for _ in 0..n {
-        let place = program(file, at, frames)?;
+        let place = program(file, at, frames, keys)?;
         at = place.to;
         places.push(place)?;
     }

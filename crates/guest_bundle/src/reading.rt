@@ -75,7 +75,7 @@ fn bundle(alloc: Global, file: Vec<u8>) -> Result<Bundle, BundleFault>
     let (schedule, at) = schedule(alloc, bytes, 40, h.harts, h.turns)?;
     let (segments, disk_start) = segments(alloc, bytes, at, h.frames, h.segments)?;
     let disk_end = disk_start + pages(bytes, disk_start, h.blocks)?.len();
-    let (programs, end) = programs(alloc, bytes, disk_end, h.frames, h.programs)?;
+    let (programs, end) = programs(alloc, bytes, disk_end, h.frames, h.keys, h.programs)?;
     if end != bytes.len() {
         return Err(BundleFault::Extra(end as u64));
     }
@@ -97,8 +97,8 @@ fn are_bytes(file: &[u8])
     ensures { (i : ℕ) → slice_index_or file.now i 0 < 256 }
 {}
 
-/// The bundle of a file, which gives its memory back as the parts are moved out. A file above 67,108,864 bytes is refused
-/// before anything of it is read, and `NoMemory` comes only where a growth was refused.
+/// The bundle of a file in version 1 or 2, which gives its memory back as the parts are moved out. A file above
+/// 67,108,864 bytes is refused before anything of it is read, and `NoMemory` comes only if a growth was refused.
 pub fn read(alloc: Global, file: Vec<u8>) -> Result<Bundle, BundleFault>
     // What is read is spelled so, and it is in the grammar.
     ensures ok { IfOk result (λ bundle. IsBundle file.items bundle) }

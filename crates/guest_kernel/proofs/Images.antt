@@ -1,9 +1,10 @@
 -- The image of a number is in the grammar of bundles, and how long its file is.
-use Rattle.std.proofs.Common.{◌≡◌, ◌<◌, ◌+◌, ◌*◌, ◌/◌, ◌%◌, ℕ, List, [], ◌∷◌, ◌++◌, length, ap, ◌∙◌, refl, arith, length-append, codes, lit≤, lit<}
+use Rattle.std.proofs.Common.{◌≡◌, ◌<◌, ◌≤◌, ◌+◌, ◌*◌, ◌/◌, ◌%◌, ℕ, List, [], ◌∷◌, ◌++◌, length, ap, ◌∙◌, refl, arith, length-append, codes, lit≤, lit<}
 use Rattle.std.specs.Prelude.{replicate, All}
 use Rattle.std.specs.List.{flat_map}
 use Rattle.std.proofs.lemmas.List.{length-replicate}
 use Rattle.std.proofs.lemmas.List.Elements.{All-nil, All-cons}
+use Rattle.cloak_base.specs.Constants.{largest_bundle}
 use Rattle.cloak_model.specs.Bits.{word}
 use Rattle.cloak_model.specs.declared.image.Segment.{Segment}
 use Rattle.cloak_model.specs.declared.image.KernelImage.{KernelImage}
@@ -18,32 +19,49 @@ use Rattle.guest_kernel.proofs.Drawn.{hart_of_turn-lt}
 use Rattle.guest_kernel.proofs.Lengths.{length-words, length-kernel_words, length-demo_bytes}
 
 -- the file's front has 40 bytes, whatever its numbers
-length-front : (b : Bundle) (rest : List ℕ) →
+length-front : (version : ℕ) (b : Bundle) (rest : List ℕ) →
     let k = b.kernel in
-    length (codes "CLOAKBND" ++ (word 1 ++ (word k.frames ++ (word k.harts ++ (word (length k.schedule) ++ (word k.entry
+    length (codes "CLOAKBND" ++ (word version ++ (word k.frames ++ (word k.harts ++ (word (length k.schedule) ++ (word k.entry
     ++ (word (length k.segments) ++ (word (length k.disk / 4096) ++ (word (length b.programs) ++ rest)))))))))
     ≡ 40 + length rest
-length-front b rest = omega arith
+length-front version b rest = omega arith
 
-length-bundle_bytes : (b : Bundle) →
-    length (bundle_bytes b)
+length-bundle_bytes : (version : ℕ) (b : Bundle) →
+    length (bundle_bytes version b)
     ≡ 40 + (length b.kernel.schedule + (length (flat_map segment_bytes b.kernel.segments)
-    + (length b.kernel.disk + length (flat_map program_bytes b.programs))))
+    + (length b.kernel.disk + length (flat_map (program_bytes version) b.programs))))
 unfolding bundle_bytes
-length-bundle_bytes b =
+length-bundle_bytes version b =
     let k = b.kernel in
     let segments = flat_map segment_bytes k.segments in
-    let programs = flat_map program_bytes b.programs in
+    let programs = flat_map (program_bytes version) b.programs in
     let one = length-append k.schedule (segments ++ (k.disk ++ programs)) in
     let two = length-append segments (k.disk ++ programs) in
     let three = length-append k.disk programs in
-    length-front b (k.schedule ++ (segments ++ (k.disk ++ programs))) ∙ omega (arith, one, two, three)
+    length-front version b (k.schedule ++ (segments ++ (k.disk ++ programs))) ∙ omega (arith, one, two, three)
 
 length-segment_bytes : (s : Segment) → length (segment_bytes s) ≡ 8 + length s.bytes
 length-segment_bytes s = omega arith
 
-length-program_bytes : (d rounds : ℕ) → length (program_bytes (demo_program d rounds)) ≡ 4116
+length-program_bytes : (d rounds : ℕ) → length (program_bytes 2 (demo_program d rounds)) ≡ 4120
 length-program_bytes d rounds = let page = length-demo_bytes d rounds in omega (arith, page)
+
+-- A file without keys has at most as many bytes.
+
+fewer_in_programs : (programs : List Program) →
+    length (flat_map (program_bytes 1) programs) ≤ length (flat_map (program_bytes 2) programs)
+fewer_in_programs [] = lit≤ tt
+fewer_in_programs (p ∷ programs) =
+    let one = length-append (program_bytes 1 p) (flat_map (program_bytes 1) programs) in
+    let two = length-append (program_bytes 2 p) (flat_map (program_bytes 2) programs) in
+    let first : length (program_bytes 1 p) ≤ length (program_bytes 2 p) = omega arith in
+    let rest = fewer_in_programs programs in omega (arith, one, two, first, rest)
+
+pub fewer_bytes : (b : Bundle) → length (bundle_bytes 1 b) ≤ length (bundle_bytes 2 b)
+fewer_bytes b =
+    let one = length-bundle_bytes 1 b in
+    let two = length-bundle_bytes 2 b in
+    let programs = fewer_in_programs b.programs in omega (arith, one, two, programs)
 
 length-boot_table : (n : ℕ) → length (boot_table n) ≡ 2 + program_count n
 length-boot_table n = let frames = length-map_below demo_frame (program_count n) in omega (arith, frames)
@@ -63,17 +81,20 @@ length-segments n =
     let table_count = length-boot_table n in
     omega (arith, both, last, none, one, two, kernel_bytes, kernel_count, table_bytes, table_count)
 
-pub length-generated : (n : ℕ) → length (bundle_bytes (generated n)) ≡ 262920 + 4120 * program_count n
+pub length-generated : (n : ℕ) → length (bundle_bytes 2 (generated n)) ≡ 262920 + 4124 * program_count n
 unfolding generated
 length-generated n =
-    let whole = length-bundle_bytes (generated n) in
+    let whole = length-bundle_bytes 2 (generated n) in
     let turns : length (schedule_of n) ≡ 16 = length-map_below (hart_of_turn n) 16 in
     let segments = length-segments n in
     let disk : length {A = ℕ} (replicate (64 * 4096) 0) ≡ 64 * 4096 = length-replicate {A = ℕ} (64 * 4096) 0 in
-    let programs : length (flat_map program_bytes (demo_programs n)) ≡ program_count n * 4116 =
-    length-flat_map_below (λ d. demo_program d (rounds_of n d)) program_bytes 4116 (program_count n)
+    let programs : length (flat_map (program_bytes 2) (demo_programs n)) ≡ program_count n * 4120 =
+    length-flat_map_below (λ d. demo_program d (rounds_of n d)) (program_bytes 2) 4120 (program_count n)
     (λ d. length-program_bytes d (rounds_of n d)) in
     omega (arith, whole, turns, segments, disk, programs)
+
+pub generated_fits : (n : ℕ) → length (bundle_bytes 2 (generated n)) ≤ largest_bundle
+generated_fits n = let whole = length-generated n in omega (arith, whole)
 
 segments_in : (n : ℕ) → All (IsSegmentIn 256) (segments_of n)
 segments_in n =
@@ -101,6 +122,7 @@ demo_program_in d rounds few = record {
   entry = refl;
   entry_fits = lit< tt;
   sp_fits = lit< tt;
+  key = few;
   bytes = length-demo_bytes d rounds;
 }
 
@@ -129,12 +151,13 @@ unfolding generated
 generated_in n =
     let count : length (demo_programs n) ≡ program_count n =
     length-map_below (λ d. demo_program d (rounds_of n d)) (program_count n) in
-    let whole = length-generated n in record {
+    let fits = generated_fits n in
+    let fewer = fewer_bytes (generated n) in record {
       kernel = kernel_in n;
       few_programs = omega (arith, count);
       programs = All-below (IsProgramIn 256) (λ d. demo_program d (rounds_of n d)) (program_count n)
           (λ d low. demo_program_in d (rounds_of n d) (omega arith));
-      not_too_large = omega (arith, whole);
+      not_too_large = omega (arith, fits, fewer);
     }
 
 -- what the code makes, part by part

@@ -55,7 +55,7 @@ made_code d rounds n words none front whole is empty first last count =
 
 pub made_program : (d rounds place count : ℕ) (code bytes : List ℕ) → place ≡ demo_frame d →
     code ≡ demo_code d rounds → bytes ≡ take 4096 code ++ replicate (4096 - count) 0 → count ≡ length code →
-    let p : Program = record { place = place; start = demo_start; bytes = bytes } in p ≡ demo_program d rounds
+    let p : Program = record { place = place; start = demo_start; key = d; bytes = bytes } in p ≡ demo_program d rounds
 unfolding demo_program
 made_program d rounds place count code bytes at is filled counted =
     let size : length code ≡ 244 = ap (λ (l : List ℕ). length l) is ∙ length-demo_code d rounds in
@@ -65,4 +65,4 @@ made_program d rounds place count code bytes at is filled counted =
     ∙ (ap (λ (l : List ℕ). l ++ replicate (4096 - count) 0) whole
     ∙ (ap (λ (k : ℕ). code ++ replicate (4096 - k) 0) counted
     ∙ ap (λ (l : List ℕ). l ++ replicate (4096 - length l) 0) is)) in
-    λ i. record { place = at i; start = demo_start; bytes = page i }
+    λ i. record { place = at i; start = demo_start; key = d; bytes = page i }

@@ -69,13 +69,13 @@ abbrev pub to_frames : ℕ → List ℕ
 to_frames n = to_programs n ++ named (codes " frames ") 256
 
 abbrev pub to_bytes : ℕ → List ℕ
-to_bytes n = to_frames n ++ named (codes " bytes ") (length (bundle_bytes (generated n)))
+to_bytes n = to_frames n ++ named (codes " bytes ") (length (bundle_bytes 2 (generated n)))
 
 pub line_is : (n : ℕ) → to_bytes n ++ codes "\n" ≡ summary_line n
 unfolding image_line generated
 line_is n =
     ap (λ (count : ℕ). to_harts n ++ named (codes " programs ") count ++ named (codes " frames ") 256
-    ++ named (codes " bytes ") (length (bundle_bytes (generated n))) ++ codes "\n")
+    ++ named (codes " bytes ") (length (bundle_bytes 2 (generated n))) ++ codes "\n")
     (sym (length-map_below (λ d. demo_program d (rounds_of n d)) (program_count n)))
 
 -- a front of the line that failed
@@ -87,7 +87,7 @@ failed_bytes n failed = text_is (front (codes "\n") failed) (line_is n)
 pub failed_frames : {O : Type 0} {sink : Ghosts O} {a b : O} {e : Failed} (n : ℕ) →
     PutsText sink a b (to_frames n) (Err e) → PutsText sink a b (summary_line n) (Err e)
 failed_frames n failed =
-    failed_bytes n (front (named (codes " bytes ") (length (bundle_bytes (generated n)))) failed)
+    failed_bytes n (front (named (codes " bytes ") (length (bundle_bytes 2 (generated n)))) failed)
 
 pub failed_programs : {O : Type 0} {sink : Ghosts O} {a b : O} {e : Failed} (n : ℕ) →
     PutsText sink a b (to_programs n) (Err e) → PutsText sink a b (summary_line n) (Err e)

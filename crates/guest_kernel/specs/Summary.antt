@@ -11,11 +11,11 @@ use Rattle.guest_kernel.specs.Generated.{generated}
 unfoldable pub named : List ℕ → ℕ → List ℕ
 named name n = name ++ decimal n
 
--- an image's number, its harts, programs and frames, and the length of its file
+-- an image's number, its harts, programs and frames, and the length of its file of version 2
 unfoldable pub image_line : ℕ → Bundle → List ℕ
 image_line n b =
     named (codes "gen ") n ++ named (codes " harts ") b.kernel.harts ++ named (codes " programs ") (length b.programs)
-    ++ named (codes " frames ") b.kernel.frames ++ named (codes " bytes ") (length (bundle_bytes b)) ++ codes "\n"
+    ++ named (codes " frames ") b.kernel.frames ++ named (codes " bytes ") (length (bundle_bytes 2 b)) ++ codes "\n"
 
 abbrev pub summary_line : ℕ → List ℕ
 summary_line n = image_line n (generated n)

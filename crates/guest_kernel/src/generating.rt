@@ -1,6 +1,7 @@
 //! The image of a number.
-ghost use Rattle.std.specs.Prelude.{◌≡◌, IfOk};
-ghost use Rattle.cloak_model.specs.Bundle.{IsInGrammar};
+ghost use Rattle.std.specs.Prelude.{◌≡◌, ◌≤◌, IfOk, length};
+ghost use Rattle.cloak_base.specs.Constants.{largest_bundle};
+ghost use Rattle.cloak_model.specs.Bundle.{IsInGrammar, bundle_bytes};
 ghost use Rattle.guest_kernel.specs.Drawing.{AreDrawn, schedule_of};
 ghost use Rattle.guest_kernel.specs.Generated.{generated};
 
@@ -23,10 +24,12 @@ fn schedule(alloc: Global, n: u64, words: &[u32; DRAWN]) -> Result<Vec<u8>, NoMe
     Ok(out)
 }
 
-/// The image of a number: the kernel with one to four demo programs on one to four harts.
+/// The image of a number: the kernel with one to four demo programs on one to four harts. Its file of version 2 is not too
+/// large.
 pub fn generate(alloc: Global, n: u64) -> Result<Bundle, NoMemory>
     ensures value { IfOk result (λ b. b ≡ generated n) }
     ensures in_grammar { IfOk result IsInGrammar }
+    ensures fits { IfOk result (λ b. length (bundle_bytes 2 b) ≤ largest_bundle) }
 {
     let words = drawn_words(n);
     let kernel = KernelImage {

@@ -1,8 +1,9 @@
 //! The bundled kernel, the demo program, and the generator of guest images from them.
 //!
 //! `generate` makes the image of a number as `specs/Generated` says: the kernel on one to four harts, with one to four
-//! copies of the demo program, a schedule, and the rounds of each. The layer above may rely on this: the bundle is the
-//! one of its number, it is in the grammar of bundles, and `file_length` is the length of its file.
+//! copies of the demo program, each under a key of its own, a schedule, and the rounds of each. The layer above may rely
+//! on this: the bundle is the one of its number, it is in the grammar of bundles, and `file_length` is the length of its
+//! file of version 2, which is not too large.
 //!
 //! Kernel and demo are tables of words, which is what images are made of: nothing is assembled when the program runs. Their
 //! assembler texts stand in `command_tests` (`kernel_text`, `demo_text`), where a test shows that the assembler makes each

@@ -29,7 +29,7 @@ fn demo_code(alloc: Global, program: u32, rounds: u32) -> Result<Vec<u8>, NoMemo
     Ok(out)
 }
 
-/// A program of so many rounds.
+/// A program of so many rounds, under a key of its own.
 fn demo_program(alloc: Global, program: u32, rounds: u32) -> Result<Program, NoMemory>
     requires { program < 4 }
     ensures { IfOk result (λ p. p ≡ demo_program program rounds) }
@@ -39,6 +39,7 @@ fn demo_program(alloc: Global, program: u32, rounds: u32) -> Result<Program, NoM
     Ok(Program {
         place: demo_frame(program),
         start: DEMO_START,
+        key: program,
         bytes: Sequence::new(bytes),
     })
 }

@@ -18,10 +18,10 @@ use std::{env, fs};
 /// What the program says of words that it does not take.
 const USAGE: &[u8] = b"the words are a number, 0 to 23, and the name of a file\n";
 
-/// The bytes of the file of a number's image.
+/// The bytes of the file of a number's image, in version 2.
 fn file_bytes(alloc: Global, number: u32) -> Result<Vec<u8>, NoMemory>
     requires { number < IMAGES }
-    ensures { IfOk result (λ bytes. bytes.items ≡ bundle_bytes (hostile_image number)) }
+    ensures { IfOk result (λ bytes. bytes.items ≡ bundle_bytes 2 (hostile_image number)) }
 {
     let image = hostile(alloc, number)?;
     write(alloc, &image)

@@ -1,5 +1,5 @@
--- Each image is in the grammar of bundles: by a test that is computed.
-use Rattle.std.proofs.Common.{◌≡◌, ◌<◌, ◌+◌, ◌*◌, ◌%◌, ◌^◌, ℕ, List, [], ◌∷◌, length, Bool, true, ◌&&◌, refl, arith}
+-- Each image is in the grammar of bundles, and its file of version 2 is not too large: by a test that is computed.
+use Rattle.std.proofs.Common.{◌≡◌, ◌<◌, ◌+◌, ◌*◌, ◌%◌, ◌^◌, ◌≤◌, ℕ, List, [], ◌∷◌, length, Bool, true, ◌&&◌, refl, arith}
 use Rattle.std.proofs.Math.Dec.{leb, ltb, eqb}
 use Rattle.std.specs.Prelude.{All}
 use Rattle.std.specs.List.{list_all}
@@ -11,6 +11,7 @@ use Rattle.cloak_model.specs.declared.image.Segment.{Segment}
 use Rattle.cloak_model.specs.declared.image.KernelImage.{KernelImage}
 use Rattle.cloak_model.specs.declared.image.Program.{Program}
 use Rattle.cloak_model.specs.declared.image.Bundle.{Bundle}
+use Rattle.guest_kernel.proofs.Images.{fewer_bytes}
 use Rattle.hostile_kernels.specs.Parts.{guest, image}
 use Rattle.hostile_kernels.specs.Images.{hostile_image, hostile_images, image_0, image_1, image_2, image_3, image_4, image_5, image_6, image_7, image_8, image_9, image_10, image_11, image_12, image_13, image_14, image_15, image_16, image_17, image_18, image_19, image_20, image_21, image_22, image_23}
 
@@ -31,12 +32,12 @@ program_fits frames p =
     leb 1 p.start.pages && (leb p.start.pages 1024 && (leb (p.place + p.start.pages) frames
     && (eqb (p.start.base % 4096) 0 && (leb (p.start.base + 4096 * p.start.pages) (2 ^ 32)
     && (eqb (p.start.entry % 4) 0 && (ltb p.start.entry (2 ^ 32) && (ltb p.start.sp (2 ^ 32)
-    && eqb (length p.bytes) (4096 * p.start.pages))))))))
+    && (ltb p.key 4 && eqb (length p.bytes) (4096 * p.start.pages)))))))))
 
 abbrev fits : Bundle → Bool
 fits b =
     kernel_fits b.kernel && (leb (length b.programs) 4 && (list_all (program_fits b.kernel.frames) b.programs
-    && leb (length (bundle_bytes b)) largest_bundle))
+    && leb (length (bundle_bytes 2 b)) largest_bundle))
 
 -- what each element's test tells
 told : {X : Type 0} (test : X → Bool) (P : X → Type 0) → ((x : X) → test x ≡ true → P x) → (xs : List X) →
@@ -89,7 +90,8 @@ program_in frames p passed =
     let e = and_parts _ _ d.1 in
     let f = and_parts _ _ e.1 in
     let g = and_parts _ _ f.1 in
-    let h = and_parts _ _ g.1 in record {
+    let h = and_parts _ _ g.1 in
+    let i = and_parts _ _ h.1 in record {
       some_pages = leb-true _ _ a.0;
       few_pages = leb-true _ _ b.0;
       place = leb-true _ _ c.0;
@@ -98,19 +100,29 @@ program_in frames p passed =
       entry = eqb-true _ _ f.0;
       entry_fits = ltb-true _ _ g.0;
       sp_fits = ltb-true _ _ h.0;
-      bytes = eqb-true _ _ h.1;
+      key = ltb-true _ _ i.0;
+      bytes = eqb-true _ _ i.1;
     }
 
-in_grammar : (b : Bundle) → fits b ≡ true → IsInGrammar b
-in_grammar b passed =
+-- what `write` asks of a bundle
+abbrev pub IsWritable : Bundle → Type 0
+IsWritable b = IsInGrammar b × (length (bundle_bytes 2 b) ≤ largest_bundle)
+
+writable : (b : Bundle) → fits b ≡ true → IsWritable b
+writable b passed =
     let a = and_parts _ _ passed in
     let c = and_parts _ _ a.1 in
-    let d = and_parts _ _ c.1 in record {
-      kernel = kernel_in b.kernel a.0;
-      few_programs = leb-true _ _ c.0;
-      programs = told (program_fits b.kernel.frames) (IsProgramIn b.kernel.frames) (program_in b.kernel.frames) b.programs d.0;
-      not_too_large = leb-true _ _ d.1;
-    }
+    let d = and_parts _ _ c.1 in
+    let few_bytes : length (bundle_bytes 2 b) ≤ largest_bundle = leb-true _ _ d.1 in
+    let fewer = fewer_bytes b in (
+      record {
+        kernel = kernel_in b.kernel a.0;
+        few_programs = leb-true _ _ c.0;
+        programs = told (program_fits b.kernel.frames) (IsProgramIn b.kernel.frames) (program_in b.kernel.frames) b.programs d.0;
+        not_too_large = omega (arith, few_bytes, fewer);
+      },
+      few_bytes,
+    )
 
 all_fit : list_all fits hostile_images ≡ true
 unfolding hostile_images image_0 image_1 image_2 image_3 image_4 image_5 image_6 image_7 image_8 image_9 image_10 image_11 image_12 image_13 image_14 image_15 image_16 image_17 image_18 image_19 image_20 image_21 image_22 image_23 image guest bundle_bytes
@@ -121,7 +133,7 @@ unfolding hostile_images
 count = refl
 
 -- the image of each number
-pub image_in : (i : ℕ) → i < 24 → IsInGrammar (hostile_image i)
+pub image_in : (i : ℕ) → i < 24 → IsWritable (hostile_image i)
 image_in i low =
-    All-get_or IsInGrammar hostile_images i image_0 (let all = count in omega (arith, low, all))
-    (told fits IsInGrammar in_grammar hostile_images all_fit)
+    All-get_or IsWritable hostile_images i image_0 (let all = count in omega (arith, low, all))
+    (told fits IsWritable writable hostile_images all_fit)

@@ -14,7 +14,7 @@ use Rattle.hostile_kernels.specs.Parts.{guest, image}
 pub made_guest : (frame count : ℕ) (start : Start) (words none code bytes : List ℕ) → none ≡ [] →
     code ≡ none ++ flat_map word words →
     bytes ≡ take (4096 * start.pages) code ++ replicate (4096 * start.pages - count) 0 → count ≡ length code →
-    let p : Program = record { place = frame; start = start; bytes = bytes } in p ≡ guest frame start words
+    let p : Program = record { place = frame; start = start; key = 0; bytes = bytes } in p ≡ guest frame start words
 unfolding guest
 made_guest frame count start words none code bytes empty put filled counted =
     let size = 4096 * start.pages in
@@ -23,7 +23,7 @@ made_guest frame count start words none code bytes empty put filled counted =
     filled
     ∙ (ap (λ (k : ℕ). take size code ++ replicate (size - k) 0) counted
     ∙ ap (λ (l : List ℕ). take size l ++ replicate (size - length l) 0) is) in
-    λ i. record { place = frame; start = start; bytes = page i }
+    λ i. record { place = frame; start = start; key = 0; bytes = page i }
 
 -- all that a loop made
 pub all_made : {X Y : Type 0} (f : X → Y) (xs : List X) (ys : List Y) (n : ℕ) → ys ≡ map f (take n xs) → length xs ≤ n →

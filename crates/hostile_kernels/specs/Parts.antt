@@ -16,10 +16,10 @@ use Rattle.hostile_kernels.specs.declared.draft.Draft.{Draft}
 abbrev pub filled : ℕ → List ℕ → List ℕ
 filled size bytes = take size bytes ++ replicate (size - length bytes) 0
 
--- a program with these words at the front of its pages, the first of which is in this frame
+-- a program under key 0 with these words at the front of its pages, the first of which is in this frame
 unfoldable pub guest : ℕ → Start → List ℕ → Program
 guest frame start words =
-    record { place = frame; start = start; bytes = filled (4096 * start.pages) (flat_map word words) }
+    record { place = frame; start = start; key = 0; bytes = filled (4096 * start.pages) (flat_map word words) }
 
 -- frames, harts, schedule, entry, segments, blocks of a disk of zeros, programs
 unfoldable pub image : ℕ → ℕ → List ℕ → ℕ → List Segment → ℕ → List Program → Bundle

@@ -2,7 +2,7 @@
 //!
 //! `hostile` makes the image of a number as `specs/Images` says: kernels and programs are tables of words, with frames,
 //! harts, page tables and blocks around them. The layer above may rely on this: the bundle is the one of its number,
-//! and it is in the grammar of bundles.
+//! it is in the grammar of bundles, and its file of version 2 is not too large.
 //!
 //! Each image has a file in `images`, with the assembler text of each table beside it. That the assembler makes the
 //! table of its text is tested. What each image does when it runs `.ci/hostile` tries, and `docs/HOSTILE.md` tells.

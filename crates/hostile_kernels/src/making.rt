@@ -1,5 +1,6 @@
-ghost use Rattle.std.specs.Prelude.{◌≡◌, ◌<◌, IfOk};
-ghost use Rattle.cloak_model.specs.Bundle.{IsInGrammar};
+ghost use Rattle.std.specs.Prelude.{◌≡◌, ◌≤◌, ◌<◌, IfOk, length};
+ghost use Rattle.cloak_base.specs.Constants.{largest_bundle};
+ghost use Rattle.cloak_model.specs.Bundle.{IsInGrammar, bundle_bytes};
 ghost use Rattle.hostile_kernels.specs.Parts.{segment_of, guest_of, image_of};
 ghost use Rattle.hostile_kernels.specs.Images.{hostile_image};
 
@@ -22,7 +23,7 @@ fn segment(alloc: Global, words: &Words) -> Result<Segment, NoMemory>
     })
 }
 
-/// A program, its pages filled up with zeros.
+/// A program under key 0, its pages filled up with zeros.
 fn program(alloc: Global, guest: &Guest) -> Result<Program, NoMemory>
     ensures { IfOk result (λ p. p ≡ guest_of guest.now) }
 {
@@ -32,6 +33,7 @@ fn program(alloc: Global, guest: &Guest) -> Result<Program, NoMemory>
     Ok(Program {
         place: guest.place,
         start: guest.start,
+        key: 0,
         bytes: Sequence::new(bytes),
     })
 }
@@ -62,11 +64,12 @@ fn image(alloc: Global, draft: &Draft) -> Result<Bundle, NoMemory>
     })
 }
 
-/// The hostile image of a number.
+/// The hostile image of a number. Its file of version 2 is not too large.
 pub fn hostile(alloc: Global, number: u32) -> Result<Bundle, NoMemory>
     requires { number < IMAGES }
     ensures value { IfOk result (λ b. b ≡ hostile_image number) }
     ensures in_grammar { IfOk result IsInGrammar }
+    ensures fits { IfOk result (λ b. length (bundle_bytes 2 b) ≤ largest_bundle) }
 {
     image(alloc, &draft(number))
 }

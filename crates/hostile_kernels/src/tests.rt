@@ -146,8 +146,8 @@ fn file_length(alloc: Global, number: u32) -> Option<usize> {
 }
 
 /// The lengths follow from the numbers of words, pages and blocks: a header of 40 bytes with one for each turn, 8 for
-/// each segment, 20 for each program.
-static LENGTHS: [(u32, usize); 4] = [(0, 4209), (2, 8333), (8, 4229), (11, 81)];
+/// each segment, 24 for each program.
+static LENGTHS: [(u32, usize); 4] = [(0, 4213), (2, 8337), (8, 4233), (11, 81)];
 
 #[test]
 fn files_of_images(rt: HostRuntime) {

@@ -1,12 +1,13 @@
 -- The random stream of a number has no end, so a run under it opens.
-use Rattle.std.proofs.Common.{◌≡◌, ℕ, zero, suc, ◌+◌, List, [], ◌∷◌, Option, Some, None, Err}
-use Rattle.std.specs.Prelude.{option_and_then}
+use Rattle.std.proofs.Common.{◌≡◌, ℕ, zero, suc, ◌+◌, List, [], ◌∷◌, ◌++◌, Option, Some, None, Err}
+use Rattle.std.specs.Prelude.{option_and_then, option_map}
 use Rattle.cloak_base.specs.Random.{Random, handed, keyed, numbered, next_draw}
 use Rattle.cloak_base.specs.declared.names.PageId.{PageId}
 use Rattle.cloak_model.specs.declared.image.Bundle.{Bundle}
 use Rattle.cloak_model.specs.declared.image.Program.{Program}
 use Rattle.cloak_model.specs.Cloaking.{CloakedMemory}
-use Rattle.cloak_model.specs.Opening.{Lack, opened_by, opened_with, opening, place_pages, place_programs}
+use Rattle.cloak_model.specs.Opening.{Lack, drawn_keys, key_count, keys_for, opened_by, opened_with, opening}
+use Rattle.cloak_model.specs.Opening.{place_pages, place_programs}
 use Rattle.cloak_model.specs.Opening.{program_page, started_ledger, started_memory}
 use Rattle.cloak_model.specs.PageMoves.{place, place_with}
 
@@ -67,16 +68,40 @@ unfolding opened_with
 lacks_no_page b None lack none lacks = none
 lacks_no_page b (Some m) lack endless lacks = let clash = lacks in cc
 
-lacks_no_draw : (b : Bundle) (draw : Option (List ℕ × Random)) (lack : Lack) → DrawsKeyed draw →
+-- Keys are drawn one after another.
+
+-- keys were drawn, and the stream has no end
+abbrev DrawsKeys : Option (List (List ℕ) × Random) → Type 0
+DrawsKeys None = ⊥
+DrawsKeys (Some keys) = IsKeyed keys.1
+
+next_key : (keys : List (List ℕ)) (draw : Option (List ℕ × Random)) → DrawsKeyed draw →
+    DrawsKeys (option_map (λ (d : List ℕ × Random). (keys ++ d.0 ∷ [], d.1)) draw)
+next_key keys None none = absurd none
+next_key keys (Some draw) endless = endless
+
+one_key_more : (drawn_before : Option (List (List ℕ) × Random)) → DrawsKeys drawn_before →
+    DrawsKeys (option_and_then (λ (keys : List (List ℕ) × Random).
+    option_map (λ (draw : List ℕ × Random). (keys.0 ++ draw.0 ∷ [], draw.1)) (next_draw keys.1)) drawn_before)
+one_key_more None none = absurd none
+one_key_more (Some keys) endless = next_key keys.0 (next_draw keys.1) (drawn keys.1 endless)
+
+keys_drawn : (n : ℕ) (r : Random) → IsKeyed r → DrawsKeys (drawn_keys n r)
+unfolding drawn_keys
+keys_drawn zero r endless = endless
+keys_drawn (suc n) r endless = one_key_more (drawn_keys n r) (keys_drawn n r endless)
+
+lacks_no_draw : (b : Bundle) (draw : Option (List (List ℕ) × Random)) (lack : Lack) → DrawsKeys draw →
     opened_by b draw ≡ Err lack → ⊥
 unfolding opened_by started_memory started_ledger
 lacks_no_draw b None lack none lacks = none
 lacks_no_draw b (Some draw) lack endless lacks =
-    lacks_no_page b (place_programs 0 b.programs (started_memory b.kernel draw.0 draw.1)) lack
-    (programs_placed 0 b.programs (started_memory b.kernel draw.0 draw.1) endless) lacks
+    let first = started_memory b.kernel (keys_for b.programs draw.0) draw.1 in
+    lacks_no_page b (place_programs 0 b.programs first) lack (programs_placed 0 b.programs first endless) lacks
 
--- under the stream of a number no run lacks its key or the draw of a page
+-- under the stream of a number no run lacks a key or the draw of a page
 pub lacks_nothing : (b : Bundle) (n : ℕ) (lack : Lack) → opening b (numbered n) ≡ Err lack → ⊥
 unfolding numbered
 lacks_nothing b n lack lacks =
-    lacks_no_draw b (next_draw (numbered n)) lack (drawn (numbered n) tt) lacks
+    let count = key_count b.programs in
+    lacks_no_draw b (drawn_keys count (numbered n)) lack (keys_drawn count (numbered n) tt) lacks

@@ -1,3 +1,5 @@
 pub mod Showing
+pub mod Writing
 pub mod Generating
 pub mod Demonstrating
+pub mod Upgrading

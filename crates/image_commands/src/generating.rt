@@ -1,10 +1,10 @@
 //! The command `gen`.
-ghost use Rattle.std.specs.Prelude.{◌≡◌, ◌<◌, ◌-◌, ◌^◌, IfOk, OnOk, OnErr, ◌⊎◌};
-ghost use Rattle.outside_io.specs.Told.{Counts, OtherFiles, Tells};
+ghost use Rattle.std.specs.Prelude.{◌≡◌, ◌<◌, ◌-◌, ◌^◌, IfOk};
 ghost use Rattle.program_parts.specs.Outside.{outside};
-ghost use Rattle.image_commands.specs.Generating.{GenAnswers, TellsFront, image_bytes};
+ghost use Rattle.image_commands.specs.Generating.{GenAnswers, image_bytes};
 
-use cloak_base::{Failed, NoMemory};
+use crate::writing::write_file;
+use cloak_base::NoMemory;
 use guest_bundle::write;
 use guest_kernel::{generate, put_summary};
 use outside_io::{Shelf, Sink};
@@ -17,20 +17,6 @@ fn file_bytes(alloc: Global, number: u64) -> Result<Vec<u8>, NoMemory>
 {
     let bundle = generate(alloc, number)?;
     write(alloc, &bundle)
-}
-
-/// Makes these bytes the file of a name.
-fn write_file<S: Shelf>(shelf: &mut S, name: &str, bytes: &[u8]) -> Result<(), Failed>
-    ensures ok { OnOk result (Tells (S.held shelf.new name.now) bytes.now) }
-    ensures err { OnErr result ((S.held shelf.new name.now ≡ S.held shelf.old name.now)
-        ⊎ TellsFront (S.held shelf.new name.now) bytes.now) }
-    ensures others { OtherFiles name.now (S.held shelf.old) (S.held shelf.new) }
-    ensures writing { Counts (S.writing_faults shelf.old) (S.writing_faults shelf.new) result }
-    ensures reading { S.reading_faults shelf.new ≡ S.reading_faults shelf.old }
-{
-    shelf.begin(name)?;
-    shelf.append(name, bytes)?;
-    shelf.flush()
 }
 
 /// Writes the image of a number to the file of a name, and then shows its line.

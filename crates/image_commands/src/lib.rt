@@ -1,12 +1,16 @@
-//! The commands `gen` and `demo`, which make the image of a number.
+//! The commands `gen` and `demo`, which make the image of a number, and `upgrade`, which writes an image again.
 //!
 //! The layer above may rely on this: `gen_command` writes the file of the image and shows its line, and `demo_command`
 //! shows what the run of the image comes to, under the random stream of the same number, and asks nothing of files.
-//! Each answers its statuses as `specs/Generating` and `specs/Demonstrating` say.
+//! `upgrade_command` writes version 2 of a bundle and shows its line. Each answers its statuses as `specs/Generating`,
+//! `specs/Demonstrating` and `specs/Upgrading` say.
 #![tactic(auto)]
 
 mod demonstrating;
 mod generating;
+mod upgrading;
+mod writing;
 
 pub use demonstrating::demo_command;
 pub use generating::gen_command;
+pub use upgrading::upgrade_command;

@@ -21,7 +21,7 @@ use Rattle.item_law.proofs.Bounds.{all_append, all_take, all_drop, byte_at, by_r
 
 -- Blocks.
 
-as_block : (s : List ℕ) → length s ≡ 16 → AreBytes s → IsBytes 16 s
+pub as_block : (s : List ℕ) → length s ≡ 16 → AreBytes s → IsBytes 16 s
 as_block s long all = record { long = long; bytes = by_place (λ b. b < 256) s all }
 
 pub block_bytes : (n : ℕ) (s : List ℕ) → IsBytes n s → AreBytes s

@@ -10,7 +10,7 @@ use Rattle.cloak_base.specs.declared.names.PageId.{PageId}
 use Rattle.cloak_model.specs.Ahead.{is_owed, settle_found, settle_while, settle_touched, with_shown}
 use Rattle.cloak_model.specs.Cloaking.{CloakedMemory, AfterSettling, AfterOffer, owed_in, settle_owed, settle_if, settle, settle_frame_if, owing_frame, owes, with_owed, with_comparison, taken, Ready, Mismatch, compared, unless_missed, offer}
 use Rattle.cloak_model.specs.Hart.{Hart}
-use Rattle.cloak_model.specs.Ledger.{vector_of}
+use Rattle.cloak_model.specs.Ledger.{Keys, key_in, key_of, vector_of}
 use Rattle.cloak_model.specs.Record.{IsItem}
 use Rattle.cloak_model.specs.Touched.{touched}
 use Rattle.cloak_model.specs.World.{cipher_items}
@@ -28,7 +28,7 @@ pub record FramesFit (ram : List (List ℕ)) : Type 0 where
 pub record MemoryFits (m : CloakedMemory) : Type 0 where
   pub ram : FramesFit m.ram
   pub plain : (q : PageId) → AreBytes (m.plain q)
-  pub key : IsBytes 16 m.ledger.key
+  pub keys : (q : PageId) → IsBytes 16 (key_of m.ledger q)
   pub stream : IsStreamOfBytes m.ledger.stream
   pub places : HasPlaces m
 
@@ -79,7 +79,7 @@ shown_items (c ∷ ciphers) ram few all frames =
 record Seals (m : CloakedMemory) (ciphers : List (ℕ × List ℕ)) (after : CloakedMemory) : Type 0 where
   pub sealed : AreSealed ciphers
   pub plain : after.plain ≡ m.plain
-  pub key : after.ledger.key ≡ m.ledger.key
+  pub keys : after.ledger.keys ≡ m.ledger.keys
   pub stream : IsStreamOfBytes after.ledger.stream
 
 pub zero_page_fits : SealedFits zero_page
@@ -90,18 +90,21 @@ owed_seals : (f : ℕ) (q : PageId) (draw : Option (List ℕ × Random)) (m : Cl
     let s = settle_owed f q draw m in Seals m s.ciphers s.memory
 unfolding settle_owed
 owed_seals f q None m fits draws =
-    record { sealed = (zero_page_fits, tt); plain = refl; key = refl; stream = fits.stream }
+    record { sealed = (zero_page_fits, tt); plain = refl; keys = refl; stream = fits.stream }
 owed_seals f q (Some draw) m fits draws = record {
-  sealed = (sealed_fits m.ledger.key draw.0 (m.plain q) fits.key (block_bytes 16 draw.0 draws.bytes) (fits.plain q), tt);
+  sealed = (
+    sealed_fits (key_of m.ledger q) draw.0 (m.plain q) (fits.keys q) (block_bytes 16 draw.0 draws.bytes) (fits.plain q),
+    tt,
+  );
   plain = refl;
-  key = refl;
+  keys = refl;
   stream = draws.rest;
 }
 
 if_seals : (f : ℕ) (o : Option PageId) (m : CloakedMemory) → MemoryFits m →
     let s = settle_if f o m in Seals m s.ciphers s.memory
 unfolding settle_if
-if_seals f None m fits = record { sealed = tt; plain = refl; key = refl; stream = fits.stream }
+if_seals f None m fits = record { sealed = tt; plain = refl; keys = refl; stream = fits.stream }
 if_seals f (Some q) m fits = owed_seals f q (vector_of m.ledger q) m fits (draw_fits m.ledger.stream fits.stream)
 
 settle_seals : (f : ℕ) (m : CloakedMemory) → MemoryFits m → Seals m (settle f m).ciphers (settle f m).memory
@@ -114,7 +117,7 @@ shows_fit m ciphers after fits shown seals = record {
   memory = record {
     ram = subst FramesFit (sym shown.ram) (shown_frames ciphers m.ram seals.sealed fits.ram);
     plain = subst (λ (plain : PageId → List ℕ). (q : PageId) → AreBytes (plain q)) (sym seals.plain) fits.plain;
-    key = subst (λ (key : List ℕ). IsBytes 16 key) (sym seals.key) fits.key;
+    keys = subst (λ (keys : Keys). (q : PageId) → IsBytes 16 (key_in keys q)) (sym seals.keys) fits.keys;
     stream = seals.stream;
     places = shown.places;
   };
@@ -160,14 +163,14 @@ owed_fits : (g : ℕ) (o : Option PageId) (m : CloakedMemory) → MemoryFits m �
 owed_fits g o m fits = record {
   ram = fits.ram;
   plain = fits.plain;
-  key = fits.key;
+  keys = fits.keys;
   stream = fits.stream;
   places = length-set m.ledger.owed g o ∙ fits.places;
 }
 
 comparison_fits : (a b : List ℕ) (m : CloakedMemory) → MemoryFits m → MemoryFits (with_comparison a b m)
 comparison_fits a b m fits =
-    record { ram = fits.ram; plain = fits.plain; key = fits.key; stream = fits.stream; places = fits.places }
+    record { ram = fits.ram; plain = fits.plain; keys = fits.keys; stream = fits.stream; places = fits.places }
 
 taken_fits : (q : PageId) (g : ℕ) (write : Bool) (m : CloakedMemory) → MemoryFits m → MemoryFits (taken q g write m)
 taken_fits q g true m fits = owed_fits g (Some q) m fits

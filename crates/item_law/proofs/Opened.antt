@@ -1,8 +1,8 @@
 -- The opening of a run: the machine fits, and what the kernel is shown then are items of a record.
-use Rattle.std.proofs.Common.{◌≡◌, ◌∙◌, ℕ, zero, suc, ◌+◌, ◌*◌, ◌<◌, ◌≤◌, Bool, List, [], ◌∷◌, length, filter, slice_set, slice_index_or, Option, Some, None, Ok, sym, subst, arith}
-use Rattle.std.specs.Prelude.{option_and_then}
+use Rattle.std.proofs.Common.{◌≡◌, ◌∙◌, ℕ, zero, suc, ◌+◌, ◌*◌, ◌<◌, ◌≤◌, Bool, List, [], ◌∷◌, ◌++◌, length, map, filter, replicate, slice_set, slice_index_or, Option, Some, None, Ok, sym, subst, arith}
+use Rattle.std.specs.Prelude.{option_and_then, option_map}
 use Rattle.std.specs.List.{AllByRecursion}
-use Rattle.std.proofs.lemmas.List.{length-set, length-replicate}
+use Rattle.std.proofs.lemmas.List.{length-append, length-set, length-replicate, length-take-le}
 use Rattle.aes_block.specs.Bytes.{IsBytes}
 use Rattle.cloak_base.specs.Random.{Random, next_draw}
 use Rattle.cloak_base.specs.Pages.{zero_page, same_page}
@@ -17,16 +17,16 @@ use Rattle.cloak_model.specs.Bundle.{IsKernelImage, IsProgramIn, IsInGrammar}
 use Rattle.cloak_model.specs.Cloaking.{CloakedMemory, ciphertext_of}
 use Rattle.cloak_model.specs.Contexts.{Context, started_contexts}
 use Rattle.cloak_model.specs.DomainState.{started_control, started_domain}
-use Rattle.cloak_model.specs.Ledger.{vector_of}
+use Rattle.cloak_model.specs.Ledger.{Keys, key_in, key_of, vector_of}
 use Rattle.cloak_base.specs.Constants.{frame_of, place_of}
 use Rattle.cloak_model.specs.Memory.{zero_ram, with_byte, with_bytes}
-use Rattle.cloak_model.specs.Opening.{with_segments, started_harts, numbers_below, started_ledger, started_kernel, started_memory, program_page, place_pages, place_programs, started_domains, started_joint, is_placed, opening_items, Opened, opened_with, opened_by, opening}
+use Rattle.cloak_model.specs.Opening.{key_count, drawn_keys, filled_up, keys_for, with_segments, started_harts, numbers_below, started_ledger, started_kernel, started_memory, program_page, place_pages, place_programs, started_domains, started_joint, is_placed, opening_items, Opened, opened_with, opened_by, opening}
 use Rattle.cloak_model.specs.PageMoves.{place, place_with}
 use Rattle.cloak_model.specs.Record.{IsItem, IsWord}
 use Rattle.cloak_model.specs.Resources.{started_resources}
 use Rattle.item_law.specs.Writing.{AreBytes, IsOfBytes, IsStreamOfBytes}
-use Rattle.item_law.proofs.Bounds.{either, all_append, all_take, all_drop, all_set, all_replicate, all_map, by_recursion, by_place, zero_bytes}
-use Rattle.item_law.proofs.Ciphers.{MayDraw, draw_fits, block_bytes, SealedFits, sealed_fits}
+use Rattle.item_law.proofs.Bounds.{either, all_append, all_take, all_drop, all_set, all_replicate, all_or, all_map, by_recursion, by_place, zero_bytes}
+use Rattle.item_law.proofs.Ciphers.{MayDraw, draw_fits, as_block, block_bytes, SealedFits, sealed_fits}
 use Rattle.item_law.proofs.Controls.{SlotFits}
 use Rattle.item_law.proofs.Harts.{HartFits, started_fits}
 use Rattle.item_law.proofs.Memories.{MemoryFits, frame_set, zero_page_fits}
@@ -75,6 +75,58 @@ segments_fit frames ram (s ∷ segments) fits all =
     segments_fit frames (with_bytes ram s.address s.bytes) segments
     (with_bytes_fits frames ram s.address s.bytes fits all.0) all.1
 
+-- The keys are 16 bytes each, also those that were not drawn.
+
+record KeysFit (draw : List (List ℕ) × Random) : Type 0 where
+  pub keys : AllByRecursion (IsBytes 16) draw.0
+  pub rest : IsStreamOfBytes draw.1
+
+abbrev MayDrawKeys : Option (List (List ℕ) × Random) → Type 0
+MayDrawKeys None = Unit {0}
+MayDrawKeys (Some draw) = KeysFit draw
+
+one_key : (keys : List (List ℕ) × Random) (draw : Option (List ℕ × Random)) → KeysFit keys → MayDraw draw →
+    MayDrawKeys (option_map (λ (d : List ℕ × Random). (keys.0 ++ d.0 ∷ [], d.1)) draw)
+one_key keys None fits draws = tt
+one_key keys (Some d) fits draws =
+    record { keys = all_append (IsBytes 16) keys.0 (d.0 ∷ []) fits.keys (draws.bytes, tt); rest = draws.rest }
+
+next_key : (drawn : Option (List (List ℕ) × Random)) → MayDrawKeys drawn →
+    MayDrawKeys (option_and_then (λ (keys : List (List ℕ) × Random).
+    option_map (λ (d : List ℕ × Random). (keys.0 ++ d.0 ∷ [], d.1)) (next_draw keys.1)) drawn)
+next_key None fits = tt
+next_key (Some keys) fits = one_key keys (next_draw keys.1) fits (draw_fits keys.1 fits.rest)
+
+drawn_fit : (n : ℕ) (stream : Random) → IsStreamOfBytes stream → MayDrawKeys (drawn_keys n stream)
+unfolding drawn_keys
+drawn_fit zero stream all = record { keys = tt; rest = all }
+drawn_fit (suc n) stream all = next_key (drawn_keys n stream) (drawn_fit n stream all)
+
+filled_fits : {A : Type 0} (P : A → Type 0) (x : A) (xs : List A) → AllByRecursion P xs → P x →
+    AllByRecursion P (filled_up x xs)
+filled_fits P x xs all here = all_take P 4 _ (all_append P xs _ all (all_replicate P 4 x here))
+
+filled_long : {A : Type 0} (x : A) (xs : List A) → length (filled_up x xs) ≡ 4
+filled_long x xs =
+    let both = length-append xs (replicate 4 x) in
+    let four = length-replicate 4 x in
+    length-take-le 4 (xs ++ replicate 4 x) (omega (arith, both, four))
+
+keys_fit : (frames : ℕ) (programs : List Program) (drawn : List (List ℕ)) →
+    AllByRecursion (IsProgramIn frames) programs → AllByRecursion (IsBytes 16) drawn → (q : PageId) →
+    IsBytes 16 (key_in (keys_for programs drawn) q)
+keys_fit frames programs drawn are all q =
+    let IsNumber : ℕ → Type 0 = λ k. k < 4 in
+    let numbers : List ℕ = map (λ (p : Program). p.key) programs in
+    let each = all_map (IsProgramIn frames) IsNumber (λ (p : Program). p.key) programs (λ p is. is.key) are in
+    let group = all_or IsNumber (filled_up 0 numbers) q.domain 0 (filled_fits IsNumber 0 numbers each (omega arith))
+    (omega arith) in
+    let zeros : List ℕ = replicate 16 0 in
+    let zero_key = as_block zeros (length-replicate {A = ℕ} 16 0) (all_replicate (λ b. b < 256) 16 0 (omega arith)) in
+    let long = filled_long zeros drawn in
+    by_place (IsBytes 16) (filled_up zeros drawn) (filled_fits (IsBytes 16) zeros drawn all zero_key) _ []
+    (omega (arith, group, long))
+
 -- Placing.
 
 record OpenFits (m : CloakedMemory) : Type 0 where
@@ -89,11 +141,11 @@ page_bytes : (ram : List (List ℕ)) → ArePages ram → AllByRecursion AreByte
 page_bytes [] all = tt
 page_bytes (page ∷ ram) all = (all.0.bytes, page_bytes ram all.1)
 
-started_fits_memory : (k : KernelImage) (key : List ℕ) (rest : Random) → IsKernelImage k →
-    AllByRecursion (λ (s : Segment). AreBytes s.bytes) k.segments → IsBytes 16 key → IsStreamOfBytes rest →
-    OpenFits (started_memory k key rest)
+started_fits_memory : (k : KernelImage) (keys : Keys) (rest : Random) → IsKernelImage k →
+    AllByRecursion (λ (s : Segment). AreBytes s.bytes) k.segments → ((q : PageId) → IsBytes 16 (key_in keys q)) →
+    IsStreamOfBytes rest → OpenFits (started_memory k keys rest)
 unfolding started_memory started_kernel started_ledger
-started_fits_memory k key rest image segments block stream =
+started_fits_memory k keys rest image segments blocks stream =
     let zeros : StartFits k.frames (zero_ram k.frames) = record {
       count = length-replicate k.frames zero_page;
       pages = all_replicate SealedFits k.frames zero_page zero_page_fits;
@@ -105,7 +157,7 @@ started_fits_memory k key rest image segments block stream =
       memory = record {
         ram = record { few = omega (arith, count, few); bytes = page_bytes _ start.pages };
         plain = λ q. zero_bytes;
-        key = block;
+        keys = blocks;
         stream = stream;
         places = length-replicate {A = Option PageId} k.frames None ∙ sym count;
       };
@@ -118,12 +170,13 @@ unfolding place_with
 placed_fits q f bytes None m fits all draws = tt
 placed_fits q f bytes (Some draw) m fits all draws =
     let c : List ℕ = ciphertext_of m.ledger q draw.0 bytes in
-    let sealed = sealed_fits m.ledger.key draw.0 bytes fits.memory.key (block_bytes 16 draw.0 draws.bytes) all in
+    let key : List ℕ = key_of m.ledger q in
+    let sealed = sealed_fits key draw.0 bytes (fits.memory.keys q) (block_bytes 16 draw.0 draws.bytes) all in
     record {
       memory = record {
         ram = frame_set m.ram f c fits.memory.ram sealed.bytes;
         plain = λ p. either AreBytes (same_page p q) bytes (m.plain p) all (fits.memory.plain p);
-        key = fits.memory.key;
+        keys = fits.memory.keys;
         stream = draws.rest;
         places = fits.memory.places ∙ sym (length-set m.ram f c);
       };
@@ -237,17 +290,20 @@ opened_if b (Some m) o grammar bytes fits opens =
     let same : record { joint = started_joint b m; items = opening_items b.programs m.ram } ≡ o = cc in
     subst OpenedFits same (opened_memory b m grammar bytes fits)
 
-opened_draw : (b : Bundle) (draw : Option (List ℕ × Random)) (o : Opened) → IsInGrammar b → IsOfBytes b →
-    MayDraw draw → opened_by b draw ≡ Ok o → OpenedFits o
+opened_draw : (b : Bundle) (draw : Option (List (List ℕ) × Random)) (o : Opened) → IsInGrammar b → IsOfBytes b →
+    MayDrawKeys draw → opened_by b draw ≡ Ok o → OpenedFits o
 unfolding opened_by
 opened_draw b None o grammar bytes draws opens = absurd cc
 opened_draw b (Some draw) o grammar bytes draws opens =
+    let keys = keys_for b.programs draw.0 in
+    let frames : ℕ = b.kernel.frames in
+    let blocks = keys_fit frames b.programs draw.0 (by_recursion (IsProgramIn frames) b.programs grammar.programs)
+    draws.keys in
     opened_if b _ o grammar bytes
-    (programs_fit 0 b.programs (started_memory b.kernel draw.0 draw.1)
-    (started_fits_memory b.kernel draw.0 draw.1 grammar.kernel bytes.segments draws.bytes draws.rest) bytes.programs)
-    opens
+    (programs_fit 0 b.programs (started_memory b.kernel keys draw.1)
+    (started_fits_memory b.kernel keys draw.1 grammar.kernel bytes.segments blocks draws.rest) bytes.programs) opens
 
 pub opened_fits : (b : Bundle) (stream : Random) (o : Opened) → IsInGrammar b → IsOfBytes b →
     IsStreamOfBytes stream → opening b stream ≡ Ok o → OpenedFits o
 opened_fits b stream o grammar bytes all opens =
-    opened_draw b (next_draw stream) o grammar bytes (draw_fits stream all) opens
+    opened_draw b _ o grammar bytes (drawn_fit (key_count b.programs) stream all) opens

@@ -96,7 +96,7 @@ resume_none j violation fits = record { joint = fits; items = tt }
 
 roots_fit : (root : SpaceId → Option ℕ) (m : CloakedMemory) → MemoryFits m → MemoryFits (with_roots root m)
 roots_fit root m fits =
-    record { ram = fits.ram; plain = fits.plain; key = fits.key; stream = fits.stream; places = fits.places }
+    record { ram = fits.ram; plain = fits.plain; keys = fits.keys; stream = fits.stream; places = fits.places }
 
 root_fits : (j : Joint) (satp ctx reply : ℕ) (was : Domain) (control : Control) (admitted : Admitted)
     (answer : Result (Unit {0}) ResumeFault) → JointFits j → ControlFits control → IsWord ctx → IsWord reply →
@@ -162,7 +162,7 @@ outside_by j number h s fits here shows =
       memory = record {
         ram = frames_of told.world made.world;
         plain = shows.memory.plain;
-        key = shows.memory.key;
+        keys = shows.memory.keys;
         stream = shows.memory.stream;
         places = shows.memory.places ∙ sym count;
       };
@@ -182,7 +182,7 @@ left_fits j number h items s fits here all shown = all_append IsItem items (item
 
 root_gone : (s : SpaceId) (m : CloakedMemory) → MemoryFits m → MemoryFits (without_root s m)
 root_gone s m fits =
-    record { ram = fits.ram; plain = fits.plain; key = fits.key; stream = fits.stream; places = fits.places }
+    record { ram = fits.ram; plain = fits.plain; keys = fits.keys; stream = fits.stream; places = fits.places }
 
 went_fits : (j : Joint) (number : ℕ) (h : Hart) (d : ℕ) (w : World) (how : Went) → JointFits j → HartFits h →
     AllByRecursion IsItem (items_of w) → WentFits how → TurnFits (domain_ended j number h d w how)
@@ -336,7 +336,7 @@ end_domain_fits d domain v t fits program =
       joint = record {
         harts = fits.joint.harts;
         disk = fits.joint.disk;
-        memory = record { ram = m.ram; plain = m.plain; key = m.key; stream = m.stream; places = m.places };
+        memory = record { ram = m.ram; plain = m.plain; keys = m.keys; stream = m.stream; places = m.places };
         programs = all_set ProgramFits t.joint.domains d (ended_domain domain) fits.joint.programs
             (ended_program_fits domain program);
       };

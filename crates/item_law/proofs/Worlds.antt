@@ -75,7 +75,7 @@ with_ram c ram events same fits here = record {
   memory = record {
     ram = here;
     plain = fits.memory.plain;
-    key = fits.memory.key;
+    keys = fits.memory.keys;
     stream = fits.memory.stream;
     places = fits.memory.places ∙ sym same;
   };
@@ -463,7 +463,7 @@ pages_fit c plain fits all = record {
   memory = record {
     ram = fits.memory.ram;
     plain = all;
-    key = fits.memory.key;
+    keys = fits.memory.keys;
     stream = fits.memory.stream;
     places = fits.memory.places;
   };
@@ -510,7 +510,7 @@ copy_told domain from to (Cloaked c) fits = record {
     memory = record {
       ram = fits.memory.ram;
       plain = λ p. either AreBytes (is_of domain to p) _ _ (fits.memory.plain (page_in from p)) (fits.memory.plain p);
-      key = fits.memory.key;
+      keys = fits.memory.keys;
       stream = fits.memory.stream;
       places = fits.memory.places;
     };
@@ -528,7 +528,7 @@ forget_told domain resource (Cloaked c) fits = record {
     memory = record {
       ram = fits.memory.ram;
       plain = λ p. either AreBytes (is_of domain resource p) _ _ zero_bytes (fits.memory.plain p);
-      key = fits.memory.key;
+      keys = fits.memory.keys;
       stream = fits.memory.stream;
       places = fits.memory.places;
     };

@@ -1,5 +1,6 @@
 pub mod Backwards
 pub mod Stored
+pub mod Drawn
 pub mod Placed
 pub mod Started
 pub mod Showing

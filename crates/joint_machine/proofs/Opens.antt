@@ -1,12 +1,15 @@
 -- The opening of a joint run, over plain variables.
-use Rattle.std.proofs.Common.{◌≡◌, ℕ, zero, suc, true, false, List, [], ◌∷◌, length, Option, None, Some, Err, refl, ap, sym, ◌∙◌, arith, replicate}
+use Rattle.std.proofs.Common.{◌≡◌, ◌<◌, ℕ, zero, suc, true, false, List, [], ◌∷◌, length, Option, None, Some, Err, refl, ap, sym, ◌∙◌, subst, arith, map, replicate, All}
 use Rattle.std.proofs.lemmas.List.{length-append}
 use Rattle.cloak_base.specs.declared.names.SpaceId.{SpaceId}
-use Rattle.cloak_base.specs.Random.{Random, next_draw}
+use Rattle.cloak_base.specs.Random.{Random}
 use Rattle.cloak_model.specs.declared.image.Bundle.{Bundle}
+use Rattle.cloak_model.specs.declared.image.Program.{Program}
+use Rattle.cloak_model.specs.Bundle.{IsProgramIn}
 use Rattle.cloak_model.specs.Cloaking.{CloakedMemory}
 use Rattle.cloak_model.specs.Hart.{started}
-use Rattle.cloak_model.specs.Opening.{NoKey, NoPageDraw, opening, opened_by, opened_with, opening_items, started_domains, started_harts, started_joint, started_kernel, started_ledger, started_memory, place_programs}
+use Rattle.cloak_model.specs.Ledger.{Keys}
+use Rattle.cloak_model.specs.Opening.{NoKey, NoPageDraw, drawn_keys, filled_up, key_count, keys_for, opening, opened_by, opened_with, opening_items, started_domains, started_harts, started_joint, started_kernel, started_ledger, started_memory, place_programs}
 use Rattle.thread_context.specs.Recorded.{root_at}
 use Rattle.cloak_pager.specs.State.{PagerState, held_in}
 use Rattle.cloaked_side.specs.Holding.{Holds}
@@ -15,7 +18,7 @@ use Rattle.hypercalls.specs.declared.domain.Domain.{Domain}
 use Rattle.joint_machine.specs.declared.joint.Joint.{Joint}
 use Rattle.joint_machine.specs.Standing.{AreDomains, OpensJoint, StandsForJoint}
 use Rattle.joint_machine.specs.Programs.{AreFreeUnused}
-use Rattle.joint_machine.specs.Starting.{PlacesTo}
+use Rattle.joint_machine.specs.Starting.{DrawsKeys, PlacesTo}
 use Rattle.joint_machine.proofs.Placed.{KeepsRoots, programs_roots}
 
 pub length-started_harts : (entry n : ℕ) → length (started_harts entry n) ≡ n
@@ -29,16 +32,47 @@ length-started_harts entry (suc n) =
 pub free_unused : (domains : List Domain) (p : PagerState) → ((k : ℕ) → held_in p k ≡ None) → AreFreeUnused domains p
 free_unused domains p none d n low domain at free = λ k q held. absurd (let no : None ≡ Some q = sym (none k) ∙ held in cc)
 
+-- the number of each program's key is low
+pub low_keys : (frames : ℕ) (programs read : List Program) → read ≡ programs → All (IsProgramIn frames) programs →
+    All (λ (p : Program). p.key < 4) read
+low_keys frames programs read same are =
+    subst (All (λ (p : Program). p.key < 4)) (sym same) (λ i p inside. (are i p inside).key)
+
 -- What is missing.
 
-pub no_key : (b : Bundle) (s : Random) → next_draw s ≡ None → opening b s ≡ Err NoKey
+pub no_key : (b : Bundle) (s : Random) (count : ℕ) → count ≡ key_count b.programs → drawn_keys count s ≡ None →
+    opening b s ≡ Err NoKey
 unfolding opened_by
-no_key b s none = rw none refl
+no_key b s count counted none =
+    let short : drawn_keys (key_count b.programs) s ≡ None = ap (λ n. drawn_keys n s) (sym counted) ∙ none in
+    rw short refl
 
-opening_with : (b : Bundle) (s rest : Random) (key : List ℕ) (o : Option CloakedMemory) → next_draw s ≡ Some (key, rest) →
-    place_programs 0 b.programs (started_memory b.kernel key rest) ≡ o → opening b s ≡ opened_with b o
+-- the first draws of the stream are the keys of the run, and this is left of it
+pub record HasKeys (b : Bundle) (s rest : Random) (keys : Keys) : Type 0 where
+  pub drawn : List (List ℕ)
+  pub are : drawn_keys (key_count b.programs) s ≡ Some (drawn, rest)
+  pub keys_are : keys ≡ keys_for b.programs drawn
+
+pub has_keys : (b : Bundle) (s rest : Random) (count : ℕ) (numbered : List (List ℕ)) (group : List ℕ)
+    (programs : List Program) → programs ≡ b.programs → count ≡ key_count b.programs →
+    DrawsKeys count s rest numbered → group ≡ filled_up 0 (map (λ (p : Program). p.key) programs) →
+    HasKeys b s rest (record { numbered = numbered; group = group })
+has_keys b s rest count numbered group programs same counted draws grouped = record {
+  drawn = draws.drawn;
+  are = ap (λ n. drawn_keys n s) (sym counted) ∙ draws.are;
+  keys_are = λ i. record {
+    numbered = draws.filled i;
+    group = (grouped ∙ ap (λ (ps : List Program). filled_up 0 (map (λ (p : Program). p.key) ps)) same) i;
+  };
+}
+
+opening_with : (b : Bundle) (s rest : Random) (keys : Keys) (o : Option CloakedMemory) → HasKeys b s rest keys →
+    place_programs 0 b.programs (started_memory b.kernel keys rest) ≡ o → opening b s ≡ opened_with b o
 unfolding opened_by
-opening_with b s rest key o some places = rw some (ap (opened_with b) places)
+opening_with b s rest keys o some places =
+    rw some.are
+    (ap (λ (k : Keys). opened_with b (place_programs 0 b.programs (started_memory b.kernel k rest))) (sym some.keys_are)
+    ∙ ap (opened_with b) places)
 
 missing : (b : Bundle) (memory : Memory) (o : Option CloakedMemory) → PlacesTo memory false o →
     opened_with b o ≡ Err NoPageDraw
@@ -46,58 +80,58 @@ unfolding opened_with
 missing b memory None places = refl
 missing b memory (Some m) places = absurd places
 
-pub no_page_draw : (b : Bundle) (s rest : Random) (key : List ℕ) (memory : Memory) → next_draw s ≡ Some (key, rest) →
-    PlacesTo memory false (place_programs 0 b.programs (started_memory b.kernel key rest)) →
+pub no_page_draw : (b : Bundle) (s rest : Random) (keys : Keys) (memory : Memory) → HasKeys b s rest keys →
+    PlacesTo memory false (place_programs 0 b.programs (started_memory b.kernel keys rest)) →
     opening b s ≡ Err NoPageDraw
-no_page_draw b s rest key memory some places =
-    opening_with b s rest key _ some refl ∙ missing b memory _ places
+no_page_draw b s rest keys memory some places =
+    opening_with b s rest keys _ some refl ∙ missing b memory _ places
 
 -- What is opened.
 
 -- a joint machine of these parts
-pub record HasParts (joint : Joint) (b : Bundle) (key : List ℕ) (rest : Random) : Type 0 where
+pub record HasParts (joint : Joint) (b : Bundle) (keys : Keys) (rest : Random) : Type 0 where
   pub harts : joint.harts.items ≡ started_harts b.kernel.entry b.kernel.harts
   pub disk : joint.disk ≡ b.kernel.disk
   pub domains : AreDomains joint.domains.items (started_domains 0 b.programs)
   pub roots : (s : SpaceId) → root_at joint.roots s ≡ None
   pub ended : joint.ended ≡ replicate 4 None
   pub refused : joint.refused ≡ 0
-  pub memory : PlacesTo joint.memory true (place_programs 0 b.programs (started_memory b.kernel key rest))
+  pub memory : PlacesTo joint.memory true (place_programs 0 b.programs (started_memory b.kernel keys rest))
 
-no_roots : (b : Bundle) (key : List ℕ) (rest : Random) (s : SpaceId) →
-    (started_memory b.kernel key rest).ledger.root s ≡ None
+no_roots : (b : Bundle) (keys : Keys) (rest : Random) (s : SpaceId) →
+    (started_memory b.kernel keys rest).ledger.root s ≡ None
 unfolding started_memory started_ledger
-no_roots b key rest s = refl
+no_roots b keys rest s = refl
 
-stands_with : (joint : Joint) (b : Bundle) (key : List ℕ) (rest : Random) (m : CloakedMemory) →
-    HasParts joint b key rest → Holds joint.memory m →
-    ((s : SpaceId) → m.ledger.root s ≡ (started_memory b.kernel key rest).ledger.root s) →
+stands_with : (joint : Joint) (b : Bundle) (keys : Keys) (rest : Random) (m : CloakedMemory) →
+    HasParts joint b keys rest → Holds joint.memory m →
+    ((s : SpaceId) → m.ledger.root s ≡ (started_memory b.kernel keys rest).ledger.root s) →
     StandsForJoint joint (started_joint b m)
 unfolding started_joint started_kernel
-stands_with joint b key rest m parts holds roots = record {
+stands_with joint b keys rest m parts holds roots = record {
   harts = parts.harts;
   disk = parts.disk;
   memory = holds;
   domains = parts.domains;
-  roots = λ s. parts.roots s ∙ sym (roots s ∙ no_roots b key rest s);
+  roots = λ s. parts.roots s ∙ sym (roots s ∙ no_roots b keys rest s);
   ended = parts.ended;
   refused = parts.refused;
 }
 
-opened_as : (joint : Joint) (b : Bundle) (s rest : Random) (key : List ℕ) (o : Option CloakedMemory) →
-    opening b s ≡ opened_with b o → HasParts joint b key rest → PlacesTo joint.memory true o →
-    KeepsRoots (started_memory b.kernel key rest) o → OpensJoint b s joint
+opened_as : (joint : Joint) (b : Bundle) (s rest : Random) (keys : Keys) (o : Option CloakedMemory) →
+    opening b s ≡ opened_with b o → HasParts joint b keys rest → PlacesTo joint.memory true o →
+    KeepsRoots (started_memory b.kernel keys rest) o → OpensJoint b s joint
 unfolding opened_with
-opened_as joint b s rest key None opens parts places roots = absurd places
-opened_as joint b s rest key (Some m) opens parts places roots = record {
+opened_as joint b s rest keys None opens parts places roots = absurd places
+opened_as joint b s rest keys (Some m) opens parts places roots = record {
   opened = record { joint = started_joint b m; items = opening_items b.programs m.ram };
   opens = opens;
-  stands = stands_with joint b key rest m parts places roots;
+  stands = stands_with joint b keys rest m parts places roots;
 }
 
-pub opens_joint : (joint : Joint) (b : Bundle) (s rest : Random) (key : List ℕ) → next_draw s ≡ Some (key, rest) →
-    HasParts joint b key rest → OpensJoint b s joint
-opens_joint joint b s rest key some parts =
-    let m = started_memory b.kernel key rest in
-    opened_as joint b s rest key (place_programs 0 b.programs m) (opening_with b s rest key _ some refl) parts parts.memory
+pub opens_joint : (joint : Joint) (b : Bundle) (s rest : Random) (keys : Keys) → HasKeys b s rest keys →
+    HasParts joint b keys rest → OpensJoint b s joint
+opens_joint joint b s rest keys some parts =
+    let m = started_memory b.kernel keys rest in
+    opened_as joint b s rest keys (place_programs 0 b.programs m) (opening_with b s rest keys _ some refl) parts parts.memory
     (programs_roots 0 b.programs m)

@@ -4,13 +4,13 @@ use Rattle.std.specs.Prelude.{map, filter}
 use Rattle.std.proofs.lemmas.List.{map-append, ext_get_or}
 use Rattle.std.proofs.lemmas.List.Elements.{filter-append}
 use Rattle.cloak_base.specs.declared.names.PageId.{PageId}
-use Rattle.cloak_base.specs.Random.{Random, next_draw}
+use Rattle.cloak_base.specs.Random.{Random}
 use Rattle.cloak_model.specs.declared.image.Program.{Program}
 use Rattle.cloak_model.specs.declared.image.Bundle.{Bundle}
 use Rattle.cloak_model.specs.declared.item.Item.{Item}
 use Rattle.cloak_model.specs.Cloaking.{CloakedMemory}
 use Rattle.cloak_model.specs.Exchange.{Piece, Emits, item_pieces}
-use Rattle.cloak_model.specs.Opening.{is_placed, numbers_below, opening_items, Opened, Lack, opening, opened_by, opened_with, started_joint, started_memory, place_programs}
+use Rattle.cloak_model.specs.Opening.{is_placed, numbers_below, opening_items, Opened, Lack, drawn_keys, key_count, keys_for, opening, opened_by, opened_with, started_joint, started_memory, place_programs}
 use Rattle.cloak_pager.specs.State.{PagerState, bytes_in, page_of, right_at, held_in}
 use Rattle.cloak_pager.specs.Turns.{IsReadOnce}
 use Rattle.cloak_pager.specs.Relation.{StandsForMemory, FrameStands}
@@ -134,14 +134,15 @@ unfolding opened_with started_joint
 shows_with b None = tt
 shows_with b (Some m) = refl
 
-shows_by : (b : Bundle) (draw : Option (List ℕ × Random)) → ShowsMemory b (opened_by b draw)
+shows_by : (b : Bundle) (draw : Option (List (List ℕ) × Random)) → ShowsMemory b (opened_by b draw)
 unfolding opened_by
 shows_by b None = tt
-shows_by b (Some draw) = shows_with b (place_programs 0 b.programs (started_memory b.kernel draw.0 draw.1))
+shows_by b (Some draw) =
+    shows_with b (place_programs 0 b.programs (started_memory b.kernel (keys_for b.programs draw.0) draw.1))
 
 pub opening_shows : (b : Bundle) (s : Random) (o : Opened) → opening b s ≡ Ok o →
     o.items ≡ opening_items b.programs o.joint.memory.ram
-opening_shows b s o opens = subst (λ (r : Result Opened Lack). ShowsMemory b r) opens (shows_by b (next_draw s))
+opening_shows b s o opens = subst (λ (r : Result Opened Lack). ShowsMemory b r) opens (shows_by b (drawn_keys (key_count b.programs) s))
 
 -- of programs that are placed so
 covers_placed : (programs : List Program) (f : ℕ) → covers (map placing programs) f ≡ is_placed programs f

@@ -11,6 +11,7 @@ use Rattle.cloak_model.specs.declared.image.KernelImage.{KernelImage}
 use Rattle.cloak_model.specs.Bundle.{IsSegmentIn}
 use Rattle.cloak_model.specs.Cloaking.{CloakedMemory}
 use Rattle.cloak_base.specs.Constants.{frame_of, place_of}
+use Rattle.cloak_model.specs.Ledger.{Keys}
 use Rattle.cloak_model.specs.Memory.{with_byte, with_bytes, with_value_in, zero_ram}
 use Rattle.cloak_model.specs.Opening.{with_segments, started_kernel, started_ledger, started_memory}
 use Rattle.protect_meta.specs.declared.meta.Meta.{Meta}
@@ -62,7 +63,7 @@ frames_same p = record {
   rights_are = refl;
   metas_are = λ o. refl;
   domains_stay = refl;
-  key_stays = refl;
+  keys_stay = refl;
   reads_stay = refl;
 }
 
@@ -73,7 +74,7 @@ frames_then a b c frames frames' first second = record {
   rights_are = second.rights_are ∙ first.rights_are;
   metas_are = λ o. second.metas_are o ∙ first.metas_are o;
   domains_stay = second.domains_stay ∙ first.domains_stay;
-  key_stays = second.key_stays ∙ first.key_stays;
+  keys_stay = second.keys_stay ∙ first.keys_stay;
   reads_stay = second.reads_stay ∙ first.reads_stay;
 }
 
@@ -162,10 +163,10 @@ pub record LoadsFrom (old p : PagerState) (rest segments : List Segment) : Type 
   pub pages : ArePages p.frames
   pub stored : with_segments p.frames rest ≡ with_segments old.frames segments
 
-pub loads_none : (n domains : ℕ) (key : List ℕ) (p : PagerState) (rest segments : List Segment) →
-    IsNewPager n domains key p → rest ≡ segments → LoadsFrom p p rest segments
+pub loads_none : (n domains : ℕ) (keys : Keys) (p : PagerState) (rest segments : List Segment) →
+    IsNewPager n domains keys p → rest ≡ segments → LoadsFrom p p rest segments
 unfolding zero_page
-loads_none n domains key p rest segments new same = record {
+loads_none n domains keys p rest segments new same = record {
   stays = frames_same p;
   count = refl;
   pages =
@@ -175,19 +176,19 @@ loads_none n domains key p rest segments new same = record {
 }
 
 -- no frame holds a page yet
-pub loads_outside : (n domains : ℕ) (key : List ℕ) (old p : PagerState) (rest segments : List Segment) →
-    IsNewPager n domains key old → LoadsFrom old p rest segments → (k : ℕ) → held_in p k ≡ None
-loads_outside n domains key old p rest segments new so_far k =
+pub loads_outside : (n domains : ℕ) (keys : Keys) (old p : PagerState) (rest segments : List Segment) →
+    IsNewPager n domains keys old → LoadsFrom old p rest segments → (k : ℕ) → held_in p k ≡ None
+loads_outside n domains keys old p rest segments new so_far k =
     ap (λ (rights : List Held). page_of (slice_index_or rights k Spent)) so_far.stays.rights_are ∙ elim (cases_lt k n) [
       | inl inside ↦ ap page_of (new.outside k inside)
       | inr past ↦ ap page_of (get_or_past old.rights k Spent (let count = new.count in omega (arith, past, count)))
     ]
 
 -- and none was shown
-pub loads_ready : (n domains : ℕ) (key : List ℕ) (old p : PagerState) (rest segments : List Segment) →
-    IsNewPager n domains key old → LoadsFrom old p rest segments → IsReady p 0 0
-loads_ready n domains key old p rest segments new so_far = record {
-  outside = loads_outside n domains key old p rest segments new so_far;
+pub loads_ready : (n domains : ℕ) (keys : Keys) (old p : PagerState) (rest segments : List Segment) →
+    IsNewPager n domains keys old → LoadsFrom old p rest segments → IsReady p 0 0
+loads_ready n domains keys old p rest segments new so_far = record {
+  outside = loads_outside n domains keys old p rest segments new so_far;
   rest = λ q here past. so_far.stays.metas_are q ∙ new.no_metas q;
   later = λ q past. so_far.stays.metas_are q ∙ new.no_metas q;
 }
@@ -210,28 +211,28 @@ pub record LoadsBack (n : ℕ) (old p : PagerState) (back segments : List Segmen
   pub fits : All (IsSegmentIn n) (reverse back)
   pub loads : LoadsFrom old p (reverse back) segments
 
-new_count : (n domains : ℕ) (key : List ℕ) (old : PagerState) → IsNewPager n domains key old → length old.frames ≡ n
-new_count n domains key old new = ap (λ (x : List (List ℕ)). length x) new.zeros ∙ length-replicate n zero_page
+new_count : (n domains : ℕ) (keys : Keys) (old : PagerState) → IsNewPager n domains keys old → length old.frames ≡ n
+new_count n domains keys old new = ap (λ (x : List (List ℕ)). length x) new.zeros ∙ length-replicate n zero_page
 
 -- the segment that is loaded next lies in RAM
-pub back_fits : (n domains : ℕ) (key : List ℕ) (old p : PagerState) (back others segments : List Segment) (s : Segment) →
-    IsNewPager n domains key old → LoadsBack n old p back segments → back ≡ others ++ s ∷ [] →
+pub back_fits : (n domains : ℕ) (keys : Keys) (old p : PagerState) (back others segments : List Segment) (s : Segment) →
+    IsNewPager n domains keys old → LoadsBack n old p back segments → back ≡ others ++ s ∷ [] →
     IsSegmentIn (length p.frames) s
-back_fits n domains key old p back others segments s new so_far e =
+back_fits n domains keys old p back others segments s new so_far e =
     let all : All (IsSegmentIn n) (s ∷ reverse others) =
     subst (All (IsSegmentIn n)) (back_next back others s e) so_far.fits in
-    let count : n ≡ length p.frames = sym (so_far.loads.count ∙ new_count n domains key old new) in
+    let count : n ≡ length p.frames = sym (so_far.loads.count ∙ new_count n domains keys old new) in
     subst (λ m. IsSegmentIn m s) count (all 0 s (omega arith))
 
 -- a segment more
-pub loads_next : (n domains : ℕ) (key : List ℕ) (old p p' : PagerState) (back others segments : List Segment) (s : Segment) →
-    IsNewPager n domains key old → LoadsBack n old p back segments → back ≡ others ++ s ∷ [] →
+pub loads_next : (n domains : ℕ) (keys : Keys) (old p p' : PagerState) (back others segments : List Segment) (s : Segment) →
+    IsNewPager n domains keys old → LoadsBack n old p back segments → back ≡ others ++ s ∷ [] →
     HasFrames p p' (with_bytes p.frames s.address s.bytes) → LoadsBack n old p' others segments
-loads_next n domains key old p p' back others segments s new so_far e has =
+loads_next n domains keys old p p' back others segments s new so_far e has =
     let next = back_next back others s e in
     let all : All (IsSegmentIn n) (s ∷ reverse others) = subst (All (IsSegmentIn n)) next so_far.fits in
     let fits : IsSegmentIn n s = all 0 s (omega arith) in
-    let count = new_count n domains key old new in
+    let count = new_count n domains keys old new in
     record {
       fits = λ i d h. all (suc i) d (omega arith);
       loads =
@@ -310,16 +311,16 @@ stores_back_all old p address (b ∷ back) first bytes so_far end = absurd (omeg
 -- What is loaded.
 
 -- the pager is new but for its frames, which are RAM with the segments
-pub record IsLoaded (old p : PagerState) (k : KernelImage) (domains : ℕ) (key : List ℕ) : Type 0 where
-  pub new : IsNewPager k.frames domains key old
-  pub blank : StandsBlank k.frames key old
+pub record IsLoaded (old p : PagerState) (k : KernelImage) (domains : ℕ) (keys : Keys) : Type 0 where
+  pub new : IsNewPager k.frames domains keys old
+  pub blank : StandsBlank k.frames keys old
   pub whole : IsWholePager p
   pub stays : HasFrames old p (with_segments (zero_ram k.frames) k.segments)
 
-pub loaded : (old p : PagerState) (k : KernelImage) (domains : ℕ) (key : List ℕ) (back : List Segment) →
-    IsNewPager k.frames domains key old → StandsBlank k.frames key old → LoadsBack k.frames old p back k.segments →
-    length back ≡ 0 → IsWholePager p → IsLoaded old p k domains key
-loaded old p k domains key [] new blank so_far end whole = record {
+pub loaded : (old p : PagerState) (k : KernelImage) (domains : ℕ) (keys : Keys) (back : List Segment) →
+    IsNewPager k.frames domains keys old → StandsBlank k.frames keys old → LoadsBack k.frames old p back k.segments →
+    length back ≡ 0 → IsWholePager p → IsLoaded old p k domains keys
+loaded old p k domains keys [] new blank so_far end whole = record {
   new = new;
   blank = blank;
   whole = whole;
@@ -327,27 +328,27 @@ loaded old p k domains key [] new blank so_far end whole = record {
       frames_are old p p.frames _
       (so_far.loads.stored ∙ ap (λ (x : List (List ℕ)). with_segments x k.segments) new.zeros) so_far.loads.stays;
 }
-loaded old p k domains key (s ∷ back) new blank so_far end whole = absurd (omega (arith, end))
+loaded old p k domains keys (s ∷ back) new blank so_far end whole = absurd (omega (arith, end))
 
-loaded_count : (old p : PagerState) (k : KernelImage) (domains : ℕ) (key : List ℕ) → IsLoaded old p k domains key →
+loaded_count : (old p : PagerState) (k : KernelImage) (domains : ℕ) (keys : Keys) → IsLoaded old p k domains keys →
     length p.frames ≡ k.frames
-loaded_count old p k domains key is =
+loaded_count old p k domains keys is =
     ap (λ (x : List (List ℕ)). length x) is.stays.frames_are
     ∙ (length-with_segments (zero_ram k.frames) k.segments ∙ length-replicate k.frames zero_page)
 
 -- memory of zeros
-blank_memory : KernelImage → List ℕ → Random → CloakedMemory
-blank_memory k key stream = record {
+blank_memory : KernelImage → Keys → Random → CloakedMemory
+blank_memory k keys stream = record {
   ram = zero_ram k.frames;
   plain = λ page. zero_page;
-  ledger = started_ledger k.frames key stream;
+  ledger = started_ledger k.frames keys stream;
 }
 
-stands_blank : (p : PagerState) (k : KernelImage) (key : List ℕ) (stream : Random) → StandsBlank k.frames key p →
-    StandsForMemory p none_wiped (blank_memory k key stream)
+stands_blank : (p : PagerState) (k : KernelImage) (keys : Keys) (stream : Random) → StandsBlank k.frames keys p →
+    StandsForMemory p none_wiped (blank_memory k keys stream)
 unfolding blank_memory started_ledger
-stands_blank p k key stream blank = blank (blank_memory k key stream) (record {
-  key_is = refl;
+stands_blank p k keys stream blank = blank (blank_memory k keys stream) (record {
+  keys_are = refl;
   ram = refl;
   owed = refl;
   recorded = λ q. refl;
@@ -361,41 +362,41 @@ page_still m ram q None stands = stands
 page_still m ram q (Some t) stands =
     record { bytes = stands.bytes; is = stands.is; digest = stands.digest; sealed = stands.sealed }
 
-loaded_stands : (old p : PagerState) (k : KernelImage) (domains : ℕ) (key : List ℕ) (stream : Random) →
-    IsLoaded old p k domains key → StandsForMemory p none_wiped (started_memory k key stream)
+loaded_stands : (old p : PagerState) (k : KernelImage) (domains : ℕ) (keys : Keys) (stream : Random) →
+    IsLoaded old p k domains keys → StandsForMemory p none_wiped (started_memory k keys stream)
 unfolding blank_memory started_memory started_kernel started_ledger
-loaded_stands old p k domains key stream is =
-    let m : CloakedMemory = started_memory k key stream in
-    let s = stands_blank old k key stream is.blank in
+loaded_stands old p k domains keys stream is =
+    let m : CloakedMemory = started_memory k keys stream in
+    let s = stands_blank old k keys stream is.blank in
     let has = is.stays in
     record {
       whole = is.whole;
-      key = s.key ∙ sym has.key_stays;
+      keys = s.keys ∙ sym has.keys_stay;
       count = ap (λ (x : List (List ℕ)). length x) (sym has.frames_are);
       frames = λ f inside.
-          let below : f < k.frames = rw (← loaded_count old p k domains key is) inside in
+          let below : f < k.frames = rw (← loaded_count old p k domains keys is) inside in
           subst (λ (h : Held). FrameStands p none_wiped m f h)
           (sym (ap (λ (rights : List Held). slice_index_or rights f Spent) has.rights_are ∙ is.new.outside f below))
           (ap (λ (x : List (List ℕ)). slice_index_or x f []) has.frames_are);
       owed = s.owed ∙ ap (λ (rights : List Held). map owed_under rights) (sym has.rights_are);
       pages = λ q.
           subst (λ (x : Option Meta). PageStands false m q x) (sym (has.metas_are q))
-          (page_still (blank_memory k key stream) m.ram q (meta_at old.table q) (s.pages q));
+          (page_still (blank_memory k keys stream) m.ram q (meta_at old.table q) (s.pages q));
       plain = s.plain;
       drained = s.drained;
     }
 
-pub loaded_holds : (old p : PagerState) (k : KernelImage) (domains : ℕ) (key : List ℕ) (stream : Random) (t : Table) →
-    IsLoaded old p k domains key → t ≡ empty_table k.frames →
-    Holds (record { pager = p; stream = stream; draws = 0; missed = false; shadows = t; counting = false }) (started_memory k key stream)
+pub loaded_holds : (old p : PagerState) (k : KernelImage) (domains : ℕ) (keys : Keys) (stream : Random) (t : Table) →
+    IsLoaded old p k domains keys → t ≡ empty_table k.frames →
+    Holds (record { pager = p; stream = stream; draws = 0; missed = false; shadows = t; counting = false }) (started_memory k keys stream)
 unfolding started_memory started_ledger
-loaded_holds old p k domains key stream t is empty = record {
+loaded_holds old p k domains keys stream t is empty = record {
   wiped = none_wiped;
-  pager = loaded_stands old p k domains key stream is;
+  pager = loaded_stands old p k domains keys stream is;
   whole = λ drawn q. refl;
   stream = refl;
   draws = refl;
   missed = refl;
-  agrees = subst (λ (u : Table). Agrees (present (held_in p) (started_memory k key stream)) u) (sym empty) (All-nil _);
-  room = ap (λ (u : Table). u.frames) empty ∙ sym (loaded_count old p k domains key is);
+  agrees = subst (λ (u : Table). Agrees (present (held_in p) (started_memory k keys stream)) u) (sym empty) (All-nil _);
+  room = ap (λ (u : Table). u.frames) empty ∙ sym (loaded_count old p k domains keys is);
 }

@@ -1,9 +1,11 @@
 -- How far a machine is as it opens.
-use Rattle.std.specs.Prelude.{ℕ, ◌≡◌, ◌<◌, ◌≤◌, Bool, true, false, List, [], Option, Some, None, All, length, map, filter, slice_index_or}
+use Rattle.std.specs.Prelude.{ℕ, ◌≡◌, ◌<◌, ◌≤◌, Bool, true, false, List, [], Option, Some, None, All, length, map, filter, replicate, slice_index_or}
 use Rattle.cloak_base.specs.declared.names.PageId.{PageId}
+use Rattle.cloak_base.specs.Random.{Random}
 use Rattle.cloak_model.specs.declared.item.Item.{Item}
 use Rattle.cloak_model.specs.declared.item.Item.TheVariants.{Cipher}
 use Rattle.cloak_model.specs.Cloaking.{CloakedMemory}
+use Rattle.cloak_model.specs.Opening.{drawn_keys, filled_up}
 use Rattle.protect_meta.specs.Table.{meta_at}
 use Rattle.cloak_pager.specs.State.{PagerState, held_in}
 use Rattle.cloak_pager.specs.Turns.{Turns}
@@ -11,6 +13,14 @@ use Rattle.cloaked_side.specs.Holding.{Holds, domains_in}
 use Rattle.cloaked_side.specs.declared.memory.Memory.{Memory}
 use Rattle.joint_machine.specs.Placings.{covers}
 use Rattle.joint_machine.specs.declared.placings.Placing.{Placing}
+
+-- Keys.
+
+-- Keys were drawn: these are the first draws of the stream, in order, and zeros for the others. This is left of it.
+pub record DrawsKeys (count : ℕ) (stream left : Random) (keys : List (List ℕ)) : Type 0 where
+  pub drawn : List (List ℕ)
+  pub are : drawn_keys count stream ≡ Some (drawn, left)
+  pub filled : keys ≡ filled_up (replicate 16 0) drawn
 
 -- RAM.
 

@@ -11,6 +11,7 @@
 #![tactic(auto)]
 
 mod closing;
+mod drawing;
 mod ended;
 mod ending;
 mod going;

@@ -1,5 +1,5 @@
 //! RAM as a run begins.
-ghost use Rattle.std.specs.Prelude.{◌≡◌, ◌≤◌, ◌+◌, ◌-◌, ◌*◌, ◌<◌, ℕ, [], length, reverse, take, drop, IfOk};
+ghost use Rattle.std.specs.Prelude.{◌≡◌, ◌≤◌, ◌+◌, ◌-◌, ◌*◌, ◌<◌, ℕ, [], length, reverse, take, drop, All, IfOk};
 ghost use Rattle.cloak_base.specs.Constants.{ram_start, ram_end};
 ghost use Rattle.cloak_model.specs.Bundle.{IsKernelImage, IsSegmentIn};
 ghost use Rattle.cloak_model.specs.Memory.{with_bytes};
@@ -80,12 +80,15 @@ pub(crate) fn load(
     alloc: Global,
     k: KernelImage,
     domains: u32,
-    key: [u8; 16],
+    keys: [[u8; 16]; 4],
+    group: [u32; 4],
     stream: Stream,
 ) -> Result<(Memory, Disk), NoMemory>
     requires kernel { IsKernelImage k }
     requires domains { domains ≤ 4 }
-    ensures holds { IfOk result (λ p. Holds p.0 (started_memory k key stream)) }
+    requires groups { All (λ g. g < 4) group }
+    ensures holds { IfOk result (λ p. Holds p.0
+        (started_memory k (record { numbered = keys; group = group }) stream)) }
     ensures frames { IfOk result (λ p. frames_of p.0 ≡ k.frames) }
     ensures domains { IfOk result (λ p. domains_in p.0 ≡ domains) }
     ensures ready { IfOk result (λ p. IsReady p.0.pager 0 0) }
@@ -98,7 +101,7 @@ pub(crate) fn load(
         disk,
         ..
     } = k;
-    let mut pager = Pager::open(alloc, frames, domains, key)?;
+    let mut pager = Pager::open(alloc, frames, domains, keys, group)?;
     let shadows = Shadows::open(alloc, frames)?;
     let mut segments = segments.into_vec();
     segments.reverse();

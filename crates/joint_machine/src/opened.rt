@@ -6,7 +6,7 @@ use std::alloc::AllocError;
 /// Why a machine could not be opened.
 #[derive(Clone, Copy, Debug, PartialEq, Eq)]
 pub enum OpenFault {
-    /// The random stream holds fewer than 16 bytes.
+    /// The random stream does not hold 16 bytes for each key.
     NoKey,
     /// A page of a program found no draw.
     NoRandom,

@@ -10,6 +10,7 @@ ghost use Rattle.cloaked_side.specs.Holding.{frames_of};
 ghost use Rattle.joint_machine.specs.Placings.{placing};
 ghost use Rattle.joint_machine.specs.Starting.{IsReadOnly, placed_among};
 
+use crate::drawing::{count_keys, draw_keys, groups_of};
 use crate::joint::Joint;
 use crate::loading::load;
 use crate::opened::OpenFault;
@@ -52,9 +53,10 @@ fn show_placed<E: Emit>(memory: &mut Memory, placings: &[Placing], e: &mut E)
 impl Joint {
     ghost use Rattle.joint_machine.specs.Standing.{harts_of, AllOutside, OpensAs, ShowsAs, StandsForJoint};
 
-    /// The joint machine of a guest image as its run begins. Its key is the first draw of the stream, and each page of
-    /// a program takes the next one. The disk takes over the memory of the image's disk. The rest of the kernel's image
-    /// and the bytes of the programs are given back as they are stored.
+    /// The joint machine of a guest image as its run begins. Its keys are the first draws of the stream, one for each
+    /// number up to the greatest that a program has, and each page of a program takes the next one. The disk takes over
+    /// the memory of the image's disk. The rest of the kernel's image and the bytes of the programs are given back as they
+    /// are stored.
     pub fn open(
         alloc: Global,
         kernel: KernelImage,
@@ -68,7 +70,7 @@ impl Joint {
         ensures empty { IfOk result (λ joint. joint.memory.shadows.live ≡ []) }
     {
         let mut stream = s;
-        let Some(key) = stream.draw() else {
+        let Some(keys) = draw_keys(&mut stream, count_keys(programs.as_slice())) else {
             return Err(OpenFault::NoKey);
         };
         let harts = start_harts(alloc, kernel.entry, kernel.harts)?;
@@ -76,7 +78,8 @@ impl Joint {
             alloc,
             kernel,
             programs.as_slice().len() as u32,
-            key,
+            keys,
+            groups_of(programs.as_slice()),
             stream,
         )?;
         let domains = start_domains(alloc, programs.as_slice())?;

@@ -71,6 +71,7 @@ fn place_pages(memory: &mut Memory, domain: u32, p: Program) -> bool
         place,
         start,
         bytes,
+        ..
     } = p;
     let mut bytes = bytes.into_vec();
     bytes.reverse();

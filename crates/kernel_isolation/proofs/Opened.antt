@@ -4,7 +4,7 @@ use Rattle.std.specs.Prelude.{option_and_then}
 use Rattle.std.proofs.lemmas.Bool.{cases_lt, cases_eq, le-leb, lt-ltb, and_from}
 use Rattle.std.proofs.lemmas.List.{length-set, length-replicate, get_or-set_same, get_or-set_other, ext_get_or, map-append}
 use Rattle.std.proofs.lemmas.List.Elements.{filter-append}
-use Rattle.cloak_base.specs.Random.{Random, next_draw}
+use Rattle.cloak_base.specs.Random.{Random}
 use Rattle.cloak_base.specs.declared.names.PageId.{PageId}
 use Rattle.cloak_model.specs.declared.image.Bundle.{Bundle}
 use Rattle.cloak_model.specs.declared.image.KernelImage.{KernelImage}
@@ -15,9 +15,9 @@ use Rattle.cloak_model.specs.declared.item.Item.TheVariants as item
 use Rattle.cloak_model.specs.Ahead.{with_shown}
 use Rattle.cloak_model.specs.Cloaking.{CloakedMemory}
 use Rattle.cloak_model.specs.DomainState.{started_domain, started_control}
-use Rattle.cloak_model.specs.Ledger.{vector_of}
+use Rattle.cloak_model.specs.Ledger.{Keys, vector_of}
 use Rattle.cloak_model.specs.Memory.{zero_ram, with_bytes, with_byte}
-use Rattle.cloak_model.specs.Opening.{with_segments, numbers_below, started_ledger, started_kernel, started_memory, program_page, place_pages, place_programs, started_domains, started_joint, is_placed, opening_items, Opened, opened_with, opened_by, opening}
+use Rattle.cloak_model.specs.Opening.{key_count, drawn_keys, keys_for, with_segments, numbers_below, started_ledger, started_kernel, started_memory, program_page, place_pages, place_programs, started_domains, started_joint, is_placed, opening_items, Opened, opened_with, opened_by, opening}
 use Rattle.cloak_model.specs.PageMoves.{place, place_with}
 use Rattle.cloak_model.specs.Parts.{KernelPart, kernel_part}
 use Rattle.cloak_model.specs.World.{cipher_items}
@@ -229,9 +229,9 @@ segments_count ram [] = refl
 segments_count ram (s ∷ segments) =
     segments_count (with_bytes ram s.address s.bytes) segments ∙ bytes_count ram s.address s.bytes
 
-started_places : (k : KernelImage) (key : List ℕ) (rest : Random) → HasPlaces (started_memory k key rest)
+started_places : (k : KernelImage) (keys : Keys) (rest : Random) → HasPlaces (started_memory k keys rest)
 unfolding started_memory started_kernel started_ledger
-started_places k key rest =
+started_places k keys rest =
     length-replicate k.frames None
     ∙ sym (segments_count (zero_ram k.frames) k.segments ∙ length-replicate k.frames _)
 
@@ -249,11 +249,11 @@ pub record IsOpened (b : Bundle) (o : Opened) : Type 0 where
       ≡ record (started_kernel b.kernel) { ram = with_shown ciphers (started_kernel b.kernel).ram }
   pub steady : IsSteady o.joint
 
-opened_memory : (b : Bundle) (key : List ℕ) (rest : Random) (m : CloakedMemory) →
-    PlacesApart (IsAway b.programs) (started_memory b.kernel key rest) m →
+opened_memory : (b : Bundle) (keys : Keys) (rest : Random) (m : CloakedMemory) →
+    PlacesApart (IsAway b.programs) (started_memory b.kernel keys rest) m →
     IsOpened b (record { joint = started_joint b m; items = opening_items b.programs m.ram })
 unfolding started_memory started_joint
-opened_memory b key rest m placed =
+opened_memory b keys rest m placed =
     let was : List (List ℕ) = (started_kernel b.kernel).ram in
     let ciphers : List (ℕ × List ℕ) = shown_below (is_placed b.programs) m.ram (length m.ram) in
     let whole = shown_whole (is_placed b.programs) m.ram was placed.count placed.others in
@@ -265,24 +265,26 @@ opened_memory b key rest m placed =
       part = ap (λ (ram : List (List ℕ)). let k : KernelPart = record (started_kernel b.kernel) { ram = ram } in k)
           (sym whole);
       steady = record {
-        places = ap length placed.owed ∙ (started_places b.kernel key rest ∙ sym placed.count);
+        places = ap length placed.owed ∙ (started_places b.kernel keys rest ∙ sym placed.count);
         programs = started_from 0 b.programs;
       };
     }
 
-opened_if : (b : Bundle) (key : List ℕ) (rest : Random) (o : Opened) (m : Option CloakedMemory) →
-    PlacesIf (IsAway b.programs) (started_memory b.kernel key rest) m → opened_with b m ≡ Ok o → IsOpened b o
+opened_if : (b : Bundle) (keys : Keys) (rest : Random) (o : Opened) (m : Option CloakedMemory) →
+    PlacesIf (IsAway b.programs) (started_memory b.kernel keys rest) m → opened_with b m ≡ Ok o → IsOpened b o
 unfolding opened_with
-opened_if b key rest o None placed opens = absurd cc
-opened_if b key rest o (Some m) placed opens =
+opened_if b keys rest o None placed opens = absurd cc
+opened_if b keys rest o (Some m) placed opens =
     let same : record { joint = started_joint b m; items = opening_items b.programs m.ram } ≡ o = cc in
-    subst (IsOpened b) same (opened_memory b key rest m placed)
+    subst (IsOpened b) same (opened_memory b keys rest m placed)
 
-opened_draw : (b : Bundle) (draw : Option (List ℕ × Random)) (o : Opened) → opened_by b draw ≡ Ok o → IsOpened b o
+opened_draw : (b : Bundle) (draw : Option (List (List ℕ) × Random)) (o : Opened) → opened_by b draw ≡ Ok o →
+    IsOpened b o
 unfolding opened_by
 opened_draw b None o opens = absurd cc
 opened_draw b (Some draw) o opens =
-    opened_if b draw.0 draw.1 o _ (programs_apart 0 b.programs (started_memory b.kernel draw.0 draw.1)) opens
+    let keys = keys_for b.programs draw.0 in
+    opened_if b keys draw.1 o _ (programs_apart 0 b.programs (started_memory b.kernel keys draw.1)) opens
 
 pub is_opened : (b : Bundle) (stream : Random) (o : Opened) → opening b stream ≡ Ok o → IsOpened b o
-is_opened b stream o opens = opened_draw b (next_draw stream) o opens
+is_opened b stream o opens = opened_draw b (drawn_keys (key_count b.programs) stream) o opens

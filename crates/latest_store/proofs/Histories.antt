@@ -3,7 +3,7 @@ use Rattle.std.proofs.Common.{◌≡◌, ◌≢◌, ◌∙◌, ℕ, zero, suc, �
 use Rattle.std.specs.Prelude.{option_and_then}
 use Rattle.std.proofs.lemmas.List.{length-take}
 use Rattle.std.proofs.lemmas.List.Elements.{All-head, All-tail}
-use Rattle.cloak_base.specs.Random.{Random, next_draw}
+use Rattle.cloak_base.specs.Random.{Random}
 use Rattle.cloak_base.proofs.Pages.{same_page-other}
 use Rattle.cloak_base.specs.Pages.{with_page}
 use Rattle.cloak_base.specs.declared.names.PageId.{PageId}
@@ -13,8 +13,8 @@ use Rattle.cloak_model.specs.Bundle.{IsInGrammar, IsProgramIn}
 use Rattle.cloak_model.specs.Cloaking.{CloakedMemory}
 use Rattle.cloak_model.specs.DomainState.{Domain, started_control, started_domain}
 use Rattle.cloak_model.specs.Joint.{Moment, Turn, hart_in, joint_step}
-use Rattle.cloak_model.specs.Ledger.{vector_of}
-use Rattle.cloak_model.specs.Opening.{program_page, place_pages, place_programs, opening_items, started_domains, started_memory, started_joint, Opened, opened_with, opened_by, opening}
+use Rattle.cloak_model.specs.Ledger.{Keys, vector_of}
+use Rattle.cloak_model.specs.Opening.{key_count, drawn_keys, keys_for, program_page, place_pages, place_programs, opening_items, started_domains, started_memory, started_joint, Opened, opened_with, opened_by, opening}
 use Rattle.cloak_model.specs.PageMoves.{place, place_with}
 use Rattle.cloak_model.specs.Parts.{Joint}
 use Rattle.cloak_model.specs.Resources.{Resources, resource_at, started_resources}
@@ -92,9 +92,9 @@ programs_agree frames d (p ∷ programs) m m' history all is agrees =
     (All-tail (IsProgramIn frames) p programs all) b.next
     (pages_agree d p p.start.pages m b.value history fits.bytes (omega arith) b.was agrees)
 
-zeros_agree : (b : Bundle) (key : List ℕ) (stream : Random) → Agrees [] (started_memory b.kernel key stream).plain
+zeros_agree : (b : Bundle) (keys : Keys) (stream : Random) → Agrees [] (started_memory b.kernel keys stream).plain
 unfolding started_memory latest
-zeros_agree b key stream q = record { whole = zero_page_whole; each = λ at. zero_page_at at }
+zeros_agree b keys stream q = record { whole = zero_page_whole; each = λ at. zero_page_at at }
 
 -- no load is in it
 
@@ -180,24 +180,25 @@ started_holds b m agrees = record {
       (subst (λ (r : Resources). resource_at r q.resource ≡ None) s.is free)) ∙ empty_latest q at;
 }
 
-opened_holds_with : (b : Bundle) (key : List ℕ) (stream : Random) (placed : Option CloakedMemory) (o : Opened) →
-    IsInGrammar b → place_programs 0 b.programs (started_memory b.kernel key stream) ≡ placed →
+opened_holds_with : (b : Bundle) (keys : Keys) (stream : Random) (placed : Option CloakedMemory) (o : Opened) →
+    IsInGrammar b → place_programs 0 b.programs (started_memory b.kernel keys stream) ≡ placed →
     opened_with b placed ≡ Ok o → Holds (made_programs 0 b.programs []) o.joint
 unfolding opened_with
-opened_holds_with b key stream None o fits is opens = absurd cc
-opened_holds_with b key stream (Some m) o fits is opens =
+opened_holds_with b keys stream None o fits is opens = absurd cc
+opened_holds_with b keys stream (Some m) o fits is opens =
     let made : Opened = record { joint = started_joint b m; items = opening_items b.programs m.ram } in
     let same : made ≡ o = cc in
     subst (λ (x : Opened). Holds (made_programs 0 b.programs []) x.joint) same
     (started_holds b m
-    (programs_agree b.kernel.frames 0 b.programs (started_memory b.kernel key stream) m [] fits.programs is
-    (zeros_agree b key stream)))
+    (programs_agree b.kernel.frames 0 b.programs (started_memory b.kernel keys stream) m [] fits.programs is
+    (zeros_agree b keys stream)))
 
-opened_holds_by : (b : Bundle) (draw : Option (List ℕ × Random)) (o : Opened) → IsInGrammar b →
+opened_holds_by : (b : Bundle) (draw : Option (List (List ℕ) × Random)) (o : Opened) → IsInGrammar b →
     opened_by b draw ≡ Ok o → Holds (made_programs 0 b.programs []) o.joint
 unfolding opened_by
 opened_holds_by b None o fits opens = absurd cc
-opened_holds_by b (Some draw) o fits opens = opened_holds_with b draw.0 draw.1 _ o fits refl opens
+opened_holds_by b (Some draw) o fits opens =
+    opened_holds_with b (keys_for b.programs draw.0) draw.1 _ o fits refl opens
 
 -- The steps.
 
@@ -224,7 +225,8 @@ run_holds : (b : Bundle) (stream : Random) (budget : ℕ) (o : Opened) → openi
     let r = run_of b budget o in
     (n : ℕ) → n ≤ length r.turns → Holds (history_until b n r) (joint_until n r)
 unfolding run_of history_until joint_after
-run_holds b stream budget o opens fits zero low = opened_holds_by b (next_draw stream) o fits opens
+run_holds b stream budget o opens fits zero low =
+    opened_holds_by b (drawn_keys (key_count b.programs) stream) o fits opens
 run_holds b stream budget o opens fits (suc n) low =
     let r : Run = run_of b budget o in
     let turns : List Turn = turns_from budget (first_moment b o.joint) in

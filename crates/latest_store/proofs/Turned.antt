@@ -197,7 +197,7 @@ outside_keeps : (j : Joint) (number : ℕ) (h : Hart) → Keeps j (outside_step 
 unfolding outside_step after_outside settled_step made_after
 outside_keeps j number h =
     let ended = ended_keeps _ number _ _ in
-    record { pages = ended.pages ∙ (touched_draws h j.disk j.memory).plain; programs = ended.programs }
+    record { pages = ended.pages ∙ (touched_draws {count = 0} h j.disk j.memory).plain; programs = ended.programs }
 
 -- A hart inside.
 

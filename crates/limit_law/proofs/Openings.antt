@@ -1,13 +1,13 @@
 -- The opening of a run: what holds of the joint machine with each memory that may stand there holds as the run begins.
 use Rattle.std.proofs.Common.{◌≡◌, ℕ, zero, suc, ◌+◌, List, [], ◌∷◌, Option, Some, None, IfSome, Ok, subst}
 use Rattle.std.specs.Prelude.{option_and_then}
-use Rattle.cloak_base.specs.Random.{Random, next_draw}
+use Rattle.cloak_base.specs.Random.{Random}
 use Rattle.cloak_base.specs.declared.names.PageId.{PageId}
 use Rattle.cloak_model.specs.declared.image.Bundle.{Bundle}
 use Rattle.cloak_model.specs.declared.image.Program.{Program}
 use Rattle.cloak_model.specs.Cloaking.{CloakedMemory}
-use Rattle.cloak_model.specs.Ledger.{vector_of}
-use Rattle.cloak_model.specs.Opening.{Opened, opened_with, opened_by, opening, started_joint, started_memory, place_pages, place_programs}
+use Rattle.cloak_model.specs.Ledger.{Keys, vector_of}
+use Rattle.cloak_model.specs.Opening.{key_count, drawn_keys, keys_for, Opened, opened_with, opened_by, opening, started_joint, started_memory, place_pages, place_programs}
 use Rattle.cloak_model.specs.PageMoves.{place, place_with}
 use Rattle.cloak_model.specs.Parts.{Joint}
 
@@ -46,14 +46,14 @@ module _ (P : Joint → Type 0) (b : Bundle) where
   with_memory None o here opens = absurd cc
   with_memory (Some m) o here opens = let same : started_joint b m ≡ o.joint = cc in subst P same here
 
-  with_draw : (draw : Option (List ℕ × Random)) (o : Opened) →
-      ((key : List ℕ) (stream : Random) →
-      IfSome (place_programs 0 b.programs (started_memory b.kernel key stream))
+  with_draw : (draw : Option (List (List ℕ) × Random)) (o : Opened) →
+      ((keys : Keys) (stream : Random) →
+      IfSome (place_programs 0 b.programs (started_memory b.kernel keys stream))
       (λ (x : CloakedMemory). P (started_joint b x))) →
       opened_by b draw ≡ Ok o → P o.joint
   unfolding opened_by
   with_draw None o here opens = absurd cc
-  with_draw (Some draw) o here opens = with_memory _ o (here draw.0 draw.1) opens
+  with_draw (Some draw) o here opens = with_memory _ o (here (keys_for b.programs draw.0) draw.1) opens
 
 each_some : (P Q : CloakedMemory → Type 0) (o : Option CloakedMemory) → ((m : CloakedMemory) → P m → Q m) → IfSome o P →
     IfSome o Q
@@ -68,15 +68,16 @@ any_some Q (Some m) gives = gives m
 pub begins_by_memory : (N : CloakedMemory → Type 0) (P : Joint → Type 0) (b : Bundle) (stream : Random) →
     ((q : PageId) (f : ℕ) (bytes : List ℕ) (draw : Option (List ℕ × Random)) (m : CloakedMemory) → N m →
     IfSome (place_with q f bytes draw m) N) →
-    ((key : List ℕ) (rest : Random) → N (started_memory b.kernel key rest)) →
+    ((keys : Keys) (rest : Random) → N (started_memory b.kernel keys rest)) →
     ((m : CloakedMemory) → N m → P (started_joint b m)) → (o : Opened) → opening b stream ≡ Ok o → P o.joint
 begins_by_memory N P b stream one first gives o opens =
-    with_draw P b (next_draw stream) o
-    (λ key rest. each_some N (λ (x : CloakedMemory). P (started_joint b x)) _ gives
-    (programs_placed N one 0 b.programs _ (first key rest))) opens
+    with_draw P b (drawn_keys (key_count b.programs) stream) o
+    (λ keys rest. each_some N (λ (x : CloakedMemory). P (started_joint b x)) _ gives
+    (programs_placed N one 0 b.programs _ (first keys rest))) opens
 
 -- whatever the memory is
 pub begins : (P : Joint → Type 0) (b : Bundle) (stream : Random) → ((m : CloakedMemory) → P (started_joint b m)) →
     (o : Opened) → opening b stream ≡ Ok o → P o.joint
 begins P b stream gives o opens =
-    with_draw P b (next_draw stream) o (λ key rest. any_some (λ (x : CloakedMemory). P (started_joint b x)) _ gives) opens
+    with_draw P b (drawn_keys (key_count b.programs) stream) o
+    (λ keys rest. any_some (λ (x : CloakedMemory). P (started_joint b x)) _ gives) opens

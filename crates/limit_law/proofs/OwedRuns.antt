@@ -23,6 +23,7 @@ use Rattle.cloak_model.specs.Hart.{Hart}
 use Rattle.cloak_model.specs.Hypercalls.{Stepped}
 use Rattle.cloak_model.specs.Joint.{Moment, Turn, next_hart, cloak_of, cloak_outside, memory_of, outside_ended, after_outside, outside_step, domain_ended, after_domain_step, pages_for, interrupt_ended, after_interrupt, by_interrupt, by_running, inside_step, turn_of, end_domain, step_before_end, joint_step}
 use Rattle.cloak_model.specs.KernelStep.{ticked}
+use Rattle.cloak_model.specs.Ledger.{Keys}
 use Rattle.cloak_model.specs.Opening.{Opened, opening, started_joint, started_ledger, started_memory}
 use Rattle.cloak_model.specs.PageMoves.{copy_pages, drop_pages, place_with}
 use Rattle.cloak_model.specs.Parts.{Joint}
@@ -257,9 +258,9 @@ none_some q e = cc
 none_once : (n : ℕ) → IsOnce (replicate n None)
 none_once n f g q a b = absurd (none_some q (sym (get_or-replicate_none n f) ∙ a))
 
-started_once : (b : Bundle) (key : List ℕ) (stream : Random) → Keeps (started_memory b.kernel key stream)
+started_once : (b : Bundle) (keys : Keys) (stream : Random) → Keeps (started_memory b.kernel keys stream)
 unfolding started_memory started_ledger
-started_once b key stream = none_once b.kernel.frames
+started_once b keys stream = none_once b.kernel.frames
 
 joint_once : (b : Bundle) (m : CloakedMemory) → Keeps m → JointOnce (started_joint b m)
 unfolding started_joint

@@ -26,6 +26,7 @@ use Rattle.cloak_model.specs.Hart.{Hart}
 use Rattle.cloak_model.specs.Hypercalls.{Stepped}
 use Rattle.cloak_model.specs.Joint.{Moment, Turn, next_hart, cloak_of, cloak_outside, memory_of, outside_ended, after_outside, outside_step, domain_ended, after_domain_step, pages_for, interrupt_ended, after_interrupt, by_interrupt, by_running, inside_step, turn_of, end_domain, step_before_end, joint_step}
 use Rattle.cloak_model.specs.KernelStep.{ticked}
+use Rattle.cloak_model.specs.Ledger.{Keys}
 use Rattle.cloak_model.specs.Opening.{Opened, opening, started_joint, started_ledger, started_memory}
 use Rattle.cloak_model.specs.PageMoves.{place_with}
 use Rattle.cloak_model.specs.Parts.{Joint}
@@ -340,9 +341,9 @@ unfolding place_with
 place_none q f bytes None m none = tt
 place_none q f bytes (Some draw) m none = none
 
-started_none : (b : Bundle) (key : List ℕ) (stream : Random) → NoRoot (started_memory b.kernel key stream)
+started_none : (b : Bundle) (keys : Keys) (stream : Random) → NoRoot (started_memory b.kernel keys stream)
 unfolding started_memory started_ledger
-started_none b key stream s = refl
+started_none b keys stream s = refl
 
 joint_rooted : (b : Bundle) (m : CloakedMemory) → NoRoot m → JointRooted (started_joint b m)
 unfolding started_joint

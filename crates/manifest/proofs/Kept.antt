@@ -1,8 +1,12 @@
 -- Files that are only read.
-use Rattle.std.proofs.Common.{◌≡◌, ◌∙◌, ℕ, List, Option, refl}
+use Rattle.std.proofs.Common.{◌≡◌, ◌∙◌, ℕ, List, Option, Result, Ok, Err, IsErrAnd, refl, sym, subst}
 use Rattle.outside_io.specs.Told.{SameFiles}
 use Rattle.program_parts.specs.Outside.{FilesOutside, OnlyRead}
 use Rattle.asm_text.specs.Making.{FailsToRead}
+use Rattle.manifest.specs.Reading.{ReadsParts}
+use Rattle.manifest.specs.declared.fault.PackFault.{PackFault}
+use Rattle.manifest.specs.declared.fault.PackError.{PackError}
+use Rattle.manifest.specs.declared.fault.PackError.TheVariants.{ReadFault, Faulty}
 
 pub same_held : (old new : List ℕ → Option (List ℕ)) → SameFiles old new → new ≡ old
 same_held old new same = λ i name. same name i
@@ -24,3 +28,19 @@ fails_later first mid last one two = record {
   reading = rw (← one.reading) two.reading;
   writing = two.writing ∙ one.writing;
 }
+
+-- a fault is handed on, and files were only read before it
+pub handed_on : {S B : Type 0} (A : Type 0) (first mid last : FilesOutside S) (e : PackError) (r : Result B PackError) →
+    OnlyRead first mid → ReadsParts {A = A} mid last (Err e) → IsErrAnd r (λ f. f ≡ e) → ReadsParts first last r
+handed_on A first mid last e (Ok x) one two is = absurd is
+handed_on {S} {B} A first mid last ReadFault (Err f) one two is =
+    subst (λ (x : PackError). ReadsParts {A = B} first last (Err x)) (sym is) (fails_later first mid last one two)
+handed_on {S} {B} A first mid last (Faulty fault) (Err f) one two is =
+    subst (λ (x : PackError). ReadsParts {A = B} first last (Err x)) (sym is) (read_more first mid last one two)
+
+-- a fault that is none of reading
+pub only_read : {S B : Type 0} (first last : FilesOutside S) (fault : PackFault) (r : Result B PackError) →
+    OnlyRead first last → IsErrAnd r (λ f. f ≡ Faulty fault) → ReadsParts first last r
+only_read first last fault (Ok x) one is = absurd is
+only_read {S} {B} first last fault (Err f) one is =
+    subst (λ (x : PackError). ReadsParts {A = B} first last (Err x)) (sym is) one

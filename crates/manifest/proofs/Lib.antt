@@ -1,4 +1,4 @@
-pub mod Rooms
+pub mod Fitting
 pub mod Listed
 pub mod Meant
 pub mod Kept

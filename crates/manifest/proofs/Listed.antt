@@ -1,6 +1,9 @@
 -- One more value of a list.
-use Rattle.std.proofs.Common.{◌≡◌, ◌<◌, ◌+◌, ℕ, List, [], ◌∷◌, ◌++◌, length, get_or, take, Option, refl, subst, ◌∙◌, ap}
-use Rattle.std.proofs.lemmas.List.{take_more}
+use Rattle.std.proofs.Common.{◌≡◌, ◌<◌, ◌+◌, ℕ, List, [], ◌∷◌, ◌++◌, length, get_or, take, Option, refl, sym, subst, ◌∙◌, ap, arith, below_more}
+use Rattle.std.specs.Prelude.{EachIndex, slice_index}
+use Rattle.std.proofs.Math.ListN.{get_or-append}
+use Rattle.std.proofs.Math.Seq.{get_or-append_seam}
+use Rattle.std.proofs.lemmas.List.{take_more, length_push}
 use Rattle.toml.specs.declared.value.Value.{Value}
 use Rattle.toml.specs.Data.{Data, Items, no_items, item, push_item}
 use Rattle.toml.specs.View.{view, items_view}
@@ -27,3 +30,15 @@ stores_more held manifest no_items part before between after so_far last =
     (after, subst (λ (x : List ℕ). StoresFile held manifest part x after) so_far last, refl)
 stores_more held manifest (item t ts) part before between after so_far last =
     (so_far.0, so_far.1, stores_more held manifest ts part so_far.0 between after so_far.2 last)
+
+-- the turns of the harts in order, and one more
+pub order_more : (turns : List ℕ) (hart : ℕ) → length turns ≡ hart → EachIndex turns (λ turn. slice_index turns turn ≡ turn) →
+    EachIndex (turns ++ hart ∷ []) (λ turn. slice_index (turns ++ hart ∷ []) turn ≡ turn)
+order_more turns hart count order =
+    let longer = turns ++ hart ∷ [] in
+    let whole = length_push turns hart in
+    let last : slice_index longer hart ≡ hart = ap (slice_index longer) (sym count) ∙ get_or-append_seam turns hart [] 0 in
+    let each = below_more (λ turn. slice_index longer turn ≡ turn) hart
+    (λ turn low. let inside : turn < length turns = omega (arith, low, count) in
+    get_or-append turns (hart ∷ []) 0 turn inside ∙ order turn inside) last in
+    λ turn low. each turn (omega (arith, low, whole, count))

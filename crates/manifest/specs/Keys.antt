@@ -2,7 +2,7 @@
 use Rattle.std.specs.Prelude.{ℕ, List, codes, Option}
 use Rattle.toml.specs.Data.{Data, get}
 use Rattle.manifest.specs.declared.key.Key.{Key}
-use Rattle.manifest.specs.declared.key.Key.TheVariants.{Frames, Harts, Schedule, Entry, Segment, Disk, Program, Address, Text, Bytes, Blocks, File, Block, Pages, Place, Base, Stack}
+use Rattle.manifest.specs.declared.key.Key.TheVariants.{Frames, Harts, Schedule, Entry, Segment, Disk, Program, Address, Text, Bytes, Blocks, File, Block, Pages, Place, Base, Stack, KeyNumber}
 
 -- a key as it is written
 abbrev pub key_name : Key → List ℕ
@@ -23,6 +23,7 @@ key_name Pages = codes "pages"
 key_name Place = codes "place"
 key_name Base = codes "base"
 key_name Stack = codes "stack"
+key_name KeyNumber = codes "key"
 
 -- what stands at a key of a table
 abbrev pub stands_at : Key → Data → Option Data

@@ -9,7 +9,7 @@ use Rattle.cloak_model.specs.declared.image.Program.{Program as CloakedProgram}
 use Rattle.cloak_model.specs.declared.image.Bundle.{Bundle}
 use Rattle.asm_text.specs.Assembling.{IsAssembled}
 use Rattle.toml.specs.Data.{Data, string, integer, array, Items, no_items, item}
-use Rattle.manifest.specs.declared.key.Key.TheVariants.{Frames, Harts, Schedule, Entry, Segment, Disk, Program, Address, Text, Bytes, Blocks, File, Block, Pages, Place, Base, Stack}
+use Rattle.manifest.specs.declared.key.Key.TheVariants.{Frames, Harts, Schedule, Entry, Segment, Disk, Program, Address, Text, Bytes, Blocks, File, Block, Pages, Place, Base, Stack, KeyNumber}
 use Rattle.manifest.specs.Keys.{stands_at}
 
 -- ---- values
@@ -126,7 +126,8 @@ module _ (held : List ℕ → Option (List ℕ)) (manifest : List ℕ) where
 
   -- ---- the programs
 
-  -- What the file does not fill is zeros. The stack begins at the end of the pages.
+  -- What the file does not fill is zeros. The stack begins at the end of the pages, and the key has number 0, if the table
+  -- does not say otherwise.
   pub record IsProgramOf (table : Data) (p : CloakedProgram) : Type 0 where
     pub source : List ℕ
     pub named : IsSource table source
@@ -137,6 +138,7 @@ module _ (held : List ℕ → Option (List ℕ)) (manifest : List ℕ) where
     pub base : stands_at Base table ≡ Some (integer (pos p.start.base))
     pub entry : IsNumberOr (stands_at Entry table) p.start.base p.start.entry
     pub stack : IsNumberOr (stands_at Stack table) ((p.start.base + 4096 * p.start.pages) % 2 ^ 32) p.start.sp
+    pub key : IsNumberOr (stands_at KeyNumber table) 0 p.key
 
   -- ---- the image
 

@@ -2,7 +2,7 @@
 use Rattle.std.specs.Prelude.{ℕ, ◌≡◌, List, Option, Some}
 use Rattle.outside_io.specs.Told.{Tells}
 use Rattle.cloak_model.specs.declared.image.Bundle.{Bundle}
-use Rattle.cloak_model.specs.Bundle.{IsBundle}
+use Rattle.cloak_model.specs.Bundle.{IsBundleIn}
 use Rattle.program_parts.specs.Outside.{Outside}
 use Rattle.program_parts.specs.declared.status.Status.{Status}
 use Rattle.asm_text.specs.Making.{MakesAs}
@@ -20,11 +20,11 @@ pub record IsMeantBy (held : List ℕ → Option (List ℕ)) (manifest : List �
   pub parsed : parse_document text ≡ Some document
   pub image : IsImageOf held manifest (table document) bundle
 
--- these bytes are the file of the bundle that the manifest means
+-- these bytes are the file of version 2 of the bundle that the manifest means
 pub record IsPacked (held : List ℕ → Option (List ℕ)) (manifest bytes : List ℕ) : Type 0 where
   pub bundle : Bundle
   pub meant : IsMeantBy held manifest bundle
-  pub file : IsBundle bytes bundle
+  pub file : IsBundleIn 2 bytes bundle
 
 -- what is shown of a manifest that means no bundle
 abbrev pub TellsPackFault : List ℕ → List ℕ → Type 0

@@ -40,7 +40,7 @@ pub enum Wrong {
     PastRam,
     /// The pages that begin here go past the end of the addresses.
     PastAddresses,
-    /// The bundle is larger than 67,108,864 bytes.
+    /// The bundle has more than 67,108,864 bytes in version 2.
     TooLarge,
 }
 

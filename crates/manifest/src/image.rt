@@ -1,8 +1,9 @@
 //! The bundle that a document means.
-ghost use Rattle.std.specs.Prelude.{IfOk};
+ghost use Rattle.std.specs.Prelude.{◌≤◌, IfOk, length};
 ghost use Rattle.toml.specs.View.{view};
 ghost use Rattle.program_parts.specs.Outside.{files};
-ghost use Rattle.cloak_model.specs.Bundle.{IsInGrammar};
+ghost use Rattle.cloak_base.specs.Constants.{largest_bundle};
+ghost use Rattle.cloak_model.specs.Bundle.{IsInGrammar, bundle_bytes};
 ghost use Rattle.manifest.specs.Manifest.{IsImageOf};
 ghost use Rattle.manifest.specs.Reading.{ReadsParts};
 
@@ -28,7 +29,7 @@ const KEYS: [Key; 7] = [
     Key::Program,
 ];
 
-/// The bundle that the document of the manifest of this name means.
+/// The bundle that the document of the manifest of this name means. Its file of version 2 is not too large.
 pub fn bundle_of<S: Shelf>(
     alloc: Global,
     shelf: &mut S,
@@ -38,6 +39,7 @@ pub fn bundle_of<S: Shelf>(
     requires { S.is_settled shelf.old }
     ensures means { IfOk result (IsImageOf (S.held shelf.old) manifest.now (view document.now)) }
     ensures in_grammar { IfOk result IsInGrammar }
+    ensures fits { IfOk result (λ b. length (bundle_bytes 2 b) ≤ largest_bundle) }
     ensures reads { ReadsParts (files S.Shelf shelf.old) (files S.Shelf shelf.new) result }
     ensures settled { S.is_settled shelf.new }
 {

@@ -22,6 +22,8 @@ pub enum Key {
     Place,
     Base,
     Stack,
+    /// The number of a program's key.
+    KeyNumber,
 }
 
 impl Key {
@@ -47,6 +49,7 @@ impl Key {
             Key::Place => "place",
             Key::Base => "base",
             Key::Stack => "stack",
+            Key::KeyNumber => "key",
         }
     }
 }

@@ -1,7 +1,7 @@
 //! The manifest of a guest image: a TOML document that says what stands where, and the bundle that it means.
 //!
 //! What a manifest means is `specs/Manifest`. The layer above may rely on this: `pack_command` writes exactly the file of
-//! the bundle that a manifest means, or shows the key at which one is faulty, and what is wrong there.
+//! version 2 of the bundle that a manifest means, or shows the key at which one is faulty, and what is wrong there.
 #![tactic(auto)]
 
 mod disk;

@@ -1,10 +1,11 @@
 //! The command `pack`.
-ghost use Rattle.std.specs.Prelude.{◌≡◌, IfOk, Some};
+ghost use Rattle.std.specs.Prelude.{◌≡◌, ◌≤◌, IfOk, Some, length};
 ghost use Rattle.toml.specs.Data.{table};
 ghost use Rattle.toml.specs.Parse.{parse_document};
 ghost use Rattle.toml.specs.View.{view, table_view};
 ghost use Rattle.program_parts.specs.Outside.{files, outside};
-ghost use Rattle.cloak_model.specs.Bundle.{IsInGrammar};
+ghost use Rattle.cloak_base.specs.Constants.{largest_bundle};
+ghost use Rattle.cloak_model.specs.Bundle.{IsInGrammar, bundle_bytes};
 ghost use Rattle.asm_text.specs.Making.{IsWhy, ReadsFor};
 ghost use Rattle.manifest.specs.Reading.{ReadsParts};
 ghost use Rattle.manifest.specs.Packing.{IsMeantBy, IsPacked, PackAnswers, TellsPackFault};
@@ -43,6 +44,7 @@ fn meant_bundle<S: Shelf>(alloc: Global, shelf: &mut S, manifest: &str) -> Resul
     requires { S.is_settled shelf.old }
     ensures meant { IfOk result (IsMeantBy (S.held shelf.old) manifest.now) }
     ensures in_grammar { IfOk result IsInGrammar }
+    ensures fits { IfOk result (λ b. length (bundle_bytes 2 b) ≤ largest_bundle) }
     ensures reads { ReadsParts (files S.Shelf shelf.old) (files S.Shelf shelf.new) result }
 {
     let Some(text) = read_whole(alloc, shelf, manifest, LARGEST_MANIFEST)? else {
@@ -69,7 +71,7 @@ fn reason_of_fault(alloc: Global, manifest: &str, fault: &PackFault) -> Reason
     }
 }
 
-/// The file of the bundle that a manifest means.
+/// The file of version 2 of the bundle that a manifest means.
 fn packed<S: Shelf>(alloc: Global, shelf: &mut S, manifest: &str) -> Result<Vec<u8>, Reason>
     requires { S.is_settled shelf.old }
     ensures { ReadsFor (IsPacked (S.held shelf.old) manifest.now) (TellsPackFault manifest.now)
@@ -86,7 +88,7 @@ fn packed<S: Shelf>(alloc: Global, shelf: &mut S, manifest: &str) -> Result<Vec<
     }
 }
 
-/// Writes the file of the bundle that a manifest means.
+/// Writes the file of version 2 of the bundle that a manifest means.
 pub fn pack_command<S: Shelf, O: Sink>(
     alloc: Global,
     manifest: &str,

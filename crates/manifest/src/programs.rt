@@ -20,7 +20,7 @@ use std::alloc::Global;
 use toml::Value;
 
 /// The keys of a program.
-const KEYS: [Key; 7] = [
+const KEYS: [Key; 8] = [
     Key::Text,
     Key::Bytes,
     Key::Pages,
@@ -28,6 +28,7 @@ const KEYS: [Key; 7] = [
     Key::Base,
     Key::Entry,
     Key::Stack,
+    Key::KeyNumber,
 ];
 
 /// The number is a multiple of another one.
@@ -122,9 +123,11 @@ fn placed_program(place: Place<'_>, bytes: Vec<u8>, frames: u32) -> Result<Progr
     let pages = page_count(place, bytes.len())?;
     let frame = first_frame(place, frames, pages)?;
     let start = start(place, pages)?;
+    let key = place.number_or(Key::KeyNumber, 0, 3, 0)?;
     Ok(Program {
         place: frame,
         start,
+        key,
         bytes: Sequence::new(padded(bytes, pages)?),
     })
 }

@@ -1,4 +1,4 @@
-//! How much room the parts of a bundle leave in the largest file.
+//! How much room the parts of a bundle leave in the largest file of version 2.
 ghost use Rattle.std.specs.Prelude.{◌≡◌, ◌+◌, length, IfSome};
 ghost use Rattle.std.specs.List.{flat_map};
 ghost use Rattle.cloak_base.specs.Constants.{largest_bundle};
@@ -40,19 +40,19 @@ fn behind_segments(room: u64, segments: &[Segment]) -> Option<u64>
 
 /// What programs leave of some room, where there is enough.
 fn behind_programs(room: u64, programs: &[Program]) -> Option<u64>
-    ensures { IfSome result (λ left. length (flat_map program_bytes programs.now) + left ≡ room) }
+    ensures { IfSome result (λ left. length (flat_map (program_bytes 2) programs.now) + left ≡ room) }
 {
     let mut left = room;
     for program in programs {
-        left = taken(left, 20)?;
+        left = taken(left, 24)?;
         left = taken(left, program.bytes.as_slice().len())?;
     }
     Some(left)
 }
 
-/// What the file of a bundle leaves of the largest file, where it is not larger.
+/// What the file of a bundle in version 2 leaves of the largest file, if it is not larger.
 pub fn room_behind(bundle: &Bundle) -> Option<u64>
-    ensures { IfSome result (λ left. length (bundle_bytes bundle.now) + left ≡ largest_bundle) }
+    ensures { IfSome result (λ left. length (bundle_bytes 2 bundle.now) + left ≡ largest_bundle) }
 {
     let kernel = &bundle.kernel;
     let front = LARGEST_BUNDLE as u64 - 40;

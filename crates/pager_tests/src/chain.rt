@@ -1,6 +1,7 @@
 //! Chains of blocks, and pages.
 ghost use Rattle.std.specs.Prelude.{◌<◌};
 
+use crate::checks::same;
 use aes_block::Schedule;
 use aes_cbc::{seal_blocks, seal_page};
 
@@ -47,11 +48,17 @@ fn seals_the_standards_blocks(rt: HostRuntime) {
     ];
     seal_blocks(&schedule, &IV.to_be_bytes(), &mut blocks);
     for (j, (_, sealed)) in CHAIN.iter().enumerate() {
-        assert_eq!(rt; u128::from_be_bytes(blocks[j]), *sealed, "block {j}");
+        same(&rt, &u128::from_be_bytes(blocks[j]), sealed, j);
     }
 }
 
-// The cipher blocks were computed by `openssl enc -aes-128-cbc -nopad`.
+/// Blocks of a page by their numbers, as `openssl enc -aes-128-cbc -nopad` computed them.
+static OF_A_PAGE: [(usize, u128); 3] = [
+    (0, 0x7f807b311707f722e7e237b65a78a537),
+    (128, 0xff9135cded7d2c718fcd3148c67cbc85),
+    (255, 0xe145b1ee1024e5ba373671f50d9068e7),
+];
+
 #[test]
 fn seals_a_page_as_openssl_does(rt: HostRuntime) {
     let schedule = Schedule::new(&KEY.to_be_bytes());
@@ -60,11 +67,7 @@ fn seals_a_page_as_openssl_does(rt: HostRuntime) {
         page[i] = ((7 * i + i / 16) % 256) as u8;
     }
     seal_page(&schedule, &IV.to_be_bytes(), &mut page);
-    for (j, want) in [
-        (0, 0x7f807b311707f722e7e237b65a78a537),
-        (128, 0xff9135cded7d2c718fcd3148c67cbc85),
-        (255, 0xe145b1ee1024e5ba373671f50d9068e7),
-    ] {
-        assert_eq!(rt; block_at(&page, j), want, "block {j}");
+    for &(j, want) in &OF_A_PAGE {
+        same(&rt, &block_at(&page, j), &want, j);
     }
 }

@@ -1,5 +1,6 @@
 //! Blocks under AES-128.
 
+use crate::checks::same;
 use aes_block::Schedule;
 
 /// Key, plain block and cipher block.
@@ -59,14 +60,11 @@ static CASES: [(u128, u128, u128); 9] = [
 
 #[test]
 fn enciphers_the_standards_vectors(rt: HostRuntime) {
-    for (key, plain, sealed) in CASES {
+    for &(key, plain, sealed) in &CASES {
         let schedule = Schedule::new(&key.to_be_bytes());
         let mut block = plain.to_be_bytes();
         schedule.encrypt_block(&mut block);
-        assert_eq!(rt;
-            u128::from_be_bytes(block),
-            sealed,
-            "key {key:032x}, plain {plain:032x}"
-        );
+        let found = u128::from_be_bytes(block);
+        same(&rt, &(key, plain, found), &(key, plain, sealed), "a vector");
     }
 }

@@ -4,6 +4,8 @@
 #[cfg(test)]
 mod chain;
 #[cfg(test)]
+mod checks;
+#[cfg(test)]
 mod cipher;
 #[cfg(test)]
 mod pager;

@@ -5,6 +5,7 @@ ghost use Rattle.std.specs.Prelude.{◌≡◌, ◌<◌, ◌≢◌, ◌⊎◌, �
 ghost use Rattle.protect_meta.specs.Table.{domains_of};
 ghost use Rattle.cloak_pager.specs.State.{held_in, owed_at};
 
+use crate::checks::same;
 use cloak_base::{Frame, PageId};
 use cloak_pager::{Offered, Pager, Touched};
 use outside_io::Stream;
@@ -161,7 +162,7 @@ impl Run {
         requires { bytes < 100 }
     {
         Ok(Run {
-            pager: Pager::open(rt.alloc(), 64, 1, KEY)?,
+            pager: Pager::open(rt.alloc(), 64, 1, [KEY; 4], [0; 4])?,
             stream: stream_of(rt, bytes)?,
             kept: [0; 4096],
         })
@@ -169,7 +170,7 @@ impl Run {
 
     /// A run to whose pager page Q is restored, as it is under draw 2 with a 7.
     fn restored(rt: &HostRuntime, kept: [u8; 4096]) -> Result<Run, Fail> {
-        let mut pager = Pager::open(rt.alloc(), 64, 1, KEY)?;
+        let mut pager = Pager::open(rt.alloc(), 64, 1, [KEY; 4], [0; 4])?;
         let iv = 0x202122232425262728292a2b2c2d2e2f_u128.to_be_bytes();
         let digest = SEVEN_2;
         pager.restore(Q, Meta { iv, digest });
@@ -185,7 +186,7 @@ impl Run {
     fn placed(rt: &HostRuntime, bytes: u8) -> Result<(Run, bool), Fail>
         requires { bytes < 100 }
     {
-        let mut pager = Pager::open(rt.alloc(), 64, 1, KEY)?;
+        let mut pager = Pager::open(rt.alloc(), 64, 1, [KEY; 4], [0; 4])?;
         let mut stream = stream_of(rt, bytes)?;
         let mut page = [0; 4096];
         page[0] = 7;
@@ -369,7 +370,8 @@ impl Run {
 
     fn goes(&mut self, rt: &impl Abort, way: &[(Step, Seen)]) {
         for (step, want) in way {
-            assert_eq!(rt; self.step(*step), *want, "{step:?}");
+            let seen = self.step(*step);
+            same(rt, &(*step, seen), &(*step, *want), "a step");
         }
     }
 }
@@ -540,7 +542,7 @@ fn a_page_is_placed_where_a_draw_is_left(rt: HostRuntime) -> Result<(), Fail> {
         (16, true, 0, SEVEN_1, 7),
     ] {
         let (mut run, placed) = Run::placed(&rt, bytes)?;
-        assert_eq!(rt; placed, want, "with {bytes} bytes");
+        same(&rt, &placed, &want, bytes);
         run.goes(
             &rt,
             &[

@@ -3,6 +3,7 @@ ghost use Rattle.std.specs.Prelude.{◌≡◌, ◌%◌, ℕ, IfOk};
 ghost use Rattle.cloak_pager.specs.State.{held_in};
 ghost use Rattle.cloaked_side.specs.Holding.{domains_in};
 
+use crate::checks::{holds, same};
 use cloak_base::{Frame, Kind, Mode, NoMemory, PageId, SpaceId};
 use cloak_model::{Access, Answer, Emit, Item, PageSide, View};
 use cloak_pager::Pager;
@@ -61,7 +62,7 @@ fn fresh(alloc: Global) -> Result<Memory, NoMemory>
     ensures outside { IfOk result (λ m. (k : ℕ) → held_in m.pager k ≡ None) }
 {
     Ok(Memory {
-        pager: Pager::open(alloc, 64, 1, KEY)?,
+        pager: Pager::open(alloc, 64, 1, [KEY; 4], [0; 4])?,
         stream: Stream::numbered(0),
         draws: 0,
         missed: false,
@@ -144,11 +145,30 @@ fn answers_each_question(rt: HostRuntime) -> Result<(), Fail> {
         }),
         reached: Frame(0),
     };
-    assert_eq!(rt; ask_each(&mut side), Some((Answer::Word(0x3344), 77)));
-    assert!(rt; load(&mut side, CLOAKED) != Some(77));
-    assert_eq!(rt; load(&mut side, PLAIN), Some(0x1122_3344));
-    assert_eq!(rt; fill_and_lend(&mut side, 7), Some(7));
-    assert_eq!(rt; (memory.draws, memory.missed), (1, false));
-    assert_eq!(rt; (e.ciphers, e.others), (1, 6));
+    same(
+        &rt,
+        &ask_each(&mut side),
+        &Some((Answer::Word(0x3344), 77)),
+        "questions",
+    );
+    holds(
+        &rt,
+        load(&mut side, CLOAKED) != Some(77),
+        "the kernel's load of the page",
+    );
+    same(
+        &rt,
+        &load(&mut side, PLAIN),
+        &Some(0x1122_3344),
+        "the kernel's load",
+    );
+    same(
+        &rt,
+        &fill_and_lend(&mut side, 7),
+        &Some(7),
+        "a frame that is filled",
+    );
+    same(&rt, &(memory.draws, memory.missed), &(1, false), "draws");
+    same(&rt, &(e.ciphers, e.others), &(1, 6), "items");
     Ok(())
 }

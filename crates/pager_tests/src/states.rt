@@ -1,5 +1,6 @@
 //! A frame goes through its states.
 
+use crate::checks::same;
 use aes_block::Schedule;
 use cloak_base::{NoMemory, PageId};
 use frame_store::FrameStore;
@@ -20,7 +21,7 @@ static SEALED_ZEROS: [u8; 32] = [
 
 #[test]
 fn digests_the_standards_example(rt: HostRuntime) {
-    assert_eq!(rt; Sha256::digest("abc"), ABC);
+    same(&rt, &Sha256::digest("abc"), &ABC, "abc");
 }
 
 #[test]
@@ -36,13 +37,15 @@ fn a_frame_goes_through_every_state(rt: HostRuntime) -> Result<(), NoMemory> {
     let right = rights.swap_remove(0);
     let right = first_page(&mut store, right, page);
     let (right, meta) = seal(&mut store, right, iv, &k);
-    assert_eq!(rt; meta.digest, SEALED_ZEROS);
+    same(&rt, &meta.digest, &SEALED_ZEROS, "sealed");
     match open_page(&mut store, right, page, &meta, &k) {
         Ok(right) => {
             let right = reseal(&mut store, right, &meta, &k);
-            assert_eq!(rt;
-                Sha256::digest(store.outside(&right).as_slice()),
-                SEALED_ZEROS
+            same(
+                &rt,
+                &Sha256::digest(store.outside(&right).as_slice()),
+                &SEALED_ZEROS,
+                "sealed again",
             );
         }
         Err(_) => panic!(rt; "the page that was sealed was refused"),

@@ -1,5 +1,5 @@
 -- A command that does nothing but show the line of a reason.
-use Rattle.std.proofs.Common.{◌≡◌, ◌<◌, ◌-◌, ◌^◌, ◌∙◌, ℕ, List, Err, inl, inr}
+use Rattle.std.proofs.Common.{◌≡◌, ◌<◌, ◌-◌, ◌^◌, ◌∙◌, ℕ, List, Option, Err, inl, inr}
 use Rattle.outside_io.specs.Told.{SameFiles}
 use Rattle.outside_io.proofs.ToldFacts.{Rose-after}
 use Rattle.command_words.specs.Command as spec
@@ -54,7 +54,23 @@ no_bundle {S} {asked} {name} refusal.NoKey before after asks reads low held writ
 no_bundle {S} {asked} {name} refusal.NoPageDraw before after asks reads low held writing = absurd reads
 no_bundle {S} {asked} {name} refusal.NoSuchDomain before after asks reads low held writing = absurd reads
 
--- a file was not read, behind the bundle
+-- a reason for which a bundle is not read
+abbrev pub IsUnread : Refusal → Type 0
+IsUnread (refusal.BadBundle fault) = Unit {0}
+IsUnread refusal.ReadFault = Unit {0}
+IsUnread refusal.NoMemory = Unit {0}
+IsUnread _ = ⊥
+
+pub unread : (r : Refusal) (told : Option (List ℕ)) (m n : ℕ) → ReadsBundle told m n (Err r) → IsUnread r
+unread (refusal.BadBundle fault) told m n reads = tt
+unread refusal.ReadFault told m n reads = tt
+unread refusal.NoMemory told m n reads = tt
+unread (refusal.Usage fault) told m n reads = absurd reads
+unread refusal.NoKey told m n reads = absurd reads
+unread refusal.NoPageDraw told m n reads = absurd reads
+unread refusal.NoSuchDomain told m n reads = absurd reads
+
+-- a file was not read, after the bundle
 pub no_file : {S : Type 0} (A : Type 0) {asked : spec.Asked} {name : List ℕ} (r : Refusal) (before after : FilesOutside S) (reading : ℕ) →
     AsksFile asked name → reading ≡ before.reading → ReadsFile {A = A} reading after.reading (Err r) →
     before.reading < 2 ^ 64 - 1 → SameFiles before.held after.held → after.writing ≡ before.writing →

@@ -27,6 +27,7 @@ bundle_named (spec.Solo domain bundle record_name) = Some bundle
 bundle_named (spec.Gen number bundle_name) = None
 bundle_named (spec.Demo number steps) = None
 bundle_named (spec.Stats bundle steps randomness) = Some bundle
+bundle_named (spec.Upgrade old_name new_name) = Some old_name
 
 abbrev pub AsksFile : spec.Asked → List ℕ → Type 0
 AsksFile asked bundle_name = bundle_named asked ≡ Some bundle_name

@@ -1,6 +1,7 @@
 //! A program with three private pages and a file, whose space is forked and ends.
 ghost use Rattle.std.specs.Prelude.{◌≡◌};
 
+use crate::checks::same;
 use cloak_base::{CtxId, Kind, PageId};
 use cloak_model::{Answer, Owner, PageSide, Region};
 use cloaked_fork::{Ended, MapFault, end_context, fork_space};
@@ -134,7 +135,7 @@ static HELD: [Option<(Owner, u32)>; 4] = [
 
 fn holds_each(rt: &impl Abort, r: &Resources) {
     for (n, held) in HELD.iter().enumerate() {
-        assert_eq!(rt; r.resource(n as u32), *held, "resource {n}");
+        same(rt, &r.resource(n as u32), held, n);
     }
 }
 
@@ -144,24 +145,35 @@ fn forks_a_space_with_a_file(rt: HostRuntime) -> Result<(), Fail> {
     let mut r = program().expect(&rt, "room");
     let mut c = Contexts::open(0x8010, 0xb000);
     let mut m = Fake::new(Answer::Ok);
-    assert_eq!(rt; fork(&mut r, &mut c, 0, &mut m), Some(Ok(Some(CtxId(9)))));
-    assert_eq!(rt;
-        (m.marked[0], m.marked[1], m.copied),
-        (true, false, Some((0, 2)))
+    same(
+        &rt,
+        &fork(&mut r, &mut c, 0, &mut m),
+        &Some(Ok(Some(CtxId(9)))),
+        "fork",
+    );
+    same(
+        &rt,
+        &(m.marked[0], m.marked[1], m.copied),
+        &(true, false, Some((0, 2))),
+        "questions",
     );
     holds_each(&rt, &r);
     let regions = [0, 1, 2].map(|n| r.region(1, n));
     let copied = region(0x8000, 3, 2);
-    assert_eq!(rt;
-        regions,
-        [Some(copied), Some(region(0x0010_0000, 1, 1)), None]
+    same(
+        &rt,
+        &regions,
+        &[Some(copied), Some(region(0x0010_0000, 1, 1)), None],
+        "regions of the child",
     );
     let child = c.get(1).expect(&rt, "the child");
-    assert_eq!(rt;
-        (child.pc, child.regs.get(2), child.regs.get(10)),
-        (0x8014, 0xb000, 0)
+    same(
+        &rt,
+        &(child.pc, child.regs.get(2), child.regs.get(10)),
+        &(0x8014, 0xb000, 0),
+        "registers of the child",
     );
-    assert_eq!(rt; (child.space, child.on), (1, None));
+    same(&rt, &(child.space, child.on), &(1, None), "its space");
     Ok(())
 }
 
@@ -172,12 +184,19 @@ fn refuses_a_ninth_context(rt: HostRuntime) -> Result<(), Fail> {
     let mut c = Contexts::open(0x8010, 0xb000);
     let mut m = Fake::new(Answer::Ok);
     for slot in 1..8 {
-        assert_eq!(rt;
-            fork(&mut r, &mut c, 0, &mut m),
-            Some(Ok(Some(CtxId(8 + slot))))
+        same(
+            &rt,
+            &fork(&mut r, &mut c, 0, &mut m),
+            &Some(Ok(Some(CtxId(8 + slot)))),
+            slot,
         );
     }
-    assert_eq!(rt; fork(&mut r, &mut c, 0, &mut m), Some(Err(MapFault::Full)));
+    same(
+        &rt,
+        &fork(&mut r, &mut c, 0, &mut m),
+        &Some(Err(MapFault::Full)),
+        "a ninth context",
+    );
     Ok(())
 }
 
@@ -187,20 +206,41 @@ fn ends_a_space_with_its_last_context(rt: HostRuntime) -> Result<(), Fail> {
     let mut r = program().expect(&rt, "room");
     let mut c = Contexts::open(0x8010, 0xb000);
     let mut m = Fake::new(Answer::Ok);
-    assert_eq!(rt; c.add(Context::start(0, 0x8020, 0xa000, 7)), Some(1));
-    assert_eq!(rt; end(&mut r, &mut c, 0, &mut m), Some(Ended::Kept));
-    assert_eq!(rt;
-        (c.get(0).is_some(), r.has_space(0), m.forgotten),
-        (false, true, None)
+    same(
+        &rt,
+        &c.add(Context::start(0, 0x8020, 0xa000, 7)),
+        &Some(1),
+        "a second context",
     );
-    assert_eq!(rt; end(&mut r, &mut c, 1, &mut m), Some(Ended::SpaceGone(0)));
-    assert_eq!(rt;
-        (c.get(1).is_some(), r.has_space(0), m.forgotten),
-        (false, false, Some(0))
+    same(
+        &rt,
+        &end(&mut r, &mut c, 0, &mut m),
+        &Some(Ended::Kept),
+        "the first ends",
     );
-    assert_eq!(rt;
-        (r.resource(0), r.resource(1)),
-        (None, Some((Owner::File(4), 1)))
+    same(
+        &rt,
+        &(c.get(0).is_some(), r.has_space(0), m.forgotten),
+        &(false, true, None),
+        "after the first end",
+    );
+    same(
+        &rt,
+        &end(&mut r, &mut c, 1, &mut m),
+        &Some(Ended::SpaceGone(0)),
+        "the second ends",
+    );
+    same(
+        &rt,
+        &(c.get(1).is_some(), r.has_space(0), m.forgotten),
+        &(false, false, Some(0)),
+        "after the second end",
+    );
+    same(
+        &rt,
+        &(r.resource(0), r.resource(1)),
+        &(None, Some((Owner::File(4), 1))),
+        "resources",
     );
     Ok(())
 }
@@ -211,16 +251,30 @@ fn stops_with_nothing_changed(rt: HostRuntime) -> Result<(), Fail> {
     let mut r = program().expect(&rt, "room");
     let mut c = Contexts::open(0x8010, 0xb000);
     let mut m = Fake::new(Answer::Stopped);
-    assert_eq!(rt; fork(&mut r, &mut c, 0, &mut m), Some(Ok(None)));
-    assert_eq!(rt; end(&mut r, &mut c, 0, &mut m), Some(Ended::Stopped));
-    assert_eq!(rt; (m.copied, m.forgotten), (None, None));
-    assert_eq!(rt;
-        (r.resource(0), r.resource(2)),
-        (Some((Owner::Space(0), 3)), None)
+    same(
+        &rt,
+        &fork(&mut r, &mut c, 0, &mut m),
+        &Some(Ok(None)),
+        "fork",
     );
-    assert_eq!(rt;
-        (c.get(0).is_some(), c.get(1).is_some(), r.has_space(1)),
-        (true, false, false)
+    same(
+        &rt,
+        &end(&mut r, &mut c, 0, &mut m),
+        &Some(Ended::Stopped),
+        "end",
+    );
+    same(&rt, &(m.copied, m.forgotten), &(None, None), "questions");
+    same(
+        &rt,
+        &(r.resource(0), r.resource(2)),
+        &(Some((Owner::Space(0), 3)), None),
+        "resources",
+    );
+    same(
+        &rt,
+        &(c.get(0).is_some(), c.get(1).is_some(), r.has_space(1)),
+        &(true, false, false),
+        "contexts and spaces",
     );
     Ok(())
 }

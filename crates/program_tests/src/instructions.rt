@@ -1,6 +1,7 @@
 //! Loads and stores of every width, by the cases of the unprivileged manual, "Load and Store Instructions".
 ghost use Rattle.std.specs.Prelude.{◌≡◌};
 
+use crate::checks::same;
 use cloak_base::{Kind, PageId};
 use cloak_model::{Answer, PageSide, set_value_in, value_in};
 use inside_step::{Ran, instruction_step};
@@ -99,25 +100,28 @@ fn store(kind: u32) -> u32 {
     0x0062_8023 + (kind % 8) * 0x1000
 }
 
+/// The kind of a load, its place, what is told of it (or its cause), and what x6 then has.
+static LOADS: [(u32, u32, Result<u32, u32>, u32, &str); 9] = [
+    (0, 0x800, Ok(0x80), 0xffff_ff80, "lb"),
+    (4, 0x800, Ok(0x80), 0x80, "lbu"),
+    (1, 0x800, Ok(0xff80), 0xffff_ff80, "lh"),
+    (5, 0x800, Ok(0xff80), 0xff80, "lhu"),
+    (2, 0x800, Ok(0x017f_ff80), 0x017f_ff80, "lw"),
+    (0, 0x801, Ok(0xff), 0xffff_ffff, "lb of another byte"),
+    (
+        1,
+        0x802,
+        Ok(0x017f),
+        0x017f,
+        "lh of a number that is not negative",
+    ),
+    (1, 0x801, Err(4), 9, "lh at an odd address"),
+    (2, 0x802, Err(4), 9, "lw at no multiple of 4"),
+];
+
 #[test]
 fn loads(rt: HostRuntime) -> Result<(), Fail> {
-    for (kind, place, told, loaded, name) in [
-        (0, 0x800, Ok(0x80), 0xffff_ff80, "lb"),
-        (4, 0x800, Ok(0x80), 0x80, "lbu"),
-        (1, 0x800, Ok(0xff80), 0xffff_ff80, "lh"),
-        (5, 0x800, Ok(0xff80), 0xff80, "lhu"),
-        (2, 0x800, Ok(0x017f_ff80), 0x017f_ff80, "lw"),
-        (0, 0x801, Ok(0xff), 0xffff_ffff, "lb of another byte"),
-        (
-            1,
-            0x802,
-            Ok(0x017f),
-            0x017f,
-            "lh of a number that is not negative",
-        ),
-        (1, 0x801, Err(4), 9, "lh at an odd address"),
-        (2, 0x802, Err(4), 9, "lw at no multiple of 4"),
-    ] {
+    for &(kind, place, told, loaded, name) in &LOADS {
         let mut m = side(load(kind));
         let mut c = context(CLOAKED + place, 9);
         let address = CLOAKED + place;
@@ -125,30 +129,43 @@ fn loads(rt: HostRuntime) -> Result<(), Fail> {
             Ok(value) => Ran::Loaded { address, value },
             Err(cause) => Ran::Trap { cause, address },
         };
-        assert_eq!(rt; run(&mut c, &mut m), ran, "{name}");
-        assert_eq!(rt; c.regs.get(6), loaded, "{name}");
+        let went = run(&mut c, &mut m);
+        same(
+            &rt,
+            &(address, went, c.regs.get(6)),
+            &(address, ran, loaded),
+            name,
+        );
         let mut c = context(UNCLOAKED + place, 9);
         let address = UNCLOAKED + place;
         let ran = match told {
             Ok(_) => Ran::Stay,
             Err(cause) => Ran::Trap { cause, address },
         };
-        assert_eq!(rt; run(&mut c, &mut m), ran, "{name}, outside");
-        assert_eq!(rt; c.regs.get(6), loaded, "{name}, outside");
+        let went = run(&mut c, &mut m);
+        same(
+            &rt,
+            &(address, went, c.regs.get(6)),
+            &(address, ran, loaded),
+            name,
+        );
     }
     Ok(())
 }
 
+/// The kind of a store, its place, whether it is a fault, and the word that it leaves.
+static STORES: [(u32, u32, bool, u32, &str); 6] = [
+    (0, 0x800, false, 0x017f_ff44, "sb"),
+    (0, 0x803, false, 0x447f_ff80, "sb of the highest byte"),
+    (1, 0x802, false, 0x3344_ff80, "sh"),
+    (2, 0x800, false, 0x1122_3344, "sw"),
+    (1, 0x803, true, 0x017f_ff80, "sh at an odd address"),
+    (2, 0x801, true, 0x017f_ff80, "sw at no multiple of 4"),
+];
+
 #[test]
 fn stores(rt: HostRuntime) -> Result<(), Fail> {
-    for (kind, place, faults, left, name) in [
-        (0, 0x800, false, 0x017f_ff44, "sb"),
-        (0, 0x803, false, 0x447f_ff80, "sb of the highest byte"),
-        (1, 0x802, false, 0x3344_ff80, "sh"),
-        (2, 0x800, false, 0x1122_3344, "sw"),
-        (1, 0x803, true, 0x017f_ff80, "sh at an odd address"),
-        (2, 0x801, true, 0x017f_ff80, "sw at no multiple of 4"),
-    ] {
+    for &(kind, place, faults, left, name) in &STORES {
         let mut m = side(store(kind));
         for base in [CLOAKED, UNCLOAKED] {
             let address = base + place;
@@ -158,10 +175,10 @@ fn stores(rt: HostRuntime) -> Result<(), Fail> {
             } else {
                 Ran::Stay
             };
-            assert_eq!(rt; run(&mut c, &mut m), ran, "{name} from {base}");
+            same(&rt, &(base, run(&mut c, &mut m)), &(base, ran), name);
         }
-        assert_eq!(rt; value_in(&m.page, 0x800, 4), left, "{name}");
-        assert_eq!(rt; value_in(&m.outside, 0x800, 4), left, "{name}, outside");
+        let words = (value_in(&m.page, 0x800, 4), value_in(&m.outside, 0x800, 4));
+        same(&rt, &words, &(left, left), name);
     }
     Ok(())
 }

@@ -1,5 +1,6 @@
 //! Calls in a row, with the answers that the rules of a program's calls give.
 
+use crate::checks::{holds, same};
 use resource_map::{MapFault, Owner, Region, Resources};
 use std::process::Abort;
 
@@ -25,9 +26,9 @@ static SIZES: [(u32, Result<u32, MapFault>); 5] = [
 ];
 
 fn make_each(rt: &impl Abort, r: &mut Resources) {
-    for (pages, answer) in SIZES {
-        assert!(rt; r.has_space(0));
-        assert_eq!(rt; r.new_resource(0, pages), answer, "{pages} pages");
+    for &(pages, answer) in &SIZES {
+        holds(rt, r.has_space(0), "the space is used");
+        same(rt, &r.new_resource(0, pages), &answer, pages);
     }
 }
 
@@ -65,10 +66,10 @@ static REGIONS: [([u32; 4], Result<(), MapFault>, &str); 9] = [
 ];
 
 fn map_each(rt: &impl Abort, r: &mut Resources) {
-    for ([resource, start, first, pages], answer, words) in REGIONS {
-        assert!(rt; r.has_space(0));
+    for &([resource, start, first, pages], answer, words) in &REGIONS {
+        holds(rt, r.has_space(0), "the space is used");
         let g = region(resource, start, first, pages);
-        assert_eq!(rt; r.map(0, g), answer, "{words}");
+        same(rt, &r.map(0, g), &answer, words);
     }
 }
 
@@ -84,9 +85,8 @@ static PLACES: [(u32, Option<(u32, u32)>); 7] = [
 ];
 
 fn look_up_each(rt: &impl Abort, r: &Resources) {
-    for (va, place) in PLACES {
-        assert_eq!(rt; r.lookup(0, va), place, "at {va}");
-        assert_eq!(rt; r.lookup(1, va), None, "at {va} of a free space");
+    for &(va, place) in &PLACES {
+        same(rt, &(r.lookup(0, va), r.lookup(1, va)), &(place, None), va);
     }
 }
 
@@ -99,9 +99,9 @@ static STARTS: [(u32, Result<(), MapFault>); 4] = [
 ];
 
 fn unmap_each(rt: &impl Abort, r: &mut Resources) {
-    for (start, answer) in STARTS {
-        assert!(rt; r.has_space(0));
-        assert_eq!(rt; r.unmap(0, start), answer, "at {start}");
+    for &(start, answer) in &STARTS {
+        holds(rt, r.has_space(0), "the space is used");
+        same(rt, &r.unmap(0, start), &answer, start);
     }
 }
 
@@ -120,9 +120,14 @@ fn makes_and_maps(rt: HostRuntime) {
     .iter()
     .enumerate()
     {
-        assert_eq!(rt; r.region(0, i as u32), *left);
+        same(&rt, &r.region(0, i as u32), left, i);
     }
-    assert_eq!(rt; r.resource(1), Some((Owner::Space(0), 1023)));
+    same(
+        &rt,
+        &r.resource(1),
+        &Some((Owner::Space(0), 1023)),
+        "resource 1",
+    );
 }
 
 /// Numbers and regions have a limit of 16, whatever pages are left.
@@ -130,17 +135,32 @@ fn makes_and_maps(rt: HostRuntime) {
 fn fills(rt: HostRuntime) {
     let mut r = Resources::open(1, BASE);
     for n in 1..16 {
-        assert!(rt; r.has_space(0));
-        assert_eq!(rt; r.new_resource(0, 1), Ok(n));
-        assert!(rt; r.has_space(0));
-        assert_eq!(rt; r.map(0, region(n, n * 0x1000, 0, 1)), Ok(()));
+        holds(&rt, r.has_space(0), "the space is used");
+        same(&rt, &r.new_resource(0, 1), &Ok(n), n);
+        holds(&rt, r.has_space(0), "the space is used");
+        same(&rt, &r.map(0, region(n, n * 0x1000, 0, 1)), &Ok(()), n);
     }
-    assert!(rt; r.has_space(0));
-    assert_eq!(rt; r.new_resource(0, 1), Err(MapFault::Full));
-    assert!(rt; r.has_space(0));
-    assert_eq!(rt; r.map(0, region(1, 0x1000, 0, 1)), Err(MapFault::Overlap));
-    assert!(rt; r.has_space(0));
-    assert_eq!(rt; r.map(0, region(1, 0x8000_0000, 0, 1)), Err(MapFault::Full));
+    holds(&rt, r.has_space(0), "the space is used");
+    same(
+        &rt,
+        &r.new_resource(0, 1),
+        &Err(MapFault::Full),
+        "a seventeenth resource",
+    );
+    holds(&rt, r.has_space(0), "the space is used");
+    same(
+        &rt,
+        &r.map(0, region(1, 0x1000, 0, 1)),
+        &Err(MapFault::Overlap),
+        "over a region",
+    );
+    holds(&rt, r.has_space(0), "the space is used");
+    same(
+        &rt,
+        &r.map(0, region(1, 0x8000_0000, 0, 1)),
+        &Err(MapFault::Full),
+        "a seventeenth region",
+    );
 }
 
 /// What one domain takes is none of another's.
@@ -148,44 +168,55 @@ fn fills(rt: HostRuntime) {
 fn two_domains_have_limits_of_their_own(rt: HostRuntime) {
     let mut one = Resources::open(1, BASE);
     let mut other = Resources::open(1, BASE);
-    assert_eq!(rt; one.new_resource(0, 1023), Ok(1));
-    assert_eq!(rt; other.new_resource(0, 1023), Ok(1));
+    same(&rt, &one.new_resource(0, 1023), &Ok(1), "one domain");
+    same(&rt, &other.new_resource(0, 1023), &Ok(1), "another domain");
 }
 
 /// A space with two private resources and a file is copied, and then ends.
 #[test]
 fn copies_and_drops(rt: HostRuntime) {
     let mut r = Resources::open(3, BASE);
-    assert_eq!(rt; r.file(7), None);
-    assert!(rt; r.has_space(0));
+    same(&rt, &r.file(7), &None, "no file yet");
+    holds(&rt, r.has_space(0), "the space is used");
     if r.file(7).is_none() {
-        assert_eq!(rt; r.new_owned(Owner::File(7), 2), Ok(1));
+        same(&rt, &r.new_owned(Owner::File(7), 2), &Ok(1), "a file");
     }
-    assert_eq!(rt; r.new_resource(0, 4), Ok(2));
+    same(&rt, &r.new_resource(0, 4), &Ok(2), "a resource");
     for n in 1..3 {
-        assert!(rt; r.has_space(0));
-        assert_eq!(rt; r.map(0, region(n, n * 0x10000, 1, 1)), Ok(()));
+        holds(&rt, r.has_space(0), "the space is used");
+        same(&rt, &r.map(0, region(n, n * 0x10000, 1, 1)), &Ok(()), n);
     }
-    assert_eq!(rt; r.copies(0).as_slice(), [(0, 3), (2, 4)].as_slice());
-    assert_eq!(rt; r.private_numbers(0).as_slice(), [0, 2].as_slice());
-    assert_eq!(rt; r.free_space(), Some(1));
-    assert!(rt; r.has_space(0));
-    assert!(rt; r.has_room_for_copy(0));
+    same(
+        &rt,
+        &r.copies(0).as_slice(),
+        &[(0, 3), (2, 4)].as_slice(),
+        "copies",
+    );
+    same(
+        &rt,
+        &r.private_numbers(0).as_slice(),
+        &[0, 2].as_slice(),
+        "private resources",
+    );
+    same(&rt, &r.free_space(), &Some(1), "a free space");
+    holds(&rt, r.has_space(0), "the space is used");
+    holds(&rt, r.has_room_for_copy(0), "room for a copy");
     if let Some(new) = r.free_space() {
         r.copy_space(0, new);
     }
     for (space, froms) in [(0, [1, 2, 0]), (1, [1, 4, 3])] {
         for (i, n) in froms.iter().enumerate() {
-            assert_eq!(rt;
-                r.region(space, i as u32).map(|g| g.resource),
-                Some(*n),
-                "of space {space}"
+            same(
+                &rt,
+                &r.region(space, i as u32).map(|g| g.resource),
+                &Some(*n),
+                space,
             );
         }
     }
-    assert!(rt; r.has_space(0));
+    holds(&rt, r.has_space(0), "the space is used");
     r.drop_space(0);
-    assert!(rt; !r.has_space(0));
+    holds(&rt, !r.has_space(0), "the space is gone");
     for (n, held) in [
         (0, None),
         (1, Some((Owner::File(7), 2))),
@@ -194,9 +225,14 @@ fn copies_and_drops(rt: HostRuntime) {
         (4, Some((Owner::Space(1), 4))),
         (5, None),
     ] {
-        assert_eq!(rt; r.resource(n), held, "resource {n}");
+        same(&rt, &r.resource(n), &held, n);
     }
-    assert_eq!(rt; r.marked(1).iter().filter(|mark| **mark).count(), 2);
+    same(
+        &rt,
+        &r.marked(1).iter().filter(|mark| **mark).count(),
+        &2,
+        "resources of the copy",
+    );
 }
 
 /// A space that was opened is empty.
@@ -205,9 +241,14 @@ fn opens_a_space(rt: HostRuntime) {
     let mut r = Resources::open(1, BASE);
     if let Some(space) = r.free_space() {
         r.open_space(space);
-        assert_eq!(rt; r.region(space, 0), None);
-        assert_eq!(rt; r.new_resource(space, 1), Ok(1));
-        assert_eq!(rt; r.map(0, region(1, 0, 0, 1)), Err(MapFault::NotFound));
+        same(&rt, &r.region(space, 0), &None, "no region");
+        same(&rt, &r.new_resource(space, 1), &Ok(1), "a resource");
+        same(
+            &rt,
+            &r.map(0, region(1, 0, 0, 1)),
+            &Err(MapFault::NotFound),
+            "a resource of another space",
+        );
     }
-    assert!(rt; r.has_space(1));
+    holds(&rt, r.has_space(1), "a space");
 }

@@ -8,34 +8,18 @@ use Rattle.command_words.specs.Command as spec
 use Rattle.program_parts.specs.declared.refusal.Refusal.{Refusal}
 use Rattle.program_parts.specs.declared.refusal.Refusal.TheVariants as refusal
 use Rattle.program_parts.specs.declared.status.Status.{Status}
-use Rattle.program_parts.specs.Bundles.{ReadsBundle}
 use Rattle.program_parts.specs.NoRun.{NoRun, IsRefused}
 use Rattle.program_parts.specs.Outside.{Outside, Output, Raised}
 use Rattle.program_parts.specs.Refusal.{status_of_refusal}
 use Rattle.program_parts.specs.Refusing.{Refuses}
 use Rattle.program_parts.proofs.FaultFacts.{raised}
+use Rattle.program_parts.proofs.Refused.{IsUnread, unread}
 use Rattle.read_back.specs.Answering.{AsksView, AsksSolo, OnlyShows, HasView, HasSolo, ViewAnswers, SoloAnswers, viewed_unfit, viewed_text, program_unfit, program_text}
 use Rattle.read_back.specs.Reading.{IsReadTo, ReadsBack, BreaksOff, ShowsRecord, status_of_ending}
 use Rattle.read_back.specs.declared.ending.Ending.{Ending}
 use Rattle.read_back.specs.declared.ending.Ending.TheVariants as ending
 
 -- Why nothing is read.
-
--- the bundle was not read
-abbrev pub IsUnread : Refusal → Type 0
-IsUnread (refusal.BadBundle fault) = Unit {0}
-IsUnread refusal.ReadFault = Unit {0}
-IsUnread refusal.NoMemory = Unit {0}
-IsUnread _ = ⊥
-
-pub unread : (r : Refusal) (told : Option (List ℕ)) (m n : ℕ) → ReadsBundle told m n (Err r) → IsUnread r
-unread (refusal.BadBundle fault) told m n reads = tt
-unread refusal.ReadFault told m n reads = tt
-unread refusal.NoMemory told m n reads = tt
-unread (refusal.Usage fault) told m n reads = absurd reads
-unread refusal.NoKey told m n reads = absurd reads
-unread refusal.NoPageDraw told m n reads = absurd reads
-unread refusal.NoSuchDomain told m n reads = absurd reads
 
 view_refused : {S O : Type 0} (asked : spec.Asked) (r : Refusal) (before after : Outside S O) → IsUnread r →
     IsRefused asked (status_of_refusal r) before after → ViewAnswers asked before after (status_of_refusal r)

@@ -37,7 +37,7 @@ use Rattle.run_command.specs.Recording.{Records, GrowsSome}
 use Rattle.program_parts.specs.Refusing.{Refuses}
 use Rattle.program_parts.proofs.FaultFacts.{raised}
 use Rattle.latest_store.proofs.Histories.{runs_give_latest}
-use Rattle.store_law.proofs.Ciphers.{ciphers_show_pages}
+use Rattle.store_law.proofs.Ciphers.{ciphers_show_pages, pages_keep_their_keys}
 use Rattle.store_law.proofs.OwnDraws.{ciphers_have_own_draws}
 use Rattle.cause_law.proofs.Closed.{closing_owes_nothing}
 use Rattle.cause_law.proofs.Runs.{count_has_cause, end_has_cause, listed_have_ended, presented_is_refused, stopped_ends, violation_has_cause}
@@ -296,8 +296,9 @@ lawful_run {asked} {held} {record_name} {steps} {machine} prepared =
       reads_back = reads_back prepared.bundle prepared.stream steps r prepared.asks.file.in_grammar prepared.image_bytes
           prepared.stream_bytes prepared.few_steps runs;
       latest = runs_give_latest prepared.bundle prepared.stream steps r prepared.asks.file.in_grammar runs;
-      ciphers = ciphers_show_pages prepared.bundle prepared.stream steps r runs;
+      ciphers = ciphers_show_pages prepared.bundle prepared.stream steps r prepared.asks.file.in_grammar runs;
       draws = ciphers_have_own_draws prepared.bundle prepared.stream steps r runs;
+      keys = pages_keep_their_keys prepared.bundle prepared.stream steps r prepared.asks.file.in_grammar runs;
       refuses = refuses_rightly prepared.bundle prepared.stream steps r runs;
       closed = closing_owes_nothing prepared.bundle prepared.stream steps r runs;
     }
@@ -392,6 +393,7 @@ same_files (spec.Solo domain bundle_name record_name) answer held held' same = s
 same_files (spec.Gen number bundle_name) answer held held' same = same
 same_files (spec.Demo number steps) answer held held' same = same
 same_files (spec.Stats bundle_name steps from) answer held held' same = same
+same_files (spec.Upgrade old_name new_name) answer held held' same = same
 same_files (spec.Run bundle_name record_name steps from) status.Done held held' same = λ other apart. same other
 same_files (spec.Run bundle_name record_name steps from) status.Violation held held' same = λ other apart. same other
 same_files (spec.Run bundle_name record_name steps from) status.Usage held held' same = same

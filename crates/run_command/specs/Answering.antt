@@ -8,6 +8,8 @@ use Rattle.cloak_model.specs.Run.{Run, joint_run}
 use Rattle.cause_law.specs.Closing.{closed_memory}
 use Rattle.latest_store.specs.LatestStore.{GivesLatest}
 use Rattle.store_law.specs.Ciphers.{HaveOwnDraws, ShowsPages}
+use Rattle.store_law.specs.Keys.{HaveOwnKeys}
+use Rattle.kernel_isolation.specs.Isolation.{joint_until}
 use Rattle.command_words.specs.Command as spec
 use Rattle.program_parts.specs.declared.status.Status.{Status}
 use Rattle.program_parts.specs.declared.status.Status.TheVariants as status
@@ -30,14 +32,15 @@ pub record AsksRun (asked : spec.Asked) (held : List ℕ → Option (List ℕ)) 
 -- The run.
 
 -- What is true of a run, whatever its kernel does: its record reads back; its programs' loads give what was stored last;
--- the kernel is shown pages as ciphertexts alone, each under a draw of its own; a domain ended only if the kernel's side
--- presented something other than what is recorded, and all that it presented so was refused; and as the run was closed, no
--- frame was owed a page any more.
+-- the kernel is shown pages as ciphertexts alone, each under its program's key and a draw of its own, and at no moment is a
+-- page to be sealed under another key; a domain ended only if the kernel's side presented something other than what is
+-- recorded, and all that it presented so was refused; and as the run was closed, no frame was owed a page any more.
 pub record IsLawful (b : Bundle) (stream : Random) (r : Run) : Type 0 where
   pub reads_back : ReadsBack b r
   pub latest : GivesLatest b r
   pub ciphers : ShowsPages b stream r
   pub draws : HaveOwnDraws b r
+  pub keys : (n : ℕ) → HaveOwnKeys b.programs stream (joint_until n r).memory.ledger
   pub refuses : RefusesRightly b r
   pub closed : (frame : ℕ) → owed_in (closed_memory r) frame ≡ None
 

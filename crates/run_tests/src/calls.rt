@@ -1,5 +1,6 @@
 //! Calls of the program over files in memory.
 
+use crate::checks::same;
 use crate::images::image;
 use crate::reports::{EMPTY, Outcome, report};
 use cloak_commands::{Words, run_program};
@@ -91,10 +92,10 @@ fn comes_to(
     want: (Status, &str, &[u8]),
 ) -> Result<(), Fail> {
     let left = called(alloc, line, bundle, b"", failing)?;
-    assert_eq!(rt; left.status, want.0, "{line}: {failing:?}");
-    assert_eq!(rt; left.sink.taken(), want.1.as_bytes(), "{line}: {failing:?}");
-    assert_eq!(rt; left.shelf.bytes("a.r"), want.2, "{line}: {failing:?}");
-    assert_eq!(rt; left.shelf.bytes("a.b"), bundle, "{line}: {failing:?}");
+    let bytes = (left.shelf.bytes("a.r"), left.shelf.bytes("a.b"));
+    let found = (failing, left.status, left.sink.taken(), bytes);
+    let wanted = (failing, want.0, want.1.as_bytes(), (want.2, bundle));
+    same(rt, &found, &wanted, line);
     Ok(())
 }
 
@@ -152,7 +153,7 @@ static RUNS: [(&str, &str, Outcome, &[u8]); 5] = [
 
 #[test]
 fn whole_runs(rt: HostRuntime) -> Result<(), Fail> {
-    for (line, code, said, record) in RUNS {
+    for &(line, code, said, record) in &RUNS {
         let bundle = image(rt.alloc(), &[0], &[code], 0, &[])?;
         let shown = report(rt.alloc(), said)?;
         let want = (Status::Done, shown.as_str(), record);
@@ -231,7 +232,7 @@ static REFUSED: [(&str, Status, &str); 20] = [
 #[test]
 fn refused_words(rt: HostRuntime) -> Result<(), Fail> {
     let bundle = image(rt.alloc(), &[0], &[SMALLEST], 0, &[])?;
-    for (line, status, output) in REFUSED {
+    for &(line, status, output) in &REFUSED {
         let want = (status, output, b"".as_slice());
         comes_to(&rt, rt.alloc(), line, bundle.as_slice(), (0, 0), want)?;
     }
@@ -253,7 +254,7 @@ static DAMAGED: [(u64, usize, u8, &str); 8] = [
     (64, 0, b'C', "bundle: short at 49\n"),
     (66, 0, b'C', "bundle: extra at 65\n"),
     (65, 0, b'c', "bundle: magic\n"),
-    (65, 8, 2, "bundle: version 2\n"),
+    (65, 8, 3, "bundle: version 3\n"),
     (65, 12, 63, "bundle: count at 12\n"),
     (65, 13, 17, "bundle: too large at 12\n"),
     (65, 40, 1, "bundle: range at 40\n"),
@@ -263,7 +264,7 @@ static DAMAGED: [(u64, usize, u8, &str); 8] = [
 #[test]
 fn damaged_files(rt: HostRuntime) -> Result<(), Fail> {
     let whole = image(rt.alloc(), &[0], &[SMALLEST], 0, &[])?;
-    for (length, at, byte, line) in DAMAGED {
+    for &(length, at, byte, line) in &DAMAGED {
         let file = damaged(rt.alloc(), whole.as_slice(), length, at, byte)?;
         let want = (Status::BadBundle, line, b"".as_slice());
         comes_to(&rt, rt.alloc(), WHOLE_LINE, file.as_slice(), (0, 0), want)?;
@@ -292,7 +293,7 @@ static FAILING: [(u64, u64, Status, Option<&str>, usize); 11] = [
 fn failing_calls(rt: HostRuntime) -> Result<(), Fail> {
     let bundle = image(rt.alloc(), &[0], &[SMALLEST], 0, &[])?;
     let shown = report(rt.alloc(), WHOLE_RUN)?;
-    for (file_call, output_call, status, output, record) in FAILING {
+    for &(file_call, output_call, status, output, record) in &FAILING {
         let failing = (file_call, output_call);
         let record = RECORD.get(..record).unwrap_or(&RECORD);
         let want = (status, output.unwrap_or(shown.as_str()), record);
@@ -329,11 +330,12 @@ fn failing_calls_of_view(rt: HostRuntime) -> Result<(), Fail> {
             &RECORD,
             (call, 0),
         )?;
-        assert_eq!(rt; left.status, Status::ReadFault, "{call}");
-        assert_eq!(rt;
-            shown_behind(left.sink.taken(), before),
-            b"read fault\n".as_slice(),
-            "{call}"
+        same(&rt, &left.status, &Status::ReadFault, call);
+        same(
+            &rt,
+            &shown_behind(left.sink.taken(), before),
+            &b"read fault\n".as_slice(),
+            call,
         );
     }
     Ok(())

@@ -1,6 +1,7 @@
 //! Runs of guest images without programs.
 
 use crate::calls::called;
+use crate::checks::same;
 use crate::images::image;
 use crate::reports::{EMPTY, Outcome, report};
 use program_parts::Status;
@@ -83,14 +84,15 @@ static CODES: [(&str, &str, u32, Outcome); 2] = [
 #[test]
 fn runs_of_code(rt: HostRuntime) -> Result<(), Fail> {
     let line = "run a.b a.r --steps 100 --number 0";
-    for (name, code, blocks, said) in CODES {
+    for &(name, code, blocks, said) in &CODES {
         let bundle = image(rt.alloc(), &[0], &[code], blocks, &[])?;
         let left = called(rt.alloc(), line, bundle.as_slice(), b"", (0, 0))?;
-        assert_eq!(rt; left.status, Status::Done, "{name}");
-        assert_eq!(rt;
-            left.sink.taken(),
-            report(rt.alloc(), said)?.as_bytes(),
-            "{name}"
+        same(&rt, &left.status, &Status::Done, name);
+        same(
+            &rt,
+            &left.sink.taken(),
+            &report(rt.alloc(), said)?.as_bytes(),
+            name,
         );
     }
     Ok(())
@@ -114,7 +116,12 @@ fn harts_take_their_turns(rt: HostRuntime) -> Result<(), Fail> {
     let bundle = image(rt.alloc(), &[0, 1, 1], &segments, 0, &[])?;
     let line = "run a.b a.r --steps 3 --number 0";
     let left = called(rt.alloc(), line, bundle.as_slice(), b"", (0, 0))?;
-    assert_eq!(rt; left.status, Status::Done);
-    assert_eq!(rt; left.sink.taken(), report(rt.alloc(), TURNS)?.as_bytes());
+    same(&rt, &left.status, &Status::Done, "status");
+    same(
+        &rt,
+        &left.sink.taken(),
+        &report(rt.alloc(), TURNS)?.as_bytes(),
+        "output",
+    );
     Ok(())
 }

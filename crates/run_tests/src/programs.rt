@@ -1,6 +1,7 @@
 //! Runs of guest images with programs of one page.
 
 use crate::calls::{Left, called};
+use crate::checks::{holds, same};
 use crate::images::image;
 use crate::reports::{EMPTY, Outcome, report};
 use cloak_commands::{Words, sentence};
@@ -116,15 +117,15 @@ fn streams_that_end(rt: HostRuntime) -> Result<(), Fail> {
     let bundle = image(rt.alloc(), &[0], &[kernel.as_str()], 0, &[CALLS])?;
     let mut shown = report(rt.alloc(), CALLED)?;
     shown.push_str(CALLED_LINE)?;
-    for (bytes, status, begins, record) in ENDS {
+    for &(bytes, status, begins, record) in &ENDS {
         let begins = match begins {
             Some(text) => text.as_bytes(),
             None => shown.as_bytes(),
         };
         let left = ran(rt.alloc(), bundle.as_slice(), 100, bytes)?;
-        assert_eq!(rt; left.status, status, "{bytes} bytes");
-        assert!(rt; left.sink.taken().starts_with(begins), "{bytes} bytes");
-        assert_eq!(rt; left.shelf.bytes("a.r").len(), record, "{bytes} bytes");
+        same(&rt, &left.status, &status, bytes);
+        holds(&rt, left.sink.taken().starts_with(begins), bytes);
+        same(&rt, &left.shelf.bytes("a.r").len(), &record, bytes);
     }
     Ok(())
 }
@@ -184,13 +185,13 @@ static VIOLATIONS: [(&[u8], &str, &str, &str, u32, &str); 6] = [
 
 #[test]
 fn violations(rt: HostRuntime) -> Result<(), Fail> {
-    for (turns, start, handler, program, steps, said) in VIOLATIONS {
+    for &(turns, start, handler, program, steps, said) in &VIOLATIONS {
         let kernel = format!(in rt.alloc(); "{start}\n{handler}")?;
         let bundle = image(rt.alloc(), turns, &[kernel.as_str()], 0, &[program])?;
         let left = ran(rt.alloc(), bundle.as_slice(), steps, 255)?;
         let begins = format!(in rt.alloc(); "\nstop budget\nsteps {steps}\n{said}")?;
-        assert_eq!(rt; left.status, Status::Violation, "{said}");
-        assert!(rt; left.sink.taken().starts_with(begins.as_bytes()), "{said}");
+        same(&rt, &left.status, &Status::Violation, said);
+        holds(&rt, left.sink.taken().starts_with(begins.as_bytes()), said);
     }
     Ok(())
 }
@@ -200,9 +201,9 @@ fn violations(rt: HostRuntime) -> Result<(), Fail> {
 fn refused_without_a_program(rt: HostRuntime) -> Result<(), Fail> {
     let bundle = image(rt.alloc(), &[0], &[RESUMES_AGAIN], 0, &[])?;
     let left = ran(rt.alloc(), bundle.as_slice(), 2, 255)?;
-    assert_eq!(rt; left.status, Status::Violation);
+    same(&rt, &left.status, &Status::Violation, "status");
     let begins = b"\nstop budget\nsteps 2\ndraws 0\nrefused 1\nconsole";
-    assert!(rt; left.sink.taken().starts_with(begins));
+    holds(&rt, left.sink.taken().starts_with(begins), "output");
     Ok(())
 }
 
@@ -222,19 +223,41 @@ fn the_other_program_goes_on(rt: HostRuntime) -> Result<(), Fail> {
     let programs = [CALLS, CALLS];
     let bundle = image(rt.alloc(), &[0], &[RESUMES_3_AND_8], 0, &programs)?;
     let attacked = ran(rt.alloc(), bundle.as_slice(), 17, 255)?;
-    assert_eq!(rt; attacked.status, Status::Violation);
+    same(
+        &rt,
+        &attacked.status,
+        &Status::Violation,
+        "status of the run that is attacked",
+    );
     let begins = b"\nstop budget\nsteps 17\ndraws 3\nviolation context 3\nconsole 0 ";
-    assert!(rt; attacked.sink.taken().starts_with(begins));
+    holds(
+        &rt,
+        attacked.sink.taken().starts_with(begins),
+        "what it begins with",
+    );
     let bundle = image(rt.alloc(), &[0], &[RESUMES_8], 0, &programs)?;
     let left = ran(rt.alloc(), bundle.as_slice(), 10, 255)?;
-    assert_eq!(rt; left.status, Status::Done);
+    same(
+        &rt,
+        &left.status,
+        &Status::Done,
+        "status of the run of the second program",
+    );
     let second = left.sink.taken().rsplit(|byte| *byte == b'\n').nth(1);
     let second = second.ok_or("there is a line of the second program")?;
     let mut ends = Vec::from_slice(rt.alloc(), ENDED_LINE.as_bytes())?;
     ends.extend_from_slice(second)?;
     ends.extend_from_slice(b"\n")?;
-    assert!(rt; attacked.sink.taken().ends_with(ends.as_slice()));
-    assert!(rt; attacked.sink.taken().ends_with(SECOND_LOADS.as_bytes()));
+    holds(
+        &rt,
+        attacked.sink.taken().ends_with(ends.as_slice()),
+        "lines of the programs",
+    );
+    holds(
+        &rt,
+        attacked.sink.taken().ends_with(SECOND_LOADS.as_bytes()),
+        "loads of the second one",
+    );
     Ok(())
 }
 
@@ -270,14 +293,14 @@ static SENTENCES: [(&str, Status, &str); 6] = [
 
 #[test]
 fn sentences(rt: HostRuntime) -> Result<(), Fail> {
-    for (line, status, said) in SENTENCES {
+    for &(line, status, said) in &SENTENCES {
         let mut words = Vec::new(rt.alloc());
         for word in line.split_whitespace() {
             words.push(String::from_str(rt.alloc(), word)?)?;
         }
         let words = Words::Taken(words);
         let told = sentence(rt.alloc(), &words, status).to_string(rt.alloc())?;
-        assert_eq!(rt; told.as_str(), said, "{line}");
+        same(&rt, &told.as_str(), &said, line);
     }
     Ok(())
 }

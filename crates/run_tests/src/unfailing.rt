@@ -1,5 +1,6 @@
 //! A run over files and an output on which no call fails: so that no status of a fault can come.
 
+use crate::checks::same;
 use crate::images::image;
 use cloak_commands::{Words, run_program};
 use never_fails::{NeverShelf, NeverSink};
@@ -24,7 +25,7 @@ fn the_smallest_run_where_no_call_fails(rt: HostRuntime) -> Result<(), Fail> {
         words.push(String::from_str(rt.alloc(), word)?)?;
     }
     let status = run_program(rt.alloc(), &Words::Taken(words), &mut shelf, &mut sink);
-    assert_eq!(rt; status, Status::Done);
-    assert_eq!(rt; shelf.sum(), (34, RECORD_DIGEST));
+    same(&rt, &status, &Status::Done, "status");
+    same(&rt, &shelf.sum(), &(34, RECORD_DIGEST), "record");
     Ok(())
 }

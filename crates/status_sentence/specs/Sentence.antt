@@ -23,6 +23,7 @@ bundle_of (Some (spec.Run bundle record_name steps randomness)) = bundle_named b
 bundle_of (Some (spec.View bundle record_name)) = bundle_named bundle
 bundle_of (Some (spec.Solo domain bundle record_name)) = bundle_named bundle
 bundle_of (Some (spec.Stats bundle steps randomness)) = bundle_named bundle
+bundle_of (Some (spec.Upgrade old_name new_name)) = bundle_named old_name
 bundle_of _ = codes "the bundle"
 
 -- the record that is read
@@ -53,20 +54,27 @@ read_of (Some (spec.Run bundle record_name steps randomness)) = sources_named bu
 read_of (Some (spec.Stats bundle steps randomness)) = sources_named bundle randomness
 read_of (Some (spec.View bundle record_name)) = files_named bundle record_name
 read_of (Some (spec.Solo domain bundle record_name)) = files_named bundle record_name
+read_of (Some (spec.Upgrade old_name new_name)) = bundle_named old_name
 read_of _ = codes "a file"
+
+-- a bundle that is written, and the output
+abbrev pub written_bundle : List ℕ → List ℕ
+written_bundle name = codes "the bundle `" ++ name ++ codes "` or the output"
 
 -- what is written
 abbrev pub written_of : Option spec.Asked → List ℕ
 written_of (Some (spec.Run bundle record_name steps randomness)) =
     codes "the record `" ++ record_name ++ codes "` or the output"
-written_of (Some (spec.Gen number bundle_name)) = codes "the bundle `" ++ bundle_name ++ codes "` or the output"
+written_of (Some (spec.Gen number bundle_name)) = written_bundle bundle_name
+written_of (Some (spec.Upgrade old_name new_name)) = written_bundle new_name
 written_of (Some _) = codes "the output"
 written_of None = codes "a file or the output"
 
 -- what is wrong with the words
 abbrev pub usage_of : UsageFault → List ℕ
-usage_of usage.NoCommand = codes "there is no command: it is one of run, view, solo, gen, demo and stats"
-usage_of usage.UnknownCommand = codes "the first word is no command: it is one of run, view, solo, gen, demo and stats"
+usage_of usage.NoCommand = codes "there is no command: it is one of run, view, solo, gen, demo, stats and upgrade"
+usage_of usage.UnknownCommand =
+    codes "the first word is no command: it is one of run, view, solo, gen, demo, stats and upgrade"
 usage_of usage.WrongWords = codes "these are not the words that the command takes"
 usage_of usage.NoRandomness = codes "a run takes its random bytes from exactly one of --number and --stream"
 usage_of usage.WrongNumber = codes "a number is not written in decimal digits, or is out of its range"
@@ -77,14 +85,19 @@ words_fault_of (Some (spec.Solo domain bundle record_name)) =
     codes "program " ++ decimal domain ++ codes " is not in the bundle `" ++ bundle ++ codes "`"
 words_fault_of _ = codes "the words are faulty"
 
+-- what is wrong with the bundle, which `upgrade` also refuses if it would be too large in version 2
+abbrev pub fault_of_bundle : Option spec.Asked → List ℕ
+fault_of_bundle (Some (spec.Upgrade old_name new_name)) = codes " is no guest image, or is too large in version 2"
+fault_of_bundle _ = codes " is no guest image"
+
 -- what is said between the program's name and the line feed
 abbrev pub cause_of : Option spec.Asked → Status → List ℕ
 cause_of asked status.Done = []
 cause_of asked status.Violation =
     codes "the kernel broke a rule of cloaking: a program ended by that, or a resuming was refused"
 cause_of asked status.Usage = words_fault_of asked
-cause_of asked status.BadBundle = bundle_of asked
-    ++ codes " is no guest image, and the line `bundle` says why (a file that is not there is read as an empty one)"
+cause_of asked status.BadBundle = bundle_of asked ++ fault_of_bundle asked
+    ++ codes ", and the line `bundle` says why (a file that is not there is read as an empty one)"
 cause_of asked status.ReadFault = read_of asked ++ codes " cannot be read"
 cause_of asked status.WriteFault = written_of asked ++ codes " cannot be written, and what was written before stands"
 cause_of asked status.NoMemory = codes "there is not enough memory"

@@ -52,8 +52,9 @@ fn write_cause<W: fmt::Write>(
         Status::Usage => write_words_fault(request, f),
         Status::BadBundle => {
             write_bundle(request, f)?;
+            write_bundle_fault(request, f)?;
             f.write_str(
-                " is no guest image, and the line `bundle` says why (a file that is not there is read as an empty one)",
+                ", and the line `bundle` says why (a file that is not there is read as an empty one)",
             )
         }
         Status::ReadFault => {
@@ -91,7 +92,24 @@ fn write_bundle<W: fmt::Write>(
         Some(Request::View(files)) => write!(f, "the bundle `{}`", files.bundle),
         Some(Request::Solo(solo)) => write!(f, "the bundle `{}`", solo.files.bundle),
         Some(Request::Stats(stats)) => write!(f, "the bundle `{}`", stats.bundle),
+        Some(Request::Upgrade(upgrade)) => write!(f, "the bundle `{}`", upgrade.old_name),
         _ => f.write_str("the bundle"),
+    }
+}
+
+/// Writes what is wrong with the bundle.
+fn write_bundle_fault<W: fmt::Write>(
+    request: &Option<Request<'_>>,
+    f: &mut fmt::Formatter<W>,
+) -> fmt::Result
+    ensures { DisplaysOnOk W.write_str_gives f.old result
+        (Some (spec.fault_of_bundle (option_map asked_of request.now))) f.new }
+{
+    match request {
+        Some(Request::Upgrade(_)) => {
+            f.write_str(" is no guest image, or is too large in version 2")
+        }
+        _ => f.write_str(" is no guest image"),
     }
 }
 
@@ -152,6 +170,7 @@ fn write_read<W: fmt::Write>(
         Some(Request::View(files)) => write_files(files.bundle, files.record_name, f),
         Some(Request::Solo(solo)) => write_files(solo.files.bundle, solo.files.record_name, f),
         Some(Request::Stats(stats)) => write_sources(stats.bundle, &stats.randomness, f),
+        Some(Request::Upgrade(upgrade)) => write!(f, "the bundle `{}`", upgrade.old_name),
         _ => f.write_str("a file"),
     }
 }
@@ -194,6 +213,9 @@ fn write_written<W: fmt::Write>(
     match request {
         Some(Request::Run(run)) => write!(f, "the record `{}` or the output", run.record_name),
         Some(Request::Gen(image)) => write!(f, "the bundle `{}` or the output", image.bundle),
+        Some(Request::Upgrade(upgrade)) => {
+            write!(f, "the bundle `{}` or the output", upgrade.new_name)
+        }
         Some(_) => f.write_str("the output"),
         None => f.write_str("a file or the output"),
     }
@@ -222,9 +244,9 @@ fn write_usage<W: fmt::Write>(fault: UsageFault, f: &mut fmt::Formatter<W>) -> f
 {
     f.write_str(match fault {
         UsageFault::NoCommand =>
-            "there is no command: it is one of run, view, solo, gen, demo and stats",
+            "there is no command: it is one of run, view, solo, gen, demo, stats and upgrade",
         UsageFault::UnknownCommand => {
-            "the first word is no command: it is one of run, view, solo, gen, demo and stats"
+            "the first word is no command: it is one of run, view, solo, gen, demo, stats and upgrade"
         }
         UsageFault::WrongWords => "these are not the words that the command takes",
         UsageFault::NoRandomness => {

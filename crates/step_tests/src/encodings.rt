@@ -1,5 +1,6 @@
 //! Words that another assembler made.
 
+use crate::checks::{holds, same};
 use rv_isa::{Instr, decode};
 
 /// LLVM 14's assembler for RV32IM (its immediates, shifts and register numbers at their ends): a word, the
@@ -315,14 +316,13 @@ fn listing(i: Instr) -> (&'static str, [i64; 3]) {
 fn decodes_as_another_assembler(rt: HostRuntime) {
     for (word, mnemonic, operands) in &ASSEMBLED {
         let (name, fields) = listing(decode(*word).expect(&rt, mnemonic));
-        assert_eq!(rt; name, *mnemonic, "{word:x}");
-        assert_eq!(rt; fields, *operands, "{word:x}");
+        same(&rt, &(name, fields), &(*mnemonic, *operands), *word);
     }
 }
 
 #[test]
 fn refuses_other_words(rt: HostRuntime) {
     for word in &ILLEGAL {
-        assert!(rt; decode(*word).is_none(), "{word:x}");
+        holds(&rt, decode(*word).is_none(), *word);
     }
 }

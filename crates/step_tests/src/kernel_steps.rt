@@ -1,10 +1,13 @@
 //! Steps as tables: rows of the privileged manual ("Supervisor Interrupt Registers", "Supervisor Instructions"),
 //! and the host calls.
 
+use crate::checks::same;
 use alone_views::FlatRam;
 use cloak_base::{Mode, Shown};
 use host_calls::{Disk, Hart, Kernel, kernel_step, leave};
 use rv_traps::Csrs;
+use std::alloc::Global;
+use std::process::Abort;
 use std::test::Fail;
 
 /// Registers with these words in sstatus and sie, and with all traps to 0x80000800.
@@ -30,10 +33,10 @@ fn hart(mode: Mode, sstatus: u32, sie: u32) -> Hart {
 }
 
 /// Three frames with this word at 0x80000000.
-fn frames_with(rt: &HostRuntime, word: u32) -> Result<FlatRam, Fail> {
+fn frames_with(alloc: Global, word: u32) -> Result<FlatRam, Fail> {
     let mut page = [0; 4096];
     page[..4].copy_from_slice(&word.to_le_bytes());
-    let frames = Vec::from_array(rt.alloc(), [page, [0; 4096], [0; 4096]])?;
+    let frames = Vec::from_array(alloc, [page, [0; 4096], [0; 4096]])?;
     Ok(FlatRam { frames })
 }
 
@@ -54,9 +57,21 @@ const STIE: u32 = 0x20;
 /// The cause of the timer's interrupt.
 const TIMER: u32 = 0x8000_0005;
 
+/// A row of the table below.
+type Interrupt = (
+    &'static str,
+    Mode,
+    u32,
+    u32,
+    bool,
+    u32,
+    u32,
+    (Mode, u32, u32, u32),
+);
+
 /// Interrupts and the instructions of the supervisor: mode, sstatus, sie, whether the timer's interrupt is
 /// pending, and the timer before the step; its word; mode, program counter, scause and stval after it.
-static INTERRUPTS: [(&str, Mode, u32, u32, bool, u32, u32, (Mode, u32, u32, u32)); 15] = [
+static INTERRUPTS: [Interrupt; 15] = [
     (
         "not in S mode with SIE clear",
         Mode::S,
@@ -209,24 +224,35 @@ static INTERRUPTS: [(&str, Mode, u32, u32, bool, u32, u32, (Mode, u32, u32, u32)
     ),
 ];
 
+/// Makes the step of a row.
+fn interrupted(rt: &impl Abort, alloc: Global, row: &Interrupt) -> Result<(), Fail> {
+    let &(name, mode, sstatus, sie, pending, count, word, want) = row;
+    let mut h = hart(mode, sstatus, sie);
+    h.csrs.set_pending(pending);
+    h.timer = count;
+    let mut d = Disk::open(alloc, &[])?;
+    let mut m = frames_with(alloc, word)?;
+    let ending = kernel_step(&mut h, &mut d, &mut m);
+    let cause = h.csrs.read(0x142).unwrap_or(1);
+    let value = h.csrs.read(0x143).unwrap_or(1);
+    same(rt, &ending, &Kernel::Stay, name);
+    same(rt, &(h.mode, h.pc, cause, value), &want, name);
+    Ok(())
+}
+
 #[test]
 fn interrupts_and_returns(rt: HostRuntime) -> Result<(), Fail> {
-    for (name, mode, sstatus, sie, pending, count, word, want) in INTERRUPTS {
-        let mut h = hart(mode, sstatus, sie);
-        h.csrs.set_pending(pending);
-        h.timer = count;
-        let mut d = Disk::open(rt.alloc(), &[])?;
-        let mut m = frames_with(&rt, word)?;
-        assert_eq!(rt; kernel_step(&mut h, &mut d, &mut m), Kernel::Stay, "{name}");
-        let (cause, value) = (h.csrs.read(0x142), h.csrs.read(0x143));
-        assert_eq!(rt; (h.mode, h.pc), (want.0, want.1), "{name}");
-        assert_eq!(rt; (cause, value), (Some(want.2), Some(want.3)), "{name}");
+    for row in &INTERRUPTS {
+        interrupted(&rt, rt.alloc(), row)?;
     }
     Ok(())
 }
 
+/// A row of the table below.
+type Call = (&'static str, u32, u32, u32, Kernel, u32, u32);
+
 /// Host calls: x17, x10 and x11; the ending, x10 and the timer after it.
-static CALLS: [(&str, u32, u32, u32, Kernel, u32, u32); 11] = [
+static CALLS: [Call; 11] = [
     ("PUT", 0, 0x141, 7, Kernel::Put(0x41), 0, 9),
     ("TIMER", 1, 100, 7, Kernel::Stay, 0, 100),
     ("READ", 2, 1, 0x8000_1000, Kernel::Stay, 0, 9),
@@ -248,22 +274,27 @@ static CALLS: [(&str, u32, u32, u32, Kernel, u32, u32); 11] = [
     ("no call", 5, 3, 7, Kernel::Stay, u32::MAX, 9),
 ];
 
+/// Makes the call of a row.
+fn called(rt: &impl Abort, alloc: Global, row: &Call) -> Result<(), Fail> {
+    let &(name, call, first, second, ending, answer, timer) = row;
+    let mut h = hart(Mode::S, 0, 0);
+    h.regs.set(17, call);
+    h.regs.set(10, first);
+    h.regs.set(11, second);
+    h.timer = 10;
+    let mut d = Disk::open(alloc, [5; 8192].as_slice())?;
+    let mut m = frames_with(alloc, ECALL)?;
+    let ended = kernel_step(&mut h, &mut d, &mut m);
+    same(rt, &ended, &ending, name);
+    let left = (h.regs.get(10), h.timer, h.pc);
+    same(rt, &left, &(answer, timer, 0x8000_0004), name);
+    Ok(())
+}
+
 #[test]
 fn calls_the_host(rt: HostRuntime) -> Result<(), Fail> {
-    for (name, call, first, second, ending, answer, timer) in CALLS {
-        let mut h = hart(Mode::S, 0, 0);
-        h.regs.set(17, call);
-        h.regs.set(10, first);
-        h.regs.set(11, second);
-        h.timer = 10;
-        let mut d = Disk::open(rt.alloc(), [5; 8192].as_slice())?;
-        let mut m = frames_with(&rt, ECALL)?;
-        assert_eq!(rt; kernel_step(&mut h, &mut d, &mut m), ending, "{name}");
-        assert_eq!(rt;
-            (h.regs.get(10), h.timer, h.pc),
-            (answer, timer, 0x8000_0004),
-            "{name}"
-        );
+    for row in &CALLS {
+        called(&rt, rt.alloc(), row)?;
     }
     Ok(())
 }
@@ -274,54 +305,86 @@ fn transfers_pages(rt: HostRuntime) -> Result<(), Fail> {
     let mut blocks = [0; 8192];
     blocks[4096] = 7;
     let mut d = Disk::open(rt.alloc(), blocks.as_slice())?;
-    let mut m = frames_with(&rt, ECALL)?;
+    let mut m = frames_with(rt.alloc(), ECALL)?;
     for (call, block) in [(2, 1), (3, 0)] {
         let mut h = hart(Mode::S, 0, 0);
         h.regs.set(17, call);
         h.regs.set(10, block);
         h.regs.set(11, 0x8000_1000);
-        assert_eq!(rt; kernel_step(&mut h, &mut d, &mut m), Kernel::Stay);
+        same(
+            &rt,
+            &kernel_step(&mut h, &mut d, &mut m),
+            &Kernel::Stay,
+            call,
+        );
     }
-    assert_eq!(rt; d.bytes().first(), Some(&7));
+    same(
+        &rt,
+        &d.bytes().first(),
+        &Some(&7),
+        "the first byte of the disk",
+    );
     Ok(())
 }
 
-/// A context is resumed from either mode, and left again.
+/// A context is resumed from this mode, and left again.
+fn resumed_and_left(rt: &impl Abort, alloc: Global, mode: Mode) -> Result<(), Fail> {
+    let mut h = hart(mode, 0, 0);
+    h.regs.set(17, 0x4f56_0000);
+    h.regs.set(5, 3);
+    h.regs.set(10, 8);
+    let mut d = Disk::open(alloc, &[])?;
+    let mut m = frames_with(alloc, ECALL)?;
+    let ending = kernel_step(&mut h, &mut d, &mut m);
+    same(rt, &ending, &Kernel::Resume { ctx: 3, answer: 8 }, "ending");
+    same(
+        rt,
+        &(h.inside, h.mode, h.pc),
+        &(Some(3), Mode::U, 0x1000),
+        "inside",
+    );
+    same(
+        rt,
+        &h.regs.words().iter().max(),
+        &Some(&0),
+        "registers inside",
+    );
+    let shown = Shown {
+        cause: 8,
+        stval: 0,
+        ctx: 3,
+        number: 9,
+        args: [1, 2, 3, 4, 5, 6],
+    };
+    leave(&mut h, &shown);
+    same(
+        rt,
+        &(h.inside, h.mode, h.pc),
+        &(None, Mode::S, 0x8000_0800),
+        "after the leave",
+    );
+    same(
+        rt,
+        &(h.csrs.read(0x141), h.csrs.read(0x142)),
+        &(Some(0x1000), Some(8)),
+        "sepc and scause",
+    );
+    same(
+        rt,
+        &(
+            h.regs.get(5),
+            h.regs.get(10),
+            h.regs.get(15),
+            h.regs.get(17),
+        ),
+        &(3, 1, 6, 9),
+        "registers after the leave",
+    );
+    Ok(())
+}
+
 #[test]
 fn resumes_and_leaves(rt: HostRuntime) -> Result<(), Fail> {
-    for mode in [Mode::S, Mode::U] {
-        let mut h = hart(mode, 0, 0);
-        h.regs.set(17, 0x4f56_0000);
-        h.regs.set(5, 3);
-        h.regs.set(10, 8);
-        let mut d = Disk::open(rt.alloc(), &[])?;
-        let mut m = frames_with(&rt, ECALL)?;
-        let ending = kernel_step(&mut h, &mut d, &mut m);
-        assert_eq!(rt; ending, Kernel::Resume { ctx: 3, answer: 8 });
-        assert_eq!(rt; (h.inside, h.mode, h.pc), (Some(3), Mode::U, 0x1000));
-        assert_eq!(rt; h.regs.words().iter().max(), Some(&0));
-        let shown = Shown {
-            cause: 8,
-            stval: 0,
-            ctx: 3,
-            number: 9,
-            args: [1, 2, 3, 4, 5, 6],
-        };
-        leave(&mut h, &shown);
-        assert_eq!(rt; (h.inside, h.mode, h.pc), (None, Mode::S, 0x8000_0800));
-        assert_eq!(rt;
-            (h.csrs.read(0x141), h.csrs.read(0x142)),
-            (Some(0x1000), Some(8))
-        );
-        assert_eq!(rt;
-            (
-                h.regs.get(5),
-                h.regs.get(10),
-                h.regs.get(15),
-                h.regs.get(17)
-            ),
-            (3, 1, 6, 9)
-        );
-    }
-    Ok(())
+    resumed_and_left(&rt, rt.alloc(), Mode::S)?;
+    resumed_and_left(&rt, rt.alloc(), Mode::U)
 }

@@ -3,6 +3,7 @@
 ghost use Rattle.std.specs.Prelude.{◌≡◌};
 ghost use Rattle.rv_isa.specs.Range.{InRange};
 
+use crate::checks::same;
 use cloak_base::Regs;
 use rv_core::{Effect, effect};
 use rv_isa::Instr;
@@ -141,14 +142,11 @@ fn operates_at_the_ends(rt: HostRuntime) {
         registers.set(1, *a);
         registers.set(2, *b);
         let done = effect(&operation(mnemonic), &registers, 0x8000_0000);
-        assert_eq!(rt;
-            done,
-            Effect::Write {
-                rd: 3,
-                value: *value
-            },
-            "{mnemonic} {a:x} {b:x}"
-        );
+        let written = Effect::Write {
+            rd: 3,
+            value: *value,
+        };
+        same(&rt, &(*a, *b, done), &(*a, *b, written), *mnemonic);
     }
 }
 
@@ -160,69 +158,97 @@ fn jumps_and_branches_to_multiples_of_four(rt: HostRuntime) {
     let raised = |tval| Effect::Raise { cause: 0, tval };
 
     let jal = Instr::Jal { rd: 1, imm: 8 };
-    assert_eq!(rt;
-        effect(&jal, &r, 0xffff_fffc),
-        Effect::Jump {
+    same(
+        &rt,
+        &effect(&jal, &r, 0xffff_fffc),
+        &Effect::Jump {
             rd: 1,
             link: 0,
-            target: 4
-        }
+            target: 4,
+        },
+        "jal",
     );
     let jal = Instr::Jal { rd: 1, imm: -2 };
-    assert_eq!(rt; effect(&jal, &r, 0), raised(0xffff_fffe));
+    same(
+        &rt,
+        &effect(&jal, &r, 0),
+        &raised(0xffff_fffe),
+        "jal to no multiple of four",
+    );
     let jalr = Instr::Jalr {
         rd: 0,
         rs1: 1,
         imm: -1,
     };
-    assert_eq!(rt;
-        effect(&jalr, &r, 0x2000),
-        Effect::Jump {
+    same(
+        &rt,
+        &effect(&jalr, &r, 0x2000),
+        &Effect::Jump {
             rd: 0,
             link: 0x2004,
-            target: 0x1000
-        }
+            target: 0x1000,
+        },
+        "jalr",
     );
     let jalr = Instr::Jalr {
         rd: 0,
         rs1: 1,
         imm: 0,
     };
-    assert_eq!(rt;
-        effect(&jalr, &r, 0x2000),
-        Effect::Jump {
+    same(
+        &rt,
+        &effect(&jalr, &r, 0x2000),
+        &Effect::Jump {
             rd: 0,
             link: 0x2004,
-            target: 0x1000
-        }
+            target: 0x1000,
+        },
+        "jalr with its lowest bit",
     );
     let jalr = Instr::Jalr {
         rd: 0,
         rs1: 2,
         imm: 0,
     };
-    assert_eq!(rt; effect(&jalr, &r, 0x2000), raised(0x1002));
+    same(
+        &rt,
+        &effect(&jalr, &r, 0x2000),
+        &raised(0x1002),
+        "jalr to no multiple of four",
+    );
     let taken = Instr::Blt {
         rs1: 1,
         rs2: 2,
         imm: -4096,
     };
-    assert_eq!(rt;
-        effect(&taken, &r, 0),
-        Effect::Go {
-            target: 0xffff_f000
-        }
+    same(
+        &rt,
+        &effect(&taken, &r, 0),
+        &Effect::Go {
+            target: 0xffff_f000,
+        },
+        "a branch",
     );
     let misaligned = Instr::Bne {
         rs1: 1,
         rs2: 2,
         imm: 6,
     };
-    assert_eq!(rt; effect(&misaligned, &r, 0x2000), raised(0x2006));
+    same(
+        &rt,
+        &effect(&misaligned, &r, 0x2000),
+        &raised(0x2006),
+        "a branch to no multiple of four",
+    );
     let passed = Instr::Beq {
         rs1: 1,
         rs2: 2,
         imm: 6,
     };
-    assert_eq!(rt; effect(&passed, &r, 0x2000), Effect::Nothing);
+    same(
+        &rt,
+        &effect(&passed, &r, 0x2000),
+        &Effect::Nothing,
+        "a branch that is not taken",
+    );
 }

@@ -1,5 +1,6 @@
 //! The bits that each register has.
 
+use crate::checks::{holds, same};
 use cloak_base::Mode;
 use rv_traps::Csrs;
 
@@ -21,9 +22,9 @@ static KEPT: [(u32, u32); 9] = [
 fn keeps_the_bits_that_there_are(rt: HostRuntime) {
     for (number, kept) in &KEPT {
         let mut csrs = Csrs::new();
-        assert_eq!(rt; csrs.read(*number), Some(0), "{number:x}");
-        assert!(rt; csrs.write(*number, u32::MAX), "{number:x}");
-        assert_eq!(rt; csrs.read(*number), Some(*kept), "{number:x}");
+        same(&rt, &csrs.read(*number), &Some(0), *number);
+        holds(&rt, csrs.write(*number, u32::MAX), *number);
+        same(&rt, &csrs.read(*number), &Some(*kept), *number);
     }
 }
 
@@ -42,15 +43,30 @@ fn returns_to_where_it_was(rt: HostRuntime) {
     let mut csrs = Csrs::new();
     let _ = csrs.write(0x105, 0x8000_0100);
     let _ = csrs.write(0x100, 0x2);
-    assert_eq!(rt; csrs.enter_trap(Mode::U, 8, 0, 0x1000), 0x8000_0100);
-    assert_eq!(rt; read(&csrs), [0x20, 8, 0]);
+    same(
+        &rt,
+        &csrs.enter_trap(Mode::U, 8, 0, 0x1000),
+        &0x8000_0100,
+        "the trap's address",
+    );
+    same(&rt, &read(&csrs), &[0x20, 8, 0], "in the trap");
     let second = csrs.enter_trap(Mode::S, 13, 0x5000, 0x8000_0110);
-    assert_eq!(rt; second, 0x8000_0100);
-    assert_eq!(rt; read(&csrs), [0x100, 13, 0x5000]);
-    assert_eq!(rt; csrs.leave_trap(), (0x8000_0110, Mode::S));
-    assert_eq!(rt; read(&csrs)[0], 0x20);
+    same(&rt, &second, &0x8000_0100, "the second trap's address");
+    same(
+        &rt,
+        &read(&csrs),
+        &[0x100, 13, 0x5000],
+        "in the second trap",
+    );
+    same(
+        &rt,
+        &csrs.leave_trap(),
+        &(0x8000_0110, Mode::S),
+        "first return",
+    );
+    same(&rt, &read(&csrs)[0], &0x20, "sstatus after it");
     let _ = csrs.write(0x141, 0x1004);
     let _ = csrs.write(0x100, 0x20);
-    assert_eq!(rt; csrs.leave_trap(), (0x1004, Mode::U));
-    assert_eq!(rt; read(&csrs)[0], 0x22);
+    same(&rt, &csrs.leave_trap(), &(0x1004, Mode::U), "second return");
+    same(&rt, &read(&csrs)[0], &0x22, "sstatus after that");
 }

@@ -1,5 +1,6 @@
 //! Walks as tables: the rules of the privileged manual, "Virtual Address Translation Process", one row each.
 
+use crate::checks::same;
 use alone_views::FlatRam;
 use cloak_base::{Frame, Kind, Mode};
 use std::test::Fail;
@@ -228,12 +229,13 @@ static LEAVES: [(&str, u32, Mode, bool, bool, Kind, Result<Walked, u32>); 21] = 
 
 #[test]
 fn leaves_of_level_0(rt: HostRuntime) -> Result<(), Fail> {
-    for (name, leaf, mode, sum, mxr, kind, want) in LEAVES {
+    for &(name, leaf, mode, sum, mxr, kind, want) in &LEAVES {
         let mut m = tables(&rt, POINTER, leaf)?;
-        assert_eq!(rt;
-            walk(SATP, mode, sum, mxr, VA, kind, &mut m),
-            want,
-            "{name}"
+        same(
+            &rt,
+            &walk(SATP, mode, sum, mxr, VA, kind, &mut m),
+            &want,
+            name,
         );
     }
     Ok(())
@@ -282,12 +284,13 @@ static ENTRIES: [(&str, u32, u32, Kind, Result<Walked, u32>); 13] = [
 
 #[test]
 fn entries_of_level_1(rt: HostRuntime) -> Result<(), Fail> {
-    for (name, satp, first, kind, want) in ENTRIES {
+    for &(name, satp, first, kind, want) in &ENTRIES {
         let mut m = tables(&rt, first, LEAF)?;
-        assert_eq!(rt;
-            walk(satp, Mode::U, false, false, VA, kind, &mut m),
-            want,
-            "{name}"
+        same(
+            &rt,
+            &walk(satp, Mode::U, false, false, VA, kind, &mut m),
+            &want,
+            name,
         );
     }
     Ok(())

@@ -1,7 +1,6 @@
 -- A step that met a violation has changed no page: a resuming changes none, and a program's step meets it with its last
 -- question, before it changes one.
-use Rattle.std.proofs.Common.{◌≡◌, ◌≢◌, ◌∙◌, ℕ, zero, suc, ◌+◌, ◌%◌, Bool, true, false, List, length, take, slice_get, slice_index, Option, Some, None, Result, Ok, Err, refl, sym, ap, subst, arith, take_all}
-use Rattle.std.specs.Prelude.{option_map}
+use Rattle.std.proofs.Common.{◌≡◌, ◌∙◌, ℕ, suc, Bool, true, false, List, Option, Some, None, Result, Ok, Err, refl, sym, ap, subst, arith}
 use Rattle.cloak_base.specs.declared.names.PageId.{PageId}
 use Rattle.cloak_model.specs.declared.context.ResumeFault.{ResumeFault}
 use Rattle.cloak_model.specs.declared.inside.Went.{Went}
@@ -11,18 +10,16 @@ use Rattle.cloak_model.specs.declared.outcome.Kernel.{Kernel}
 use Rattle.cloak_model.specs.declared.outcome.Kernel.TheVariants.{Stay, Put, Halt, Resume}
 use Rattle.cloak_model.specs.Ahead.{settled_step, made_after}
 use Rattle.cloak_model.specs.Asking.{Told}
-use Rattle.cloak_model.specs.Cloaking.{CloakedMemory}
 use Rattle.cloak_model.specs.Contexts.{Admitted, domain_of, slot_of}
 use Rattle.cloak_model.specs.DomainState.{Control, Domain}
 use Rattle.cloak_model.specs.DomainStep.{DomainStepped, domain_step}
 use Rattle.cloak_model.specs.Hart.{Hart}
-use Rattle.cloak_model.specs.Joint.{Moment, Turn, next_hart, hart_in, cloak_of, memory_of, outside_ended, after_outside, outside_step, domain_ended, after_domain_step, interrupt_ended, after_interrupt, by_interrupt, by_running, inside_step, turn_of, joint_step, after_turn, stop_of}
+use Rattle.cloak_model.specs.Joint.{cloak_of, memory_of, outside_ended, after_outside, outside_step, domain_ended, after_domain_step, interrupt_ended, after_interrupt, by_interrupt, by_running, inside_step, turn_of}
 use Rattle.cloak_model.specs.KernelStep.{ticked}
-use Rattle.cloak_model.specs.Parts.{Joint, domain_pages}
+use Rattle.cloak_model.specs.Parts.{Joint}
 use Rattle.cloak_model.specs.Resuming.{by_root, by_context, by_domain, resume}
-use Rattle.cloak_model.specs.World.{World, Flat, Cloaked, Alone, plain_of}
+use Rattle.cloak_model.specs.World.{World, Cloaked}
 use Rattle.domain_isolation.proofs.StepScripts.{step_scripted}
-use Rattle.domain_isolation.proofs.Answers.{IsServing}
 use Rattle.domain_isolation.proofs.Steady.{is_cloaked}
 use Rattle.store_law.proofs.Settlings.{touched_draws}
 use Rattle.std.proofs.lemmas.Bool.{false≢true}
@@ -31,9 +28,6 @@ use Rattle.cloak_base.specs.declared.causes.Violation.{Violation}
 use Rattle.cloak_model.specs.declared.answer.Answer.{Answer}
 use Rattle.cloak_model.specs.declared.answer.Answer.TheVariants as told
 use Rattle.cloak_model.specs.World.{Cloak, violation_of}
-use Rattle.cloak_model.specs.Contexts.{context_at}
-use Rattle.cloak_model.specs.DomainAlone.{runs_on}
-use Rattle.cloak_model.specs.Joint.{pages_for}
 use Rattle.domain_isolation.proofs.Scripts.{Question, Script, Gives, Asks, Reads, Changes, asked, changed, played, Ending, IsStop, EndsSo}
 use Rattle.domain_isolation.proofs.Answers.{question_answered, change_leaves}
 use Rattle.domain_isolation.proofs.StepScripts.{of_domain}
@@ -77,7 +71,7 @@ ended_keeps j number items (Resume ctx answer) = resume_keeps j number _ ctx ans
 
 pub outside_keeps : (j : Joint) (number : ℕ) (h : Hart) → (outside_step j number h).joint.memory.plain ≡ j.memory.plain
 unfolding outside_step after_outside settled_step made_after
-outside_keeps j number h = ended_keeps _ number _ _ ∙ (touched_draws h j.disk j.memory).plain
+outside_keeps j number h = ended_keeps _ number _ _ ∙ (touched_draws {count = 0} h j.disk j.memory).plain
 
 -- Where a script has met a violation, it was stopped.
 
@@ -159,7 +153,8 @@ step_calm slot was j number h e pages some =
     let c : Cloak = cloak_of j.memory h e pages in
     let t = domain_step slot was (Cloaked c) in
     let stopped = told_stopped slot was (Cloaked c) refl refl (ended_met _ number h e t.world t.answer.went some) in
-    let only = ((ends_domain_step slot was (Cloaked c)).stops stopped).by c refl in
+    let steps = ends_domain_step {count = suc was.control.number} slot was (Cloaked c) (omega arith) in
+    let only = (steps.stops stopped).by c refl in
     domain_ended_plain _ number h e t.world t.answer.went
     ∙ (ap (λ (x : World). (memory_of x j.memory).plain) only.ended.is ∙ only.plain)
 

@@ -1,42 +1,80 @@
 -- How the draws of a stream are used up, and Ciphers that each have one of their own.
-use Rattle.std.proofs.Common.{◌≡◌, ◌∙◌, ℕ, zero, suc, ◌+◌, List, [], ◌∷◌, ◌++◌, take, slice_get, Some, None, refl, sym, ap, subst, arith}
+use Rattle.std.proofs.Common.{◌≡◌, ◌∙◌, ℕ, zero, suc, ◌+◌, ◌<◌, ◌≤◌, List, [], ◌∷◌, ◌++◌, length, take, slice_get, slice_set, slice_index_or, Option, Some, None, IfSome, refl, sym, ap, subst, arith}
+use Rattle.std.specs.List.{AllByRecursion}
 use Rattle.std.specs.Prelude.{option_and_then}
 use Rattle.cloak_base.specs.Random.{Random, next_draw}
 use Rattle.cloak_base.specs.declared.names.PageId.{PageId}
+use Rattle.cloak_model.specs.declared.image.Program.{Program}
 use Rattle.cloak_model.specs.declared.item.Item.{Item}
 use Rattle.cloak_model.specs.declared.item.Item.TheVariants as item
 use Rattle.cloak_model.specs.Cloaking.{CloakedMemory}
-use Rattle.cloak_model.specs.Ledger.{Ledger}
-use Rattle.store_law.specs.Ciphers.{numbered_draw, draw_at, ShowsPage, cipher_count, ciphers_in, ShowPages}
+use Rattle.cloak_model.specs.Ledger.{Keys, Ledger, key_in}
+use Rattle.store_law.specs.Ciphers.{numbered_draw, ShowsPage, cipher_count, ciphers_in, ShowPages}
+use Rattle.store_law.specs.Keys.{HaveOwnKeys}
 
--- Of a stream this many draws were made, of which the first was the key.
-pub record HasDrawn (stream : Random) (n : ℕ) (l : Ledger) : Type 0 where
-  pub key : draw_at 0 stream ≡ Some l.key
+-- Frames are owed pages of so many programs.
+
+abbrev pub OwesPagesOf : ℕ → List (Option PageId) → Type 0
+OwesPagesOf count owed = AllByRecursion (λ (o : Option PageId). IfSome o (λ q. q.domain < count)) owed
+
+pub owed_at : (count : ℕ) (owed : List (Option PageId)) (f : ℕ) → OwesPagesOf count owed →
+    IfSome (slice_index_or owed f None) (λ q. q.domain < count)
+owed_at count [] f all = tt
+owed_at count (o ∷ owed) zero all = all.0
+owed_at count (o ∷ owed) (suc f) all = owed_at count owed f all.1
+
+pub owed_set : (count : ℕ) (owed : List (Option PageId)) (f : ℕ) (o : Option PageId) → OwesPagesOf count owed →
+    IfSome o (λ q. q.domain < count) → OwesPagesOf count (slice_set owed f o)
+owed_set count [] f o all here = tt
+owed_set count (x ∷ owed) zero o all here = (here, all.1)
+owed_set count (x ∷ owed) (suc f) o all here = (all.0, owed_set count owed f o all.1 here)
+
+-- A ledger of a run of these programs, which are so many at least, after this many draws of a stream: each page has the
+-- key of its program, and each page that is owed is of a program.
+pub record HasDrawn (count : ℕ) (programs : List Program) (stream : Random) (n : ℕ) (l : Ledger) : Type 0 where
+  pub enough : count ≤ length programs
+  pub keys : HaveOwnKeys programs stream l
+  pub owed : OwesPagesOf (length programs) l.owed
   pub next : next_draw l.stream ≡ numbered_draw n stream
 
+-- the keys are the same ones
+same_keys : (programs : List Program) (stream : Random) (l l' : Ledger) → l'.keys ≡ l.keys →
+    HaveOwnKeys programs stream l → HaveOwnKeys programs stream l'
+same_keys programs stream l l' same have page program is =
+    have page program is ∙ ap (λ (keys : Keys). Some (key_in keys page)) (sym same)
+
 -- the next draw was made
-pub draw_made : (stream : Random) (n : ℕ) (l l' : Ledger) (draw : List ℕ × Random) → HasDrawn stream n l →
-    next_draw l.stream ≡ Some draw → l'.key ≡ l.key → l'.stream ≡ draw.1 → HasDrawn stream (suc n) l'
-draw_made stream n l l' draw has is key rest = record {
-  key = has.key ∙ ap (λ (k : List ℕ). Some k) (sym key);
+pub draw_made : {count : ℕ} {programs : List Program} (stream : Random) (n : ℕ) (l l' : Ledger)
+    (draw : List ℕ × Random) → HasDrawn count programs stream n l → next_draw l.stream ≡ Some draw → l'.keys ≡ l.keys →
+    OwesPagesOf (length programs) l'.owed → l'.stream ≡ draw.1 → HasDrawn count programs stream (suc n) l'
+draw_made {count} {programs} stream n l l' draw has is keys owed rest = record {
+  enough = has.enough;
+  keys = same_keys programs stream l l' keys has.keys;
+  owed = owed;
   next = ap next_draw rest
       ∙ ap (option_and_then (λ (d : List ℕ × Random). next_draw d.1)) (sym is ∙ has.next);
 }
 
 -- there was none, and there is none later
-pub draw_missed : (stream : Random) (n : ℕ) (l l' : Ledger) → HasDrawn stream n l →
-    next_draw l.stream ≡ None → l'.key ≡ l.key → l'.stream ≡ l.stream → HasDrawn stream (suc n) l'
-draw_missed stream n l l' has is key rest = record {
-  key = has.key ∙ ap (λ (k : List ℕ). Some k) (sym key);
+pub draw_missed : {count : ℕ} {programs : List Program} (stream : Random) (n : ℕ) (l l' : Ledger) →
+    HasDrawn count programs stream n l → next_draw l.stream ≡ None → l'.keys ≡ l.keys →
+    OwesPagesOf (length programs) l'.owed → l'.stream ≡ l.stream → HasDrawn count programs stream (suc n) l'
+draw_missed {count} {programs} stream n l l' has is keys owed rest = record {
+  enough = has.enough;
+  keys = same_keys programs stream l l' keys has.keys;
+  owed = owed;
   next = ap next_draw rest ∙ is
       ∙ ap (option_and_then (λ (d : List ℕ × Random). next_draw d.1)) (sym is ∙ has.next);
 }
 
 -- none was made
-pub draws_stay : (stream : Random) (n : ℕ) (l l' : Ledger) → HasDrawn stream n l → l'.key ≡ l.key →
-    l'.stream ≡ l.stream → HasDrawn stream n l'
-draws_stay stream n l l' has key rest = record {
-  key = has.key ∙ ap (λ (k : List ℕ). Some k) (sym key);
+pub draws_stay : {count : ℕ} {programs : List Program} (stream : Random) (n : ℕ) (l l' : Ledger) →
+    HasDrawn count programs stream n l → l'.keys ≡ l.keys → OwesPagesOf (length programs) l'.owed →
+    l'.stream ≡ l.stream → HasDrawn count programs stream n l'
+draws_stay {count} {programs} stream n l l' has keys owed rest = record {
+  enough = has.enough;
+  keys = same_keys programs stream l l' keys has.keys;
+  owed = owed;
   next = ap next_draw rest ∙ has.next;
 }
 
@@ -79,66 +117,79 @@ draw_behind_counts (i ∷ items) n =
     omega (arith, rest, one)
 
 -- a Cipher shows a page under the draw of this number
-abbrev pub IsShown : Random → (PageId → List ℕ) → ℕ → Item → Type 0
-IsShown stream plain n (item.Cipher f bytes) = ShowsPage stream plain n bytes
-IsShown stream plain n _ = Unit {0}
+abbrev pub IsShown : List Program → Random → (PageId → List ℕ) → ℕ → Item → Type 0
+IsShown programs stream plain n (item.Cipher f bytes) = ShowsPage programs stream plain n bytes
+IsShown programs stream plain n _ = Unit {0}
 
 -- each of them does, under draws one after another
-abbrev pub AreShown : Random → (PageId → List ℕ) → ℕ → List Item → Type 0
-AreShown stream plain n [] = Unit {0}
-AreShown stream plain n (i ∷ items) = IsShown stream plain n i × AreShown stream plain (draw_behind_one i n) items
+abbrev pub AreShown : List Program → Random → (PageId → List ℕ) → ℕ → List Item → Type 0
+AreShown programs stream plain n [] = Unit {0}
+AreShown programs stream plain n (i ∷ items) =
+    IsShown programs stream plain n i × AreShown programs stream plain (draw_behind_one i n) items
 
-pub shown-append : (stream : Random) (plain : PageId → List ℕ) (n : ℕ) (a b : List Item) →
-    AreShown stream plain n a → AreShown stream plain (draw_behind a n) b → AreShown stream plain n (a ++ b)
-shown-append stream plain n [] b first second = second
-shown-append stream plain n (i ∷ a) b first second =
-    (first.0, shown-append stream plain (draw_behind_one i n) a b first.1 second)
+pub shown-append : (programs : List Program) (stream : Random) (plain : PageId → List ℕ) (n : ℕ) (a b : List Item) →
+    AreShown programs stream plain n a → AreShown programs stream plain (draw_behind a n) b →
+    AreShown programs stream plain n (a ++ b)
+shown-append programs stream plain n [] b first second = second
+shown-append programs stream plain n (i ∷ a) b first second =
+    (first.0, shown-append programs stream plain (draw_behind_one i n) a b first.1 second)
 
-shown_at : (stream : Random) (plain : PageId → List ℕ) (n : ℕ) (items : List Item) →
-    AreShown stream plain n items → (at f : ℕ) (bytes : List ℕ) → slice_get items at ≡ Some (item.Cipher f bytes) →
-    ShowsPage stream plain (draw_behind (take at items) n) bytes
-shown_at stream plain n [] all zero f bytes is = absurd cc
-shown_at stream plain n [] all (suc at) f bytes is = absurd cc
-shown_at stream plain n (i ∷ items) all zero f bytes is =
+shown_at : (programs : List Program) (stream : Random) (plain : PageId → List ℕ) (n : ℕ) (items : List Item) →
+    AreShown programs stream plain n items → (at f : ℕ) (bytes : List ℕ) →
+    slice_get items at ≡ Some (item.Cipher f bytes) →
+    ShowsPage programs stream plain (draw_behind (take at items) n) bytes
+shown_at programs stream plain n [] all zero f bytes is = absurd cc
+shown_at programs stream plain n [] all (suc at) f bytes is = absurd cc
+shown_at programs stream plain n (i ∷ items) all zero f bytes is =
     let same : i ≡ item.Cipher f bytes = cc in
-    subst (IsShown stream plain n) same all.0
-shown_at stream plain n (i ∷ items) all (suc at) f bytes is =
-    shown_at stream plain (draw_behind_one i n) items all.1 at f bytes is
+    subst (IsShown programs stream plain n) same all.0
+shown_at programs stream plain n (i ∷ items) all (suc at) f bytes is =
+    shown_at programs stream plain (draw_behind_one i n) items all.1 at f bytes is
 
 -- so each of them shows a page under the draw that it counts to
-pub each_shown : (stream : Random) (plain : PageId → List ℕ) (n : ℕ) (items : List Item) →
-    AreShown stream plain n items → ShowPages stream plain n items
-each_shown stream plain n items all at f bytes is =
-    subst (λ (k : ℕ). ShowsPage stream plain k bytes) (draw_behind_counts (take at items) n)
-    (shown_at stream plain n items all at f bytes is)
+pub each_shown : (programs : List Program) (stream : Random) (plain : PageId → List ℕ) (n : ℕ) (items : List Item) →
+    AreShown programs stream plain n items → ShowPages programs stream plain n items
+each_shown programs stream plain n items all at f bytes is =
+    subst (λ (k : ℕ). ShowsPage programs stream plain k bytes) (draw_behind_counts (take at items) n)
+    (shown_at programs stream plain n items all at f bytes is)
 
 -- From one memory to a later one.
 
 -- These items show pages as they are, under draws one after another from the next one on, and no page changes.
-pub record Draws (m : CloakedMemory) (items : List Item) (m' : CloakedMemory) : Type 0 where
+pub record Draws (count : ℕ) (m : CloakedMemory) (items : List Item) (m' : CloakedMemory) : Type 0 where
   pub plain : m'.plain ≡ m.plain
-  pub drawn : (stream : Random) (n : ℕ) → HasDrawn stream n m.ledger →
-      HasDrawn stream (draw_behind items n) m'.ledger
-  pub shown : (stream : Random) (n : ℕ) → HasDrawn stream n m.ledger → AreShown stream m.plain n items
+  pub drawn : (programs : List Program) (stream : Random) (n : ℕ) → HasDrawn count programs stream n m.ledger →
+      HasDrawn count programs stream (draw_behind items n) m'.ledger
+  pub shown : (programs : List Program) (stream : Random) (n : ℕ) → HasDrawn count programs stream n m.ledger →
+      AreShown programs stream m.plain n items
 
--- nothing is shown
-pub draws_none : (m m' : CloakedMemory) → m'.plain ≡ m.plain → m'.ledger.key ≡ m.ledger.key →
-    m'.ledger.stream ≡ m.ledger.stream → Draws m [] m'
-draws_none m m' plain key rest = record {
+-- nothing is shown, and what is owed is pages of programs as before
+pub draws_none : {count : ℕ} (m m' : CloakedMemory) → m'.plain ≡ m.plain → m'.ledger.keys ≡ m.ledger.keys →
+    ((all : ℕ) → count ≤ all → OwesPagesOf all m.ledger.owed → OwesPagesOf all m'.ledger.owed) →
+    m'.ledger.stream ≡ m.ledger.stream → Draws count m [] m'
+draws_none m m' plain keys owes rest = record {
   plain = plain;
-  drawn = λ stream n has. draws_stay stream n m.ledger m'.ledger has key rest;
-  shown = λ stream n has. tt;
+  drawn = λ programs stream n has.
+      draws_stay stream n m.ledger m'.ledger has keys (owes (length programs) has.enough has.owed) rest;
+  shown = λ programs stream n has. tt;
 }
 
-pub draws_then : (a b c : CloakedMemory) (first second : List Item) → Draws a first b → Draws b second c →
-    Draws a (first ++ second) c
-draws_then a b c first second p q = record {
+-- and the ledger is the same one
+pub draws_same : {count : ℕ} (m m' : CloakedMemory) → m'.plain ≡ m.plain → m'.ledger ≡ m.ledger → Draws count m [] m'
+draws_same m m' plain same =
+    draws_none m m' plain (ap (λ (l : Ledger). l.keys) same)
+    (λ all enough owes. subst (λ (l : Ledger). OwesPagesOf all l.owed) (sym same) owes)
+    (ap (λ (l : Ledger). l.stream) same)
+
+pub draws_then : {count : ℕ} (a b c : CloakedMemory) (first second : List Item) → Draws count a first b →
+    Draws count b second c → Draws count a (first ++ second) c
+draws_then {count} a b c first second p q = record {
   plain = q.plain ∙ p.plain;
-  drawn = λ stream n has.
-      subst (λ (k : ℕ). HasDrawn stream k c.ledger) (sym (draw_behind-append first second n))
-      (q.drawn stream (draw_behind first n) (p.drawn stream n has));
-  shown = λ stream n has.
-      shown-append stream a.plain n first second (p.shown stream n has)
-      (subst (λ (plain : PageId → List ℕ). AreShown stream plain (draw_behind first n) second) p.plain
-      (q.shown stream (draw_behind first n) (p.drawn stream n has)));
+  drawn = λ programs stream n has.
+      subst (λ (k : ℕ). HasDrawn count programs stream k c.ledger) (sym (draw_behind-append first second n))
+      (q.drawn programs stream (draw_behind first n) (p.drawn programs stream n has));
+  shown = λ programs stream n has.
+      shown-append programs stream a.plain n first second (p.shown programs stream n has)
+      (subst (λ (plain : PageId → List ℕ). AreShown programs stream plain (draw_behind first n) second) p.plain
+      (q.shown programs stream (draw_behind first n) (p.drawn programs stream n has)));
 }

@@ -6,8 +6,10 @@ pub mod Instructions
 pub mod Copies
 pub mod Steps
 pub mod Calm
+pub mod Counts
 pub mod Turns
 pub mod Runs
+pub mod Keys
 pub mod Opened
 pub mod Ciphers
 pub mod OwnDraws

@@ -1,6 +1,6 @@
 -- The opening of a run: pages are placed under draws one after another, and each frame shows what was placed last.
-use Rattle.std.proofs.Common.{◌≡◌, ◌≢◌, ◌∙◌, ◌⊎◌, inl, inr, ℕ, zero, suc, ◌+◌, ◌-◌, ◌≤◌, ◌<◌, nat_le, nat_lt, nat_eq, Bool, true, false, cond, ◌&&◌, List, [], ◌∷◌, ◌++◌, length, map, filter, slice_set, slice_index_or, slice_get, Option, Some, None, Ok, refl, sym, ap, subst, arith}
-use Rattle.std.specs.Prelude.{option_and_then, option_map}
+use Rattle.std.proofs.Common.{◌≡◌, ◌≢◌, ◌∙◌, ◌⊎◌, inl, inr, ℕ, zero, suc, ◌+◌, ◌-◌, ◌≤◌, ◌<◌, nat_le, nat_lt, nat_eq, Bool, true, false, cond, ◌&&◌, List, [], ◌∷◌, ◌++◌, length, map, filter, replicate, slice_set, slice_index_or, slice_get, Option, Some, None, Ok, refl, sym, ap, subst, arith}
+use Rattle.std.specs.Prelude.{option_map}
 use Rattle.std.specs.List.{AllByRecursion}
 use Rattle.std.proofs.lemmas.Bool.{lt-leb, le-ltb, ne_eqb, eq-eqb, cases_lt, cases_eq, le-leb, lt-ltb, and_from}
 use Rattle.std.proofs.lemmas.List.{length-set, get_or-set_same, get_or-set_other}
@@ -13,11 +13,13 @@ use Rattle.cloak_model.specs.declared.item.Item.{Item}
 use Rattle.cloak_model.specs.declared.item.Item.TheVariants as item
 use Rattle.cloak_model.specs.Chain.{cbc}
 use Rattle.cloak_model.specs.Cloaking.{CloakedMemory}
-use Rattle.cloak_model.specs.Ledger.{vector_of}
-use Rattle.cloak_model.specs.Opening.{numbers_below, started_ledger, started_memory, program_page, place_pages, place_programs, started_joint, is_placed, opening_items, Opened, opened_with, opened_by, opening}
+use Rattle.cloak_model.specs.Bundle.{IsInGrammar}
+use Rattle.cloak_model.specs.Ledger.{Keys, key_in, key_of, vector_of}
+use Rattle.cloak_model.specs.Opening.{key_count, drawn_keys, keys_for, started_domains, numbers_below, started_ledger, started_memory, program_page, place_pages, place_programs, started_joint, is_placed, opening_items, Opened, opened_with, opened_by, opening}
 use Rattle.cloak_model.specs.PageMoves.{place, place_with}
 use Rattle.store_law.specs.Ciphers.{draw_at, shown_under, ShowsPage, pages_of_programs, placing_draw}
-use Rattle.store_law.proofs.Draws.{HasDrawn, draw_made}
+use Rattle.store_law.proofs.Draws.{OwesPagesOf, HasDrawn, draw_made}
+use Rattle.store_law.proofs.Keys.{before, are_drawn, programs_have_keys, program_at}
 
 -- the bytes of a frame
 abbrev frame_in : List (List ℕ) → ℕ → List ℕ
@@ -27,16 +29,6 @@ frame_in ram f = slice_index_or ram f []
 abbrev first_page : ℕ → ℕ → PageId
 first_page d n = record { domain = d; resource = 0; page = n }
 
--- What was there before a later part that there is.
-record Before {A : Type 0} (next : A → Option A) (o : Option A) (y : A) : Type 0 where
-  pub value : A
-  pub was : o ≡ Some value
-  pub then : next value ≡ Some y
-
-before : {A : Type 0} (next : A → Option A) (o : Option A) (y : A) → option_and_then next o ≡ Some y → Before next o y
-before next None y is = absurd cc
-before next (Some x) y is = record { value = x; was = refl; then = is }
-
 same_some : {A : Type 0} (x y : A) → Some x ≡ Some y → x ≡ y
 same_some x y is = cc
 
@@ -45,9 +37,10 @@ same_some x y is = cc
 record OnePlaced (q : PageId) (f : ℕ) (bytes : List ℕ) (m m' : CloakedMemory) : Type 0 where
   pub draw : List ℕ × Random
   pub is : next_draw m.ledger.stream ≡ Some draw
-  pub ram : m'.ram ≡ slice_set m.ram f (cbc m.ledger.key draw.0 bytes)
+  pub ram : m'.ram ≡ slice_set m.ram f (cbc (key_of m.ledger q) draw.0 bytes)
   pub plain : m'.plain ≡ with_page m.plain q bytes
-  pub key : m'.ledger.key ≡ m.ledger.key
+  pub keys : m'.ledger.keys ≡ m.ledger.keys
+  pub owed : m'.ledger.owed ≡ m.ledger.owed
   pub stream : m'.ledger.stream ≡ draw.1
 
 placed_by : (q : PageId) (f : ℕ) (bytes : List ℕ) (draw : Option (List ℕ × Random)) (m m' : CloakedMemory) →
@@ -61,7 +54,8 @@ placed_by q f bytes (Some draw) m m' found is =
       is = found;
       ram = ap (λ (x : CloakedMemory). x.ram) same;
       plain = ap (λ (x : CloakedMemory). x.plain) same;
-      key = ap (λ (x : CloakedMemory). x.ledger.key) same;
+      keys = ap (λ (x : CloakedMemory). x.ledger.keys) same;
+      owed = ap (λ (x : CloakedMemory). x.ledger.owed) same;
       stream = ap (λ (x : CloakedMemory). x.ledger.stream) same;
     }
 
@@ -74,20 +68,22 @@ one_placed q f bytes m m' is = placed_by q f bytes (vector_of m.ledger q) m m' r
 
 -- the frame of page i shows it as it begins, and these are its newest bytes
 record FrameShows (stream : Random) (d k : ℕ) (p : Program) (m : CloakedMemory) (i : ℕ) : Type 0 where
-  pub frame : frame_in m.ram (p.place + i) ≡ shown_under m.ledger.key (draw_at (k + i) stream) (program_page p.bytes i)
+  pub frame : frame_in m.ram (p.place + i)
+      ≡ shown_under (key_of m.ledger (first_page d i)) (draw_at (k + i) stream) (program_page p.bytes i)
   pub page : m.plain (first_page d i) ≡ program_page p.bytes i
 
 -- a frame is none of the first n of a program
 abbrev pub IsApart : Program → ℕ → ℕ → Type 0
 IsApart p n f = (f < p.place) ⊎ (p.place + n ≤ f)
 
-record PagesShow (stream : Random) (d k : ℕ) (p : Program) (n : ℕ) (m m' : CloakedMemory) : Type 0 where
-  pub count : length m'.ram ≡ length m.ram
-  pub drawn : HasDrawn stream (k + n) m'.ledger
-  pub key : m'.ledger.key ≡ m.ledger.key
-  pub others : (q : PageId) → q.domain ≢ d → m'.plain q ≡ m.plain q
-  pub apart : (f : ℕ) → IsApart p n f → frame_in m'.ram f ≡ frame_in m.ram f
-  pub own : (i : ℕ) → i < n → p.place + i < length m.ram → FrameShows stream d k p m' i
+record PagesShow (all : List Program) (stream : Random) (d k : ℕ) (p : Program) (n : ℕ) (m m' : CloakedMemory) : Type 0
+  where
+    pub count : length m'.ram ≡ length m.ram
+    pub drawn : HasDrawn (length all) all stream (k + n) m'.ledger
+    pub keys : m'.ledger.keys ≡ m.ledger.keys
+    pub others : (q : PageId) → q.domain ≢ d → m'.plain q ≡ m.plain q
+    pub apart : (f : ℕ) → IsApart p n f → frame_in m'.ram f ≡ frame_in m.ram f
+    pub own : (i : ℕ) → i < n → p.place + i < length m.ram → FrameShows stream d k p m' i
 
 page_other : (plain : PageId → List ℕ) (q p : PageId) (bytes : List ℕ) → same_page p q ≡ false →
     with_page plain q bytes p ≡ plain p
@@ -123,19 +119,19 @@ apart_last : (p : Program) (n f : ℕ) → IsApart p (suc n) f → f ≢ p.place
 apart_last p n f (inl low) same = absurd (omega arith)
 apart_last p n f (inr high) same = absurd (omega arith)
 
-draw_is : (stream : Random) (n : ℕ) (m : CloakedMemory) (draw : List ℕ × Random) → HasDrawn stream n m.ledger →
-    next_draw m.ledger.stream ≡ Some draw → draw_at n stream ≡ Some draw.0
+draw_is : {count : ℕ} {all : List Program} (stream : Random) (n : ℕ) (m : CloakedMemory) (draw : List ℕ × Random) →
+    HasDrawn count all stream n m.ledger → next_draw m.ledger.stream ≡ Some draw → draw_at n stream ≡ Some draw.0
 draw_is stream n m draw has is = ap (option_map (λ (d : List ℕ × Random). d.0)) (sym has.next ∙ is)
 
 -- the page that was placed last
-last_shows : (stream : Random) (d k : ℕ) (p : Program) (n : ℕ) (m m' : CloakedMemory) →
-    HasDrawn stream (k + n) m.ledger → OnePlaced (first_page d n) (p.place + n) (program_page p.bytes n) m m' →
-    p.place + n < length m.ram → FrameShows stream d k p m' n
+last_shows : {count : ℕ} {all : List Program} (stream : Random) (d k : ℕ) (p : Program) (n : ℕ) (m m' : CloakedMemory) →
+    HasDrawn count all stream (k + n) m.ledger → OnePlaced (first_page d n) (p.place + n)
+    (program_page p.bytes n) m m' → p.place + n < length m.ram → FrameShows stream d k p m' n
 last_shows stream d k p n m m' has one lt = record {
   frame = ap (λ (ram : List (List ℕ)). frame_in ram (p.place + n)) one.ram
       ∙ (get_or-set_same m.ram (p.place + n) _ [] lt
-      ∙ (ap (λ (key : List ℕ). cbc key one.draw.0 (program_page p.bytes n)) (sym one.key)
-      ∙ ap (λ (draw : Option (List ℕ)). shown_under m'.ledger.key draw (program_page p.bytes n))
+      ∙ (ap (λ (keys : Keys). cbc (key_in keys (first_page d n)) one.draw.0 (program_page p.bytes n)) (sym one.keys)
+      ∙ ap (λ (draw : Option (List ℕ)). shown_under (key_of m'.ledger (first_page d n)) draw (program_page p.bytes n))
       (sym (draw_is stream (k + n) m one.draw has one.is))));
   page = ap (λ (plain : PageId → List ℕ). plain (first_page d n)) one.plain
       ∙ page_same m.plain (first_page d n) (first_page d n) (program_page p.bytes n) (same_number d n);
@@ -149,35 +145,37 @@ earlier_shows stream d k p n i m m' one less shows = record {
   frame = ap (λ (ram : List (List ℕ)). frame_in ram (p.place + i)) one.ram
       ∙ (get_or-set_other m.ram (p.place + n) (p.place + i) _ [] (λ same. absurd (omega (arith, same, less)))
       ∙ (shows.frame
-      ∙ ap (λ (key : List ℕ). shown_under key (draw_at (k + i) stream) (program_page p.bytes i)) (sym one.key)));
+      ∙ ap (λ (keys : Keys). shown_under (key_in keys (first_page d i)) (draw_at (k + i) stream)
+      (program_page p.bytes i)) (sym one.keys)));
   page = ap (λ (plain : PageId → List ℕ). plain (first_page d i)) one.plain
       ∙ (page_other m.plain (first_page d n) (first_page d i) (program_page p.bytes n)
       (other_number d i n (λ same. absurd (omega (arith, same, less)))) ∙ shows.page);
 }
 
-pages_show : (stream : Random) (d k : ℕ) (p : Program) (n : ℕ) (m m' : CloakedMemory) → HasDrawn stream k m.ledger →
-    place_pages d p n m ≡ Some m' → PagesShow stream d k p n m m'
-pages_show stream d k p zero m m' has is =
+pages_show : (all : List Program) (stream : Random) (d k : ℕ) (p : Program) (n : ℕ) (m m' : CloakedMemory) →
+    HasDrawn (length all) all stream k m.ledger → place_pages d p n m ≡ Some m' → PagesShow all stream d k p n m m'
+pages_show all stream d k p zero m m' has is =
     let number : k ≡ k + 0 = omega arith in
-    subst (λ (x : CloakedMemory). PagesShow stream d k p zero m x) (same_some m m' is) (record {
+    subst (λ (x : CloakedMemory). PagesShow all stream d k p zero m x) (same_some m m' is) (record {
       count = refl;
-      drawn = subst (λ (x : ℕ). HasDrawn stream x m.ledger) number has;
-      key = refl;
+      drawn = subst (λ (x : ℕ). HasDrawn (length all) all stream x m.ledger) number has;
+      keys = refl;
       others = λ q other. refl;
       apart = λ f away. refl;
       own = λ i less lt. absurd (omega (arith, less));
     })
-pages_show stream d k p (suc n) m m' has is =
+pages_show all stream d k p (suc n) m m' has is =
     let b = before (place (first_page d n) (p.place + n) (program_page p.bytes n)) (place_pages d p n m) m' is in
-    let first = pages_show stream d k p n m b.value has b.was in
+    let first = pages_show all stream d k p n m b.value has b.was in
     let one = one_placed (first_page d n) (p.place + n) (program_page p.bytes n) b.value m' b.then in
     let number : suc (k + n) ≡ k + suc n = omega arith in
     let count = first.count in
     record {
       count = ap length one.ram ∙ (length-set b.value.ram (p.place + n) _ ∙ first.count);
-      drawn = subst (λ (x : ℕ). HasDrawn stream x m'.ledger) number
-          (draw_made stream (k + n) b.value.ledger m'.ledger one.draw first.drawn one.is one.key one.stream);
-      key = one.key ∙ first.key;
+      drawn = subst (λ (x : ℕ). HasDrawn (length all) all stream x m'.ledger) number
+          (draw_made stream (k + n) b.value.ledger m'.ledger one.draw first.drawn one.is one.keys
+          (subst (OwesPagesOf (length all)) (sym one.owed) first.drawn.owed) one.stream);
+      keys = one.keys ∙ first.keys;
       others = λ q other.
           ap (λ (plain : PageId → List ℕ). plain q) one.plain
           ∙ (page_other b.value.plain (first_page d n) q (program_page p.bytes n)
@@ -199,14 +197,19 @@ pages_show stream d k p (suc n) m m' has is =
 
 -- The programs.
 
-record ProgramsShow (stream : Random) (d k : ℕ) (programs : List Program) (m m' : CloakedMemory) : Type 0 where
+-- These are the later programs of all, of which the first has this number.
+abbrev AreLater : List Program → ℕ → List Program → Type 0
+AreLater all d programs = (i : ℕ) → slice_get programs i ≡ slice_get all (d + i)
+
+record ProgramsShow (all : List Program) (stream : Random) (d k : ℕ) (programs : List Program) (m m' : CloakedMemory) :
+    Type 0 where
   pub count : length m'.ram ≡ length m.ram
-  pub drawn : HasDrawn stream (k + pages_of_programs programs) m'.ledger
-  pub key : m'.ledger.key ≡ m.ledger.key
+  pub drawn : HasDrawn (length all) all stream (k + pages_of_programs programs) m'.ledger
+  pub keys : m'.ledger.keys ≡ m.ledger.keys
   pub below : (q : PageId) → q.domain < d → m'.plain q ≡ m.plain q
   pub away : (f : ℕ) → is_placed programs f ≡ false → frame_in m'.ram f ≡ frame_in m.ram f
   pub own : (f : ℕ) → is_placed programs f ≡ true → f < length m.ram →
-      ShowsPage stream m'.plain (placing_draw k programs f) (frame_in m'.ram f)
+      ShowsPage all stream m'.plain (placing_draw k programs f) (frame_in m'.ram f)
 
 -- a frame of a program, or apart from it
 pub inside_or_apart : (p : Program) (f : ℕ) →
@@ -247,76 +250,81 @@ away_of p programs f away = elim (inside_or_apart p f) [
 ]
 
 -- a frame in which no later program was placed
-here_shows : (stream : Random) (d k : ℕ) (p : Program) (programs : List Program) (m m' m'' : CloakedMemory) →
-    PagesShow stream d k p p.start.pages m m' →
-    ProgramsShow stream (d + 1) (k + p.start.pages) programs m' m'' → (f : ℕ) →
+here_shows : (all : List Program) (stream : Random) (d k : ℕ) (p : Program) (programs : List Program)
+    (m m' m'' : CloakedMemory) → slice_get all d ≡ Some p → PagesShow all stream d k p p.start.pages m m' →
+    ProgramsShow all stream (d + 1) (k + p.start.pages) programs m' m'' → (f : ℕ) →
     p.place ≤ f → f < p.place + p.start.pages → is_placed programs f ≡ false → f < length m.ram →
-    ShowsPage stream m''.plain (k + (f - p.place)) (frame_in m''.ram f)
-here_shows stream d k p programs m m' m'' first rest f at less away lt =
+    ShowsPage all stream m''.plain (k + (f - p.place)) (frame_in m''.ram f)
+here_shows all stream d k p programs m m' m'' found first rest f at less away lt =
     let i : ℕ = f - p.place in
     let place : p.place + i ≡ f = omega (arith, at) in
     let less' : i < p.start.pages = omega (arith, at, less) in
     let lt' : p.place + i < length m.ram = omega (arith, place, lt) in
     let shows = first.own i less' lt' in
     let page = rest.below (first_page d i) (omega arith) in
+    let key : List ℕ = key_of m'.ledger (first_page d i) in
     record {
-      key = m'.ledger.key;
-      is_key = first.drawn.key;
       page = first_page d i;
+      program = p;
+      is_of = found;
+      key = key;
+      is_key = first.drawn.keys (first_page d i) p found;
       same = rest.away f away
           ∙ (ap (λ (x : ℕ). frame_in m'.ram x) (sym place)
           ∙ (shows.frame
-          ∙ ap (λ (bytes : List ℕ). shown_under m'.ledger.key (draw_at (k + i) stream) bytes)
-          (sym (page ∙ shows.page))));
+          ∙ ap (λ (bytes : List ℕ). shown_under key (draw_at (k + i) stream) bytes) (sym (page ∙ shows.page))));
     }
 
-frame_shows : (stream : Random) (d k : ℕ) (p : Program) (programs : List Program) (m m' m'' : CloakedMemory) →
-    PagesShow stream d k p p.start.pages m m' →
-    ProgramsShow stream (d + 1) (k + p.start.pages) programs m' m'' → (f : ℕ) (later : Bool) →
+frame_shows : (all : List Program) (stream : Random) (d k : ℕ) (p : Program) (programs : List Program)
+    (m m' m'' : CloakedMemory) → slice_get all d ≡ Some p → PagesShow all stream d k p p.start.pages m m' →
+    ProgramsShow all stream (d + 1) (k + p.start.pages) programs m' m'' → (f : ℕ) (later : Bool) →
     is_placed programs f ≡ later → is_placed (p ∷ programs) f ≡ true → f < length m.ram →
-    ShowsPage stream m''.plain (placing_draw k (p ∷ programs) f) (frame_in m''.ram f)
-frame_shows stream d k p programs m m' m'' first rest f true is placed lt =
+    ShowsPage all stream m''.plain (placing_draw k (p ∷ programs) f) (frame_in m''.ram f)
+frame_shows all stream d k p programs m m' m'' found first rest f true is placed lt =
     let count = first.count in
-    subst (λ (n : ℕ). ShowsPage stream m''.plain n (frame_in m''.ram f))
+    subst (λ (n : ℕ). ShowsPage all stream m''.plain n (frame_in m''.ram f))
     (sym (ap (λ (b : Bool). cond b (placing_draw (k + p.start.pages) programs f) (k + (f - p.place))) is))
     (rest.own f is (omega (arith, count, lt)))
-frame_shows stream d k p programs m m' m'' first rest f false is placed lt =
+frame_shows all stream d k p programs m m' m'' found first rest f false is placed lt =
     elim (inside_or_apart p f) [
       | inl there ↦
-          subst (λ (n : ℕ). ShowsPage stream m''.plain n (frame_in m''.ram f))
+          subst (λ (n : ℕ). ShowsPage all stream m''.plain n (frame_in m''.ram f))
           (sym (ap (λ (b : Bool). cond b (placing_draw (k + p.start.pages) programs f) (k + (f - p.place))) is))
-          (here_shows stream d k p programs m m' m'' first rest f there.0 there.1 is lt)
+          (here_shows all stream d k p programs m m' m'' found first rest f there.0 there.1 is lt)
       | inr apart ↦
           let clash : true ≡ false = sym placed ∙ (apart_later p programs f apart ∙ is) in absurd cc
     ]
 
-programs_show : (stream : Random) (d k : ℕ) (programs : List Program) (m m' : CloakedMemory) →
-    HasDrawn stream k m.ledger → place_programs d programs m ≡ Some m' → ProgramsShow stream d k programs m m'
-programs_show stream d k [] m m' has is =
+programs_show : (all : List Program) (stream : Random) (d k : ℕ) (programs : List Program) (m m' : CloakedMemory) →
+    AreLater all d programs → HasDrawn (length all) all stream k m.ledger → place_programs d programs m ≡ Some m' →
+    ProgramsShow all stream d k programs m m'
+programs_show all stream d k [] m m' from has is =
     let number : k ≡ k + 0 = omega arith in
-    subst (λ (x : CloakedMemory). ProgramsShow stream d k [] m x) (same_some m m' is) (record {
+    subst (λ (x : CloakedMemory). ProgramsShow all stream d k [] m x) (same_some m m' is) (record {
       count = refl;
-      drawn = subst (λ (x : ℕ). HasDrawn stream x m.ledger) number has;
-      key = refl;
+      drawn = subst (λ (x : ℕ). HasDrawn (length all) all stream x m.ledger) number has;
+      keys = refl;
       below = λ q less. refl;
       away = λ f apart. refl;
       own = λ f placed lt. let clash : false ≡ true = placed in absurd cc;
     })
-programs_show stream d k (p ∷ programs) m m' has is =
+programs_show all stream d k (p ∷ programs) m m' from has is =
     let b = before (place_programs (d + 1) programs) (place_pages d p p.start.pages m) m' is in
-    let first = pages_show stream d k p p.start.pages m b.value has b.was in
-    let rest = programs_show stream (d + 1) (k + p.start.pages) programs b.value m' first.drawn b.then in
+    let first = pages_show all stream d k p p.start.pages m b.value has b.was in
+    let later : AreLater all (d + 1) programs = λ i. from (suc i) ∙ ap (slice_get all) (omega arith) in
+    let rest = programs_show all stream (d + 1) (k + p.start.pages) programs b.value m' later first.drawn b.then in
+    let found : slice_get all d ≡ Some p = ap (slice_get all) (omega arith) ∙ sym (from 0) in
     let number : (k + p.start.pages) + pages_of_programs programs ≡ k + pages_of_programs (p ∷ programs) =
     omega arith in
     record {
       count = rest.count ∙ first.count;
-      drawn = subst (λ (x : ℕ). HasDrawn stream x m'.ledger) number rest.drawn;
-      key = rest.key ∙ first.key;
+      drawn = subst (λ (x : ℕ). HasDrawn (length all) all stream x m'.ledger) number rest.drawn;
+      keys = rest.keys ∙ first.keys;
       below = λ q less.
           rest.below q (omega (arith, less)) ∙ first.others q (λ same. absurd (omega (arith, same, less)));
       away = λ f apart.
           let both = away_of p programs f apart in rest.away f both.1 ∙ first.apart f both.0;
-      own = λ f placed lt. frame_shows stream d k p programs m b.value m' first rest f _ refl placed lt;
+      own = λ f placed lt. frame_shows all stream d k p programs m b.value m' found first rest f _ refl placed lt;
     }
 
 -- What the kernel is shown of it.
@@ -422,72 +430,119 @@ frame_at ram (g ∷ fs) zero f bytes is =
     let same : g ≡ f = cc in ap (λ (x : ℕ). Some x) same
 frame_at ram (g ∷ fs) (suc at) f bytes is = frame_at ram fs at f bytes is
 
--- The opening shows each page as it begins, and the draws behind it are known.
-pub record OpeningShows (b : Bundle) (stream : Random) (o : Opened) : Type 0 where
-  pub drawn : HasDrawn stream (1 + pages_of_programs b.programs) o.joint.memory.ledger
-  pub shown : (at f : ℕ) (bytes : List ℕ) → slice_get o.items at ≡ Some (item.Cipher f bytes) →
-      ShowsPage stream o.joint.memory.plain (placing_draw 1 b.programs f) bytes
+-- Each frame that holds a page is shown once.
+pub record OpeningPlaces (b : Bundle) (o : Opened) : Type 0 where
   pub placed : (at f : ℕ) (bytes : List ℕ) → slice_get o.items at ≡ Some (item.Cipher f bytes) →
       is_placed b.programs f ≡ true
   pub once : (at at' f : ℕ) (bytes bytes' : List ℕ) → slice_get o.items at ≡ Some (item.Cipher f bytes) →
       slice_get o.items at' ≡ Some (item.Cipher f bytes') → at ≡ at'
 
-started_drawn : (b : Bundle) (stream : Random) (draw : List ℕ × Random) → next_draw stream ≡ Some draw →
-    HasDrawn stream 1 (started_memory b.kernel draw.0 draw.1).ledger
-unfolding started_memory started_ledger
-started_drawn b stream draw is = record {
-  key = ap (option_map (λ (d : List ℕ × Random). d.0)) is;
-  next = sym (ap (option_and_then (λ (d : List ℕ × Random). next_draw d.1)) is);
+-- The opening shows each page as it begins, and the draws after it are known.
+pub record OpeningShows (b : Bundle) (stream : Random) (o : Opened) : Type 0 where
+  pub drawn : HasDrawn (length b.programs) b.programs stream (key_count b.programs + pages_of_programs b.programs)
+      o.joint.memory.ledger
+  pub count : length o.joint.domains ≡ length b.programs
+  pub shown : (at f : ℕ) (bytes : List ℕ) → slice_get o.items at ≡ Some (item.Cipher f bytes) →
+      ShowsPage b.programs stream o.joint.memory.plain (placing_draw (key_count b.programs) b.programs f) bytes
+
+one_is : (b : Bundle) (ram : List (List ℕ)) (at f : ℕ) (bytes : List ℕ) →
+    slice_get (opening_items b.programs ram) at ≡ Some (item.Cipher f bytes) →
+    IsOpening b.programs ram (item.Cipher f bytes)
+one_is b ram at f bytes there =
+    item_of (IsOpening b.programs ram) (opening_items b.programs ram)
+    (all_open b.programs ram (numbers_below (length ram)) (numbers_low (length ram) (length ram) (omega arith)))
+    at (item.Cipher f bytes) there
+
+items_place : (b : Bundle) (m : CloakedMemory) →
+    OpeningPlaces b (record { joint = started_joint b m; items = opening_items b.programs m.ram })
+items_place b m = record {
+  placed = λ at f bytes there. (one_is b m.ram at f bytes there).1.0;
+  once = λ at at' f bytes bytes' there there'.
+      let fs : List ℕ = filter (is_placed b.programs) (numbers_below (length m.ram)) in
+      once_in fs 0 (length m.ram)
+      (filter_rises (is_placed b.programs) (numbers_below (length m.ram)) 0 (length m.ram)
+      (numbers_rise (length m.ram))) at at' f
+      (frame_at m.ram fs at f bytes there) (frame_at m.ram fs at' f bytes' there');
 }
 
-memory_shows : (b : Bundle) (stream : Random) (draw : List ℕ × Random) (m : CloakedMemory) →
-    next_draw stream ≡ Some draw → place_programs 0 b.programs (started_memory b.kernel draw.0 draw.1) ≡ Some m →
+started_count : (d : ℕ) (programs : List Program) → length (started_domains d programs) ≡ length programs
+started_count d [] = refl
+started_count d (p ∷ programs) = ap suc (started_count (d + 1) programs)
+
+memory_shows : (b : Bundle) (stream : Random) (first m : CloakedMemory) →
+    HasDrawn (length b.programs) b.programs stream (key_count b.programs) first.ledger →
+    place_programs 0 b.programs first ≡ Some m →
     OpeningShows b stream (record { joint = started_joint b m; items = opening_items b.programs m.ram })
 unfolding started_joint
-memory_shows b stream draw m is placed =
-    let first : CloakedMemory = started_memory b.kernel draw.0 draw.1 in
-    let shows = programs_show stream 0 1 b.programs first m (started_drawn b stream draw is) placed in
+memory_shows b stream first m has placed =
+    let k : ℕ = key_count b.programs in
+    let all : AreLater b.programs 0 b.programs = λ i. ap (slice_get b.programs) (omega arith) in
+    let shows = programs_show b.programs stream 0 k b.programs first m all has placed in
     let count = shows.count in
     record {
       drawn = shows.drawn;
+      count = started_count 0 b.programs;
       shown = λ at f bytes there.
-          let one : IsOpening b.programs m.ram (item.Cipher f bytes) =
-          item_of (IsOpening b.programs m.ram) (opening_items b.programs m.ram)
-          (all_open b.programs m.ram (numbers_below (length m.ram))
-          (numbers_low (length m.ram) (length m.ram) (omega arith)))
-          at (item.Cipher f bytes) there in
+          let one : IsOpening b.programs m.ram (item.Cipher f bytes) = one_is b m.ram at f bytes there in
           let low = one.1.1 in
-          subst (λ (x : List ℕ). ShowsPage stream m.plain (placing_draw 1 b.programs f) x) (sym one.0)
+          subst (λ (x : List ℕ). ShowsPage b.programs stream m.plain (placing_draw k b.programs f) x) (sym one.0)
           (shows.own f one.1.0 (omega (arith, count, low)));
-      placed = λ at f bytes there.
-          let one : IsOpening b.programs m.ram (item.Cipher f bytes) =
-          item_of (IsOpening b.programs m.ram) (opening_items b.programs m.ram)
-          (all_open b.programs m.ram (numbers_below (length m.ram))
-          (numbers_low (length m.ram) (length m.ram) (omega arith)))
-          at (item.Cipher f bytes) there in
-          one.1.0;
-      once = λ at at' f bytes bytes' there there'.
-          let fs : List ℕ = filter (is_placed b.programs) (numbers_below (length m.ram)) in
-          once_in fs 0 (length m.ram)
-          (filter_rises (is_placed b.programs) (numbers_below (length m.ram)) 0 (length m.ram)
-          (numbers_rise (length m.ram))) at at' f
-          (frame_at m.ram fs at f bytes there) (frame_at m.ram fs at' f bytes' there');
     }
 
-opened_if : (b : Bundle) (stream : Random) (draw : List ℕ × Random) (o : Opened) (m : Option CloakedMemory) →
-    next_draw stream ≡ Some draw → place_programs 0 b.programs (started_memory b.kernel draw.0 draw.1) ≡ m →
-    opened_with b m ≡ Ok o → OpeningShows b stream o
+-- With the memory in which the pages were placed.
+
+places_if : (b : Bundle) (m : Option CloakedMemory) (o : Opened) → opened_with b m ≡ Ok o → OpeningPlaces b o
 unfolding opened_with
-opened_if b stream draw o None is placed opens = absurd cc
-opened_if b stream draw o (Some m) is placed opens =
+places_if b None o opens = absurd cc
+places_if b (Some m) o opens =
     let same : record { joint = started_joint b m; items = opening_items b.programs m.ram } ≡ o = cc in
-    subst (OpeningShows b stream) same (memory_shows b stream draw m is placed)
+    subst (OpeningPlaces b) same (items_place b m)
 
-opened_draw : (b : Bundle) (stream : Random) (draw : Option (List ℕ × Random)) (o : Opened) →
-    next_draw stream ≡ draw → opened_by b draw ≡ Ok o → OpeningShows b stream o
+shows_if : (b : Bundle) (stream : Random) (first : CloakedMemory) (m : Option CloakedMemory) (o : Opened) →
+    HasDrawn (length b.programs) b.programs stream (key_count b.programs) first.ledger →
+    place_programs 0 b.programs first ≡ m → opened_with b m ≡ Ok o → OpeningShows b stream o
+unfolding opened_with
+shows_if b stream first None o has placed opens = absurd cc
+shows_if b stream first (Some m) o has placed opens =
+    let same : record { joint = started_joint b m; items = opening_items b.programs m.ram } ≡ o = cc in
+    subst (OpeningShows b stream) same (memory_shows b stream first m has placed)
+
+-- With the keys that were drawn.
+
+drawn_places : (b : Bundle) (draw : Option (List (List ℕ) × Random)) (o : Opened) → opened_by b draw ≡ Ok o →
+    OpeningPlaces b o
 unfolding opened_by
-opened_draw b stream None o is opens = absurd cc
-opened_draw b stream (Some draw) o is opens = opened_if b stream draw o _ is refl opens
+drawn_places b None o opens = absurd cc
+drawn_places b (Some draw) o opens = places_if b _ o opens
 
-pub opening_shows : (b : Bundle) (stream : Random) (o : Opened) → opening b stream ≡ Ok o → OpeningShows b stream o
-opening_shows b stream o opens = opened_draw b stream (next_draw stream) o refl opens
+none_owed : (count n : ℕ) → OwesPagesOf count (replicate n None)
+none_owed count zero = tt
+none_owed count (suc n) = (tt, none_owed count n)
+
+started_drawn : (b : Bundle) (stream : Random) (draw : List (List ℕ) × Random) → IsInGrammar b →
+    drawn_keys (key_count b.programs) stream ≡ Some draw →
+    HasDrawn (length b.programs) b.programs stream (key_count b.programs)
+    (started_memory b.kernel (keys_for b.programs draw.0) draw.1).ledger
+unfolding started_memory started_ledger
+started_drawn b stream draw grammar is = record {
+  enough = omega arith;
+  keys = λ page program found. programs_have_keys b.programs stream draw grammar.few_programs
+      (λ d p there. (program_at b.kernel.frames b.programs grammar.programs d p there).key) is page program found;
+  owed = none_owed (length b.programs) b.kernel.frames;
+  next = (are_drawn (key_count b.programs) stream draw is).next;
+}
+
+drawn_shows : (b : Bundle) (stream : Random) (draw : Option (List (List ℕ) × Random)) (o : Opened) → IsInGrammar b →
+    drawn_keys (key_count b.programs) stream ≡ draw → opened_by b draw ≡ Ok o → OpeningShows b stream o
+unfolding opened_by
+drawn_shows b stream None o grammar is opens = absurd cc
+drawn_shows b stream (Some draw) o grammar is opens =
+    shows_if b stream _ _ o (started_drawn b stream draw grammar is) refl opens
+
+pub opening_places : (b : Bundle) (stream : Random) (o : Opened) → opening b stream ≡ Ok o → OpeningPlaces b o
+opening_places b stream o opens = drawn_places b (drawn_keys (key_count b.programs) stream) o opens
+
+pub opening_shows : (b : Bundle) (stream : Random) (o : Opened) → IsInGrammar b → opening b stream ≡ Ok o →
+    OpeningShows b stream o
+opening_shows b stream o grammar opens =
+    drawn_shows b stream (drawn_keys (key_count b.programs) stream) o grammar refl opens

@@ -7,10 +7,10 @@ use Rattle.cloak_model.specs.declared.image.Program.{Program}
 use Rattle.cloak_model.specs.declared.item.Item.{Item}
 use Rattle.cloak_model.specs.declared.item.Item.TheVariants as item
 use Rattle.cloak_model.specs.Joint.{Turn}
-use Rattle.cloak_model.specs.Opening.{Opened, opening, is_placed}
+use Rattle.cloak_model.specs.Opening.{key_count, Opened, opening, is_placed}
 use Rattle.cloak_model.specs.Run.{Run, run_of}
 use Rattle.store_law.specs.Ciphers.{cipher_count, ciphers_in, pages_of_programs, ciphers_of_steps, draws_before, placing_draw, ItemPlace, InOpening, InStep, InClosing, items_of_turn, item_at, draw_number, HaveOwnDraws, CiphersHaveOwnDraws}
-use Rattle.store_law.proofs.Opened.{inside_or_apart, apart_later, OpeningShows, opening_shows}
+use Rattle.store_law.proofs.Opened.{inside_or_apart, apart_later, OpeningPlaces, opening_places}
 use Rattle.store_law.proofs.Ciphers.{of_opened, nothing_there}
 
 -- The opening: pages of programs are placed under draws of their own.
@@ -187,16 +187,20 @@ steps_apart b r n at f n' at' f' bytes bytes' is is' same = elim (cases_eq n n')
   ]
 ]
 
-own_draws : (b : Bundle) (r : Run) (stream : Random) → OpeningShows b stream r.opened → HaveOwnDraws b r
-own_draws b r stream shows = record { not_key = later; apart = apart }
+own_draws : (b : Bundle) (r : Run) → OpeningPlaces b r.opened → HaveOwnDraws b r
+own_draws b r places = record { not_key = later; apart = apart }
   where
+    keys : ℕ
+    keys = key_count b.programs
+
     within : (at f : ℕ) (bytes : List ℕ) → slice_get r.opened.items at ≡ Some (item.Cipher f bytes) →
-        (1 ≤ placing_draw 1 b.programs f) × (placing_draw 1 b.programs f < 1 + pages_of_programs b.programs)
-    within at f bytes is = placing_within 1 b.programs f (shows.placed at f bytes is)
+        (keys ≤ placing_draw keys b.programs f)
+        × (placing_draw keys b.programs f < keys + pages_of_programs b.programs)
+    within at f bytes is = placing_within keys b.programs f (places.placed at f bytes is)
 
     later : (place : ItemPlace) (f : ℕ) (bytes : List ℕ) → item_at r place ≡ Some (item.Cipher f bytes) →
-        0 < draw_number b r place f
-    later (InOpening at) f bytes is = (let low = (within at f bytes is).0 in omega (arith, low))
+        keys ≤ draw_number b r place f
+    later (InOpening at) f bytes is = (within at f bytes is).0
     later (InStep n at) f bytes is = omega arith
     later (InClosing at) f bytes is = omega arith
 
@@ -205,9 +209,9 @@ own_draws b r stream shows = record { not_key = later; apart = apart }
         draw_number b r place f ≡ draw_number b r place' f' → place ≡ place'
     apart (InOpening at) (InOpening at') f f' bytes bytes' is is' same =
         let frames : f ≡ f' =
-        placing_apart 1 b.programs f f' (shows.placed at f bytes is) (shows.placed at' f' bytes' is') same in
+        placing_apart keys b.programs f f' (places.placed at f bytes is) (places.placed at' f' bytes' is') same in
         let is'' = subst (λ (x : ℕ). slice_get r.opened.items at' ≡ Some (item.Cipher x bytes')) (sym frames) is' in
-        ap (λ (x : ℕ). InOpening x) (shows.once at at' f bytes bytes' is is'')
+        ap (λ (x : ℕ). InOpening x) (places.once at at' f bytes bytes' is is'')
     apart (InOpening at) (InStep n' at') f f' bytes bytes' is is' same =
         let high = (within at f bytes is).1 in absurd (omega (arith, high, same))
     apart (InOpening at) (InClosing at') f f' bytes bytes' is is' same =
@@ -229,14 +233,14 @@ own_draws b r stream shows = record { not_key = later; apart = apart }
         (not_as_many r.closed.items at at' f f' bytes bytes' is is' (omega (arith, same)))
 
 run_opens : (b : Bundle) (stream : Random) (budget : ℕ) (o : Opened) → opening b stream ≡ Ok o →
-    OpeningShows b stream (run_of b budget o).opened
+    OpeningPlaces b (run_of b budget o).opened
 unfolding run_of
-run_opens b stream budget o opens = opening_shows b stream o opens
+run_opens b stream budget o opens = opening_places b stream o opens
 
 run_has_own_draws : (b : Bundle) (stream : Random) (budget : ℕ) (o : Opened) → opening b stream ≡ Ok o →
     HaveOwnDraws b (run_of b budget o)
 run_has_own_draws b stream budget o opens =
-    own_draws b (run_of b budget o) stream (run_opens b stream budget o opens)
+    own_draws b (run_of b budget o) (run_opens b stream budget o opens)
 
 pub ciphers_have_own_draws : CiphersHaveOwnDraws
 ciphers_have_own_draws b stream budget r is =

@@ -1,28 +1,23 @@
 -- A step of the kernel, or of another program, leaves the pages of a program as they are.
-use Rattle.std.proofs.Common.{◌≡◌, ◌≢◌, ◌∙◌, ℕ, zero, suc, ◌+◌, ◌%◌, Bool, true, false, List, length, take, slice_get, slice_index, Option, Some, None, Result, Ok, Err, refl, sym, ap, subst, arith, take_all}
+use Rattle.std.proofs.Common.{◌≡◌, ◌≢◌, ◌∙◌, ℕ, zero, suc, ◌+◌, ◌%◌, Bool, true, false, List, length, take, slice_get, slice_index, Option, Some, None, Ok, refl, sym, ap, subst, arith, take_all}
 use Rattle.std.specs.Prelude.{option_map, ◌||◌}
 use Rattle.cloak_base.specs.Random.{Random}
 use Rattle.cloak_base.specs.declared.causes.Stop.{Stop}
 use Rattle.cloak_base.specs.declared.names.PageId.{PageId}
-use Rattle.cloak_model.specs.declared.context.ResumeFault.{ResumeFault}
 use Rattle.cloak_model.specs.declared.image.Bundle.{Bundle}
 use Rattle.cloak_model.specs.declared.inside.Went.{Went}
 use Rattle.cloak_model.specs.declared.inside.Went.TheVariants as went
 use Rattle.cloak_model.specs.declared.item.Item.{Item}
-use Rattle.cloak_model.specs.declared.outcome.Kernel.{Kernel}
-use Rattle.cloak_model.specs.declared.outcome.Kernel.TheVariants.{Stay, Put, Halt, Resume}
-use Rattle.cloak_model.specs.Ahead.{settled_step, made_after}
 use Rattle.cloak_model.specs.Asking.{Told}
 use Rattle.cloak_model.specs.Cloaking.{CloakedMemory}
-use Rattle.cloak_model.specs.Contexts.{Admitted, domain_of, slot_of}
-use Rattle.cloak_model.specs.DomainState.{Control, Domain}
+use Rattle.cloak_model.specs.Contexts.{domain_of, slot_of}
+use Rattle.cloak_model.specs.DomainState.{Domain}
 use Rattle.cloak_model.specs.DomainStep.{DomainStepped, domain_step}
 use Rattle.cloak_model.specs.Hart.{Hart}
-use Rattle.cloak_model.specs.Joint.{Moment, Turn, next_hart, hart_in, cloak_of, memory_of, outside_ended, after_outside, outside_step, domain_ended, after_domain_step, interrupt_ended, after_interrupt, by_interrupt, by_running, inside_step, turn_of, joint_step, after_turn, stop_of}
+use Rattle.cloak_model.specs.Joint.{Moment, Turn, next_hart, hart_in, cloak_of, memory_of, domain_ended, after_domain_step, interrupt_ended, after_interrupt, by_interrupt, by_running, inside_step, turn_of, joint_step, after_turn, stop_of}
 use Rattle.cloak_model.specs.KernelStep.{ticked}
 use Rattle.cloak_model.specs.Opening.{Opened, opening}
 use Rattle.cloak_model.specs.Parts.{Joint, domain_pages}
-use Rattle.cloak_model.specs.Resuming.{by_root, by_context, by_domain, resume}
 use Rattle.cloak_model.specs.Run.{Run, unless_stopped, turns_from, joint_after, first_moment, run_of, closing}
 use Rattle.cloak_model.specs.World.{World, Flat, Cloaked, Alone, plain_of}
 use Rattle.domain_isolation.proofs.Played.{played_serving, played_others}
@@ -40,10 +35,9 @@ use Rattle.store_law.proofs.Runs.{below_draws}
 use Rattle.store_law.proofs.Calm.{outside_keeps}
 use Rattle.std.proofs.Common.{[], ◌∷◌, ◌++◌, append_assoc, eq-eqb}
 use Rattle.std.proofs.lemmas.Bool.{false≢true}
-use Rattle.std.specs.List.{list_any}
 use Rattle.cloak_base.specs.declared.causes.Violation.{Violation}
 use Rattle.cloak_model.specs.declared.item.Item.TheVariants as item
-use Rattle.cloak_model.specs.Joint.{domain_met, end_domain, ends_once, ends_resumed, ends_asked, answers_violation}
+use Rattle.cloak_model.specs.Joint.{end_domain, ends_once, ends_resumed, ends_asked, answers_violation}
 use Rattle.cloak_model.specs.World.{items_of}
 use Rattle.domain_isolation.proofs.Endings.{end_world, end_leaves}
 use Rattle.store_law.specs.OwnPages.{is_end_of, ends_in}
@@ -249,7 +243,7 @@ steps_keep b stream budget o opens n t is d other gone =
 
 closing_is_kept : (j : Joint) → (closing j).joint.memory.plain ≡ j.memory.plain
 unfolding closing
-closing_is_kept j = (below_draws (length j.memory.ram) j.memory (hart_in j 0)).plain
+closing_is_kept j = (below_draws {count = 0} (length j.memory.ram) j.memory (hart_in j 0)).plain
 
 closing_keeps : (b : Bundle) (budget : ℕ) (o : Opened) → let r = run_of b budget o in
     r.closed.joint.memory.plain ≡ (joint_until (length r.turns) r).memory.plain

@@ -1,7 +1,8 @@
 -- The steps of a run one after another, and its closing.
-use Rattle.std.proofs.Common.{◌≡◌, ℕ, zero, suc, ◌+◌, List, [], ◌∷◌, length, take, slice_get, Option, Some, None, refl, subst, arith}
+use Rattle.std.proofs.Common.{◌≡◌, ◌≤◌, ℕ, zero, suc, ◌+◌, List, [], ◌∷◌, length, take, slice_get, Option, Some, None, refl, subst, arith}
 use Rattle.cloak_base.specs.Random.{Random}
 use Rattle.cloak_base.specs.declared.causes.Stop.{Stop}
+use Rattle.cloak_model.specs.declared.image.Program.{Program}
 use Rattle.cloak_model.specs.Cloaking.{settle}
 use Rattle.cloak_model.specs.Hart.{Hart}
 use Rattle.cloak_model.specs.Joint.{Moment, Turn, joint_step, after_turn, stop_of, cloak_outside, hart_in}
@@ -10,26 +11,33 @@ use Rattle.cloak_model.specs.Parts.{Joint}
 use Rattle.cloak_model.specs.Run.{unless_stopped, turns_from, joint_after, settled_below, closing}
 use Rattle.cloak_model.specs.World.{Cloak, cipher_items}
 use Rattle.store_law.specs.Ciphers.{ciphers_of_steps}
-use Rattle.store_law.proofs.Draws.{HasDrawn, draw_behind, draw_behind_counts, AreShown, Draws, draws_none, draws_then}
+use Rattle.kernel_isolation.proofs.Turns.{IsSteady, turn_is_alone}
+use Rattle.store_law.proofs.Counts.{step_counts}
+use Rattle.store_law.proofs.Draws.{HasDrawn, draw_behind, draw_behind_counts, AreShown, Draws, draws_same, draws_then}
 use Rattle.store_law.proofs.Settlings.{settle_draws}
 use Rattle.store_law.proofs.Turns.{TurnUses, step_uses}
 
 -- each of these steps, from a joint machine on, shows pages as it found them
-abbrev pub TurnsUse : Joint → List Turn → Type 0
-TurnsUse j [] = Unit {0}
-TurnsUse j (t ∷ turns) = TurnUses j t × TurnsUse t.joint turns
+abbrev pub TurnsUse : ℕ → Joint → List Turn → Type 0
+TurnsUse count j [] = Unit {0}
+TurnsUse count j (t ∷ turns) = TurnUses count j t × TurnsUse count t.joint turns
 
-behind_stop : (o : Option Stop) (later : Moment → List Turn) (m : Moment) → TurnsUse m.joint (later m) →
-    TurnsUse m.joint (unless_stopped o later m)
-behind_stop None later m all = all
-behind_stop (Some cause) later m all = tt
+behind_stop : (count : ℕ) (o : Option Stop) (later : Moment → List Turn) (m : Moment) →
+    TurnsUse count m.joint (later m) → TurnsUse count m.joint (unless_stopped o later m)
+behind_stop count None later m all = all
+behind_stop count (Some cause) later m all = tt
 
-pub turns_use : (budget : ℕ) (m : Moment) → TurnsUse m.joint (turns_from budget m)
+pub turns_use : {count : ℕ} (budget : ℕ) (m : Moment) → IsSteady m.joint → length m.joint.domains ≤ count →
+    TurnsUse count m.joint (turns_from budget m)
 unfolding turns_from
-turns_use zero m = tt
-turns_use (suc n) m =
+turns_use zero m steady few = tt
+turns_use {count} (suc n) m steady few =
     let t : Turn = joint_step m in
-    (step_uses m, behind_stop (stop_of t) (turns_from n) (after_turn m t) (turns_use n (after_turn m t)))
+    let as_many = step_counts m in (
+      step_uses m (record { programs = steady.programs; few = few }),
+      behind_stop count (stop_of t) (turns_from n) (after_turn m t)
+          (turns_use n (after_turn m t) (turn_is_alone m steady).steady (omega (arith, as_many, few))),
+    )
 
 -- the number of the next draw behind steps
 abbrev pub behind_steps : List Turn → ℕ → ℕ
@@ -43,39 +51,48 @@ steps_count (t ∷ turns) n =
     let one = draw_behind_counts t.items n in
     omega (arith, rest, one)
 
-pub drawn_behind : (stream : Random) (k n : ℕ) (j : Joint) (turns : List Turn) → TurnsUse j turns →
-    HasDrawn stream k j.memory.ledger →
-    HasDrawn stream (behind_steps (take n turns) k) (joint_after j (take n turns)).memory.ledger
+pub drawn_behind : {count : ℕ} (programs : List Program) (stream : Random) (k n : ℕ) (j : Joint) (turns : List Turn) →
+    TurnsUse count j turns → HasDrawn count programs stream k j.memory.ledger →
+    HasDrawn count programs stream (behind_steps (take n turns) k) (joint_after j (take n turns)).memory.ledger
 unfolding joint_after
-drawn_behind stream k zero j turns all has = has
-drawn_behind stream k (suc n) j [] all has = has
-drawn_behind stream k (suc n) j (t ∷ turns) all has =
-    drawn_behind stream (draw_behind t.items k) n t.joint turns all.1 (all.0.drawn stream k has)
+drawn_behind programs stream k zero j turns all has = has
+drawn_behind programs stream k (suc n) j [] all has = has
+drawn_behind programs stream k (suc n) j (t ∷ turns) all has =
+    drawn_behind programs stream (draw_behind t.items k) n t.joint turns all.1 (all.0.drawn programs stream k has)
 
-pub step_shown : (stream : Random) (k n : ℕ) (j : Joint) (turns : List Turn) (t : Turn) → TurnsUse j turns →
-    HasDrawn stream k j.memory.ledger → slice_get turns n ≡ Some t →
-    AreShown stream (joint_after j (take n turns)).memory.plain (behind_steps (take n turns) k) t.items
+pub step_shown : {count : ℕ} (programs : List Program) (stream : Random) (k n : ℕ) (j : Joint) (turns : List Turn)
+    (t : Turn) → TurnsUse count j turns → HasDrawn count programs stream k j.memory.ledger →
+    slice_get turns n ≡ Some t →
+    AreShown programs stream (joint_after j (take n turns)).memory.plain (behind_steps (take n turns) k) t.items
 unfolding joint_after
-step_shown stream k zero j [] t all has is = absurd cc
-step_shown stream k (suc n) j [] t all has is = absurd cc
-step_shown stream k zero j (x ∷ turns) t all has is =
+step_shown programs stream k zero j [] t all has is = absurd cc
+step_shown programs stream k (suc n) j [] t all has is = absurd cc
+step_shown programs stream k zero j (x ∷ turns) t all has is =
     let same : x ≡ t = cc in
-    subst (λ (y : Turn). AreShown stream j.memory.plain k y.items) same (all.0.shown stream k has)
-step_shown stream k (suc n) j (x ∷ turns) t all has is =
-    step_shown stream (draw_behind x.items k) n x.joint turns t all.1 (all.0.drawn stream k has) is
+    subst (λ (y : Turn). AreShown programs stream j.memory.plain k y.items) same (all.0.shown programs stream k has)
+step_shown programs stream k (suc n) j (x ∷ turns) t all has is =
+    step_shown programs stream (draw_behind x.items k) n x.joint turns t all.1 (all.0.drawn programs stream k has) is
 
 -- The closing.
 
-pub below_draws : (n : ℕ) (m : CloakedMemory) (h : Hart) → let c = settled_below n (cloak_outside m h) in
-    Draws m c.items c.memory
+pub below_draws : {count : ℕ} (n : ℕ) (m : CloakedMemory) (h : Hart) → let c = settled_below n (cloak_outside m h) in
+    Draws count m c.items c.memory
 unfolding settled_below
-below_draws zero m h = draws_none m m refl refl refl
+below_draws zero m h = draws_same m m refl refl
 below_draws (suc n) m h =
     let c : Cloak = settled_below n (cloak_outside m h) in
     draws_then m c.memory _ c.items (cipher_items (settle n c.memory).ciphers) (below_draws n m h)
     (settle_draws n c.memory)
 
-pub closing_shown : (stream : Random) (k : ℕ) (j : Joint) → HasDrawn stream k j.memory.ledger →
-    AreShown stream j.memory.plain k (closing j).items
+pub closing_shown : {count : ℕ} (programs : List Program) (stream : Random) (k : ℕ) (j : Joint) →
+    HasDrawn count programs stream k j.memory.ledger → AreShown programs stream j.memory.plain k (closing j).items
 unfolding closing
-closing_shown stream k j has = (below_draws (length j.memory.ram) j.memory (hart_in j 0)).shown stream k has
+closing_shown programs stream k j has =
+    (below_draws (length j.memory.ram) j.memory (hart_in j 0)).shown programs stream k has
+
+pub closing_drawn : {count : ℕ} (programs : List Program) (stream : Random) (k : ℕ) (j : Joint) →
+    HasDrawn count programs stream k j.memory.ledger →
+    HasDrawn count programs stream (draw_behind (closing j).items k) (closing j).joint.memory.ledger
+unfolding closing
+closing_drawn programs stream k j has =
+    (below_draws (length j.memory.ram) j.memory (hart_in j 0)).drawn programs stream k has

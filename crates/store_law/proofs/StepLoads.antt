@@ -1,6 +1,7 @@
 -- What a step of a program loads of its own pages is what they have newest.
-use Rattle.std.proofs.Common.{◌≡◌, ◌∙◌, ℕ, ◌%◌, inl, inr, Bool, true, false, List, Option, Some, None, ℤ, refl, ap, subst}
+use Rattle.std.proofs.Common.{◌≡◌, ◌∙◌, ℕ, suc, ◌%◌, inl, inr, Bool, true, false, List, Option, Some, None, ℤ, refl, ap, subst, arith}
 use Rattle.std.specs.Prelude.{◌==◌}
+use Rattle.cloak_base.specs.declared.names.Kind.{Kind}
 use Rattle.cloak_base.specs.declared.names.Kind.TheVariants.{Fetch, Load}
 use Rattle.cloak_base.specs.declared.names.PageId.{PageId}
 use Rattle.rv_isa.specs.declared.instr.Instr.{Instr}
@@ -13,7 +14,7 @@ use Rattle.cloak_model.specs.declared.inside.Copied.TheVariants as copied
 use Rattle.cloak_model.specs.declared.outcome.Effect.{Effect}
 use Rattle.cloak_model.specs.declared.outcome.Effect.TheVariants as does
 use Rattle.cloak_model.specs.Asking.{Told}
-use Rattle.cloak_model.specs.AskPages.{ask_read}
+use Rattle.cloak_model.specs.AskPages.{ask_reach, ask_read}
 use Rattle.cloak_model.specs.Calls.{Copy, in_put, in_reached, in_placed, in_step, copy_in_step, out_reached, out_got, out_placed, out_step, copy_out_step, byte_address, buffer}
 use Rattle.cloak_model.specs.Contexts.{Context}
 use Rattle.cloak_model.specs.Effect.{IsWidth, offset, effect, jump, go, branch, load_effect, store_effect}
@@ -31,10 +32,16 @@ pub record HasPlain (plain : PageId → List ℕ) (w : World) : Type 0 where
   pub is : w ≡ Cloaked cloak
   pub same : cloak.memory.plain ≡ plain
 
-has_still : (plain : PageId → List ℕ) (w v : World) → OnlyShows w v → HasPlain plain w → HasPlain plain v
+has_still : {count : ℕ} (plain : PageId → List ℕ) (w v : World) → OnlyShows count w v → HasPlain plain w →
+    HasPlain plain v
 has_still plain w v shows has =
     let s = shows.by has.cloak has.is in
     record { cloak = s.ended.to; is = s.ended.is; same = s.plain ∙ has.same }
+
+has_reached : (plain : PageId → List ℕ) (q : PageId) (va : ℕ) (kind : Kind) (w : World) → HasPlain plain w →
+    HasPlain plain (ask_reach q va kind w).world
+has_reached plain q va kind w has =
+    has_still {count = suc q.domain} plain w _ (shows_reach q va kind w (omega arith)) has
 
 plain_here : (plain : PageId → List ℕ) (w : World) (q : PageId) → HasPlain plain w → plain_of w q ≡ plain q
 plain_here plain w q has =
@@ -134,7 +141,7 @@ unfolding load_inside
 loads_load n r plain c rd va width signed None w lies is has = nothing_got n r plain c rd va width signed _ _
 loads_load n r plain c rd va width signed (Some q) w lies is has =
     loads_reached n r plain c q rd va width signed _ _ lies is
-    (has_still plain w _ (shows_reach q va Load w) has)
+    (has_reached plain q va Load w has)
 
 nothing_stored : (n : ℕ) (r : Resources) (plain : PageId → List ℕ) (c : Context) (q : PageId) (va width value : ℕ)
     (a : Answer) (w : World) → LoadsIn n r c.space plain (store_reached c q va width value a w)
@@ -203,7 +210,7 @@ loads_fetch : (n : ℕ) (r : Resources) (plain : PageId → List ℕ) (c : Conte
 unfolding fetch
 loads_fetch n r plain c None w has = λ va' value' same. absurd cc
 loads_fetch n r plain c (Some q) w has =
-    loads_fetched n r plain c q _ _ (has_still plain w _ (shows_reach q c.pc Fetch w) has)
+    loads_fetched n r plain c q _ _ (has_reached plain q c.pc Fetch w has)
 
 pub loads_instruction : (n : ℕ) (r : Resources) (plain : PageId → List ℕ) (c : Context) (w : World) →
     HasPlain plain w → LoadsIn n r c.space plain (instruction_inside n r c w)
@@ -252,7 +259,7 @@ unfolding in_placed
 copies_placed n r plain c done None cloaked w lies has = λ va value same. absurd cc
 copies_placed n r plain c done (Some q) true w lies has = λ va value same. absurd cc
 copies_placed n r plain c done (Some q) false w lies has =
-    copies_reached n r plain c q done _ _ lies (has_still plain w _ (shows_reach q _ Load w) has)
+    copies_reached n r plain c q done _ _ lies (has_reached plain q _ Load w has)
 
 copies_in_step : (all : Bool) (n : ℕ) (r : Resources) (plain : PageId → List ℕ) (c : Context) (done : ℕ) (w : World) →
     HasPlain plain w → CopiesIn n r c.space plain (in_step all n r c done w)

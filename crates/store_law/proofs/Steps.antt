@@ -1,5 +1,5 @@
 -- What a program's step shows: pages as it found them.
-use Rattle.std.proofs.Common.{◌≡◌, ℕ, Bool, true, false, List, [], ◌∷◌, Option, Some, None, Result, Ok, Err, refl}
+use Rattle.std.proofs.Common.{◌≡◌, ◌<◌, ℕ, Bool, true, false, List, [], ◌∷◌, Option, Some, None, Result, Ok, Err, refl}
 use Rattle.cloak_model.specs.declared.answer.Answer.{Answer}
 use Rattle.cloak_model.specs.declared.answer.Answer.TheVariants as told
 use Rattle.cloak_model.specs.declared.context.Phase.{Phase}
@@ -41,49 +41,50 @@ changes_forgets domain [] w = OnlyChanges-refl w
 changes_forgets domain (n ∷ rest) w =
     OnlyChanges-trans _ _ _ (changes_forget domain n w) (changes_forgets domain rest _)
 
-abbrev Forking : World → Told Fork → Type 0
-Forking w t = Shows (t.answer.answer ≡ Ok None) w t.world
+abbrev Forking : ℕ → World → Told Fork → Type 0
+Forking count w t = Shows count (t.answer.answer ≡ Ok None) w t.world
 
-abbrev EndingOne : World → Told End → Type 0
-EndingOne w t = Shows (t.answer.ending ≡ ends.Stopped) w t.world
+abbrev EndingOne : ℕ → World → Told End → Type 0
+EndingOne count w t = Shows count (t.answer.ending ≡ ends.Stopped) w t.world
 
-ends_fork_cleared : (domain : ℕ) (c : Context) (slot new : ℕ) (r : Resources) (contexts : List (Option Context))
-    (a : Answer) (w : World) → Forking w (fork_cleared domain c slot new r contexts a w)
+ends_fork_cleared : {count : ℕ} (domain : ℕ) (c : Context) (slot new : ℕ) (r : Resources)
+    (contexts : List (Option Context)) (a : Answer) (w : World) →
+    Forking count w (fork_cleared domain c slot new r contexts a w)
 unfolding fork_cleared
 ends_fork_cleared domain c slot new r contexts told.Ok w = Shows-changes w _ (changes_copies domain _ w) (λ is. absurd cc)
 ends_fork_cleared domain c slot new r contexts (told.Absent cause) w = Shows-refl w
 ends_fork_cleared domain c slot new r contexts (told.Word value) w = Shows-refl w
 ends_fork_cleared domain c slot new r contexts told.Stopped w = Shows-refl w
 
-ends_end_cleared : (domain slot space : ℕ) (r : Resources) (contexts : List (Option Context)) (a : Answer)
-    (w : World) → EndingOne w (end_cleared domain slot space r contexts a w)
+ends_end_cleared : {count : ℕ} (domain slot space : ℕ) (r : Resources) (contexts : List (Option Context)) (a : Answer)
+    (w : World) → EndingOne count w (end_cleared domain slot space r contexts a w)
 unfolding end_cleared
 ends_end_cleared domain slot space r contexts told.Ok w = Shows-changes w _ (changes_forgets domain _ w) (λ is. absurd cc)
 ends_end_cleared domain slot space r contexts (told.Absent cause) w = Shows-refl w
 ends_end_cleared domain slot space r contexts (told.Word value) w = Shows-refl w
 ends_end_cleared domain slot space r contexts told.Stopped w = Shows-refl w
 
-ends_fork_if : (fits : Result (Unit {0}) MapFault) (domain : ℕ) (c : Context) (r : Resources)
-    (contexts : List (Option Context)) (w : World) → Forking w (fork_if fits domain c r contexts w)
+ends_fork_if : {count : ℕ} (fits : Result (Unit {0}) MapFault) (domain : ℕ) (c : Context) (r : Resources)
+    (contexts : List (Option Context)) (w : World) → Forking count w (fork_if fits domain c r contexts w)
 unfolding fork_if
 ends_fork_if (Err fault) domain c r contexts w = Shows-refl w
 ends_fork_if (Ok fits) domain c r contexts w =
     Shows-behind _ _ _ (shows_clear domain _ w) (ends_fork_cleared domain c _ _ r contexts _ _)
 
-ends_fork : (domain : ℕ) (c : Context) (r : Resources) (contexts : List (Option Context)) (w : World) →
-    Forking w (fork domain c r contexts w)
+ends_fork : {count : ℕ} (domain : ℕ) (c : Context) (r : Resources) (contexts : List (Option Context)) (w : World) →
+    Forking count w (fork domain c r contexts w)
 unfolding fork
 ends_fork domain c r contexts w = ends_fork_if _ domain c r contexts w
 
-ends_end_if : (others : Bool) (domain slot space : ℕ) (r : Resources) (contexts : List (Option Context))
-    (w : World) → EndingOne w (end_if others domain slot space r contexts w)
+ends_end_if : {count : ℕ} (others : Bool) (domain slot space : ℕ) (r : Resources) (contexts : List (Option Context))
+    (w : World) → EndingOne count w (end_if others domain slot space r contexts w)
 unfolding end_if
 ends_end_if true domain slot space r contexts w = Shows-refl w
 ends_end_if false domain slot space r contexts w =
     Shows-behind _ _ _ (shows_clear domain _ w) (ends_end_cleared domain slot space r contexts _ _)
 
-ends_end_context : (domain slot space : ℕ) (r : Resources) (contexts : List (Option Context)) (w : World) →
-    EndingOne w (end_context domain slot space r contexts w)
+ends_end_context : {count : ℕ} (domain slot space : ℕ) (r : Resources) (contexts : List (Option Context)) (w : World) →
+    EndingOne count w (end_context domain slot space r contexts w)
 unfolding end_context
 ends_end_context domain slot space r contexts w = ends_end_if _ domain slot space r contexts w
 
@@ -114,8 +115,8 @@ copy_stop slot d c copied.Stopped is = refl
 copy_stop slot d c copied.Refused is = absurd cc
 copy_stop slot d c (copied.Loaded address byte) is = absurd cc
 
-ends_hypercall : (h : Hypercall) (slot : ℕ) (c : Context) (d : Control) (w : World) →
-    let t = hypercall h slot c d w in Shows (t.answer.went ≡ went.Stopped) w t.world
+ends_hypercall : {count : ℕ} (h : Hypercall) (slot : ℕ) (c : Context) (d : Control) (w : World) →
+    let t = hypercall h slot c d w in Shows count (t.answer.went ≡ went.Stopped) w t.world
 unfolding hypercall fork_call exit_call
 ends_hypercall New slot c d w = Shows-refl w
 ends_hypercall Map slot c d w = Shows-refl w
@@ -129,11 +130,11 @@ ends_hypercall Exit slot c d w =
 ends_hypercall Call slot c d w = Shows-refl w
 ends_hypercall Unknown slot c d w = Shows-refl w
 
-abbrev Stepping : World → Told DomainStepped → Type 0
-Stepping w t = Shows (t.answer.went ≡ went.Stopped) w t.world
+abbrev Stepping : ℕ → World → Told DomainStepped → Type 0
+Stepping count w t = Shows count (t.answer.went ≡ went.Stopped) w t.world
 
-instruction_ends : (slot : ℕ) (d : Domain) (u : World) (t : Told AfterInstruction) (e : Ran) → t.answer.ending ≡ e →
-    Instructs u t → Stepping u (instruction_ended slot d t.answer.context e t.world)
+instruction_ends : {count : ℕ} (slot : ℕ) (d : Domain) (u : World) (t : Told AfterInstruction) (e : Ran) →
+    t.answer.ending ≡ e → Instructs count u t → Stepping count u (instruction_ended slot d t.answer.context e t.world)
 unfolding instruction_ended
 instruction_ends slot d u t ran.Stay is i = record { ends = i.ends; stops = λ stopped. absurd cc }
 instruction_ends slot d u t (ran.Loaded address value) is i = record { ends = i.ends; stops = λ stopped. absurd cc }
@@ -142,23 +143,25 @@ instruction_ends slot d u t ran.Ecall is i =
     Shows-behind u t.world _ (i.calls is) (ends_hypercall _ slot _ _ t.world)
 instruction_ends slot d u t ran.Stopped is i = record { ends = i.ends; stops = λ stopped. i.stops is }
 
-ends_phase_step : (phase : Phase) (slot : ℕ) (c : Context) (d : Domain) (w : World) →
-    Stepping w (phase_step phase slot c d w)
+ends_phase_step : {count : ℕ} (phase : Phase) (slot : ℕ) (c : Context) (d : Domain) (w : World) →
+    d.control.number < count → Stepping count w (phase_step phase slot c d w)
 unfolding phase_step
-ends_phase_step Plain slot c d w =
-    instruction_ends slot d w _ _ refl (instructs_instruction _ _ c w)
-ends_phase_step (CopyIn done) slot c d w =
-    Shows-so w _ (λ is. copy_stop slot d _ _ is) (ends_copy_in_step _ _ c done w)
-ends_phase_step Waiting slot c d w = Shows-refl w
-ends_phase_step (CopyOut done total) slot c d w =
-    Shows-so w _ (λ is. copy_stop slot d _ _ is) (ends_copy_out_step _ _ c done total w)
+ends_phase_step Plain slot c d w low =
+    instruction_ends slot d w _ _ refl (instructs_instruction _ _ c w low)
+ends_phase_step (CopyIn done) slot c d w low =
+    Shows-so w _ (λ is. copy_stop slot d _ _ is) (ends_copy_in_step _ _ c done w low)
+ends_phase_step Waiting slot c d w low = Shows-refl w
+ends_phase_step (CopyOut done total) slot c d w low =
+    Shows-so w _ (λ is. copy_stop slot d _ _ is) (ends_copy_out_step _ _ c done total w low)
 
-ends_step_if : (c : Option Context) (slot : ℕ) (d : Domain) (w : World) → Stepping w (step_if c slot d w)
+ends_step_if : {count : ℕ} (c : Option Context) (slot : ℕ) (d : Domain) (w : World) → d.control.number < count →
+    Stepping count w (step_if c slot d w)
 unfolding step_if
-ends_step_if None slot d w = Shows-refl w
-ends_step_if (Some c) slot d w = ends_phase_step c.phase slot c d w
+ends_step_if None slot d w low = Shows-refl w
+ends_step_if (Some c) slot d w low = ends_phase_step c.phase slot c d w low
 
--- a step of a program shows pages as it found them, and where it was stopped it has changed none
-pub ends_domain_step : (slot : ℕ) (d : Domain) (w : World) → Stepping w (domain_step slot d w)
+-- a step of a program shows pages as it found them, and if it was stopped it has changed none
+pub ends_domain_step : {count : ℕ} (slot : ℕ) (d : Domain) (w : World) → d.control.number < count →
+    Stepping count w (domain_step slot d w)
 unfolding domain_step
-ends_domain_step slot d w = ends_step_if _ slot d w
+ends_domain_step slot d w low = ends_step_if _ slot d w low

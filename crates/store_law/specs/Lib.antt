@@ -1,3 +1,4 @@
 pub mod Ciphers
+pub mod Keys
 pub mod OwnPages
 pub mod Loads

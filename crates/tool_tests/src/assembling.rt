@@ -1,5 +1,6 @@
 //! A text that is assembled, and one that is not.
 
+use crate::checks::same;
 use asm_text::asm_command;
 use outside_io::{MemoryShelf, MemorySink};
 use program_parts::Status;
@@ -34,9 +35,9 @@ fn a_text_becomes_its_words(rt: HostRuntime) -> Result<(), Fail> {
     let text = b"go: \n addi x10, x0, 65 # A\n ecall\n .word 0x01020304\n";
     let words = [0x13, 0x05, 0x10, 0x04, 0x73, 0, 0, 0, 4, 3, 2, 1];
     let left = called(rt.alloc(), text)?;
-    assert_eq!(rt; left.status, Status::Done);
-    assert_eq!(rt; left.shelf.bytes("a.w"), words.as_slice());
-    assert_eq!(rt; left.sink.taken(), b"".as_slice());
+    same(&rt, &left.status, &Status::Done, "status");
+    same(&rt, &left.shelf.bytes("a.w"), &words.as_slice(), "words");
+    same(&rt, &left.sink.taken(), &b"".as_slice(), "output");
     Ok(())
 }
 
@@ -46,8 +47,8 @@ fn a_faulty_line_is_shown(rt: HostRuntime) -> Result<(), Fail> {
     let shown =
         "a.s:2: the first word is no instruction, and no label with its colon\n      ad x5, x6, x7 # sum\n";
     let left = called(rt.alloc(), text)?;
-    assert_eq!(rt; left.status, Status::BadBundle);
-    assert_eq!(rt; left.shelf.bytes("a.w"), b"".as_slice());
-    assert_eq!(rt; left.sink.taken(), shown.as_bytes());
+    same(&rt, &left.status, &Status::BadBundle, "status");
+    same(&rt, &left.shelf.bytes("a.w"), &b"".as_slice(), "words");
+    same(&rt, &left.sink.taken(), &shown.as_bytes(), "output");
     Ok(())
 }

@@ -5,6 +5,8 @@
 #[cfg(test)]
 mod assembling;
 #[cfg(test)]
+mod checks;
+#[cfg(test)]
 mod lines;
 #[cfg(test)]
 mod manifests;

@@ -1,5 +1,6 @@
 //! Lines over a text, a manifest and a record, from the words to the files and the output.
 
+use crate::checks::{holds, same};
 use outside_io::{MemoryShelf, MemorySink};
 use program_parts::Status;
 use std::alloc::Global;
@@ -43,30 +44,43 @@ fn called(alloc: Global, line: &str) -> Result<Left, Fail> {
 #[test]
 fn each_command_does_its_own(rt: HostRuntime) -> Result<(), Fail> {
     let left = called(rt.alloc(), "tools asm k.s k.w")?;
-    assert_eq!(rt; left.status, Status::Done);
-    assert_eq!(rt; left.shelf.bytes("k.w"), [0x73, 0, 0, 0].as_slice());
+    same(&rt, &left.status, &Status::Done, "asm");
+    same(
+        &rt,
+        &left.shelf.bytes("k.w"),
+        &[0x73, 0, 0, 0].as_slice(),
+        "words",
+    );
     // The bundle has 40 bytes in front, one turn, a segment's eight bytes, and the word.
     let left = called(rt.alloc(), "tools pack k.toml k.b")?;
-    assert_eq!(rt; left.status, Status::Done);
-    assert_eq!(rt; left.shelf.bytes("k.b").len(), 53);
+    same(&rt, &left.status, &Status::Done, "pack");
+    same(&rt, &left.shelf.bytes("k.b").len(), &53, "bytes");
     let left = called(rt.alloc(), "tools explain k.b a.r")?;
-    assert_eq!(rt; left.status, Status::BadBundle);
-    assert_eq!(rt; left.sink.taken(), b"bundle: short at 0\n".as_slice());
+    same(&rt, &left.status, &Status::BadBundle, "explain");
+    same(
+        &rt,
+        &left.sink.taken(),
+        &b"bundle: short at 0\n".as_slice(),
+        "output",
+    );
     Ok(())
 }
 
+/// Words, the status, and what the output begins with.
+static LINES: [(&str, Status, &str); 5] = [
+    ("tools show a.r --from 1 --to 1", Status::Done, "step 1\n"),
+    ("tools show a.r --only leave,put", Status::Done, ""),
+    ("tools show a.r --only leaves", Status::Usage, "error: "),
+    ("tools show a.r --from x", Status::Usage, "error: "),
+    ("tools --version", Status::Done, "tools 1.0\n"),
+];
+
 #[test]
 fn what_is_shown_by_the_words(rt: HostRuntime) -> Result<(), Fail> {
-    for (line, status, front) in [
-        ("tools show a.r --from 1 --to 1", Status::Done, "step 1\n"),
-        ("tools show a.r --only leave,put", Status::Done, ""),
-        ("tools show a.r --only leaves", Status::Usage, "error: "),
-        ("tools show a.r --from x", Status::Usage, "error: "),
-        ("tools --version", Status::Done, "tools 1.0\n"),
-    ] {
+    for &(line, status, front) in &LINES {
         let left = called(rt.alloc(), line)?;
-        assert_eq!(rt; left.status, status, "{line}");
-        assert!(rt; left.sink.taken().starts_with(front.as_bytes()), "{line}");
+        same(&rt, &left.status, &status, line);
+        holds(&rt, left.sink.taken().starts_with(front.as_bytes()), line);
     }
     Ok(())
 }

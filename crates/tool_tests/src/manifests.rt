@@ -1,5 +1,6 @@
 //! A manifest that means a bundle, and some that do not.
 
+use crate::checks::same;
 use manifest::pack_command;
 use outside_io::{MemoryShelf, MemorySink};
 use program_parts::Status;
@@ -33,18 +34,23 @@ fn packed(alloc: Global, manifest: &str) -> Result<Left, Fail> {
     })
 }
 
-/// By the table of the format: 40 bytes of numbers, 3 turns, a segment of 8 and 8 bytes, 2 blocks, a program of 20 bytes and
+/// By the table of the format: 40 bytes of numbers, 3 turns, a segment of 8 and 8 bytes, 2 blocks, a program of 24 bytes and
 /// a page.
 #[test]
 fn a_whole_manifest_is_packed(rt: HostRuntime) -> Result<(), Fail> {
     let manifest = "frames = 80\nharts = 2\nschedule = [0, 1, 1]\nentry = 0x80000004\n\
         [[segment]]\naddress = 0x80001000\ntext = \"k.s\"\n\
         [disk]\nblocks = 2\n[[disk.file]]\nblock = 1\nbytes = \"p.bin\"\n\
-        [[program]]\nbytes = \"p.bin\"\nplace = 79\nbase = 0x00400000\nentry = 0x00400004\n";
+        [[program]]\nbytes = \"p.bin\"\nplace = 79\nbase = 0x00400000\nentry = 0x00400004\nkey = 3\n";
     let left = packed(rt.alloc(), manifest)?;
-    assert_eq!(rt; left.status, Status::Done);
-    assert_eq!(rt; left.length, 40 + 3 + 16 + 8192 + 20 + 4096);
-    assert_eq!(rt; left.shown.as_str(), "");
+    same(&rt, &left.status, &Status::Done, "status");
+    same(
+        &rt,
+        &left.length,
+        &(40 + 3 + 16 + 8192 + 24 + 4096),
+        "length",
+    );
+    same(&rt, &left.shown.as_str(), &"", "output");
     Ok(())
 }
 
@@ -53,13 +59,20 @@ fn a_faulty_manifest_is_told_by_its_key(rt: HostRuntime) -> Result<(), Fail> {
     let manifest = "[[program]]\nbytes = \"p.bin\"\nplace = 1\nbase = 1";
     let shown = "in/m.toml: program 1: base: it is to be a multiple of 4096\n";
     let left = packed(rt.alloc(), manifest)?;
-    assert_eq!(rt; left.status, Status::BadBundle);
-    assert_eq!(rt; left.length, 0);
-    assert_eq!(rt; left.shown.as_str(), shown);
+    same(&rt, &left.status, &Status::BadBundle, "status");
+    same(&rt, &left.length, &0, "length");
+    same(&rt, &left.shown.as_str(), &shown, "output");
+    let manifest = "[[program]]\nbytes = \"p.bin\"\nplace = 1\nbase = 0\nkey = 4";
+    let shown = "in/m.toml: program 1: key: it is to be a whole number from 0 to 3\n";
+    let left = packed(rt.alloc(), manifest)?;
+    same(&rt, &left.status, &Status::BadBundle, "status of key 4");
+    same(&rt, &left.shown.as_str(), &shown, "output of key 4");
     let left = packed(rt.alloc(), "frame = 64")?;
-    assert_eq!(rt;
-        left.shown.as_str(),
-        "in/m.toml: frame: there is no key of this name here\n"
+    same(
+        &rt,
+        &left.shown.as_str(),
+        &"in/m.toml: frame: there is no key of this name here\n",
+        "another key",
     );
     Ok(())
 }

@@ -1,5 +1,6 @@
 //! Records as they are shown. The bytes of the records are those of the table of the format.
 
+use crate::checks::same;
 use outside_io::{MemoryShelf, MemorySink};
 use program_parts::Status;
 use record_text::{Kinds, Selection, show_command};
@@ -59,7 +60,7 @@ fn shown(
 fn a_record_is_shown_line_by_line(rt: HostRuntime) -> Result<(), Fail> {
     let sink = shown(rt.alloc(), ITEMS, &ALL, Status::Done)?;
     let text = std::str::from_utf8(sink.taken()).unwrap_or("");
-    assert_eq!(rt; text, TEXT);
+    same(&rt, &text, &TEXT, "lines");
     Ok(())
 }
 
@@ -79,7 +80,7 @@ fn what_is_chosen_is_shown(rt: HostRuntime) -> Result<(), Fail> {
 step 3; context 0 leaves: environment call from U-mode: WRITE (00000001) with 00000001 00408000 00000006 00000000 00000000 00000000
 step 5; context 8 leaves: load page fault at page 00401000
 ";
-    assert_eq!(rt; sink.taken(), want.as_bytes());
+    same(&rt, &sink.taken(), &want.as_bytes(), "some lines");
     let counts = Selection {
         counts: true,
         ..some
@@ -87,23 +88,25 @@ step 5; context 8 leaves: load page fault at page 00401000
     let sink = shown(rt.alloc(), ITEMS, &counts, Status::Done)?;
     let want =
         "cipher 0\nput 1\nleave 2\nok 0\nabsent 0\nword 0\ntimer 0\nresume 0\nstopped 0\nended 0\n";
-    assert_eq!(rt; sink.taken(), want.as_bytes());
+    same(&rt, &sink.taken(), &want.as_bytes(), "counts");
     Ok(())
 }
 
+/// Records, and what is shown of them.
+static DAMAGED: [(&[u8], &str); 3] = [
+    (
+        b"CLOAKREC\x10\x01\0\0\0\x99",
+        "opening\nstep 1\nrecord: tag at 13\n",
+    ),
+    (b"CLOAKREC\x10\x01\0\0", "opening\nrecord: short at 12\n"),
+    (b"CLOAKREX", "opening\nrecord: magic\n"),
+];
+
 #[test]
 fn a_damaged_record_is_shown_to_its_fault(rt: HostRuntime) -> Result<(), Fail> {
-    let rows: [(&[u8], &str); 3] = [
-        (
-            b"CLOAKREC\x10\x01\0\0\0\x99",
-            "opening\nstep 1\nrecord: tag at 13\n",
-        ),
-        (b"CLOAKREC\x10\x01\0\0", "opening\nrecord: short at 12\n"),
-        (b"CLOAKREX", "opening\nrecord: magic\n"),
-    ];
-    for (record, want) in rows {
+    for &(record, want) in &DAMAGED {
         let sink = shown(rt.alloc(), record, &ALL, Status::BadRecord)?;
-        assert_eq!(rt; sink.taken(), want.as_bytes(), "{want}");
+        same(&rt, &sink.taken(), &want.as_bytes(), want);
     }
     Ok(())
 }

@@ -1,6 +1,7 @@
 //! Runs as they are told: a violation of each rule, and what is none. The records are written by hand, from the code of the
 //! kernels and the rules of the record; what a frame shows is not enciphered, but the same byte throughout.
 
+use crate::checks::same;
 use outside_io::{MemoryShelf, MemorySink};
 use program_parts::Status;
 use run_story::explain_command;
@@ -205,7 +206,7 @@ const HALTS: &[u32] = &[0x0040_0893, 0x0000_0073];
 /// `lui x17,0x4F560`; `addi x17,x17,7`; `ecall`
 const EXITS: &[u32] = &[0x4f56_08b7, 0x0078_8893, 0x0000_0073];
 
-const CASES: [Case; 13] = [
+static CASES: [Case; 13] = [
     Case {
         kernel: STORES,
         harts: 1,
@@ -464,8 +465,13 @@ fn told(alloc: Global, case: &Case) -> Result<(Status, MemorySink), Fail> {
 fn each_rule_is_told(rt: HostRuntime) -> Result<(), Fail> {
     for case in &CASES {
         let (status, sink) = told(rt.alloc(), case)?;
-        assert_eq!(rt; std::str::from_utf8(sink.taken()).unwrap_or(""), case.story);
-        assert_eq!(rt; status, case.status);
+        same(
+            &rt,
+            &std::str::from_utf8(sink.taken()).unwrap_or(""),
+            &case.story,
+            "story",
+        );
+        same(&rt, &status, &case.status, case.story);
     }
     Ok(())
 }

@@ -108,7 +108,7 @@ unfolding
     touched.touched_after touched.touched ahead.settle_while ahead.settle_touched ahead.made_after ahead.settled_step
     leaving.shown_registers leaving.leave resuming.by_root resuming.by_context resuming.by_domain resuming.resume
     opening.started_ledger opening.started_kernel opening.started_memory opening.started_joint opening.opened_with
-    opening.opened_by joint.outside_ended joint.after_outside joint.outside_step joint.domain_ended
+    opening.opened_by opening.drawn_keys joint.outside_ended joint.after_outside joint.outside_step joint.domain_ended
     joint.after_domain_step joint.interrupt_ended joint.after_interrupt joint.by_interrupt joint.by_running
     joint.inside_step joint.turn_of ending.settled_for ending.ask_end ending.ended_domain joint.end_domain
     joint.ends_once joint.ends_resumed joint.ends_asked joint.answers_violation joint.joint_step run.turns_from run.joint_after run.last_stop run.settled_below run.closing

@@ -5,7 +5,6 @@ use Rattle.std.specs.List.{flat_map}
 use Rattle.std.specs.Str.{bytes_eq}
 use Rattle.cloak_base.specs.Pages.{zero_page, with_page, is_of}
 use Rattle.cloak_base.specs.Random.{Random, handed}
-use Rattle.cloak_base.specs.declared.causes.Stop.TheVariants as stop
 use Rattle.cloak_base.specs.declared.causes.Violation.TheVariants as violation
 use Rattle.cloak_base.specs.declared.names.Kind.TheVariants.{Fetch}
 use Rattle.cloak_base.specs.declared.names.SpaceId.{SpaceId}
@@ -14,73 +13,73 @@ use Rattle.cloak_model.specs.declared.answer.Answer.TheVariants as told
 use Rattle.cloak_model.specs.declared.item.Item.TheVariants as item
 use Rattle.cloak_model.specs.Bits.{word}
 use Rattle.cloak_model.specs.Bundle as bundle
-use Rattle.cloak_model.specs.Chain.{cbc}
+use Rattle.cloak_model.specs.BundleFault as faults
 use Rattle.cloak_model.specs.Cloaking.{CloakedMemory, with_comparison}
 use Rattle.cloak_model.specs.Contexts.{Context, with_space}
 use Rattle.cloak_model.specs.Exchange as exchange
+use Rattle.cloak_model.specs.Fields as fields
 use Rattle.cloak_model.specs.Exchange.{record_of}
 use Rattle.cloak_model.specs.Hart.{Hart}
 use Rattle.cloak_model.specs.Joint.{end_domain, Moment, Turn, joint_step, quiet, stop_of}
 use Rattle.cloak_model.specs.Memory.{with_value_in}
-use Rattle.cloak_model.specs.Opening.{Lack, Opened, opening, numbers_below}
+use Rattle.cloak_model.specs.Opening.{Lack, Opened, opening, numbers_below, keys_for}
 use Rattle.cloak_model.specs.Asking.{Told}
 use Rattle.cloak_model.specs.Parts.{Joint}
 use Rattle.cloak_model.specs.Run as run
 use Rattle.cloak_model.specs.Run.{Run, run_of_turns, turns_from}
 use Rattle.cloak_model.specs.World.{Cloaked}
-use Rattle.worked_rows.specs.Images.{halt, boot, flip_and_resume, look_and_resume, remap_and_resume, resume_words, exit_words, image, image_of, page_with, words_page}
+use Rattle.worked_rows.specs.Images.{keyed_program, keyed_image, halt, boot, flip_and_resume, look_and_resume, remap_and_resume, resume_words, exit_words, image_of, page_with, words_page}
 use Rattle.worked_rows.specs.Runs.{running, registers_from}
-use Rattle.worked_rows.specs.JointRuns.{seen, seen_of, read_off, counted, key, draw_1, draw_2, csrs_of, inside_hart, outside_hart}
-use Rattle.worked_rows.specs.JointRows.{opening_cipher, closing_cipher, program_with, started_context, not_started, answered_context, gone_program, shown_exit, whole, WholeRun, ThreeDraws, TwoDraws, OtherRoot, AfterExit, FlippedBit, NothingFlipped}
+use Rattle.worked_rows.specs.JointRuns.{one_key, seen, seen_of, read_off, counted, key, draw_1, draw_2, csrs_of, inside_hart, outside_hart}
+use Rattle.worked_rows.specs.JointRows.{whole_image, whole_items, other_opening, other_closing, OtherKey, opening_cipher, closing_cipher, program_with, started_context, not_started, answered_context, gone_program, shown_exit, whole, WholeRun, ThreeDraws, TwoDraws, OtherRoot, AfterExit, FlippedBit, NothingFlipped}
 use Rattle.worked_rows.proofs.Ciphers.{length-cbc, length-record_of, IsBytes-cbc, IsBytes-computed, flipped_word, flipped-differs}
 use Rattle.worked_rows.proofs.Computing.{joint_steps, joint_runs}
 use Rattle.worked_rows.proofs.Offers.{refused_events, reach-shown, reach-changed}
-use Rattle.worked_rows.proofs.Turns.{first_turns, moment_after, goes_on, plus, turns_from-step, turns_from-last, turns_from-plus}
-use Rattle.worked_rows.proofs.Whole.{page, ram_of, plain_of, bare_root, opened_memory, resumed_memory, stored_page, stored_plain, first_hart, program_hart, machine, at_step, opened_moment, left_moment, fetched_step, cloak_for, fetch_granted, joint_step-of, turns_from-boot, turns_to_call, turns_from-call}
+use Rattle.worked_rows.proofs.Turns.{first_turns, moment_after, goes_on, plus, turns_from-step, turns_from-plus}
+use Rattle.worked_rows.proofs.Whole.{Begun, first_shown, page, ram_of, plain_of, bare_root, opened_memory, resumed_memory, stored_page, stored_plain, first_hart, program_hart, machine, at_step, opened_moment, left_moment, fetched_step, cloak_for, fetch_granted, joint_step-of, turns_from-boot, turns_to_call, turns_from-call}
 
 -- Runs of a program of one page, by the words of its kernel behind the boot.
 
-abbrev opened : List ℕ → List ℕ → Random → Opened
-opened bytes rest stream =
+abbrev opened : List ℕ → List ℕ → Begun → Opened
+opened bytes rest begun =
     record {
-      joint = machine first_hart (program_with not_started []) (opened_memory bytes rest stream);
-      items =
-          item.Cipher 8 (cbc key draw_1 bytes) ∷ [];
+      joint = machine first_hart (program_with not_started []) (opened_memory bytes rest begun);
+      items = item.Cipher 8 (first_shown begun bytes) ∷ [];
     }
 
 -- what stands in the kernel's frame behind its boot
 abbrev behind_boot : List ℕ → List ℕ
 behind_boot words = flat_map word words ++ replicate (4076 - 4 * length words) 0
 
--- the rest of the counted bytes behind the key and the first draw
-abbrev behind_draw : ℕ → Random
-behind_draw n = handed (drop 32 (numbers_below n))
+-- what a run whose program has key 0 draws of the counted bytes as it begins
+abbrev behind_draw : ℕ → Begun
+behind_draw n = record { keys = one_key; draw = draw_1; stream = handed (drop 32 (numbers_below n)) }
 
 -- what is read off a run that there is
 abbrev there_is : {A : Type 0} → A → Result A Lack
 there_is a = Ok a
 
 -- the run from the program's call on
-abbrev run_from_call : List ℕ → Random → ℕ → Run
-run_from_call rest stream n =
-    run_of_turns (opened words_page rest stream) (turns_to_call rest stream (turns_from n (left_moment rest stream)))
+abbrev run_from_call : List ℕ → Begun → ℕ → Run
+run_from_call rest begun n =
+    run_of_turns (opened words_page rest begun) (turns_to_call rest begun (turns_from n (left_moment rest begun)))
 
-read_off-from_call : {A : Type 0} (what : Run → A) (words : List ℕ) (stream : Random) (rest : List ℕ) (left : Random)
-    (n : ℕ) → opening (image words) stream ≡ Ok (opened words_page rest left)
-    → read_off what (image words) stream (plus 12 n) ≡ there_is (what (run_from_call rest left n))
+read_off-from_call : {A : Type 0} (what : Run → A) (number : ℕ) (words : List ℕ) (stream : Random) (rest : List ℕ)
+    (begun : Begun) (n : ℕ) → opening (keyed_image number words) stream ≡ Ok (opened words_page rest begun)
+    → read_off what (keyed_image number words) stream (plus 12 n) ≡ there_is (what (run_from_call rest begun n))
 unfolding run.run_of
-read_off-from_call what words stream rest left n opens =
+read_off-from_call what number words stream rest begun n opens =
     rw opens refl
-    ∙ ap (λ (ts : List Turn). there_is (what (run_of_turns (opened words_page rest left) ts)))
-    (turns_from-call rest left n)
+    ∙ ap (λ (ts : List Turn). there_is (what (run_of_turns (opened words_page rest begun) ts)))
+    (turns_from-call rest begun n)
 
 -- The kernel halts.
 
-halts : {A : Type 0} (what : Run → A) (n : ℕ) → opening (image (boot ++ halt)) (counted n) ≡
-    Ok (opened words_page (behind_boot halt) (behind_draw n))
-    → read_off what (image (boot ++ halt)) (counted n) 100 ≡
-    there_is (what (run_from_call (behind_boot halt) (behind_draw n) 88))
-halts what n opens = read_off-from_call what (boot ++ halt) (counted n) (behind_boot halt) (behind_draw n) 88 opens
+halts : {A : Type 0} (what : Run → A) (number n : ℕ) (begun : Begun) → opening (whole_image number) (counted n) ≡
+    Ok (opened words_page (behind_boot halt) begun)
+    → read_off what (whole_image number) (counted n) 100 ≡ there_is (what (run_from_call (behind_boot halt) begun 88))
+halts what number n begun opens =
+    read_off-from_call what number (boot ++ halt) (counted n) (behind_boot halt) begun 88 opens
 
 halted : seen_of (run_from_call (behind_boot halt) (behind_draw 256) 88) ≡ whole
 unfolding joint_runs turns_to_call
@@ -93,7 +92,12 @@ whole_size = length-record_of whole.items
 
 pub whole_program : WholeRun
 unfolding joint_runs zero_page bundle.bundle_bytes
-whole_program = record { run = halts seen_of 256 refl ∙ ap there_is halted; size = whole_size; image_size = refl }
+whole_program = record {
+  run = halts seen_of 0 256 (behind_draw 256) refl ∙ ap there_is halted;
+  size = whole_size;
+  image_size = refl;
+  keyed_size = refl;
+}
 
 halted_48 : seen_of (run_from_call (behind_boot halt) (behind_draw 48) 88) ≡ whole
 unfolding joint_runs turns_to_call
@@ -101,18 +105,43 @@ halted_48 = refl
 
 pub three_draws : ThreeDraws
 unfolding joint_runs zero_page
-three_draws = halts seen_of 48 refl ∙ ap there_is halted_48
+three_draws = halts seen_of 0 48 (behind_draw 48) refl ∙ ap there_is halted_48
 
 -- without a draw for the closing
 pub two_draws : TwoDraws
 unfolding joint_runs turns_to_call zero_page
-two_draws = halts seen_of 47 refl ∙ refl
+two_draws = halts seen_of 0 47 (behind_draw 47) refl ∙ refl
+
+-- The same under key 1.
+
+-- what is drawn then: a key more
+abbrev behind_other : ℕ → Begun
+behind_other n = record {
+  keys = keys_for (keyed_program 1 words_page ∷ []) (key ∷ draw_1 ∷ []);
+  draw = draw_2;
+  stream = handed (drop 48 (numbers_below n));
+}
+
+other_halted : seen_of (run_from_call (behind_boot halt) (behind_other 256) 88) ≡
+    record whole { items = whole_items other_opening other_closing }
+unfolding joint_runs turns_to_call
+other_halted = refl
+
+pub other_key : OtherKey
+unfolding joint_runs turns_to_call zero_page bundle.bundle_bytes faults.header faults.bundle_fault fields.parts fields.after_parts
+other_key = record {
+  run = halts seen_of 1 256 (behind_other 256) refl ∙ ap there_is other_halted;
+  no_last_draw = halts seen_of 1 48 (behind_other 48) refl ∙ refl;
+  no_page_draw = refl;
+  no_key = refl;
+  no_such_key = refl;
+}
 
 -- The kernel resumes the program with another page table.
 pub other_root : OtherRoot
 unfolding joint_runs turns_to_call zero_page
 other_root =
-    read_off-from_call seen_of (boot ++ remap_and_resume) (counted 256) (behind_boot remap_and_resume)
+    read_off-from_call seen_of 0 (boot ++ remap_and_resume) (counted 256) (behind_boot remap_and_resume)
     (behind_draw 256) 5 refl ∙ refl
 
 -- The kernel looks into the program's frame, and maybe flips a bit of it.
@@ -134,7 +163,7 @@ looked_memory rest shown = record {
   ram = ram_of rest shown;
   plain = stored_plain;
   ledger = record {
-    key = key;
+    keys = one_key;
     stream = handed (drop 48 (numbers_below 256));
     draws = 2;
     recorded = with_page (with_page (λ q. None) page (Some opening_cipher)) page (Some closing_cipher);
@@ -200,7 +229,7 @@ run_with words turns =
 pub nothing_flipped : NothingFlipped
 unfolding joint_runs first_turns turns_to_call zero_page
 nothing_flipped =
-    read_off-from_call seen_of (boot ++ look_and_resume) (counted 256) (behind_boot look_and_resume)
+    read_off-from_call seen_of 0 (boot ++ look_and_resume) (counted 256) (behind_boot look_and_resume)
     (behind_draw 256) 7 refl
     ∙ ap (λ (ts : List Turn). there_is (seen_of (run_with look_and_resume ts))) look_turns
     ∙ refl
@@ -282,7 +311,7 @@ flip_turns =
 pub flipped_bit : FlippedBit
 unfolding joint_runs first_turns turns_to_call zero_page flip_met flip_turn
 flipped_bit =
-    read_off-from_call seen_of (boot ++ flip_and_resume) (counted 256) (behind_boot flip_and_resume)
+    read_off-from_call seen_of 0 (boot ++ flip_and_resume) (counted 256) (behind_boot flip_and_resume)
     (behind_draw 256) 8 refl
     ∙ ap (λ (ts : List Turn). there_is (seen_of (run_with flip_and_resume ts))) flip_turns
     ∙ refl

@@ -1,5 +1,5 @@
 -- The steps that several rows share: the kernel's boot, and the program up to its call. They are the same for all that
--- stands behind the boot, and for every rest of the stream.
+-- stands behind the boot, and for all keys, draws and rests of the stream.
 use Rattle.std.proofs.Common.{◌≡◌, ℕ, refl, true, false, List, [], ◌∷◌, ◌++◌, Option, Some, None, ◌∙◌, ap}
 use Rattle.std.specs.Prelude.{replicate}
 use Rattle.std.specs.List.{flat_map}
@@ -17,6 +17,7 @@ use Rattle.cloak_model.specs.Chain.{cbc}
 use Rattle.cloak_model.specs.Memory.{with_value_in}
 use Rattle.cloak_model.specs.Cloaking.{CloakedMemory}
 use Rattle.cloak_model.specs.Hart.{Hart}
+use Rattle.cloak_model.specs.Ledger.{Keys, key_in}
 use Rattle.cloak_model.specs.Contexts.{Context, with_space}
 use Rattle.cloak_model.specs.DomainState.{Domain}
 use Rattle.cloak_model.specs.DomainStep.{instruction_ended}
@@ -29,7 +30,7 @@ use Rattle.cloak_model.specs.Joint.{answers_violation, Moment, Turn, joint_step,
 use Rattle.cloak_model.specs.Run.{turns_from}
 use Rattle.worked_rows.specs.Images.{boot, words_page}
 use Rattle.worked_rows.specs.Runs.{running, registers_from}
-use Rattle.worked_rows.specs.JointRuns.{key, draw_1, csrs_of, outside_hart, inside_hart}
+use Rattle.worked_rows.specs.JointRuns.{csrs_of, outside_hart, inside_hart}
 use Rattle.worked_rows.specs.JointRows.{program_resources, program_with, program_at_call, called_hart, started_context, not_started}
 use Rattle.worked_rows.proofs.Computing.{joint_steps, told_steps, joint_runs}
 use Rattle.worked_rows.proofs.Offers.{granted_events, reach-shown}
@@ -39,6 +40,16 @@ use Rattle.worked_rows.proofs.Turns.{first_turns, moment_after, goes_on, plus, t
 
 abbrev pub page : PageId
 page = record { domain = 0; resource = 0; page = 0 }
+
+-- what a run drew as it began: its keys and the draw of the program's page; and the rest of its stream
+pub record Begun : Type 0 where
+  pub keys : Keys
+  pub draw : List ℕ
+  pub stream : Random
+
+-- a program's page of these bytes as the kernel is shown it first
+abbrev pub first_shown : Begun → List ℕ → List ℕ
+first_shown begun bytes = cbc (key_in begun.keys page) begun.draw bytes
 
 -- frame 0 has the kernel, and the kernel sees these bytes in frame 8
 abbrev pub ram_of : List ℕ → List ℕ → List (List ℕ)
@@ -52,16 +63,16 @@ abbrev pub bare_root : SpaceId → Option ℕ
 bare_root = with_space no_root (record { domain = 0; number = 0 }) (Some 0)
 
 -- a program's page of these bytes was opened
-abbrev pub memory_of : List ℕ → List ℕ → Random → (SpaceId → Option ℕ) → (PageId → List ℕ) → List (Option PageId) →
+abbrev pub memory_of : List ℕ → List ℕ → Begun → (SpaceId → Option ℕ) → (PageId → List ℕ) → List (Option PageId) →
     CloakedMemory
-memory_of bytes rest stream root plain owed = record {
-  ram = ram_of rest (cbc key draw_1 bytes);
+memory_of bytes rest begun root plain owed = record {
+  ram = ram_of rest (first_shown begun bytes);
   plain = plain;
   ledger = record {
-    key = key;
-    stream = stream;
+    keys = begun.keys;
+    stream = begun.stream;
     draws = 1;
-    recorded = with_page (λ q. None) page (Some (cbc key draw_1 bytes));
+    recorded = with_page (λ q. None) page (Some (first_shown begun bytes));
     owed = owed;
     root = root;
     missed = false;
@@ -74,11 +85,11 @@ abbrev pub plain_of : List ℕ → PageId → List ℕ
 plain_of bytes = with_page (λ q. zero_page) page bytes
 
 -- as the run begins, and after the first resume
-abbrev pub opened_memory : List ℕ → List ℕ → Random → CloakedMemory
-opened_memory bytes rest stream = memory_of bytes rest stream no_root (plain_of bytes) (replicate 64 None)
+abbrev pub opened_memory : List ℕ → List ℕ → Begun → CloakedMemory
+opened_memory bytes rest begun = memory_of bytes rest begun no_root (plain_of bytes) (replicate 64 None)
 
-abbrev pub resumed_memory : List ℕ → List ℕ → Random → CloakedMemory
-resumed_memory bytes rest stream = memory_of bytes rest stream bare_root (plain_of bytes) (replicate 64 None)
+abbrev pub resumed_memory : List ℕ → List ℕ → Begun → CloakedMemory
+resumed_memory bytes rest begun = memory_of bytes rest begun bare_root (plain_of bytes) (replicate 64 None)
 
 -- the page with the 7 that the program stores
 abbrev pub stored_page : List ℕ
@@ -91,8 +102,8 @@ owed_page = replicate 8 None ++ (Some page ∷ replicate 55 None)
 abbrev pub stored_plain : PageId → List ℕ
 stored_plain = with_page (plain_of words_page) page stored_page
 
-abbrev pub stored_memory : List ℕ → Random → CloakedMemory
-stored_memory rest stream = memory_of words_page rest stream bare_root stored_plain owed_page
+abbrev pub stored_memory : List ℕ → Begun → CloakedMemory
+stored_memory rest begun = memory_of words_page rest begun bare_root stored_plain owed_page
 
 -- the hart as it starts, and as it runs the program
 abbrev pub first_hart : Hart
@@ -118,29 +129,29 @@ at_step steps j = record { schedule = 0 ∷ []; steps = steps; joint = j }
 
 -- The kernel's boot: five steps.
 
-abbrev pub opened_moment : List ℕ → List ℕ → Random → Moment
-opened_moment bytes rest stream =
-    at_step 0 (machine first_hart (program_with not_started []) (opened_memory bytes rest stream))
+abbrev pub opened_moment : List ℕ → List ℕ → Begun → Moment
+opened_moment bytes rest begun =
+    at_step 0 (machine first_hart (program_with not_started []) (opened_memory bytes rest begun))
 
-abbrev pub resumed_moment : List ℕ → List ℕ → Random → Moment
-resumed_moment bytes rest stream =
-    at_step 5 (machine program_hart (program_with started_context []) (resumed_memory bytes rest stream))
+abbrev pub resumed_moment : List ℕ → List ℕ → Begun → Moment
+resumed_moment bytes rest begun =
+    at_step 5 (machine program_hart (program_with started_context []) (resumed_memory bytes rest begun))
 
-boots : (bytes rest : List ℕ) (stream : Random) → moment_after 5 (opened_moment bytes rest stream) ≡
-    resumed_moment bytes rest stream
+boots : (bytes rest : List ℕ) (begun : Begun) → moment_after 5 (opened_moment bytes rest begun) ≡
+    resumed_moment bytes rest begun
 unfolding joint_steps moment_after
-boots bytes rest stream = refl
+boots bytes rest begun = refl
 
-boot_goes_on : (bytes rest : List ℕ) (stream : Random) → goes_on 5 (opened_moment bytes rest stream) ≡ true
+boot_goes_on : (bytes rest : List ℕ) (begun : Begun) → goes_on 5 (opened_moment bytes rest begun) ≡ true
 unfolding joint_steps goes_on
-boot_goes_on bytes rest stream = refl
+boot_goes_on bytes rest begun = refl
 
-pub turns_from-boot : (bytes rest : List ℕ) (stream : Random) (n : ℕ)
-    → turns_from (plus 5 n) (opened_moment bytes rest stream) ≡ first_turns 5 (opened_moment bytes rest stream)
-    ++ turns_from n (resumed_moment bytes rest stream)
-turns_from-boot bytes rest stream n =
-    turns_from-plus 5 n (opened_moment bytes rest stream) (boot_goes_on bytes rest stream)
-    ∙ ap (λ (m : Moment). first_turns 5 (opened_moment bytes rest stream) ++ turns_from n m) (boots bytes rest stream)
+pub turns_from-boot : (bytes rest : List ℕ) (begun : Begun) (n : ℕ)
+    → turns_from (plus 5 n) (opened_moment bytes rest begun) ≡ first_turns 5 (opened_moment bytes rest begun)
+    ++ turns_from n (resumed_moment bytes rest begun)
+turns_from-boot bytes rest begun n =
+    turns_from-plus 5 n (opened_moment bytes rest begun) (boot_goes_on bytes rest begun)
+    ∙ ap (λ (m : Moment). first_turns 5 (opened_moment bytes rest begun) ++ turns_from n m) (boots bytes rest begun)
 
 -- A step of the one context, by what its fetch is told.
 
@@ -187,139 +198,139 @@ joint_step-of n h d c m t s = s.asks ∙ ap (fetched_step h d c m) s.tells ∙ s
 abbrev pub with_seven : ℕ → Context
 with_seven pc = running pc (registers_from 2 (0x80008100 ∷ []) (registers_from 10 (7 ∷ []) (replicate 32 0)))
 
-abbrev fetched_moment : List ℕ → Random → Moment
-fetched_moment rest stream =
-    at_step 6 (machine program_hart (program_with (with_seven 0x80008004) []) (resumed_memory words_page rest stream))
+abbrev fetched_moment : List ℕ → Begun → Moment
+fetched_moment rest begun =
+    at_step 6 (machine program_hart (program_with (with_seven 0x80008004) []) (resumed_memory words_page rest begun))
 
-abbrev stored_moment : List ℕ → Random → Moment
-stored_moment rest stream =
-    at_step 7 (machine program_hart (program_with (with_seven 0x80008008) []) (stored_memory rest stream))
+abbrev stored_moment : List ℕ → Begun → Moment
+stored_moment rest begun =
+    at_step 7 (machine program_hart (program_with (with_seven 0x80008008) []) (stored_memory rest begun))
 
-abbrev first_turn : List ℕ → Random → Turn
-first_turn rest stream =
-    quiet (machine program_hart (program_with (with_seven 0x80008004) []) (resumed_memory words_page rest stream))
+abbrev first_turn : List ℕ → Begun → Turn
+first_turn rest begun =
+    quiet (machine program_hart (program_with (with_seven 0x80008004) []) (resumed_memory words_page rest begun))
     (item.Ok 0 ∷ [])
 
-first : (rest : List ℕ) (stream : Random) → joint_step (resumed_moment words_page rest stream) ≡ first_turn rest stream
+first : (rest : List ℕ) (begun : Begun) → joint_step (resumed_moment words_page rest begun) ≡ first_turn rest begun
 unfolding joint_steps fetched_step fetch_granted
-first rest stream =
+first rest begun =
     joint_step-of 5 program_hart (program_with started_context []) started_context
-    (resumed_memory words_page rest stream) (first_turn rest stream) (record {
+    (resumed_memory words_page rest begun) (first_turn rest begun) (record {
       told = fetch_granted program_hart (program_with started_context []) started_context
-          (resumed_memory words_page rest stream);
+          (resumed_memory words_page rest begun);
       asks = refl;
       tells = reach-shown page 0x80008000 Fetch
           (cloak_for program_hart (program_with started_context []) started_context
-          (resumed_memory words_page rest stream)) (record { bare = refl; inside = refl; drawn = refl })
+          (resumed_memory words_page rest begun)) (record { bare = refl; inside = refl; drawn = refl })
           (record { owed = refl; owing = refl; shown = refl });
       ends = refl;
     })
 
 -- the store, by what its reaching of the page is told
-store_step : List ℕ → Random → Told Answer → Turn
+store_step : List ℕ → Begun → Told Answer → Turn
 unfolding told_steps
-store_step rest stream told =
+store_step rest begun told =
     let d = program_with (with_seven 0x80008004) [] in
-    let t = after_domain_step (machine program_hart d (resumed_memory words_page rest stream)) 0 program_hart 0
+    let t = after_domain_step (machine program_hart d (resumed_memory words_page rest begun)) 0 program_hart 0
     (then_ask (store_reached (with_seven 0x80008004) page 0x80008100 4 7 told.answer)
     (λ made. instruction_ended 0 d made.context made.ending) told.world) in
     answers_violation program_hart.inside t.violation t
 
 -- the memory as it asks for that, and as it was granted
-storing : List ℕ → Random → Cloak
+storing : List ℕ → Begun → Cloak
 unfolding cloak_for
-storing rest stream =
+storing rest begun =
     let before = cloak_for program_hart (program_with (with_seven 0x80008004) []) (with_seven 0x80008004)
-    (resumed_memory words_page rest stream) in
+    (resumed_memory words_page rest begun) in
     record before { items = item.Ok 0 ∷ []; events = granted_events page 0x80008004 Fetch before }
 
-store_granted : List ℕ → Random → Told Answer
+store_granted : List ℕ → Begun → Told Answer
 unfolding storing
-store_granted rest stream = record {
+store_granted rest begun = record {
   answer = told.Ok;
-  world = Cloaked (record (storing rest stream) {
-    memory = memory_of words_page rest stream bare_root (plain_of words_page) owed_page;
+  world = Cloaked (record (storing rest begun) {
+    memory = memory_of words_page rest begun bare_root (plain_of words_page) owed_page;
     items = item.Ok 0 ∷ item.Ok 0 ∷ [];
-    events = granted_events page 0x80008100 Store (storing rest stream);
+    events = granted_events page 0x80008100 Store (storing rest begun);
   });
 }
 
-abbrev second_turn : List ℕ → Random → Turn
-second_turn rest stream =
-    quiet (machine program_hart (program_with (with_seven 0x80008008) []) (stored_memory rest stream))
+abbrev second_turn : List ℕ → Begun → Turn
+second_turn rest begun =
+    quiet (machine program_hart (program_with (with_seven 0x80008008) []) (stored_memory rest begun))
     (item.Ok 0 ∷ item.Ok 0 ∷ [])
 
-store_asks : (rest : List ℕ) (stream : Random)
+store_asks : (rest : List ℕ) (begun : Begun)
     → fetched_step program_hart (program_with (with_seven 0x80008004) []) (with_seven 0x80008004)
-    (resumed_memory words_page rest stream)
+    (resumed_memory words_page rest begun)
     (fetch_granted program_hart (program_with (with_seven 0x80008004) []) (with_seven 0x80008004)
-    (resumed_memory words_page rest stream))
-    ≡ store_step rest stream (ask_reach page 0x80008100 Store (Cloaked (storing rest stream)))
+    (resumed_memory words_page rest begun))
+    ≡ store_step rest begun (ask_reach page 0x80008100 Store (Cloaked (storing rest begun)))
 unfolding joint_steps fetched_step fetch_granted store_step storing
-store_asks rest stream = refl
+store_asks rest begun = refl
 
-store_tells : (rest : List ℕ) (stream : Random) → ask_reach page 0x80008100 Store (Cloaked (storing rest stream)) ≡
-    store_granted rest stream
+store_tells : (rest : List ℕ) (begun : Begun) → ask_reach page 0x80008100 Store (Cloaked (storing rest begun)) ≡
+    store_granted rest begun
 unfolding joint_steps store_granted
-store_tells rest stream =
-    reach-shown page 0x80008100 Store (storing rest stream) (record { bare = refl; inside = refl; drawn = refl })
+store_tells rest begun =
+    reach-shown page 0x80008100 Store (storing rest begun) (record { bare = refl; inside = refl; drawn = refl })
     (record { owed = refl; owing = refl; shown = refl })
 
-store_ends : (rest : List ℕ) (stream : Random) → store_step rest stream (store_granted rest stream) ≡
-    second_turn rest stream
+store_ends : (rest : List ℕ) (begun : Begun) → store_step rest begun (store_granted rest begun) ≡
+    second_turn rest begun
 unfolding joint_steps store_step store_granted
-store_ends rest stream = refl
+store_ends rest begun = refl
 
-second : (rest : List ℕ) (stream : Random) → joint_step (fetched_moment rest stream) ≡ second_turn rest stream
+second : (rest : List ℕ) (begun : Begun) → joint_step (fetched_moment rest begun) ≡ second_turn rest begun
 unfolding joint_steps fetched_step fetch_granted
-second rest stream =
+second rest begun =
     joint_step-of 6 program_hart (program_with (with_seven 0x80008004) []) (with_seven 0x80008004)
-    (resumed_memory words_page rest stream) (second_turn rest stream) (record {
+    (resumed_memory words_page rest begun) (second_turn rest begun) (record {
       told = fetch_granted program_hart (program_with (with_seven 0x80008004) []) (with_seven 0x80008004)
-          (resumed_memory words_page rest stream);
+          (resumed_memory words_page rest begun);
       asks = refl;
       tells = reach-shown page 0x80008004 Fetch
           (cloak_for program_hart (program_with (with_seven 0x80008004) []) (with_seven 0x80008004)
-          (resumed_memory words_page rest stream)) (record { bare = refl; inside = refl; drawn = refl })
+          (resumed_memory words_page rest begun)) (record { bare = refl; inside = refl; drawn = refl })
           (record { owed = refl; owing = refl; shown = refl });
-      ends = store_asks rest stream ∙ ap (store_step rest stream) (store_tells rest stream) ∙ store_ends rest stream;
+      ends = store_asks rest begun ∙ ap (store_step rest begun) (store_tells rest begun) ∙ store_ends rest begun;
     })
 
 -- Behind the store the frame is owed its page, and nothing is compared up to the call: five steps.
 
-abbrev pub left_moment : List ℕ → Random → Moment
-left_moment rest stream = at_step 12 (machine (called_hart 0x80000014 9) program_at_call (stored_memory rest stream))
+abbrev pub left_moment : List ℕ → Begun → Moment
+left_moment rest begun = at_step 12 (machine (called_hart 0x80000014 9) program_at_call (stored_memory rest begun))
 
-calls : (rest : List ℕ) (stream : Random) → moment_after 5 (stored_moment rest stream) ≡ left_moment rest stream
+calls : (rest : List ℕ) (begun : Begun) → moment_after 5 (stored_moment rest begun) ≡ left_moment rest begun
 unfolding joint_runs moment_after
-calls rest stream = refl
+calls rest begun = refl
 
-call_goes_on : (rest : List ℕ) (stream : Random) → goes_on 5 (stored_moment rest stream) ≡ true
+call_goes_on : (rest : List ℕ) (begun : Begun) → goes_on 5 (stored_moment rest begun) ≡ true
 unfolding joint_runs goes_on
-call_goes_on rest stream = refl
+call_goes_on rest begun = refl
 
 -- All twelve, with what follows.
 
-unfoldable pub turns_to_call : List ℕ → Random → List Turn → List Turn
+unfoldable pub turns_to_call : List ℕ → Begun → List Turn → List Turn
 unfolding first_turns
-turns_to_call rest stream later =
-    first_turns 5 (opened_moment words_page rest stream)
-    ++ (first_turn rest stream ∷ (second_turn rest stream ∷ (first_turns 5 (stored_moment rest stream) ++ later)))
+turns_to_call rest begun later =
+    first_turns 5 (opened_moment words_page rest begun)
+    ++ (first_turn rest begun ∷ (second_turn rest begun ∷ (first_turns 5 (stored_moment rest begun) ++ later)))
 
-pub turns_from-call : (rest : List ℕ) (stream : Random) (n : ℕ)
-    → turns_from (plus 12 n) (opened_moment words_page rest stream) ≡
-    turns_to_call rest stream (turns_from n (left_moment rest stream))
+pub turns_from-call : (rest : List ℕ) (begun : Begun) (n : ℕ)
+    → turns_from (plus 12 n) (opened_moment words_page rest begun) ≡
+    turns_to_call rest begun (turns_from n (left_moment rest begun))
 unfolding turns_to_call
-turns_from-call rest stream n =
-    let later : turns_from (plus 5 n) (stored_moment rest stream) ≡ first_turns 5 (stored_moment rest stream)
-    ++ turns_from n (left_moment rest stream) =
-    turns_from-plus 5 n (stored_moment rest stream) (call_goes_on rest stream)
-    ∙ ap (λ (m : Moment). first_turns 5 (stored_moment rest stream) ++ turns_from n m) (calls rest stream) in
-    turns_from-boot words_page rest stream (plus 7 n)
-    ∙ ap (λ (ts : List Turn). first_turns 5 (opened_moment words_page rest stream) ++ ts)
-    (turns_from-step (plus 6 n) (resumed_moment words_page rest stream) (first_turn rest stream)
-    (first rest stream) refl)
-    ∙ ap (λ (ts : List Turn). first_turns 5 (opened_moment words_page rest stream) ++ (first_turn rest stream ∷ ts))
-    (turns_from-step (plus 5 n) (fetched_moment rest stream) (second_turn rest stream) (second rest stream) refl)
-    ∙ ap (λ (ts : List Turn). first_turns 5 (opened_moment words_page rest stream)
-    ++ (first_turn rest stream ∷ (second_turn rest stream ∷ ts))) later
+turns_from-call rest begun n =
+    let later : turns_from (plus 5 n) (stored_moment rest begun) ≡ first_turns 5 (stored_moment rest begun)
+    ++ turns_from n (left_moment rest begun) =
+    turns_from-plus 5 n (stored_moment rest begun) (call_goes_on rest begun)
+    ∙ ap (λ (m : Moment). first_turns 5 (stored_moment rest begun) ++ turns_from n m) (calls rest begun) in
+    turns_from-boot words_page rest begun (plus 7 n)
+    ∙ ap (λ (ts : List Turn). first_turns 5 (opened_moment words_page rest begun) ++ ts)
+    (turns_from-step (plus 6 n) (resumed_moment words_page rest begun) (first_turn rest begun)
+    (first rest begun) refl)
+    ∙ ap (λ (ts : List Turn). first_turns 5 (opened_moment words_page rest begun) ++ (first_turn rest begun ∷ ts))
+    (turns_from-step (plus 5 n) (fetched_moment rest begun) (second_turn rest begun) (second rest begun) refl)
+    ∙ ap (λ (ts : List Turn). first_turns 5 (opened_moment words_page rest begun)
+    ++ (first_turn rest begun ∷ (second_turn rest begun ∷ ts))) later

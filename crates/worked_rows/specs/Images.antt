@@ -130,17 +130,26 @@ kernel_of harts schedule words = record {
 abbrev pub program_start : Start
 program_start = record { pages = 1; base = 0x80008000; entry = 0x80008000; sp = 0x80008100 }
 
+-- a program of this page, under the key of this number
+abbrev pub keyed_program : ℕ → List ℕ → Program
+keyed_program number page = record { place = 8; start = program_start; key = number; bytes = page }
+
+-- the same under key 0
 abbrev pub program_of : List ℕ → Program
-program_of page = record { place = 8; start = program_start; bytes = page }
+program_of page = keyed_program 0 page
 
 -- a kernel of these words, and a program whose page begins with those
 abbrev pub image_of : ℕ → List ℕ → List ℕ → List ℕ → Bundle
 image_of harts schedule words program =
     record { kernel = kernel_of harts schedule words; programs = program_of (page_with program) ∷ [] }
 
--- one hart, and the program above
+-- one hart, and the program above under the key of this number
+abbrev pub keyed_image : ℕ → List ℕ → Bundle
+keyed_image number words = record { kernel = kernel_of 1 (0 ∷ []) words; programs = keyed_program number words_page ∷ [] }
+
+-- the same under key 0
 abbrev pub image : List ℕ → Bundle
-image words = image_of 1 (0 ∷ []) words program_words
+image words = keyed_image 0 words
 
 -- a kernel alone
 abbrev pub lone_image : List ℕ → Bundle

@@ -27,7 +27,7 @@ use Rattle.cloak_model.specs.Opening.{numbers_below}
 use Rattle.worked_rows.specs.Images.{page_with, program_start}
 use Rattle.worked_rows.specs.Runs.{ProgramRun, run, running, registers, call_registers, with_first}
 use Rattle.worked_rows.specs.DomainRows.{page, parent, shown_call, stays_then}
-use Rattle.worked_rows.specs.JointRuns.{key, draw_1, draw_2}
+use Rattle.worked_rows.specs.JointRuns.{one_key, key, draw_1, draw_2}
 
 -- Memory.
 
@@ -38,7 +38,7 @@ memory ram plain recorded owed = record {
   ram = ram;
   plain = plain;
   ledger = record {
-    key = key;
+    keys = one_key;
     stream = handed (drop 16 (numbers_below 256));
     draws = 0;
     recorded = recorded;

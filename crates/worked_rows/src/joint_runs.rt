@@ -9,6 +9,9 @@ pub fn rows_of_joint_runs()
     ensures two_draws { row.TwoDraws }
     ensures no_run { row.NoOpening }
 
+    // A program under another key.
+    ensures other_key { row.OtherKey }
+
     // Resumes that are refused.
     ensures two_harts { row.TwoHarts }
     ensures no_context { row.NoContext }

@@ -28,7 +28,7 @@ in_grammar p q first second =
     let bytes' = second.bytes in
     let few = first.few_pages in
     let few' = second.few_pages in
-    let before = length-append p.bytes (program_bytes q ++ []) in
+    let before = length-append p.bytes (program_bytes 1 q ++ []) in
     let behind = length-append q.bytes [] in
     record {
       kernel = record {

@@ -31,7 +31,12 @@ loop-p-preserved c =
     let file0 = c.args.file.now.items in
     let f : ProgramPlace → Program = program_of file0 in
     let total = map f c.args.places.items in
-    let part : List ℕ → Program = λ b. record { place = c.in-Some.p.place; start = c.in-Some.p.start; bytes = b } in
+    let part : List ℕ → Program = λ b. record {
+      place = c.in-Some.p.place;
+      start = c.in-Some.p.start;
+      key = c.in-Some.p.key;
+      bytes = b;
+    } in
     let ends = last c.args.low c.loop-p.places.items c.pop.new.self.items c.in-Some.p (length c.loop-p.file.items)
     c.in-Some.ensures.items c.loop-p.invariant.lie in
     let bytes = is_moved file0 c.loop-p.file.items c.in-Some.p.from c.in-Some.p.to c.in_ok-bytes.bytes

@@ -6,8 +6,9 @@ use Rattle.guest_bundle.proofs.parts.programs.Given as goal
 
 abbrev pub invariant-loop : goal.invariant-loop
 invariant-loop l = record {
-  so_far : with_front (map (program_of l.file) l.places.items) (parts_at (program_at l.frames l.file) program_size (l.n - l.counter) l.at) ≡
-      parts_at (program_at l.frames l.file) program_size l.n l.from;
+  so_far : with_front (map (program_of l.file) l.places.items)
+      (parts_at (program_at l.keys l.frames l.file) (program_size l.keys) (l.n - l.counter) l.at) ≡
+      parts_at (program_at l.keys l.frames l.file) (program_size l.keys) l.n l.from;
   within : l.at ≤ length l.file;
   lie : AreProgramPlaces l.from l.places.items l.at;
 }

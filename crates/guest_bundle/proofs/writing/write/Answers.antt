@@ -1,8 +1,9 @@
-use Rattle.std.proofs.Common.{◌≡◌, ℕ, List, ◌++◌, append_assoc, sym}
+use Rattle.std.proofs.Common.{◌≡◌, ℕ, List, ◌++◌, append_assoc}
 use Rattle.std.specs.List.{flat_map}
 use Rattle.cloak_model.specs.declared.image.Bundle.{Bundle}
-use Rattle.cloak_model.specs.Bundle.{segment_bytes, program_bytes, bundle_bytes, IsInGrammar, IsBundle}
+use Rattle.cloak_model.specs.Bundle.{segment_bytes, program_bytes, bundle_bytes}
 use Rattle.guest_bundle.specs.Writing.{header_bytes}
+use Rattle.guest_bundle.proofs.Versions.{is_second}
 use Rattle.guest_bundle.proofs.writing.write.Goals as goal
 
 regroup : (front a b c d : List ℕ) → (((front ++ a) ++ b) ++ c) ++ d ≡ front ++ (a ++ (b ++ (c ++ d)))
@@ -10,16 +11,13 @@ regroup front a b c d = simp append_assoc
 
 -- the parts as they are written
 in_order : (b : Bundle) → (((header_bytes b ++ b.kernel.schedule) ++ flat_map segment_bytes b.kernel.segments) ++
-    b.kernel.disk) ++ flat_map program_bytes b.programs ≡ bundle_bytes b
+    b.kernel.disk) ++ flat_map (program_bytes 2) b.programs ≡ bundle_bytes 2 b
 unfolding bundle_bytes
 in_order b = regroup (header_bytes b) b.kernel.schedule (flat_map segment_bytes b.kernel.segments) b.kernel.disk
-    (flat_map program_bytes b.programs)
-
-is_bundle : (b : Bundle) (bytes : List ℕ) → IsInGrammar b → bytes ≡ bundle_bytes b → IsBundle bytes b
-is_bundle b bytes fits is = record { spelled = sym is; in_grammar = fits }
+    (flat_map (program_bytes 2) b.programs)
 
 pub returns : goal.returns
-returns c = is_bundle c.args.b.now _ c.requires
+returns c = is_second c.args.b.now _ c.requires.grammar c.requires.fits
     (rw (
       c.in_ok-put_programs.ensures,
       c.in_ok-extend_from_slice-2.ensures.items,

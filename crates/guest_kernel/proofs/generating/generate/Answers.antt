@@ -1,6 +1,8 @@
-use Rattle.std.proofs.Common.{◌∙◌, sym, subst}
-use Rattle.cloak_model.specs.Bundle.{IsInGrammar}
-use Rattle.guest_kernel.proofs.Images.{generated_in, made_image}
+use Rattle.std.proofs.Common.{◌≤◌, ◌∙◌, length, sym, subst}
+use Rattle.cloak_base.specs.Constants.{largest_bundle}
+use Rattle.cloak_model.specs.declared.image.Bundle.{Bundle}
+use Rattle.cloak_model.specs.Bundle.{IsInGrammar, bundle_bytes}
+use Rattle.guest_kernel.proofs.Images.{generated_in, generated_fits, made_image}
 use Rattle.guest_kernel.proofs.generating.generate.Goals as goal
 
 pub returns-clause-value : goal.returns-clause-value
@@ -13,3 +15,8 @@ returns-clause-value c =
 pub returns-clause-in_grammar : goal.returns-clause-in_grammar
 returns-clause-in_grammar c =
     subst IsInGrammar (sym (returns-clause-value c)) (generated_in c.args.n)
+
+pub returns-clause-fits : goal.returns-clause-fits
+returns-clause-fits c =
+    subst (λ (b : Bundle). length (bundle_bytes 2 b) ≤ largest_bundle) (sym (returns-clause-value c))
+    (generated_fits c.args.n)

@@ -1,10 +1,14 @@
 use Rattle.std.proofs.Common.{ℕ, List, Option, subst, sym, length-append, arith}
+use Rattle.std.proofs.lemmas.List.{take_all}
 use Rattle.std.proofs.lemmas.List.Elements.{All-push}
-use Rattle.toml.specs.View.{view}
+use Rattle.toml.specs.declared.value.Value.{Value}
+use Rattle.toml.specs.View.{view, items_view}
 use Rattle.program_parts.specs.Outside.{files}
+use Rattle.cloak_model.specs.declared.image.Program.{Program}
 use Rattle.cloak_model.specs.Bundle.{IsProgramIn}
-use Rattle.manifest.specs.Manifest.{IsProgramOf}
-use Rattle.manifest.proofs.Kept.{same_held, read_more}
+use Rattle.manifest.specs.declared.fault.PackFault.TheVariants.{NoMemory}
+use Rattle.manifest.specs.Manifest.{EachMeans, IsProgramOf}
+use Rattle.manifest.proofs.Kept.{same_held, read_more, handed_on, only_read}
 use Rattle.manifest.proofs.Listed.{items_view-more, means_more}
 use Rattle.manifest.proofs.programs.programs.Goals as goal
 
@@ -29,3 +33,34 @@ loop-table-preserved g c =
       read = read_more (state first) (state c.loop-table.shelf) (state c.program.new.shelf) so_far.read c.in_ok-program.ensures.reads;
       settled = c.in_ok-program.ensures.settled;
     }
+
+pub returns-clause-mean : goal.returns-clause-mean
+returns-clause-mean g c =
+    subst (λ (tables : List Value). EachMeans (IsProgramOf (g.S.Shelf.held c.args.shelf.now) c.args.manifest.now) (items_view tables) c.loop-table.programs.items)
+    (take_all c.loop-table.table-index c.args.tables.now c.loop-table-test.false) c.loop-table.invariant.mean
+
+pub returns-clause-count : goal.returns-clause-count
+returns-clause-count g c =
+    omega (arith, c.loop-table.invariant.count, c.loop-table-test.false, c.loop-table.auto.table-index-end)
+
+pub returns-clause-in_image : goal.returns-clause-in_image
+returns-clause-in_image g c = c.loop-table.invariant.in_image
+
+pub returns-clause-reads : goal.returns-clause-reads
+returns-clause-reads g c = c.loop-table.invariant.read
+
+pub returns-clause-settled : goal.returns-clause-settled
+returns-clause-settled g c = c.loop-table.invariant.settled
+
+pub returns-in_err-program-clause-reads : goal.returns-in_err-program-clause-reads
+returns-in_err-program-clause-reads g c =
+    let state = files g.S.Shelf in
+    handed_on Program (state c.args.shelf.now) (state c.loop-table.shelf) (state c.program.new.shelf) c.in_err-program.field-0.0
+    c.from_residual.result c.loop-table.invariant.read c.in_err-program.ensures.reads c.from_residual.ensures.1
+
+pub returns-in_err-push-clause-reads : goal.returns-in_err-push-clause-reads
+returns-in_err-push-clause-reads g c =
+    let state = files g.S.Shelf in
+    only_read (state c.args.shelf.now) (state c.program.new.shelf) NoMemory c.from_residual-in_err-push.result
+    (read_more (state c.args.shelf.now) (state c.loop-table.shelf) (state c.program.new.shelf) c.loop-table.invariant.read
+    c.in_ok-program.ensures.reads) c.from_residual-in_err-push.ensures.1

@@ -5,4 +5,4 @@ use Rattle.manifest.proofs.room.behind_programs.Given as goal
 
 -- the room that those so far left
 abbrev pub invariant-loop-program : goal.invariant-loop-program
-invariant-loop-program l = length (flat_map program_bytes (take l.program-index l.programs)) + l.left ≡ l.fn.room
+invariant-loop-program l = length (flat_map (program_bytes 2) (take l.program-index l.programs)) + l.left ≡ l.fn.room

@@ -3,13 +3,13 @@ use Rattle.std.specs.List.{flat_map}
 use Rattle.cloak_model.specs.Bundle.{segment_bytes, program_bytes}
 use Rattle.cloak_model.specs.declared.image.Segment.{Segment}
 use Rattle.cloak_model.specs.declared.image.Program.{Program}
-use Rattle.manifest.proofs.Rooms.{length-bundle_bytes}
+use Rattle.guest_bundle.proofs.Lengths.{bundle_bytes-length}
 use Rattle.manifest.proofs.room.room_behind.Goals as goal
 
 pub returns : goal.returns
 returns c =
     let b = c.args.bundle.now in
-    let whole = length-bundle_bytes b in
+    let whole = bundle_bytes-length 2 b in
     let turns : length b.kernel.schedule + c.in_ok-turns.turns ≡ 67108824 =
     subst (λ (xs : List ℕ). length xs + c.in_ok-turns.turns ≡ 67108824) c.as_slice.ensures c.in_ok-turns.ensures in
     let disk : length b.kernel.disk + c.in_ok-disk.disk ≡ c.in_ok-turns.turns =
@@ -18,7 +18,7 @@ returns c =
     let segments : length (flat_map segment_bytes b.kernel.segments) + c.in_ok-segments.segments ≡ c.in_ok-disk.disk =
     subst (λ (xs : List Segment). length (flat_map segment_bytes xs) + c.in_ok-segments.segments ≡ c.in_ok-disk.disk)
     c.as_slice-3.ensures c.in_ok-segments.ensures in
-    let programs : length (flat_map program_bytes b.programs) + c.in_ok-programs.programs ≡ c.in_ok-segments.segments =
-    subst (λ (xs : List Program). length (flat_map program_bytes xs) + c.in_ok-programs.programs ≡ c.in_ok-segments.segments)
+    let programs : length (flat_map (program_bytes 2) b.programs) + c.in_ok-programs.programs ≡ c.in_ok-segments.segments =
+    subst (λ (xs : List Program). length (flat_map (program_bytes 2) xs) + c.in_ok-programs.programs ≡ c.in_ok-segments.segments)
     c.as_slice-4.ensures c.in_ok-programs.ensures in
     omega (arith, whole, turns, disk, segments, programs)

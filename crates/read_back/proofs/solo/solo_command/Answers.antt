@@ -2,7 +2,8 @@ use Rattle.std.proofs.Common.{List, length, refl, ◌∙◌, ap, sym, arith}
 use Rattle.std.proofs.lemmas.Option.{slice_get_read}
 use Rattle.program_parts.specs.declared.refusal.Refusal.TheVariants as refusal
 use Rattle.program_parts.proofs.Refused.{no_bundle}
-use Rattle.read_back.proofs.Answered.{unread, unread_or_none, solo_refuses, solo_answers}
+use Rattle.program_parts.proofs.Refused.{unread}
+use Rattle.read_back.proofs.Answered.{unread_or_none, solo_refuses, solo_answers}
 use Rattle.read_back.proofs.solo.solo_command.Goals as goal
 
 pub returns-in-Err-clause-answers : goal.returns-in-Err-clause-answers

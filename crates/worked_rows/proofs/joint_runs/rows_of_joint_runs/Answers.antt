@@ -4,7 +4,7 @@ use Rattle.cloak_model.specs.Bundle.{bundle_bytes}
 use Rattle.cloak_model.specs.Exchange.{item_bytes}
 use Rattle.cloak_base.specs.Pages.{zero_page}
 use Rattle.worked_rows.proofs.Computing.{joint_runs, texts}
-use Rattle.worked_rows.proofs.JointRows.{whole_program, three_draws, two_draws, other_root, after_exit, flipped_bit, nothing_flipped}
+use Rattle.worked_rows.proofs.JointRows.{whole_program, other_key, three_draws, two_draws, other_root, after_exit, flipped_bit, nothing_flipped}
 use Rattle.worked_rows.proofs.joint_runs.rows_of_joint_runs.Goals as goal
 
 pub returns-clause-whole : goal.returns-clause-whole
@@ -19,6 +19,9 @@ returns-clause-two_draws c = two_draws
 pub returns-clause-no_run : goal.returns-clause-no_run
 unfolding joint_runs zero_page
 returns-clause-no_run c = record { no_page_draw = refl; no_key = refl }
+
+pub returns-clause-other_key : goal.returns-clause-other_key
+returns-clause-other_key c = other_key
 
 pub returns-clause-two_harts : goal.returns-clause-two_harts
 unfolding joint_runs zero_page
@@ -50,6 +53,7 @@ returns-clause-smallest c =
     record {
       run = refl;
       image = refl;
+      again = refl;
       image_size = refl;
       record_bytes = refl;
       record_size = refl;

@@ -12,15 +12,15 @@ returns-clause-state c =
       outside = rights.outside;
       no_metas = c.in_ok-table.ensures.empty;
       domains_are = c.in_ok-table.ensures.domains;
-      key_is = c.new.ensures;
+      keys_are = c.new.ensures;
       no_reads = refl;
     }
 
 pub invariant_of-result : goal.invariant_of-result
 invariant_of-result c =
-    opened_kept c.args.frames c.args.domains c.args.key _ c.in_ok-homes.homes
+    opened_kept c.args.frames c.args.domains _ _ c.in_ok-homes.homes
     (returns-clause-state c) c.requires.most c.in_ok-homes.ensures.domains
 
 pub returns-clause-model : goal.returns-clause-model
 returns-clause-model c =
-    opened_stands c.args.frames c.args.domains c.args.key _ (returns-clause-state c) c.requires.most
+    opened_stands c.args.frames c.args.domains _ _ (returns-clause-state c) c.requires.most

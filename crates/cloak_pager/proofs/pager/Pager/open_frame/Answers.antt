@@ -37,7 +37,7 @@ returns-in-Ok-clause-opened c =
     let right = right_seen c.args.g.0 (Outside c.in-Outside.right) c.self.view_is c.self.invariant.whole
     c.requires.inside c.index_mut.ensures.value c.in-Outside.ensures.value in
     rw (← c.self.view_is)
-    (λ yes. open_turns c.open_page.new.s c.args.m.now c.replace.new.dest right c.in-Ok.ensures.bytes
+    (λ yes. open_turns c.open_page.new.s c.args.m.now c.replace.new.dest right c.of.ensures c.in-Ok.ensures.bytes
     c.in-Ok.ensures.right)
 
 pub returns-in-Err-clause-refused : goal.returns-in-Err-clause-refused
@@ -54,7 +54,7 @@ pub returns-in-Ok-clause-clean : goal.returns-in-Ok-clause-clean
 returns-in-Ok-clause-clean c =
     let right = right_seen c.args.g.0 (Outside c.in-Outside.right) c.self.view_is c.self.invariant.whole
     c.requires.inside c.index_mut.ensures.value c.in-Outside.ensures.value in
-    let turns = open_turns c.open_page.new.s c.args.m.now c.replace.new.dest right c.in-Ok.ensures.bytes
+    let turns = open_turns c.open_page.new.s c.args.m.now c.replace.new.dest right c.of.ensures c.in-Ok.ensures.bytes
     c.in-Ok.ensures.right in
     let is = taken_right _ _ c.args.g.0 c.args.q false turns.0 c.self.invariant.whole right.inside turns.2 in
     λ yes. (subst IsClean (sym is) tt, ap page_of is)

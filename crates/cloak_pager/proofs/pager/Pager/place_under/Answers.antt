@@ -11,4 +11,4 @@ returns c =
     c.requires.inside c.index.ensures (sym c.in-Outside.is) in
     let sum = c.digest-digest.ensures ∙ ap sha256 c.as_slice.ensures in
     rw (← c.self.view_is)
-    (place_turns c.args.q c.args.bytes.now c.args.iv.now right refl c.seal_page.ensures sum c.set.ensures)
+    (place_turns c.args.q c.args.bytes.now c.args.iv.now right refl c.of.ensures c.seal_page.ensures sum c.set.ensures)

@@ -16,7 +16,7 @@ returns-then-is_ready-clause-offers g c m h clash =
     let old = c.args.self.now in
     let was = c.if-is_ready.ensures.held refl in
     let stays : StaysBut c.args.g.0 old.pager old.pager =
-    record { count = refl; domains = refl; key = refl; rights = λ k n. refl; bytes = λ k n. refl } in
+    record { count = refl; domains = refl; keys = refl; rights = λ k n. refl; bytes = λ k n. refl } in
     offers_so g.E.Emit.gave _ _ old _ ended.Ready Ready c.args.q c.args.g.0 c.args.write m
     (rooms_self g.E.Emit.gave c.args.e.now old c.args.q c.args.g.0 m h) (λ (e : Ready ≡ Missed). cc) refl
     (c.if-is_ready.ensures.model refl) refl refl refl

@@ -1,0 +1,51 @@
+ghost use Rattle.std.specs.Prelude.{◌≡◌, ◌<◌, All};
+ghost use Rattle.cloak_model.specs.Ledger.{key_in};
+
+use aes_block::Schedule;
+use cloak_base::PageId;
+use std::marker::Model;
+
+/// The keys by their numbers, and for each domain the number of its key.
+#[derive(Drop)]
+pub(crate) struct KeyRing {
+    numbered: [Schedule; 4],
+    group: [u32; 4],
+}
+
+impl Model for KeyRing {
+    ghost use Rattle.std.specs.Prelude.{◌<◌, All};
+    ghost use Rattle.cloak_model.specs.Ledger.{Keys};
+
+    ghost Value = { Keys };
+
+    ghost view = { λ r. record { numbered = r.numbered; group = r.group } };
+
+    ghost invariant = { λ r. All (λ g. g < 4) r.group };
+}
+
+impl KeyRing {
+    /// Expands each key, once for all pages under it.
+    pub(crate) fn new(keys: [[u8; 16]; 4], group: [u32; 4]) -> KeyRing
+        requires groups { All (λ g. g < 4) group }
+        ensures { result ≡ record { numbered = keys; group = group } }
+    {
+        let [first, second, third, fourth] = &keys;
+        KeyRing {
+            numbered: [
+                Schedule::new(first),
+                Schedule::new(second),
+                Schedule::new(third),
+                Schedule::new(fourth),
+            ],
+            group,
+        }
+    }
+
+    /// What a page is sealed under: the key of its domain, and key 0 if there is no such domain.
+    pub(crate) fn of(&self, q: PageId) -> &Schedule
+        ensures { result.now ≡ key_in self.now q }
+    {
+        let number = self.group.get(q.domain as usize).copied().unwrap_or(0);
+        &self.numbered[number as usize]
+    }
+}

@@ -1,0 +1,7 @@
+//! What is asked of a guest image that is written again.
+/// A guest image that is to be written in version 2. Both names may be of one file.
+#[derive(Drop)]
+pub struct UpgradeRequest<'a> {
+    pub old_name: &'a str,
+    pub new_name: &'a str,
+}

@@ -1,0 +1,38 @@
+-- What becomes of files and output as a file is written, and then a line is shown.
+use Rattle.std.specs.Prelude.{ℕ, ◌≡◌, ◌≤◌, ◌⊎◌, List, length, take, Option}
+use Rattle.outside_io.specs.Told.{Tells, OtherFiles}
+use Rattle.program_parts.specs.Outside.{FilesOutside, Outside, Raised}
+use Rattle.image_commands.specs.Showing.{IsShown, IsShownInPart}
+
+-- if bytes are told, they are a front of these
+abbrev pub TellsFront : Option (List ℕ) → List ℕ → Type 0
+TellsFront told bytes = (n : ℕ) × (n ≤ length bytes) × Tells told (take n bytes)
+
+-- The file of this name has these bytes. Other files keep theirs, and no call on files failed.
+pub record WritesFile {S : Type 0} (bytes name : List ℕ) (before after : FilesOutside S) : Type 0 where
+  pub file : Tells (after.held name) bytes
+  pub others : OtherFiles name before.held after.held
+  pub reading : after.reading ≡ before.reading
+  pub writing : after.writing ≡ before.writing
+
+-- Writing the file failed: it has the bytes that it had, as it could not be begun, or a front of these.
+pub record FailsToWrite {S : Type 0} (bytes name : List ℕ) (before after : FilesOutside S) : Type 0 where
+  pub file : (after.held name ≡ before.held name) ⊎ TellsFront (after.held name) bytes
+  pub others : OtherFiles name before.held after.held
+  pub reading : after.reading ≡ before.reading
+  pub writing : Raised before.writing after.writing
+
+-- the file was written, and then the line was shown
+pub record HasWritten {S O : Type 0} (bytes name line : List ℕ) (before after : Outside S O) : Type 0 where
+  pub file : WritesFile bytes name before.files after.files
+  pub line_shown : IsShown before.output after.output line
+
+-- the file could not be written, and nothing was shown
+pub record FileFailed {S O : Type 0} (bytes name : List ℕ) (before after : Outside S O) : Type 0 where
+  pub file : FailsToWrite bytes name before.files after.files
+  pub untouched : after.output ≡ before.output
+
+-- the file was written, and then a front of the line was shown
+pub record LastLineFailed {S O : Type 0} (bytes name line : List ℕ) (before after : Outside S O) : Type 0 where
+  pub file : WritesFile bytes name before.files after.files
+  pub line_cut : IsShownInPart before.output after.output line
