@@ -1,12 +1,18 @@
 -- A step of a program that runs alone asks at most two questions, and changes its pages only behind the last one. So
 -- where an answer is missing, nothing has changed.
-use Rattle.std.proofs.Common.{◌≡◌, ◌<◌, ◌≤◌, ◌+◌, ◌⊎◌, inl, inr, ℕ, Bool, true, false, cond, List, [], ◌∷◌, length, Option, Some, None, Result, Ok, Err, refl, ap, sym, subst, arith, unwrap_or}
+use Rattle.std.proofs.Common.{◌≡◌, ◌∙◌, ◌<◌, ◌≤◌, ◌+◌, ◌%◌, ◌⊎◌, inl, inr, ℕ, Bool, true, false, cond, List, [], ◌∷◌, length, Option, Some, None, Result, Ok, Err, refl, ap, sym, subst, arith, unwrap_or}
+use Rattle.std.specs.Prelude.{◌==◌}
 use Rattle.cloak_base.specs.declared.names.Kind.{Kind}
 use Rattle.cloak_base.specs.declared.names.Kind.TheVariants.{Fetch, Load, Store}
 use Rattle.cloak_base.specs.declared.names.PageId.{PageId}
 use Rattle.rv_isa.specs.Table.{instruction}
 use Rattle.rv_isa.specs.declared.instr.Instr.{Instr}
 use Rattle.rv_isa.specs.declared.instr.Instr.TheVariants.{Ecall, Ebreak}
+use Rattle.rv_atomic.specs.Table.{atomic_instruction}
+use Rattle.rv_atomic.specs.declared.atomic.Atomic.{Atomic}
+use Rattle.rv_atomic.specs.declared.atomic.AtomicOp.{AtomicOp}
+use Rattle.rv_atomic.specs.declared.atomic.AtomicOp.TheVariants.{Lr, Sc}
+use Rattle.cloak_base.specs.Registers.{register}
 use Rattle.cloak_model.specs.declared.answer.Answer.{Answer}
 use Rattle.cloak_model.specs.declared.answer.Answer.TheVariants as told
 use Rattle.cloak_model.specs.declared.context.Phase.{Phase}
@@ -21,9 +27,11 @@ use Rattle.cloak_model.specs.declared.outcome.Effect.TheVariants as does
 use Rattle.cloak_model.specs.declared.resource.MapFault.{MapFault}
 use Rattle.cloak_model.specs.Effect.{effect}
 use Rattle.cloak_model.specs.World.{World, Flat, Cloaked, Alone, Handed}
-use Rattle.cloak_model.specs.Asking.{Told, Asking, answered}
+use Rattle.cloak_model.specs.Asking.{Told, Asking, answered, then_ask}
+use Rattle.cloak_model.specs.KernelStep.{atomic_kind}
 use Rattle.cloak_model.specs.AskPages.{next_answer, unfit, is_for_access, is_for_value, is_for_clearing, of_width, ask_reach, ask_read, ask_write, ask_get, ask_put, ask_clear, ask_copy, ask_forget}
-use Rattle.cloak_model.specs.Contexts.{Context, context_at, context_number, end_at}
+use Rattle.cloak_model.specs.Contexts.{Context, context_at, context_number, end_at, is_reserved, word_of_page}
+use Rattle.cloak_model.specs.declared.context.WordPlace.{WordPlace}
 use Rattle.cloak_model.specs.Resources.{Resources, page_at, first_free, drop_space}
 use Rattle.cloak_model.specs.InsideStep as inside
 use Rattle.cloak_model.specs.InsideStep.{AfterInstruction}
@@ -133,19 +141,19 @@ then_asked B h k GoodNext StopsNext next t o goes quits =
 
 -- An instruction.
 
--- at an ecall one answer was taken, and nothing has changed
-abbrev pub AfterRan : Handed → Ran → Handed → Type 0
-AfterRan h ran.Ecall now = Kept 1 h now
-AfterRan h ran.Stay now = now.unfit ≡ false
-AfterRan h (ran.Loaded address value) now = now.unfit ≡ false
-AfterRan h (ran.Trap cause address) now = now.unfit ≡ false
-AfterRan h ran.Stopped now = now.unfit ≡ false
+-- at an ecall one answer was taken, nothing was written, and nothing has changed
+abbrev pub AfterRan : Handed → Option WordPlace → Ran → Handed → Type 0
+AfterRan h wrote ran.Ecall now = Kept 1 h now × (wrote ≡ None)
+AfterRan h wrote ran.Stay now = now.unfit ≡ false
+AfterRan h wrote (ran.Loaded address value) now = now.unfit ≡ false
+AfterRan h wrote (ran.Trap cause address) now = now.unfit ≡ false
+AfterRan h wrote ran.Stopped now = now.unfit ≡ false
 
 abbrev Instructs : Handed → AfterInstruction → Handed → Type 0
-Instructs h made now = AfterRan h made.ending now
+Instructs h made now = AfterRan h made.wrote made.ending now
 
 abbrev LeavesOpen : AfterInstruction → Type 0
-LeavesOpen made = made.ending ≡ ran.Stopped
+LeavesOpen made = (made.ending ≡ ran.Stopped) × (made.wrote ≡ None)
 
 abbrev Instructed : Handed → Told AfterInstruction → Type 0
 Instructed h t = Outcome h (Instructs h) LeavesOpen t.answer t.world
@@ -171,10 +179,10 @@ asks_load : (h : Handed) (c : Context) (rd va width : ℕ) (is_signed : Bool) (p
 unfolding inside.load_inside inside.load_reached inside.load_got
 asks_load h c rd va width is_signed (Some q) now kept =
     then_asked AfterInstruction h 2 (Instructs h) LeavesOpen (inside.load_reached c q rd va width is_signed) (ask_reach q va Load (Alone now))
-    (asked_reach h now 1 q va Load (omega arith) kept) (asks_load_reached h c q rd va width is_signed) (λ after. (refl, refl))
+    (asked_reach h now 1 q va Load (omega arith) kept) (asks_load_reached h c q rd va width is_signed) (λ after. (refl, (refl, refl)))
 asks_load h c rd va width is_signed None now kept =
     then_asked AfterInstruction h 2 (Instructs h) LeavesOpen (inside.load_got c rd va width is_signed) (ask_get va width (Alone now))
-    (asked_get h now 1 va width (omega arith) kept) (asks_load_got h c rd va width is_signed) (λ after. (refl, refl))
+    (asked_get h now 1 va width (omega arith) kept) (asks_load_got h c rd va width is_signed) (λ after. (refl, (refl, refl)))
 
 asks_store_reached : (h : Handed) (c : Context) (q : PageId) (va width value : ℕ) (a : Answer) (now : Handed) → Kept 2 h now →
     Instructed h (inside.store_reached c q va width value a (Alone now))
@@ -196,14 +204,14 @@ asks_store : (h : Handed) (c : Context) (va width value : ℕ) (place : Option P
 unfolding inside.store_inside inside.store_reached inside.store_put
 asks_store h c va width value (Some q) now kept =
     then_asked AfterInstruction h 2 (Instructs h) LeavesOpen (inside.store_reached c q va width value) (ask_reach q va Store (Alone now))
-    (asked_reach h now 1 q va Store (omega arith) kept) (asks_store_reached h c q va width value) (λ after. (refl, refl))
+    (asked_reach h now 1 q va Store (omega arith) kept) (asks_store_reached h c q va width value) (λ after. (refl, (refl, refl)))
 asks_store h c va width value None now kept =
     then_asked AfterInstruction h 2 (Instructs h) LeavesOpen (inside.store_put c va) (ask_put va width value (Alone now))
-    (asked_put h now 1 va width value (omega arith) kept) (asks_store_put h c va) (λ after. (refl, refl))
+    (asked_put h now 1 va width value (omega arith) kept) (asks_store_put h c va) (λ after. (refl, (refl, refl)))
 
 asks_system : (h : Handed) (c : Context) (i : Instr) (now : Handed) → Kept 1 h now → Instructed h (inside.system_inside c i (Alone now))
 unfolding inside.system_inside
-asks_system h c Ecall now kept = inl kept
+asks_system h c Ecall now kept = inl (kept, refl)
 asks_system h c Ebreak now kept = inl kept.fit
 asks_system h c i now kept = inl kept.fit
 
@@ -219,16 +227,60 @@ asks_done h domain r c i does.System now kept = asks_system h c i now kept
 asks_done h domain r c i does.Nothing now kept = inl kept.fit
 asks_done h domain r c i (does.Raise cause value) now kept = inl kept.fit
 
-asks_decoded : (h : Handed) (domain : ℕ) (r : Resources) (c : Context) (i : Option Instr) (now : Handed) → Kept 1 h now →
-    Instructed h (inside.decoded_inside domain r c i (Alone now))
+-- Atomic instructions.
+
+asks_conditional : (h : Handed) (reserved : Bool) (c : Context) (rd : ℕ) (q : PageId) (va operand : ℕ) (now : Handed) → Kept 2 h now →
+    Instructed h (inside.conditional_inside reserved c rd q va operand (Alone now))
+unfolding inside.conditional_inside ask_write
+asks_conditional h true c rd q va operand now kept = inl kept.fit
+asks_conditional h false c rd q va operand now kept = inl kept.fit
+
+asks_granted : (h : Handed) (c : Context) (rd : ℕ) (op : AtomicOp) (q : PageId) (va operand : ℕ) (now : Handed) → Kept 2 h now →
+    Instructed h (inside.atomic_granted c rd op q va operand (Alone now))
+unfolding inside.atomic_granted ask_read ask_write
+asks_granted h c rd Lr q va operand now kept = inl kept.fit
+asks_granted h c rd Sc q va operand now kept = asks_conditional h (is_reserved (word_of_page q va) c.mark) c rd q va operand now kept
+asks_granted h c rd op q va operand now kept = inl kept.fit
+
+asks_atomic_reached : (h : Handed) (c : Context) (rd : ℕ) (op : AtomicOp) (q : PageId) (va operand : ℕ) (a : Answer) (now : Handed) → Kept 2 h now →
+    Instructed h (inside.atomic_reached c rd op q va operand a (Alone now))
+unfolding inside.atomic_reached
+asks_atomic_reached h c rd op q va operand told.Ok now kept = asks_granted h c rd op q va operand now kept
+asks_atomic_reached h c rd op q va operand (told.Absent cause) now kept = inl kept.fit
+asks_atomic_reached h c rd op q va operand (told.Word value) now kept = inl kept.fit
+asks_atomic_reached h c rd op q va operand told.Stopped now kept = inl kept.fit
+
+asks_atomic_placed : (h : Handed) (c : Context) (rd : ℕ) (op : AtomicOp) (va operand : ℕ) (place : Option PageId) (now : Handed) → Kept 1 h now →
+    Instructed h (inside.atomic_placed c rd op va operand place (Alone now))
+unfolding inside.atomic_placed inside.atomic_reached
+asks_atomic_placed h c rd op va operand None now kept = inl kept.fit
+asks_atomic_placed h c rd op va operand (Some q) now kept =
+    then_asked AfterInstruction h 2 (Instructs h) LeavesOpen (inside.atomic_reached c rd op q va operand) (ask_reach q va (atomic_kind op) (Alone now))
+    (asked_reach h now 1 q va (atomic_kind op) (omega arith) kept) (asks_atomic_reached h c rd op q va operand) (λ after. (refl, (refl, refl)))
+
+instructed_either : (h : Handed) (b : Bool) (x y : Told AfterInstruction) → Instructed h x → Instructed h y → Instructed h (cond b x y)
+instructed_either h true x y first second = first
+instructed_either h false x y first second = second
+
+asks_atomic : (h : Handed) (domain : ℕ) (r : Resources) (c : Context) (a : Option Atomic) (now : Handed) → Kept 1 h now →
+    Instructed h (inside.atomic_inside domain r c a (Alone now))
+unfolding inside.atomic_inside
+asks_atomic h domain r c None now kept = inl kept.fit
+asks_atomic h domain r c (Some a) now kept =
+    let va = register c.regs a.rs1 in
+    instructed_either h (va % 4 == 0) _ _
+    (asks_atomic_placed h c a.rd a.op va (register c.regs a.rs2) (page_at domain r c.space va) now kept) (inl kept.fit)
+
+asks_decoded : (h : Handed) (domain : ℕ) (r : Resources) (c : Context) (word : ℕ) (i : Option Instr) (now : Handed) → Kept 1 h now →
+    Instructed h (inside.decoded_inside domain r c word i (Alone now))
 unfolding inside.decoded_inside
-asks_decoded h domain r c None now kept = inl kept.fit
-asks_decoded h domain r c (Some i) now kept = asks_done h domain r c i (effect i c.regs c.pc) now kept
+asks_decoded h domain r c word None now kept = asks_atomic h domain r c (atomic_instruction word) now kept
+asks_decoded h domain r c word (Some i) now kept = asks_done h domain r c i (effect i c.regs c.pc) now kept
 
 asks_executed : (h : Handed) (domain : ℕ) (r : Resources) (c : Context) (word : ℕ) (now : Handed) → Kept 1 h now →
     Instructed h (inside.executed_inside domain r c word (Alone now))
 unfolding inside.executed_inside
-asks_executed h domain r c word now kept = asks_decoded h domain r c (instruction word) now kept
+asks_executed h domain r c word now kept = asks_decoded h domain r c word (instruction word) now kept
 
 asks_fetched : (h : Handed) (domain : ℕ) (r : Resources) (c : Context) (q : PageId) (a : Answer) (now : Handed) → Kept 1 h now →
     Instructed h (inside.fetched_inside domain r c q a (Alone now))
@@ -244,7 +296,7 @@ unfolding inside.fetch inside.fetched_inside
 asks_fetch h domain r c None kept = inl kept.fit
 asks_fetch h domain r c (Some q) kept =
     then_asked AfterInstruction h 1 (Instructs h) LeavesOpen (inside.fetched_inside domain r c q) (ask_reach q c.pc Fetch (Alone h))
-    (asked_reach h h 0 q c.pc Fetch (omega arith) kept) (asks_fetched h domain r c q) (λ after. (refl, refl))
+    (asked_reach h h 0 q c.pc Fetch (omega arith) kept) (asks_fetched h domain r c q) (λ after. (refl, (refl, refl)))
 
 asks_instruction : (h : Handed) (domain : ℕ) (r : Resources) (c : Context) → Kept 0 h h → Instructed h (inside.instruction_inside domain r c (Alone h))
 unfolding inside.instruction_inside
@@ -256,7 +308,7 @@ abbrev IsFit : {A : Type 0} → A → Handed → Type 0
 IsFit a now = now.unfit ≡ false
 
 abbrev CopyStops : Copy → Type 0
-CopyStops copy = copy.ending ≡ copied.Stopped
+CopyStops copy = (copy.ending ≡ copied.Stopped) × (copy.wrote ≡ None)
 
 abbrev Copies : Handed → Told Copy → Type 0
 Copies h t = Outcome h (IsFit {A = Copy}) CopyStops t.answer t.world
@@ -270,7 +322,7 @@ asks_in_put h c done byte told.Stopped now kept = inl kept.fit
 
 in_put_stopped : (c : Context) (done byte : ℕ) (now : Handed) → Quits CopyStops now (calls.in_put c done byte told.Stopped (Alone now))
 unfolding calls.in_put
-in_put_stopped c done byte now = (refl, refl)
+in_put_stopped c done byte now = (refl, (refl, refl))
 
 asks_in_reached : (h : Handed) (c : Context) (q : PageId) (done : ℕ) (a : Answer) (now : Handed) → Kept 1 h now → Copies h (calls.in_reached c q done a (Alone now))
 unfolding calls.in_reached ask_read
@@ -283,7 +335,7 @@ asks_in_reached h c q done told.Stopped now kept = inl kept.fit
 
 in_reached_stopped : (c : Context) (q : PageId) (done : ℕ) (now : Handed) → Quits CopyStops now (calls.in_reached c q done told.Stopped (Alone now))
 unfolding calls.in_reached
-in_reached_stopped c q done now = (refl, refl)
+in_reached_stopped c q done now = (refl, (refl, refl))
 
 asks_in_placed : (h : Handed) (c : Context) (done : ℕ) (place : Option PageId) (cloaked : Bool) → Kept 0 h h → Copies h (calls.in_placed c done place cloaked (Alone h))
 unfolding calls.in_placed
@@ -312,7 +364,7 @@ asks_out_reached h c q done total byte told.Stopped now kept = inl kept.fit
 
 out_reached_stopped : (c : Context) (q : PageId) (done total byte : ℕ) (now : Handed) → Quits CopyStops now (calls.out_reached c q done total byte told.Stopped (Alone now))
 unfolding calls.out_reached
-out_reached_stopped c q done total byte now = (refl, refl)
+out_reached_stopped c q done total byte now = (refl, (refl, refl))
 
 asks_out_got : (h : Handed) (c : Context) (q : PageId) (done total : ℕ) (a : Answer) (now : Handed) → Kept 1 h now → Copies h (calls.out_got c q done total a (Alone now))
 unfolding calls.out_got
@@ -325,7 +377,7 @@ asks_out_got h c q done total told.Stopped now kept = inl kept.fit
 
 out_got_stopped : (c : Context) (q : PageId) (done total : ℕ) (now : Handed) → Quits CopyStops now (calls.out_got c q done total told.Stopped (Alone now))
 unfolding calls.out_got
-out_got_stopped c q done total now = (refl, refl)
+out_got_stopped c q done total now = (refl, (refl, refl))
 
 asks_out_placed : (h : Handed) (c : Context) (done total : ℕ) (place : Option PageId) (cloaked : Bool) → Kept 0 h h → Copies h (calls.out_placed c done total place cloaked (Alone h))
 unfolding calls.out_placed
@@ -491,48 +543,69 @@ StepStops d made = made.domain ≡ d
 abbrev pub Steps : Handed → Domain → Told DomainStepped → Type 0
 Steps h d t = Outcome h (IsFit {A = DomainStepped}) (StepStops d) t.answer t.world
 
-asks_ended : (h : Handed) (slot : ℕ) (d : Domain) (c : Context) (e : Ran) (now : Handed) → AfterRan h e now → Steps h d (step.instruction_ended slot d c e (Alone now))
+-- an ending, and then a write that came before it
+abbrev ended_writing : ℕ → Domain → Context → Option WordPlace → Ran → Asking DomainStepped
+ended_writing slot d c wrote e =
+    then_ask (step.instruction_ended slot d c e) (λ (s : DomainStepped). answered (step.after_write wrote s))
+
+asks_call : (h : Handed) (slot : ℕ) (d : Domain) (c : Context) (now : Handed) → Kept 1 h now → Steps h d (step.instruction_ended slot d c ran.Ecall (Alone now))
 unfolding step.instruction_ended
-asks_ended h slot d c ran.Stay now good = inl good
-asks_ended h slot d c (ran.Loaded address value) now good = inl good
-asks_ended h slot d c (ran.Trap cause address) now good = inl good
-asks_ended h slot d c ran.Ecall now good =
+asks_call h slot d c now kept =
     let t = calling.hypercall (calling.hypercall_of c) slot c d.control (Alone now) in
     then_outcome Stepped DomainStepped h (IsFit {A = Stepped}) (CallStops d.control) (IsFit {A = DomainStepped}) (StepStops d)
     (λ made. answered (step.within d made)) t.answer t.world
-    (asks_hypercall h _ slot c d.control now good) (λ after fit. inl fit)
+    (asks_hypercall h _ slot c d.control now kept) (λ after fit. inl fit)
     (λ after stop. (refl, ap (λ (x : Stepped). (step.within d x).domain) stop))
-asks_ended h slot d c ran.Stopped now good = inl good
 
-ended_stopped : (slot : ℕ) (d : Domain) (c : Context) (e : Ran) (now : Handed) → e ≡ ran.Stopped → Quits (StepStops d) now (step.instruction_ended slot d c e (Alone now))
+asks_ended : (h : Handed) (slot : ℕ) (d : Domain) (c : Context) (wrote : Option WordPlace) (e : Ran) (now : Handed) → AfterRan h wrote e now →
+    Steps h d (ended_writing slot d c wrote e (Alone now))
 unfolding step.instruction_ended
-ended_stopped slot d c e now stop = subst (λ (x : Ran). Quits (StepStops d) now (step.instruction_ended slot d c x (Alone now))) (sym stop) (refl, refl)
+asks_ended h slot d c wrote ran.Stay now good = inl good
+asks_ended h slot d c wrote (ran.Loaded address value) now good = inl good
+asks_ended h slot d c wrote (ran.Trap cause address) now good = inl good
+asks_ended h slot d c wrote ran.Ecall now good =
+    subst (λ (x : Option WordPlace). Steps h d (ended_writing slot d c x ran.Ecall (Alone now))) (sym good.1)
+    (asks_call h slot d c now good.0)
+asks_ended h slot d c wrote ran.Stopped now good = inl good
+
+ended_stopped : (slot : ℕ) (d : Domain) (c : Context) (wrote : Option WordPlace) (e : Ran) (now : Handed) → (e ≡ ran.Stopped) × (wrote ≡ None) →
+    Quits (StepStops d) now (ended_writing slot d c wrote e (Alone now))
+unfolding step.instruction_ended
+ended_stopped slot d c wrote e now stop =
+    subst (λ (x : Ran). Quits (StepStops d) now (ended_writing slot d c wrote x (Alone now))) (sym stop.0)
+    (subst (λ (x : Option WordPlace). Quits (StepStops d) now (ended_writing slot d c x ran.Stopped (Alone now))) (sym stop.1) (refl, refl))
 
 copy_stopped : (slot : ℕ) (d : Domain) (c : Context) (e : Copied) → e ≡ copied.Stopped → (step.copy_ended slot d c e).domain ≡ d
 unfolding step.copy_ended
 copy_stopped slot d c e stop = ap (λ (x : Copied). (step.copy_ended slot d c x).domain) stop
+
+written_stopped : (slot : ℕ) (d : Domain) (c : Context) (wrote : Option WordPlace) (e : Copied) → (e ≡ copied.Stopped) × (wrote ≡ None) →
+    (step.after_write wrote (step.copy_ended slot d c e)).domain ≡ d
+written_stopped slot d c wrote e stop =
+    ap (λ (x : Option WordPlace). (step.after_write x (step.copy_ended slot d c e)).domain) stop.1 ∙ copy_stopped slot d c e stop.0
 
 asks_phase : (h : Handed) (phase : Phase) (slot : ℕ) (c : Context) (d : Domain) → Kept 0 h h → Steps h d (step.phase_step phase slot c d (Alone h))
 unfolding step.phase_step
 asks_phase h Plain slot c d kept =
     let t = inside.instruction_inside d.control.number d.control.resources c (Alone h) in
     then_outcome AfterInstruction DomainStepped h (Instructs h) LeavesOpen (IsFit {A = DomainStepped}) (StepStops d)
-    (λ made. step.instruction_ended slot d made.context made.ending) t.answer t.world
-    (asks_instruction h d.control.number d.control.resources c kept) (λ after good. asks_ended h slot d t.answer.context t.answer.ending after good)
-    (λ after stop. ended_stopped slot d t.answer.context t.answer.ending after stop)
+    (λ made. ended_writing slot d made.context made.wrote made.ending) t.answer t.world
+    (asks_instruction h d.control.number d.control.resources c kept)
+    (λ after good. asks_ended h slot d t.answer.context t.answer.wrote t.answer.ending after good)
+    (λ after stop. ended_stopped slot d t.answer.context t.answer.wrote t.answer.ending after stop)
 asks_phase h (CopyIn done) slot c d kept =
     let t = calls.copy_in_step d.control.number d.control.resources c done (Alone h) in
     then_outcome Copy DomainStepped h (IsFit {A = Copy}) CopyStops (IsFit {A = DomainStepped}) (StepStops d)
     (λ copy. answered (step.copy_ended slot d copy.context copy.ending)) t.answer t.world
     (asks_copy_in h d.control.number d.control.resources c done kept) (λ after fit. inl fit)
-    (λ after stop. (refl, copy_stopped slot d t.answer.context t.answer.ending stop))
+    (λ after stop. (refl, copy_stopped slot d t.answer.context t.answer.ending stop.0))
 asks_phase h Waiting slot c d kept = inl kept.fit
 asks_phase h (CopyOut done total) slot c d kept =
     let t = calls.copy_out_step d.control.number d.control.resources c done total (Alone h) in
     then_outcome Copy DomainStepped h (IsFit {A = Copy}) CopyStops (IsFit {A = DomainStepped}) (StepStops d)
-    (λ copy. answered (step.copy_ended slot d copy.context copy.ending)) t.answer t.world
+    (λ copy. answered (step.after_write copy.wrote (step.copy_ended slot d copy.context copy.ending))) t.answer t.world
     (asks_copy_out h d.control.number d.control.resources c done total kept) (λ after fit. inl fit)
-    (λ after stop. (refl, copy_stopped slot d t.answer.context t.answer.ending stop))
+    (λ after stop. (refl, written_stopped slot d t.answer.context t.answer.wrote t.answer.ending stop))
 
 asks_step_if : (h : Handed) (c : Option Context) (slot : ℕ) (d : Domain) → Kept 0 h h → Steps h d (step.step_if c slot d (Alone h))
 unfolding step.step_if

@@ -13,6 +13,7 @@ use Rattle.cloak_model.specs.declared.item.Item.{Item}
 use Rattle.cloak_model.specs.declared.item.Item.TheVariants as item
 use Rattle.cloak_model.specs.World.{World, Alone}
 use Rattle.cloak_model.specs.Contexts.{Context}
+use Rattle.cloak_model.specs.declared.context.WordPlace.{WordPlace}
 use Rattle.cloak_model.specs.Parts.{DomainPart}
 use Rattle.cloak_model.specs.DomainState.{Domain}
 use Rattle.cloak_model.specs.DomainStep as step
@@ -48,12 +49,17 @@ loads_copy slot d c copied.Stopped = no_load (length d.loads)
 loads_copy slot d c copied.Refused = no_load (length d.loads)
 loads_copy slot d c (copied.Loaded address byte) = one_load d address byte
 
+-- a write behind a step
+loads_written : (wrote : Option WordPlace) (d : Domain) (s : DomainStepped) → LoadsOnce d s → LoadsOnce d (step.after_write wrote s)
+loads_written None d s once = once
+loads_written (Some place) d s once = once
+
 loads_phase : (phase : Phase) (slot : ℕ) (c : Context) (d : Domain) (w : World) → LoadsOnce d (step.phase_step phase slot c d w).answer
 unfolding step.phase_step
-loads_phase Plain slot c d w = loads_instruction slot d _ _ _
+loads_phase Plain slot c d w = loads_written _ d _ (loads_instruction slot d _ _ _)
 loads_phase (CopyIn done) slot c d w = loads_copy slot d _ _
 loads_phase Waiting slot c d w = no_load (length d.loads)
-loads_phase (CopyOut done total) slot c d w = loads_copy slot d _ _
+loads_phase (CopyOut done total) slot c d w = loads_written _ d _ (loads_copy slot d _ _)
 
 loads_if : (c : Option Context) (slot : ℕ) (d : Domain) (w : World) → LoadsOnce d (step.step_if c slot d w).answer
 unfolding step.step_if

@@ -2,6 +2,7 @@
 use Rattle.std.proofs.Common.{◌≡◌, ◌∙◌, ℕ, Bool, true, false, cond, List, length, Option, Some, None, Result, Ok, Err, refl}
 use Rattle.std.specs.Prelude.{is_some}
 use Rattle.std.proofs.Math.ListN.{length-set}
+use Rattle.std.proofs.lemmas.List.{length-map}
 use Rattle.cloak_base.specs.declared.names.CtxId.{CtxId}
 use Rattle.cloak_model.specs.declared.answer.Answer.{Answer}
 use Rattle.cloak_model.specs.declared.answer.Answer.TheVariants as told
@@ -18,7 +19,8 @@ use Rattle.cloak_model.specs.declared.inside.Ran.{Ran}
 use Rattle.cloak_model.specs.declared.inside.Ran.TheVariants as ran
 use Rattle.cloak_model.specs.declared.resource.MapFault.{MapFault}
 use Rattle.cloak_model.specs.World.{World}
-use Rattle.cloak_model.specs.Contexts.{Context, Resumed, resume_at, resume_if}
+use Rattle.cloak_model.specs.Contexts.{Context, Resumed, resume_at, resume_if, unless_reserved}
+use Rattle.cloak_model.specs.declared.context.WordPlace.{WordPlace}
 use Rattle.cloak_model.specs.Resources.{Resources, first_free}
 use Rattle.cloak_model.specs.Fork as forks
 use Rattle.cloak_model.specs.DomainState.{Control, Domain}
@@ -136,12 +138,17 @@ slots_copy slot d c copied.Stopped = refl
 slots_copy slot d c copied.Refused = set_slot slot _ d.control
 slots_copy slot d c (copied.Loaded address byte) = set_slot slot _ d.control
 
+-- a write behind a step
+slots_written : (wrote : Option WordPlace) (d : Control) (s : DomainStepped) → SameSlots d s.domain.control → SameSlots d (step.after_write wrote s).domain.control
+slots_written None d s same = same
+slots_written (Some place) d s same = length-map s.domain.control.contexts (unless_reserved place) ∙ same
+
 slots_phase : (phase : Phase) (slot : ℕ) (c : Context) (d : Domain) (w : World) → SameSlots d.control (step.phase_step phase slot c d w).answer.domain.control
 unfolding step.phase_step
-slots_phase Plain slot c d w = slots_ended slot d _ _ _
+slots_phase Plain slot c d w = slots_written _ d.control _ (slots_ended slot d _ _ _)
 slots_phase (CopyIn done) slot c d w = slots_copy slot d _ _
 slots_phase Waiting slot c d w = set_slot slot _ d.control
-slots_phase (CopyOut done total) slot c d w = slots_copy slot d _ _
+slots_phase (CopyOut done total) slot c d w = slots_written _ d.control _ (slots_copy slot d _ _)
 
 slots_step_if : (c : Option Context) (slot : ℕ) (d : Domain) (w : World) → SameSlots d.control (step.step_if c slot d w).answer.domain.control
 unfolding step.step_if

@@ -1,5 +1,5 @@
 -- The opening of a kernel that runs alone, and its report.
-use Rattle.std.proofs.Common.{◌≡◌, ◌<◌, ℕ, zero, suc, false, List, [], ◌∷◌, length, All, Option, None, Result, Ok, Err, refl, sym, arith, length-append}
+use Rattle.std.proofs.Common.{◌≡◌, ◌<◌, ℕ, zero, suc, false, List, [], ◌∷◌, length, All, Option, None, Result, Ok, Err, refl, sym, arith, length-append, replicate, ◌≤◌, subst}
 use Rattle.cloak_base.specs.declared.causes.Failed.{Failed}
 use Rattle.cloak_model.specs.Hart.{Hart, started}
 use Rattle.cloak_model.specs.KernelAlone as model
@@ -26,15 +26,19 @@ pub turns_inside : (turns schedule : List ℕ) (harts : List Hart) (entry n : �
 turns_inside turns schedule harts entry n same started inside =
     rw (same, started, length-started_harts entry n) inside
 
+-- there are few harts
+pub few_started : (harts : List Hart) (entry n : ℕ) → harts ≡ started_harts entry n → n ≤ 4 → length harts ≤ 4
+few_started harts entry n started few = rw (started, length-started_harts entry n) few
+
 pub opens_so : (k : KernelImage) (new : KernelAlone) → new.harts.items ≡ started_harts k.entry k.harts →
     new.ram.frames.items ≡ with_segments (zero_ram k.frames) k.segments → new.disk ≡ k.disk →
-    turns_of new ≡ k.schedule → new.steps ≡ 0 → stood_place new.place ≡ model.Between → new.halted ≡ false →
+    new.ram.reservations ≡ replicate k.harts None → turns_of new ≡ k.schedule → new.steps ≡ 0 → stood_place new.place ≡ model.Between → new.halted ≡ false →
     new.unfit ≡ None → ConsoleCounts new.console [] → StandsForKernel new k.schedule (opened_kernel k)
 unfolding started_kernel
-opens_so k new harts ram disk schedule steps place halted unfit console = record {
+opens_so k new harts ram disk marks schedule steps place halted unfit console = record {
   schedule = schedule;
   state = sym (λ i. record {
-    kernel = record { harts = harts i; ram = ram i; disk = disk i; console = [] };
+    kernel = record { harts = harts i; ram = ram i; disk = disk i; console = []; marks = marks i };
     steps = steps i;
     place = place i;
     halted = halted i;

@@ -1,8 +1,8 @@
 -- What single items make of a kernel that runs alone: where they stand, whether one fits, and what it does to RAM.
-use Rattle.std.proofs.Common.{◌≡◌, ℕ, nat_lt, Bool, true, false, List, length, slice_set, sym, ◌∙◌, ap}
+use Rattle.std.proofs.Common.{◌≡◌, ℕ, nat_lt, Bool, true, false, List, length, sym, ◌∙◌, ap}
 use Rattle.cloak_model.specs.KernelAlone as model
-use Rattle.cloak_model.specs.KernelAlone.{kernel_unfit, fits_if, show_cipher, with_shown_bytes, store_at}
-use Rattle.cloak_model.specs.Memory.{with_value_at}
+use Rattle.cloak_model.specs.KernelAlone.{kernel_unfit, fits_if, kernel_seen, with_kernel_seen, show_cipher, with_shown_bytes, store_at}
+use Rattle.cloak_model.specs.Memory.{Seen, filled, stored}
 use Rattle.alone_views.specs.KernelPlaces.{stood_place}
 use Rattle.alone_views.specs.KernelChanges.{ChangesTo, may_store, store_or_unfit}
 use Rattle.alone_views.specs.KernelStanding.{state_with}
@@ -29,22 +29,20 @@ fits_not old new test next is becomes = record {
   schedule = becomes.schedule;
 }
 
--- with another RAM
-abbrev pub with_ram : List (List ℕ) → model.KernelAlone → model.KernelAlone
-with_ram ram s = record s { kernel = record s.kernel { ram = ram } }
+-- with another RAM, and other reservations
+abbrev pub with_seen : Seen → model.KernelAlone → model.KernelAlone
+with_seen seen s = record s { kernel = with_kernel_seen seen s.kernel }
 
 -- the kernel is shown a frame
-pub cipher_shown : (s : model.KernelAlone) (f : ℕ) (bytes : List ℕ) (ram : List (List ℕ)) →
-    nat_lt f (length s.kernel.ram) ≡ true → ram ≡ slice_set s.kernel.ram f bytes →
-    show_cipher f bytes s ≡ with_ram ram s
-cipher_shown s f bytes ram there is =
-    ap (λ (b : Bool). fits_if b s (with_shown_bytes f bytes s)) there
-    ∙ ap (λ (r : List (List ℕ)). with_ram r s) (sym is)
+pub cipher_shown : (s : model.KernelAlone) (f : ℕ) (bytes : List ℕ) (seen : Seen) →
+    nat_lt f (length s.kernel.ram) ≡ true → filled f bytes (kernel_seen s.kernel) ≡ seen →
+    show_cipher f bytes s ≡ with_seen seen s
+cipher_shown s f bytes seen there is =
+    ap (λ (b : Bool). fits_if b s (with_shown_bytes f bytes s)) there ∙ ap (λ (x : Seen). with_seen x s) is
 
 -- a value is stored
-pub put_stored : (s : model.KernelAlone) (address width value : ℕ) (ram : List (List ℕ)) →
-    may_store (length s.kernel.ram) address width ≡ true → ram ≡ with_value_at address width value s.kernel.ram →
-    store_or_unfit address width value s ≡ with_ram ram s
-put_stored s address width value ram may is =
-    ap (λ (b : Bool). fits_if b s (store_at address width value s)) may
-    ∙ ap (λ (r : List (List ℕ)). with_ram r s) (sym is)
+pub put_stored : (s : model.KernelAlone) (address width value : ℕ) (seen : Seen) →
+    may_store (length s.kernel.ram) address width ≡ true → stored address width value (kernel_seen s.kernel) ≡ seen →
+    store_or_unfit address width value s ≡ with_seen seen s
+put_stored s address width value seen may is =
+    ap (λ (b : Bool). fits_if b s (store_at address width value s)) may ∙ ap (λ (x : Seen). with_seen x s) is

@@ -6,6 +6,7 @@ use Rattle.cloak_model.specs.Hart.{Hart, started}
 use Rattle.cloak_model.specs.KernelAlone as model
 use Rattle.cloak_model.specs.KernelAlone.{kernel_hart, kernel_unfit, fits_if, take_leave, kernel_step_begun, with_kernel_hart}
 use Rattle.cloak_model.specs.KernelStep.{ticked}
+use Rattle.cloak_model.specs.Memory.{with_mark}
 use Rattle.cloak_model.specs.Leaving.{leave}
 use Rattle.alone_views.specs.KernelChanges.{ChangesTo}
 use Rattle.alone_views.specs.declared.kernel.KernelAlone.{KernelAlone}
@@ -15,23 +16,25 @@ pub hart_there : (harts : List Hart) (number : ℕ) (h : Hart) → number < leng
     h ≡ slice_index_or harts number h → slice_index_or harts number (started 0 0) ≡ h
 hart_there harts number h there is = get_or_default harts number (started 0 0) h there ∙ sym is
 
--- a hart has left, and is this
-abbrev pub has_left : ℕ → Hart → model.KernelAlone → model.KernelAlone
-has_left number h s = record s { kernel = with_kernel_hart number h s.kernel; place = model.Left }
+-- a hart has left, and is this; these are the reservations
+abbrev pub has_left : ℕ → Hart → List (Option ℕ) → model.KernelAlone → model.KernelAlone
+has_left number h marks s =
+    record s { kernel = with_kernel_hart number h (record s.kernel { marks = marks }); place = model.Left }
 
 -- a step of a hart that runs this context, and is this, has begun
 abbrev pub is_inside : ℕ → ℕ → Hart → model.KernelAlone → model.KernelAlone
 is_inside number ctx h s = record s { kernel = with_kernel_hart number h s.kernel; place = model.Inside number ctx }
 
 -- the hart leaves its context
-pub left_context : (s : model.KernelAlone) (number ctx : ℕ) (h h' : Hart) (shown : Shown) →
-    kernel_hart s.kernel number ≡ h → h' ≡ leave h shown → (shown.ctx == ctx) ≡ true →
-    take_leave (model.Inside number ctx) shown s ≡ has_left number h' s
+pub left_context : (s : model.KernelAlone) (number ctx : ℕ) (h h' : Hart) (marks : List (Option ℕ)) (shown : Shown) →
+    kernel_hart s.kernel number ≡ h → h' ≡ leave h shown → marks ≡ with_mark number None s.kernel.marks →
+    (shown.ctx == ctx) ≡ true → take_leave (model.Inside number ctx) shown s ≡ has_left number h' marks s
 unfolding take_leave
-left_context s number ctx h h' shown is left same =
-    ap (λ (b : Bool). fits_if b s (has_left number (leave (kernel_hart s.kernel number) shown) s)) same
-    ∙ ap (λ (x : Hart). has_left number x s)
-    (ap (λ (x : Hart). leave x shown) is ∙ sym left)
+left_context s number ctx h h' marks shown is left none same =
+    let unmarked = with_mark number None s.kernel.marks in
+    ap (λ (b : Bool). fits_if b s (has_left number (leave (kernel_hart s.kernel number) shown) unmarked s)) same
+    ∙ ap (λ (x : Hart). has_left number x unmarked s) (ap (λ (x : Hart). leave x shown) is ∙ sym left)
+    ∙ ap (λ (m : List (Option ℕ)). has_left number h' m s) (sym none)
 
 -- it runs another context
 pub left_other : (old new : KernelAlone) (number ctx : ℕ) (shown : Shown) → (shown.ctx == ctx) ≡ false →
@@ -39,7 +42,7 @@ pub left_other : (old new : KernelAlone) (number ctx : ℕ) (shown : Shown) → 
 unfolding take_leave
 left_other old new number ctx shown other becomes =
     fits_not old new (λ s. shown.ctx == ctx)
-    (λ s. has_left number (leave (kernel_hart s.kernel number) shown) s)
+    (λ s. has_left number (leave (kernel_hart s.kernel number) shown) (with_mark number None s.kernel.marks) s)
     (λ console. other) becomes
 
 -- a step of a hart outside begins

@@ -4,8 +4,9 @@ use Rattle.cloak_model.specs.Asking.{Told, Follows}
 use Rattle.cloak_model.specs.Hart.{Hart}
 use Rattle.cloak_model.specs.HostCalls.{SteppedKernel}
 use Rattle.cloak_model.specs.KernelAlone as model
-use Rattle.cloak_model.specs.KernelAlone.{kernel_hart, kernel_unfit, plain_step, take_kernel_step, kernel_step_begun, after_plain_step, has_halted}
+use Rattle.cloak_model.specs.KernelAlone.{kernel_hart, kernel_seen, kernel_unfit, plain_step, take_kernel_step, kernel_step_begun, after_plain_step, has_halted}
 use Rattle.cloak_model.specs.KernelStep.{kernel_step}
+use Rattle.cloak_model.specs.Memory.{Seen}
 use Rattle.cloak_model.specs.World.{World, Flat}
 use Rattle.cloak_model.specs.declared.outcome.Kernel.{Kernel}
 use Rattle.cloak_model.proofs.Later.{unclashed_after_flat}
@@ -16,11 +17,11 @@ use Rattle.alone_views.specs.KernelChanges.{ChangesTo}
 use Rattle.alone_views.specs.KernelStanding.{state_with}
 use Rattle.alone_views.specs.declared.kernel.KernelAlone.{KernelAlone}
 use Rattle.alone_views.specs.declared.kernel_ram.FlatRam.{FlatRam}
-use Rattle.alone_views.specs.KernelWorld.{IsWorld}
+use Rattle.alone_views.specs.KernelWorld.{IsWorld, seen_by}
 
--- what a step told, of this hart, disk and ending, and these frames
-abbrev pub told_of : Hart → List ℕ → Kernel → List (List ℕ) → Told SteppedKernel
-told_of h disk k ram = record { answer = record { hart = h; disk = disk; ending = k }; world = Flat ram }
+-- what a step told, of this hart, disk and ending, and these frames and reservations
+abbrev pub told_of : Hart → List ℕ → Kernel → Seen → Told SteppedKernel
+told_of h disk k seen = record { answer = record { hart = h; disk = disk; ending = k }; world = Flat seen }
 
 told_as : {A : Type 0} (told : Told A) (a : A) (w : World) → told.answer ≡ a → told.world ≡ w →
     told ≡ record { answer = a; world = w }
@@ -34,29 +35,29 @@ later_kernel_step h disk w =
 pub step_over_ram : (old new : FlatRam) (h h' : Hart) (disk disk' : List ℕ) (k : Kernel) →
     Follows IsWorld old new
     (record { hart = h'; disk = disk'; ending = k }) (kernel_step h disk) →
-    kernel_step h disk (Flat old.frames.items) ≡ told_of h' disk' k new.frames.items
+    kernel_step h disk (Flat (seen_by old)) ≡ told_of h' disk' k (seen_by new)
 step_over_ram old new h h' disk disk' k follows =
-    let followed = follows old (Flat old.frames.items) refl
-    (unclashed_after_flat old.frames.items _ (later_kernel_step h disk (Flat old.frames.items))) in
+    let followed = follows old (Flat (seen_by old)) refl
+    (unclashed_after_flat (seen_by old) _ (later_kernel_step h disk (Flat (seen_by old)))) in
     told_as _ _ _ (sym followed.answer) followed.stands
 
 pub stepped_plainly : (s : model.KernelAlone) (number : ℕ) (h h' : Hart) (disk : List ℕ) (k : Kernel)
-    (ram : List (List ℕ)) (halts : Bool) → kernel_hart s.kernel number ≡ h →
-    kernel_step h s.kernel.disk (Flat s.kernel.ram) ≡ told_of h' disk k ram → halts ≡ has_halted k →
+    (seen : Seen) (halts : Bool) → kernel_hart s.kernel number ≡ h →
+    kernel_step h s.kernel.disk (Flat (kernel_seen s.kernel)) ≡ told_of h' disk k seen → halts ≡ has_halted k →
     plain_step number s ≡ record s {
-      kernel = after_plain_step s.kernel number (told_of h' disk k ram);
+      kernel = after_plain_step s.kernel number (told_of h' disk k seen);
       place = model.Between;
       halted = halts;
     }
 unfolding plain_step
-stepped_plainly s number h h' disk k ram halts is made halted =
+stepped_plainly s number h h' disk k seen halts is made halted =
     ap (λ (told : Told SteppedKernel). let t : model.KernelAlone = record s {
       kernel = after_plain_step s.kernel number told;
       place = model.Between;
       halted = has_halted told.answer.ending;
-    } in t) (ap (λ (x : Hart). kernel_step x s.kernel.disk (Flat s.kernel.ram)) is ∙ made)
+    } in t) (ap (λ (x : Hart). kernel_step x s.kernel.disk (Flat (kernel_seen s.kernel))) is ∙ made)
     ∙ ap (λ (b : Bool). let t : model.KernelAlone = record s {
-      kernel = after_plain_step s.kernel number (told_of h' disk k ram);
+      kernel = after_plain_step s.kernel number (told_of h' disk k seen);
       place = model.Between;
       halted = b;
     } in t) (sym halted)

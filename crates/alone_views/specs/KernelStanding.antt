@@ -23,6 +23,7 @@ state_with machine console = record {
     ram = machine.ram.frames.items;
     disk = machine.disk;
     console = console;
+    marks = machine.ram.reservations;
   };
   steps = machine.steps;
   place = stood_place machine.place;

@@ -1,7 +1,7 @@
 //! The kernel alone: it takes the items of a record one after another, and ignores the inward ones. A step of a hart
 //! outside shows the step's Ciphers and then makes the plain step, once the step's end has been read. A step of a hart
 //! inside counts the timer, and shows what the step's Ciphers, Puts and Leave say.
-ghost use Rattle.std.specs.Prelude.{◌≡◌, ◌<◌, ◌^◌, ℕ, List, length, All, IfOk, IsSome};
+ghost use Rattle.std.specs.Prelude.{◌≡◌, ◌<◌, ◌≤◌, ◌^◌, ℕ, List, length, All, IfOk, IsSome};
 ghost use Rattle.cloak_model.specs.Bundle.{IsKernelImage};
 ghost use Rattle.cloak_model.specs.Exchange.{EmitsSome};
 ghost use Rattle.cloak_model.specs.KernelAlone as spec;
@@ -38,6 +38,7 @@ pub struct KernelAlone {
     pub(crate) halted: bool,
     /// The step at which an item was unfit.
     pub(crate) unfit: Option<u32>,
+    ghost few_harts: { length harts.items ≤ 4 },
     ghost some_turns: { 0 < length schedule.items },
     ghost turns: { All (λ h. h < length harts.items) schedule.items },
     ghost placed: { IsPlaceAmong (length harts.items) place },
@@ -54,7 +55,7 @@ impl KernelAlone {
         ensures { IfOk result (λ machine. StandsForKernel machine k.now.schedule (spec.opened_kernel k.now)) }
     {
         let harts = start_harts(alloc, k.entry, k.harts)?;
-        let ram = load_segments(alloc, k.frames, k.segments.as_slice())?;
+        let ram = load_segments(alloc, k.frames, k.harts, k.segments.as_slice())?;
         let disk = Disk::open(alloc, k.disk.as_slice())?;
         let schedule = Vec::from_slice(alloc, k.schedule.as_slice())?;
         Ok(KernelAlone {

@@ -10,13 +10,14 @@ use host_calls::leave;
 impl KernelAlone {
     ghost use Rattle.alone_views.specs.KernelChanges.{ChangesTo};
 
-    /// A hart leaves the context that it runs.
+    /// A hart leaves the context that it runs by a trap, which ends its reservation.
     fn leave_context(&mut self, hart: usize, ctx: u32, shown: &Shown)
         requires { hart < length self.old.harts.items }
         ensures { ChangesTo self.old self.new (spec.take_leave (spec.Inside hart ctx) shown.now) }
     {
         if shown.ctx == ctx {
             leave(&mut self.harts[hart], shown);
+            self.ram.reservations.unmark(hart as u32);
             self.place = KernelPlace::Left;
         } else {
             self.refuse();

@@ -1,5 +1,5 @@
-//! The frames of a machine without cloaked pages.
-ghost use Rattle.std.specs.Prelude.{ℕ, ◌≡◌, ◌+◌, ◌*◌, ◌%◌, ◌≤◌, ◌<◌, length, nat_lt, slice_set, IfOk, All, IsTrue};
+//! The frames of a machine without cloaked pages, and the reservations of its harts.
+ghost use Rattle.std.specs.Prelude.{ℕ, ◌≡◌, ◌+◌, ◌*◌, ◌%◌, ◌≤◌, ◌<◌, None, Ok, length, nat_lt, replicate, slice_set, IfOk, All, IsTrue};
 ghost use Rattle.std.specs.List.{concat};
 ghost use Rattle.sha2.specs.Sha256.{sha256};
 ghost use Rattle.cloak_base.specs.Pages.{zero_page};
@@ -9,25 +9,27 @@ ghost use Rattle.cloak_model.specs.Asking.{Follows};
 ghost use Rattle.cloak_model.specs.Bundle.{IsSegmentIn};
 ghost use Rattle.cloak_model.specs.Effect.{IsWidth};
 ghost use Rattle.cloak_base.specs.Constants.{ram_start, ram_end, is_in_frames};
-ghost use Rattle.cloak_model.specs.Memory.{with_bytes, with_value_at, zero_ram};
+ghost use Rattle.cloak_model.specs.Memory.{filled, mark_of, stored, value_at, with_bytes, with_value_at, zero_ram};
 ghost use Rattle.cloak_model.specs.Opening.{with_segments};
 
 use cloak_base::{Frame, NoMemory, RAM_START, frame_of, is_in_frames, place_of};
 use cloak_model::{Access, Segment, access_fault, set_value_in, value_in, word_in};
-use host_calls::Ram;
+use host_calls::{Ram, Reservations};
+use rv_atomic::{AtomicOp, combine};
 use sha2::{Digest, Sha256};
 use std::alloc::Global;
 use sv32_walk::{Words, walk};
 
-/// RAM without cloaked pages: its frames as the kernel sees them.
+/// RAM without cloaked pages: its frames as the kernel sees them, and the reservations of the harts.
 #[derive(Drop)]
 pub struct FlatRam {
     pub frames: Vec<[u8; 4096]>,
+    pub reservations: Reservations,
     ghost few: { length frames.items ≤ 4096 },
 }
 
 impl FlatRam {
-    ghost use Rattle.alone_views.specs.KernelWorld.{IsWorld};
+    ghost use Rattle.alone_views.specs.KernelWorld.{IsWorld, seen_by};
 
     /// The address lies in RAM.
     #[inline]
@@ -78,7 +80,8 @@ impl FlatRam {
         requires inside { IsTrue (is_in_frames (length self.now.frames.items) pa) }
         requires width { IsWidth width }
         requires aligned { pa % width ≡ 0 }
-        ensures { (satp : ℕ) (access : Access) →
+        ensures value { result ≡ value_at self.now.frames.items pa width }
+        ensures follows { (satp : ℕ) (access : Access) →
             Follows IsWorld self.now self.now result (ask.ask_value satp access pa width) }
     {
         value_in(&self.frames[frame_of(pa).0 as usize], place_of(pa), width)
@@ -92,6 +95,7 @@ impl FlatRam {
         requires width { IsWidth width }
         requires aligned { pa % width ≡ 0 }
         ensures frames { self.new.frames.items ≡ with_value_at pa width value self.old.frames.items }
+        ensures marks { self.new.reservations ≡ (stored pa width value (seen_by self.old)).marks }
         ensures follows { (satp : ℕ) (access : Access) →
             Follows IsWorld self.old self.new tt (ask.ask_store satp access pa width value) }
     {
@@ -100,15 +104,73 @@ impl FlatRam {
             place_of(pa),
             width,
             value,
-        )
+        );
+        self.reservations.word_written(pa);
+    }
+
+    /// The word at an address, which a hart reserves.
+    #[tactic(auto, unfolding(cloak_model::specs::Ask::reserved_at, cloak_model::specs::Ask::ask_value, cloak_model::specs::Ask::ask_mark))]
+    fn reserve_at(&mut self, pa: u32, hart: u32) -> u32
+        requires inside { IsTrue (is_in_frames (length self.old.frames.items) pa) }
+        requires aligned { pa % 4 ≡ 0 }
+        ensures follows { (satp : ℕ) (access : Access) →
+            Follows IsWorld self.old self.new (Ok result) (ask.reserved_at satp access hart (Ok pa)) }
+        ensures same_count { length self.new.frames.items ≡ length self.old.frames.items }
+    {
+        self.reservations.mark(hart, pa);
+        self.read_at(pa, 4)
+    }
+
+    /// A hart has reserved the word at this address.
+    fn has_reserved(&self, hart: u32, pa: u32) -> bool
+        ensures { result ≡ ask.is_reserved pa (mark_of hart self.now.reservations) }
+    {
+        match self.reservations.marked(hart) {
+            None => false,
+            Some(word) => word == pa,
+        }
+    }
+
+    /// Stores a word at an address if a hart has reserved the word there; its reservation ends either way. Whether the word
+    /// was stored.
+    fn store_reserved(&mut self, pa: u32, hart: u32, v: u32) -> bool
+        requires inside { IsTrue (is_in_frames (length self.old.frames.items) pa) }
+        requires aligned { pa % 4 ≡ 0 }
+        ensures follows { (satp : ℕ) (access : Access) →
+            Follows IsWorld self.old self.new (Ok result) (ask.conditional_at satp access hart v (Ok pa)) }
+        ensures same_count { length self.new.frames.items ≡ length self.old.frames.items }
+    {
+        if self.has_reserved(hart, pa) {
+            self.write_at(pa, 4, v);
+            self.reservations.unmark(hart);
+            return true;
+        }
+        self.reservations.unmark(hart);
+        false
+    }
+
+    /// Stores what an operation makes of the word at an address and the operand. The word that stood there.
+    #[tactic(auto, unfolding(cloak_model::specs::Ask::combined_at, cloak_model::specs::Ask::ask_value))]
+    fn combine_at(&mut self, pa: u32, op: AtomicOp, operand: u32) -> u32
+        requires inside { IsTrue (is_in_frames (length self.old.frames.items) pa) }
+        requires aligned { pa % 4 ≡ 0 }
+        ensures follows { (satp : ℕ) (access : Access) →
+            Follows IsWorld self.old self.new (Ok result) (ask.combined_at satp access op operand (Ok pa)) }
+        ensures same_count { length self.new.frames.items ≡ length self.old.frames.items }
+    {
+        let old = self.read_at(pa, 4);
+        self.write_at(pa, 4, combine(op, old, operand));
+        old
     }
 
     /// Replaces the bytes of a frame.
     pub fn set_frame(&mut self, f: u32, bytes: &[u8; 4096])
         requires { f < length self.old.frames.items }
-        ensures { self.new.frames.items ≡ slice_set self.old.frames.items f bytes.now }
+        ensures frames { self.new.frames.items ≡ slice_set self.old.frames.items f bytes.now }
+        ensures marks { self.new.reservations ≡ (filled f bytes.now (seen_by self.old)).marks }
     {
         self.frames[f as usize] = *bytes;
+        self.reservations.frame_written(Frame(f));
     }
 
     /// The digest of all frames in order.
@@ -141,7 +203,7 @@ impl Words for FlatRam {
     }
 }
 
-#[tactic(auto, using(cloak_model::proofs::Later::laters), unfolding(cloak_model::specs::Ask::ask_load, cloak_model::specs::Ask::loaded_at, cloak_model::specs::Ask::ask_store_at, cloak_model::specs::Ask::stored_to, cloak_model::specs::Ask::ask_frame, cloak_model::specs::Ask::ask_fill, cloak_model::specs::Ask::ask_count))]
+#[tactic(auto, using(cloak_model::proofs::Later::laters), unfolding(cloak_model::specs::Ask::ask_load, cloak_model::specs::Ask::loaded_at, cloak_model::specs::Ask::ask_store_at, cloak_model::specs::Ask::stored_to, cloak_model::specs::Ask::ask_frame, cloak_model::specs::Ask::ask_unmark, cloak_model::specs::Ask::ask_fill, cloak_model::specs::Ask::ask_count))]
 impl Ram for FlatRam {
     ghost use Rattle.std.specs.Prelude.{length};
     ghost use Rattle.alone_views.specs.KernelWorld.{IsWorld};
@@ -169,12 +231,49 @@ impl Ram for FlatRam {
         }
     }
 
+    fn reserve(&mut self, satp: u32, access: Access, hart: u32) -> Result<u32, u32> {
+        match self.led(satp, access) {
+            Err(cause) => Err(cause),
+            Ok(pa) => Ok(self.reserve_at(pa, hart)),
+        }
+    }
+
+    fn store_conditional(
+        &mut self,
+        satp: u32,
+        access: Access,
+        hart: u32,
+        v: u32,
+    ) -> Result<bool, u32> {
+        match self.led(satp, access) {
+            Err(cause) => Err(cause),
+            Ok(pa) => Ok(self.store_reserved(pa, hart, v)),
+        }
+    }
+
+    fn combine(
+        &mut self,
+        satp: u32,
+        access: Access,
+        op: AtomicOp,
+        operand: u32,
+    ) -> Result<u32, u32> {
+        match self.led(satp, access) {
+            Err(cause) => Err(cause),
+            Ok(pa) => Ok(self.combine_at(pa, op, operand)),
+        }
+    }
+
+    fn unmark(&mut self, hart: u32) {
+        self.reservations.unmark(hart);
+    }
+
     fn frame(&mut self, f: Frame) -> &[u8; 4096] {
         &self.frames[f.0 as usize]
     }
 
     fn fill(&mut self, f: Frame, b: &[u8; 4096]) {
-        self.frames[f.0 as usize] = *b;
+        self.set_frame(f.0, b);
     }
 
     fn frames(&self) -> u32 {
@@ -202,11 +301,18 @@ fn store_bytes(frames: &mut [[u8; 4096]], address: u32, bytes: &[u8])
     }
 }
 
-/// RAM as a run begins: zeros, and then the segments in their order.
-pub fn load_segments(alloc: Global, count: u32, segments: &[Segment]) -> Result<FlatRam, NoMemory>
+/// RAM as a run of so many harts begins: zeros, and then the segments in their order. No hart has a reservation.
+pub fn load_segments(
+    alloc: Global,
+    count: u32,
+    harts: u32,
+    segments: &[Segment],
+) -> Result<FlatRam, NoMemory>
     requires few { count ≤ 4096 }
+    requires few_harts { harts ≤ 4 }
     requires inside { All (IsSegmentIn count) segments.now }
-    ensures { IfOk result (λ ram. ram.frames.items ≡ with_segments (zero_ram count) segments.now) }
+    ensures frames { IfOk result (λ ram. ram.frames.items ≡ with_segments (zero_ram count) segments.now) }
+    ensures marks { IfOk result (λ ram. ram.reservations ≡ replicate harts None) }
 {
     let mut frames = Vec::with_capacity(alloc, count as usize)?;
     for made in 0..count {
@@ -216,5 +322,8 @@ pub fn load_segments(alloc: Global, count: u32, segments: &[Segment]) -> Result<
     for segment in segments {
         store_bytes(&mut frames, segment.address, segment.bytes.as_slice());
     }
-    Ok(FlatRam { frames })
+    Ok(FlatRam {
+        frames,
+        reservations: Reservations::none(harts),
+    })
 }

@@ -16,7 +16,7 @@ fn has_halted(ending: Kernel) -> bool
 {
     match ending {
         Kernel::Halt(_) => true,
-        Kernel::Stay | Kernel::Put(_) | Kernel::Resume { .. } => false,
+        Kernel::Stay | Kernel::Trapped | Kernel::Put(_) | Kernel::Resume { .. } => false,
     }
 }
 

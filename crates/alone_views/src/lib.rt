@@ -8,8 +8,8 @@
 //! changes. `harts`, `frames`, `context` and `asked` tell what a machine is at a moment (what `asked` tells no clause says).
 //! `report` writes the machine's lines of the report. After the opening no call takes memory.
 //!
-//! `FlatRam` is the memory of a kernel alone: frames in which nothing is settled, over which the plain step and the walk are
-//! made as over any `Ram`.
+//! `FlatRam` is the memory of a kernel alone: frames in which nothing is settled, and the reservations of its harts. The plain
+//! step and the walk are made over it as over any `Ram`.
 #![tactic(auto)]
 
 mod asked;

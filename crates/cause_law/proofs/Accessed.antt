@@ -1,14 +1,21 @@
 -- A step of a program leaves all calm, or it is stopped at a page for which it asks.
-use Rattle.std.proofs.Common.{◌≡◌, ◌⊎◌, ◌%◌, ℕ, Bool, true, false, nat_le, List, Option, Some, None, Result, Ok, Err, refl, ap, inl, inr}
-use Rattle.std.proofs.lemmas.Bool.{leb-false}
+use Rattle.std.proofs.Common.{◌≡◌, ◌⊎◌, ◌%◌, ℕ, Bool, true, false, cond, nat_le, List, Option, Some, None, Result, Ok, Err, refl, ap, inl, inr}
+use Rattle.std.specs.Prelude.{◌==◌}
+use Rattle.std.proofs.lemmas.Bool.{leb-false, eqb-true}
 use Rattle.cloak_base.specs.declared.names.Kind.{Kind}
 use Rattle.cloak_base.specs.declared.names.Kind.TheVariants.{Fetch, Load, Store}
 use Rattle.cloak_base.specs.declared.names.PageId.{PageId}
+use Rattle.cloak_base.specs.Registers.{register}
 use Rattle.rv_isa.specs.Table.{instruction}
 use Rattle.rv_isa.specs.declared.instr.Instr.{Instr}
 use Rattle.rv_isa.specs.declared.instr.Instr.TheVariants.{Ecall, Ebreak}
+use Rattle.rv_atomic.specs.Table.{atomic_instruction}
+use Rattle.rv_atomic.specs.declared.atomic.Atomic.{Atomic}
+use Rattle.rv_atomic.specs.declared.atomic.AtomicOp.{AtomicOp}
+use Rattle.rv_atomic.specs.declared.atomic.AtomicOp.TheVariants.{Lr, Sc}
 use Rattle.cloak_model.specs.declared.answer.Answer.{Answer}
 use Rattle.cloak_model.specs.declared.answer.Answer.TheVariants as told
+use Rattle.cloak_model.specs.declared.context.WordPlace.{WordPlace}
 use Rattle.cloak_model.specs.declared.context.Phase.{Phase}
 use Rattle.cloak_model.specs.declared.context.Phase.TheVariants.{Plain, CopyIn, Waiting, CopyOut}
 use Rattle.cloak_model.specs.declared.inside.Copied.{Copied}
@@ -19,23 +26,24 @@ use Rattle.cloak_model.specs.declared.inside.Went.TheVariants as went
 use Rattle.cloak_model.specs.declared.outcome.Effect.{Effect}
 use Rattle.cloak_model.specs.declared.outcome.Effect.TheVariants as does
 use Rattle.cloak_model.specs.declared.resource.MapFault.{MapFault}
-use Rattle.cloak_model.specs.Asking.{Told}
+use Rattle.cloak_model.specs.Asking.{Told, answered}
 use Rattle.cloak_model.specs.AskPages.{ask_reach, ask_read, ask_get}
 use Rattle.cloak_model.specs.Calls.{Copy, buffer, area, call_length, byte_address, is_cloaked, in_put, in_reached, in_placed, in_step, copy_in_step, out_reached, out_got, out_placed, out_step, copy_out_step}
 use Rattle.cloak_model.specs.Contexts.{Context}
 use Rattle.cloak_model.specs.DomainState.{Control, Domain}
-use Rattle.cloak_model.specs.DomainStep.{DomainStepped, instruction_ended, copy_ended, phase_step}
+use Rattle.cloak_model.specs.DomainStep.{DomainStepped, instruction_ended, copy_ended, after_write, phase_step}
 use Rattle.cloak_model.specs.Effect.{effect}
 use Rattle.cloak_model.specs.Fork.{fork_cleared, fork_if, fork, end_cleared, end_if, end_context}
 use Rattle.cloak_model.specs.Hypercalls.{Hypercall, New, Map, Unmap, File, Thread, ForkSpace, Exit, Call, Unknown, fork_call, exit_call, hypercall, hypercall_of}
-use Rattle.cloak_model.specs.InsideStep.{AfterInstruction, loaded_inside, load_reached, load_got, load_inside, store_reached, store_put, store_inside, system_inside, done_inside, decoded_inside, executed_inside, fetched_inside, fetch, instruction_inside}
+use Rattle.cloak_model.specs.InsideStep.{AfterInstruction, loaded_inside, load_reached, load_got, load_inside, store_reached, store_put, store_inside, conditional_inside, atomic_granted, atomic_reached, atomic_placed, traps, atomic_inside, system_inside, done_inside, decoded_inside, executed_inside, fetched_inside, fetch, instruction_inside}
 use Rattle.cloak_model.specs.Joint.{pages_for}
+use Rattle.cloak_model.specs.KernelStep.{atomic_kind, misaligned}
 use Rattle.cloak_model.specs.Memory.{value_in}
-use Rattle.cloak_model.specs.Resources.{Resources}
+use Rattle.cloak_model.specs.Resources.{Resources, page_at}
 use Rattle.cloak_model.specs.World.{World, Cloak, Flat, Cloaked, Alone, view_of, plain_of}
 use Rattle.domain_isolation.proofs.Answers.{question_answered}
 use Rattle.domain_isolation.proofs.Scripts.{Question, Reach, Get}
-use Rattle.cause_law.specs.Presented.{Executes, AsksAt, Fetches, LoadsAt, StoresAt, CopiesFrom, CopiesTo}
+use Rattle.cause_law.specs.Presented.{Executes, AsksAt, Fetches, LoadsAt, StoresAt, AtomicAt, CopiesFrom, CopiesTo}
 use Rattle.cause_law.proofs.Asked.{Calm, Met, Calms, Calms-refl, Calms-trans, CalmOrMet, asked_meets, calms_asks_get, calms_asks_put, calms_asks_clear, calms_writes, calms_copies, calms_forgets, is_cloaked_calm}
 
 -- A context's step found a page for which it asks in another frame.
@@ -167,31 +175,91 @@ calms_system c Ecall w = Calms-refl w
 calms_system c Ebreak w = Calms-refl w
 calms_system c i w = Calms-refl w
 
-done_meets : (d : Domain) (c : Context) (begun : World) (i : Instr) (e : Effect) (w : World) →
-    Executes d c begun i w → effect i c.regs c.pc ≡ e → view_of w ≡ view_of begun → Calm w →
+done_meets : (d : Domain) (c : Context) (begun : World) (word : ℕ) (i : Instr) (e : Effect) (w : World) →
+    Executes d c begun word w → instruction word ≡ Some i → effect i c.regs c.pc ≡ e → view_of w ≡ view_of begun →
+    Calm w →
     EndsCalmOrMet IsStoppedRun d c begun (done_inside d.control.number d.control.resources c i e w)
 unfolding done_inside
-done_meets d c begun i (does.Write rd value) w runs is view calm = inl calm
-done_meets d c begun i (does.Jump rd link target) w runs is view calm = inl calm
-done_meets d c begun i (does.Go target) w runs is view calm = inl calm
-done_meets d c begun i (does.Load rd va width is_signed) w runs is view calm =
-    load_meets d c begun rd va width is_signed _ w refl view (LoadsAt i runs rd width is_signed is refl) calm
-done_meets d c begun i (does.Store va width value) w runs is view calm =
-    store_meets d c begun va width value _ w refl view (StoresAt i runs width value is refl) calm
-done_meets d c begun i does.System w runs is view calm = inl ((calms_system c i w).by calm)
-done_meets d c begun i does.Nothing w runs is view calm = inl calm
-done_meets d c begun i (does.Raise cause value) w runs is view calm = inl calm
+done_meets d c begun word i (does.Write rd value) w runs found is view calm = inl calm
+done_meets d c begun word i (does.Jump rd link target) w runs found is view calm = inl calm
+done_meets d c begun word i (does.Go target) w runs found is view calm = inl calm
+done_meets d c begun word i (does.Load rd va width is_signed) w runs found is view calm =
+    load_meets d c begun rd va width is_signed _ w refl view (LoadsAt word i runs found rd width is_signed is refl) calm
+done_meets d c begun word i (does.Store va width value) w runs found is view calm =
+    store_meets d c begun va width value _ w refl view (StoresAt word i runs found width value is refl) calm
+done_meets d c begun word i does.System w runs found is view calm = inl ((calms_system c i w).by calm)
+done_meets d c begun word i does.Nothing w runs found is view calm = inl calm
+done_meets d c begun word i (does.Raise cause value) w runs found is view calm = inl calm
 
-decoded_meets : (d : Domain) (c : Context) (begun : World) (q : PageId) (o : Option Instr) (w : World) →
-    c.phase ≡ Plain → pages_for d (Some c) c.pc ≡ Some q →
-    ask_reach q c.pc Fetch begun ≡ record { answer = told.Ok; world = w } →
-    instruction (value_in (plain_of w q) (c.pc % 4096) 4) ≡ o → view_of w ≡ view_of begun → Calm w →
-    EndsCalmOrMet IsStoppedRun d c begun (decoded_inside d.control.number d.control.resources c o w)
+-- Atomic instructions.
+
+calms_conditional : (reserved : Bool) (c : Context) (rd : ℕ) (q : PageId) (va operand : ℕ) (w : World) →
+    Calms w (conditional_inside reserved c rd q va operand w).world
+unfolding conditional_inside
+calms_conditional true c rd q va operand w = calms_writes q (va % 4096) 4 operand w
+calms_conditional false c rd q va operand w = Calms-refl w
+
+calms_granted : (c : Context) (rd : ℕ) (op : AtomicOp) (q : PageId) (va operand : ℕ) (w : World) →
+    Calms w (atomic_granted c rd op q va operand w).world
+unfolding atomic_granted ask_read
+calms_granted c rd Lr q va operand w = Calms-refl w
+calms_granted c rd Sc q va operand w = calms_conditional _ c rd q va operand w
+calms_granted c rd op q va operand w = calms_writes q (va % 4096) 4 _ w
+
+atomic_goes : (d : Domain) (c : Context) (begun : World) (rd : ℕ) (op : AtomicOp) (q : PageId) (va operand : ℕ)
+    (a : Answer) (w : World) → Goes d c begun a w →
+    EndsCalmOrMet IsStoppedRun d c begun (atomic_reached c rd op q va operand a w)
+unfolding atomic_reached
+atomic_goes d c begun rd op q va operand a w (inl calm) = inl (calm_by a)
+  where
+    calm_by : (a : Answer) → Calm (atomic_reached c rd op q va operand a w).world
+    calm_by told.Ok = (calms_granted c rd op q va operand w).by calm
+    calm_by (told.Absent cause) = calm
+    calm_by (told.Word value) = calm
+    calm_by told.Stopped = calm
+atomic_goes d c begun rd op q va operand told.Stopped w (inr met) = inr (refl, met.1)
+atomic_goes d c begun rd op q va operand told.Ok w (inr met) = let is = met.0 in absurd cc
+atomic_goes d c begun rd op q va operand (told.Absent cause) w (inr met) = let is = met.0 in absurd cc
+atomic_goes d c begun rd op q va operand (told.Word value) w (inr met) = let is = met.0 in absurd cc
+
+placed_meets : (d : Domain) (c : Context) (begun : World) (rd : ℕ) (op : AtomicOp) (va operand : ℕ)
+    (o : Option PageId) (w : World) → pages_for d (Some c) va ≡ o → view_of w ≡ view_of begun →
+    AsksAt d c begun va (atomic_kind op) w → Calm w →
+    EndsCalmOrMet IsStoppedRun d c begun (atomic_placed c rd op va operand o w)
+unfolding atomic_placed
+placed_meets d c begun rd op va operand None w lies view asks calm = inl calm
+placed_meets d c begun rd op va operand (Some q) w lies view asks calm =
+    atomic_goes d c begun rd op q va operand _ _ (asks_goes d c begun w q va (atomic_kind op) lies view asks calm)
+
+aligned_meets : (aligned : Bool) (d : Domain) (c : Context) (begun : World) (word : ℕ) (a : Atomic) (w : World) →
+    let va = register c.regs a.rs1 in
+    (va % 4 == 0) ≡ aligned → Executes d c begun word w → atomic_instruction word ≡ Some a →
+    view_of w ≡ view_of begun → Calm w →
+    EndsCalmOrMet IsStoppedRun d c begun (cond aligned
+    (atomic_placed c a.rd a.op va (register c.regs a.rs2) (page_at d.control.number d.control.resources c.space va) w)
+    (traps c (misaligned a.op) va w))
+aligned_meets true d c begun word a w is runs found view calm =
+    let va = register c.regs a.rs1 in
+    placed_meets d c begun a.rd a.op va (register c.regs a.rs2) _ w refl view
+    (AtomicAt word a runs found refl (eqb-true (va % 4) 0 is) refl) calm
+aligned_meets false d c begun word a w is runs found view calm = inl calm
+
+atomic_meets : (d : Domain) (c : Context) (begun : World) (word : ℕ) (o : Option Atomic) (w : World) →
+    Executes d c begun word w → atomic_instruction word ≡ o → view_of w ≡ view_of begun → Calm w →
+    EndsCalmOrMet IsStoppedRun d c begun (atomic_inside d.control.number d.control.resources c o w)
+unfolding atomic_inside
+atomic_meets d c begun word None w runs found view calm = inl calm
+atomic_meets d c begun word (Some a) w runs found view calm =
+    aligned_meets _ d c begun word a w refl runs found view calm
+
+decoded_meets : (d : Domain) (c : Context) (begun : World) (word : ℕ) (o : Option Instr) (w : World) →
+    Executes d c begun word w → instruction word ≡ o → view_of w ≡ view_of begun → Calm w →
+    EndsCalmOrMet IsStoppedRun d c begun (decoded_inside d.control.number d.control.resources c word o w)
 unfolding decoded_inside
-decoded_meets d c begun q None w plain lies granted is view calm = inl calm
-decoded_meets d c begun q (Some i) w plain lies granted is view calm =
-    done_meets d c begun i _ w
-    (record { plain = plain; page = q; lies = lies; granted = granted; word = is }) refl view calm
+decoded_meets d c begun word None w runs found view calm =
+    atomic_meets d c begun word (atomic_instruction word) w runs refl view calm
+decoded_meets d c begun word (Some i) w runs found view calm =
+    done_meets d c begun word i _ w runs found refl view calm
 
 fetched_goes : (d : Domain) (c : Context) (begun : World) (q : PageId) (a : Answer) (w : World) → c.phase ≡ Plain →
     pages_for d (Some c) c.pc ≡ Some q → ask_reach q c.pc Fetch begun ≡ record { answer = a; world = w } →
@@ -199,7 +267,8 @@ fetched_goes : (d : Domain) (c : Context) (begun : World) (q : PageId) (a : Answ
     EndsCalmOrMet IsStoppedRun d c begun (fetched_inside d.control.number d.control.resources c q a w)
 unfolding fetched_inside executed_inside ask_read
 fetched_goes d c begun q told.Ok w plain lies granted view (inl calm) =
-    decoded_meets d c begun q _ w plain lies granted refl view calm
+    decoded_meets d c begun (value_in (plain_of w q) (c.pc % 4096) 4) _ w
+    (record { plain = plain; page = q; lies = lies; granted = granted; has = refl }) refl view calm
 fetched_goes d c begun q (told.Absent cause) w plain lies granted view (inl calm) = inl calm
 fetched_goes d c begun q (told.Word value) w plain lies granted view (inl calm) = inl calm
 fetched_goes d c begun q told.Stopped w plain lies granted view (inl calm) = inl calm
@@ -377,13 +446,25 @@ copied_meets slot d c made begun e w (inr met) =
 
 -- A step.
 
+-- a word that was written in changes reservations alone
+written_stops : (wrote : Option WordPlace) (s : DomainStepped) → IsStoppedStep s → IsStoppedStep (after_write wrote s)
+written_stops None s is = is
+written_stops (Some place) s is = is
+
+written_meets : (wrote : Option WordPlace) (d : Domain) (c : Context) (begun : World) (s : DomainStepped) (w : World) →
+    Calm w ⊎ (IsStoppedStep s × MetIn d c begun w) →
+    EndsCalmOrMet IsStoppedStep d c begun (answered (after_write wrote s) w)
+written_meets wrote d c begun s w (inl calm) = inl calm
+written_meets wrote d c begun s w (inr met) = inr (written_stops wrote s met.0, met.1)
+
 pub phase_meets : (p : Phase) (slot : ℕ) (d : Domain) (c : Context) (begun : World) → c.phase ≡ p → Calm begun →
     EndsCalmOrMet IsStoppedStep d c begun (phase_step p slot c d begun)
 unfolding phase_step instruction_inside copy_in_step copy_out_step
 phase_meets Plain slot d c begun is calm =
-    ran_meets slot d c _ begun _ _ (fetch_meets d c begun _ is refl calm)
+    written_meets _ d c begun _ _ (ran_meets slot d c _ begun _ _ (fetch_meets d c begun _ is refl calm))
 phase_meets (CopyIn done) slot d c begun is calm =
     copied_meets slot d c _ begun _ _ (in_step_meets d c begun done _ is refl calm)
 phase_meets Waiting slot d c begun is calm = inl calm
 phase_meets (CopyOut done total) slot d c begun is calm =
-    copied_meets slot d c _ begun _ _ (out_step_meets d c begun done total _ is refl calm)
+    written_meets _ d c begun _ _
+    (copied_meets slot d c _ begun _ _ (out_step_meets d c begun done total _ is refl calm))

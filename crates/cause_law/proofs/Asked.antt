@@ -18,6 +18,7 @@ use Rattle.cloak_model.specs.Ending.{all_marked, settled_for, ask_end}
 use Rattle.cloak_model.specs.Events.{Event}
 use Rattle.cloak_model.specs.Fork.{ask_copies, ask_forgets}
 use Rattle.cloak_base.specs.Constants.{frame_of}
+use Rattle.cloak_model.specs.Memory.{Seen}
 use Rattle.cloak_model.specs.PageMoves.{copy_pages, drop_pages}
 use Rattle.cloak_model.specs.Walk.{FirstWord, Ends, GoesOn, Walk, first_entry, walk}
 use Rattle.cloak_model.specs.World.{World, Cloak, Flat, Cloaked, Alone, Handed, noted, settled, cipher_items, is_missed}
@@ -44,12 +45,12 @@ pub record HasMet (q : PageId) (va : ℕ) (kind : Kind) (asked c : Cloak) : Type
   pub there : frame_of walked.pa ≡ frame
 
 abbrev pub Calm : World → Type 0
-Calm (Flat ram) = ⊥
+Calm (Flat seen) = ⊥
 Calm (Cloaked c) = IsCalm c
 Calm (Alone h) = ⊥
 
 abbrev pub Met : PageId → ℕ → Kind → Cloak → World → Type 0
-Met q va kind asked (Flat ram) = ⊥
+Met q va kind asked (Flat seen) = ⊥
 Met q va kind asked (Cloaked c) = HasMet q va kind asked c
 Met q va kind asked (Alone h) = ⊥
 
@@ -67,8 +68,8 @@ Calms-either : {A : Type 0} (b : Bool) (m n : Told A) (w : World) → Calms w m.
 Calms-either true m n w p q = p
 Calms-either false m n w p q = q
 
-no_flat : (ram : List (List ℕ)) (v : World) → Calms (Flat ram) v
-no_flat ram v = record { by = λ calm. absurd calm }
+no_flat : (seen : Seen) (v : World) → Calms (Flat seen) v
+no_flat seen v = record { by = λ calm. absurd calm }
 
 no_alone : (h : Handed) (v : World) → Calms (Alone h) v
 no_alone h v = record { by = λ calm. absurd calm }
@@ -76,14 +77,14 @@ no_alone h v = record { by = λ calm. absurd calm }
 -- Memory.
 
 Calms-settled : (f : ℕ) (w : World) → Calms w (settled f w)
-Calms-settled f (Flat ram) = no_flat ram _
+Calms-settled f (Flat seen) = no_flat seen _
 Calms-settled f (Cloaked c) = record {
   by = λ calm. record { kept = kept_settled f c.memory calm.kept; none = calm.none };
 }
 Calms-settled f (Alone h) = no_alone h _
 
 Calms-noted : (events : List Event) (w : World) → Calms w (noted events w)
-Calms-noted events (Flat ram) = no_flat ram _
+Calms-noted events (Flat seen) = no_flat seen _
 Calms-noted events (Cloaked c) = record { by = λ calm. record { kept = calm.kept; none = calm.none } }
 Calms-noted events (Alone h) = no_alone h _
 
@@ -125,7 +126,7 @@ calms_inside_address va kind w =
 
 calms_replies : (a : Answer) (w : World) → Calms w (replies a w).world
 unfolding replies
-calms_replies a (Flat ram) = no_flat ram _
+calms_replies a (Flat seen) = no_flat seen _
 calms_replies a (Cloaked c) = record { by = λ calm. record { kept = calm.kept; none = calm.none } }
 calms_replies a (Alone h) = no_alone h _
 
@@ -148,7 +149,7 @@ calms_get va width w = Calms-trans _ _ _ (calms_inside_address va Load w) (calms
 
 calms_put_at : (pa width value : ℕ) (w : World) → Calms w (put_at pa width value w).world
 unfolding put_at replies
-calms_put_at pa width value (Flat ram) = no_flat ram _
+calms_put_at pa width value (Flat seen) = no_flat seen _
 calms_put_at pa width value (Cloaked c) = record {
   by = λ calm. record {
     kept = record {
@@ -242,7 +243,7 @@ reached_meets : (q : PageId) (va : ℕ) (kind : Kind) (k : Cloak) (to : Result �
     CalmOrMet q va kind k (reached q va kind to w)
 unfolding reached ask_offer
 reached_meets q va kind k (Err cause) w is leads drawn calm = inl ((calms_replies _ w).by calm)
-reached_meets q va kind k (Ok pa) (Flat ram) is leads drawn calm = absurd calm
+reached_meets q va kind k (Ok pa) (Flat seen) is leads drawn calm = absurd calm
 reached_meets q va kind k (Ok pa) (Cloaked c) is leads drawn calm =
     offered_meets q va pa kind k c _ is (leads pa refl) drawn calm refl
 reached_meets q va kind k (Ok pa) (Alone h) is leads drawn calm = absurd calm
@@ -271,25 +272,25 @@ asked_meets q va kind k calm = reach_meets q va kind k calm
 
 pub calms_asks_get : (va width : ℕ) (w : World) → Calms w (ask_get va width w).world
 unfolding ask_get
-calms_asks_get va width (Flat ram) = no_flat ram _
+calms_asks_get va width (Flat seen) = no_flat seen _
 calms_asks_get va width (Cloaked c) = calms_get va width (Cloaked c)
 calms_asks_get va width (Alone h) = no_alone h _
 
 pub calms_asks_put : (va width value : ℕ) (w : World) → Calms w (ask_put va width value w).world
 unfolding ask_put
-calms_asks_put va width value (Flat ram) = no_flat ram _
+calms_asks_put va width value (Flat seen) = no_flat seen _
 calms_asks_put va width value (Cloaked c) = calms_put va width value (Cloaked c)
 calms_asks_put va width value (Alone h) = no_alone h _
 
 pub calms_asks_clear : (d : ℕ) (marked : List Bool) (w : World) → Calms w (ask_clear d marked w).world
 unfolding ask_clear
-calms_asks_clear d marked (Flat ram) = no_flat ram _
+calms_asks_clear d marked (Flat seen) = no_flat seen _
 calms_asks_clear d marked (Cloaked c) = calms_clear d marked 0 _ (Cloaked c)
 calms_asks_clear d marked (Alone h) = no_alone h _
 
 pub calms_writes : (q : PageId) (at width value : ℕ) (w : World) → Calms w (ask_write q at width value w).world
 unfolding ask_write
-calms_writes q at width value (Flat ram) = no_flat ram _
+calms_writes q at width value (Flat seen) = no_flat seen _
 calms_writes q at width value (Cloaked c) = record {
   by = λ calm. record {
     kept = record { places = calm.kept.places; once = calm.kept.once };
@@ -300,7 +301,7 @@ calms_writes q at width value (Alone h) = no_alone h _
 
 calms_copy : (d from to : ℕ) (w : World) → Calms w (ask_copy d from to w).world
 unfolding ask_copy copy_pages
-calms_copy d from to (Flat ram) = no_flat ram _
+calms_copy d from to (Flat seen) = no_flat seen _
 calms_copy d from to (Cloaked c) = record {
   by = λ calm. record {
     kept = record { places = calm.kept.places; once = calm.kept.once };
@@ -311,7 +312,7 @@ calms_copy d from to (Alone h) = no_alone h _
 
 calms_forget : (d resource : ℕ) (w : World) → Calms w (ask_forget d resource w).world
 unfolding ask_forget drop_pages
-calms_forget d resource (Flat ram) = no_flat ram _
+calms_forget d resource (Flat seen) = no_flat seen _
 calms_forget d resource (Cloaked c) = record {
   by = λ calm. record {
     kept = record { places = calm.kept.places; once = calm.kept.once };
@@ -342,6 +343,6 @@ unfolding ask_end
 calms_end d w = Calms-trans _ _ _ (calms_for d 0 _ w) (calms_forgets d _ _)
 
 pub is_cloaked_calm : (w : World) → Calm w → is_cloaked w ≡ true
-is_cloaked_calm (Flat ram) calm = absurd calm
+is_cloaked_calm (Flat seen) calm = absurd calm
 is_cloaked_calm (Cloaked c) calm = refl
 is_cloaked_calm (Alone h) calm = absurd calm

@@ -35,6 +35,7 @@ outside_leaves : (j : Joint) (number : ℕ) (items : List Item) (e : Kernel) →
     LeavesList j (outside_ended j number items e).joint
 unfolding outside_ended
 outside_leaves j number items kernel.Stay = record { listed = refl; refused = refl }
+outside_leaves j number items kernel.Trapped = record { listed = refl; refused = refl }
 outside_leaves j number items (kernel.Put b) = record { listed = refl; refused = refl }
 outside_leaves j number items (kernel.Halt value) = record { listed = refl; refused = refl }
 outside_leaves j number items (kernel.Resume ctx reply) =
@@ -89,7 +90,7 @@ turn_leaves j number h (Some ctx) = inside_leaves j number (ticked h) ctx _
 -- The end leaves a memory that is kept.
 
 memory_kept : (w : World) (m : CloakedMemory) → Calm w → IsKept (memory_of w m)
-memory_kept (Flat ram) m calm = absurd calm
+memory_kept (Flat seen) m calm = absurd calm
 memory_kept (Cloaked c) m calm = calm.kept
 memory_kept (Alone h) m calm = absurd calm
 

@@ -20,7 +20,7 @@ use Rattle.cause_law.proofs.Settled.{settles}
 
 -- a joint machine's memory of which this holds
 abbrev pub OfMemory : (CloakedMemory → Type 0) → World → Type 0
-OfMemory P (Flat ram) = ⊥
+OfMemory P (Flat seen) = ⊥
 OfMemory P (Cloaked c) = P c.memory
 OfMemory P (Alone h) = ⊥
 
@@ -97,7 +97,7 @@ second_walks : (satp : ℕ) (a : Access) (at0 : ℕ) (word : Option ℕ) (c : Cl
     has_paging satp ≡ true → Sees c.memory (first_entry satp a.va) word →
     first_word a (first_entry satp a.va) word ≡ GoesOn at0 → OfMemory (Shows c at0 second) v →
     OfMemory (Walks satp a (second_word a (first_entry satp a.va) at0 second)) v
-second_walks satp a at0 word c second (Flat ram) has sees is shows = absurd shows
+second_walks satp a at0 word c second (Flat seen) has sees is shows = absurd shows
 second_walks satp a at0 word c second (Cloaked d) has sees is shows =
     λ m' more.
     let at1 = first_entry satp a.va in
@@ -124,7 +124,7 @@ first_walks : (satp : ℕ) (a : Access) (c : Cloak) (word : Option ℕ) (v : Wor
     OfMemory (Shows c (first_entry satp a.va) word) v →
     let t = ask_after a (first_entry satp a.va) (first_word a (first_entry satp a.va) word) v in
     OfMemory (Walks satp a t.answer) t.world
-first_walks satp a c word (Flat ram) has shows = absurd shows
+first_walks satp a c word (Flat seen) has shows = absurd shows
 first_walks satp a c word (Cloaked d) has shows = after_walks satp a word _ d shows.kept has shows.sees refl
 first_walks satp a c word (Alone h) has shows = absurd shows
 
@@ -166,7 +166,7 @@ inside_leads : (v : View) (kind : Kind) (va pa : ℕ) (w : Walk) (u : World) →
     OfMemory (Walks v.satp (access_of v kind va) w) u →
     OfMemory (LeadsStill v kind va pa) (ask_inside (access_of v kind va) w u).world
 unfolding ask_inside
-inside_leads v kind va pa w (Flat ram) is walks = absurd walks
+inside_leads v kind va pa w (Flat seen) is walks = absurd walks
 inside_leads v kind va pa w (Alone h) is walks = absurd walks
 inside_leads v kind va pa (Err cause) (Cloaked c) is walks = absurd cc
 inside_leads v kind va pa (Ok walked) (Cloaked c) is walks =

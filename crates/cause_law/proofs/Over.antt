@@ -6,6 +6,7 @@ use Rattle.std.proofs.lemmas.Bool.{false≢true, cases_lt}
 use Rattle.std.proofs.lemmas.List.{get_or-set_same, get_or-set_other, get_or_past, get_or-replicate}
 use Rattle.cloak_base.specs.declared.names.CtxId.{CtxId}
 use Rattle.cloak_base.specs.declared.causes.Violation.{Violation}
+use Rattle.cloak_model.specs.declared.context.WordPlace.{WordPlace}
 use Rattle.cloak_model.specs.declared.context.Phase.{Phase}
 use Rattle.cloak_model.specs.declared.context.Phase.TheVariants.{Plain, CopyIn, Waiting, CopyOut}
 use Rattle.cloak_model.specs.declared.context.ResumeFault.{ResumeFault}
@@ -27,7 +28,7 @@ use Rattle.cloak_model.specs.declared.resource.MapFault.{MapFault}
 use Rattle.cloak_model.specs.Contexts.{Context, Admitted, context_at, slot_of, domain_of, resume_if, resume_at}
 use Rattle.cloak_model.specs.DomainAlone.{runs_on}
 use Rattle.cloak_model.specs.DomainState.{Control, Domain, started_control, started_domain}
-use Rattle.cloak_model.specs.DomainStep.{instruction_ended, copy_ended, phase_step, step_if, domain_step, interrupt_if, interrupt, answer_taken, resume_told, resume_slot}
+use Rattle.cloak_model.specs.DomainStep.{DomainStepped, instruction_ended, copy_ended, after_write, phase_step, step_if, domain_step, interrupt_if, interrupt, answer_taken, resume_told, resume_slot}
 use Rattle.cloak_model.specs.Ending.{ended_domain}
 use Rattle.cloak_model.specs.Hart.{Hart}
 use Rattle.cloak_model.specs.Hypercalls.{Stepped, remapped, new_call, map_call, unmap_call, file_call, thread_at, thread_call, fork_told, fork_call, end_told, exit_call, call_begun, kernel_call, Hypercall, New, Map, Unmap, File, Thread, ForkSpace, Exit, Call, Unknown, hypercall}
@@ -203,13 +204,18 @@ over_copy slot d c copied.Stopped = refl
 over_copy slot d c copied.Refused = refl
 over_copy slot d c (copied.Loaded address byte) = refl
 
+over_written : (wrote : Option WordPlace) (s : DomainStepped) →
+    (after_write wrote s).domain.control.ended ≡ s.domain.control.ended
+over_written None s = refl
+over_written (Some place) s = refl
+
 over_phase : (phase : Phase) (slot : ℕ) (c : Context) (d : Domain) (w : World) →
     (phase_step phase slot c d w).answer.domain.control.ended ≡ d.control.ended
 unfolding phase_step
-over_phase Plain slot c d w = over_instruction slot d _ _ _
+over_phase Plain slot c d w = over_written _ _ ∙ over_instruction slot d _ _ _
 over_phase (CopyIn done) slot c d w = over_copy slot d _ _
 over_phase Waiting slot c d w = refl
-over_phase (CopyOut done total) slot c d w = over_copy slot d _ _
+over_phase (CopyOut done total) slot c d w = over_written _ _ ∙ over_copy slot d _ _
 
 over_if : (c : Option Context) (slot : ℕ) (d : Domain) (w : World) →
     (step_if c slot d w).answer.domain.control.ended ≡ d.control.ended
@@ -292,6 +298,7 @@ outside_moves : (j : Joint) (number : ℕ) (items : List Item) (e : Kernel) →
     Moves j.domains (outside_ended j number items e).joint.domains
 unfolding outside_ended resume
 outside_moves j number items kernel.Stay = Stays refl
+outside_moves j number items kernel.Trapped = Stays refl
 outside_moves j number items (kernel.Put b) = Stays refl
 outside_moves j number items (kernel.Halt value) = Stays refl
 outside_moves j number items (kernel.Resume ctx reply) = domain_moves j number _ ctx reply _ refl

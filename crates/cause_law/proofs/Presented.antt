@@ -1,33 +1,39 @@
 -- A page that is presented to the step of a context, in a frame that differs, is the step's violation.
-use Rattle.std.proofs.Common.{◌≡◌, ◌∙◌, ℕ, zero, suc, Bool, false, List, [], ◌∷◌, Option, Some, refl, sym, ap, subst}
-use Rattle.std.specs.Prelude.{nat_le, slice_get, slice_set}
-use Rattle.std.proofs.lemmas.Bool.{lt-leb}
+use Rattle.std.proofs.Common.{◌≡◌, ◌∙◌, ◌%◌, ℕ, zero, suc, Bool, true, false, cond, List, [], ◌∷◌, Option, Some, None, refl, sym, ap, subst, eq-eqb}
+use Rattle.std.specs.Prelude.{nat_le, slice_get, slice_set, ◌==◌, ◌&&◌}
+use Rattle.std.proofs.lemmas.Bool.{lt-leb, eqb-true}
 use Rattle.cloak_base.specs.declared.causes.Violation.{Violation}
 use Rattle.cloak_base.specs.declared.causes.Violation.TheVariants as violation
 use Rattle.cloak_base.specs.declared.names.Kind.{Kind}
 use Rattle.cloak_base.specs.declared.names.Kind.TheVariants.{Fetch, Load, Store}
 use Rattle.cloak_base.specs.declared.names.PageId.{PageId}
+use Rattle.cloak_base.specs.Registers.{register}
 use Rattle.rv_isa.specs.declared.instr.Instr.{Instr}
+use Rattle.rv_isa.specs.Fields.{opcode, funct3}
+use Rattle.rv_isa.specs.Table.{instruction}
+use Rattle.rv_atomic.proofs.Apart.{apart}
+use Rattle.rv_atomic.specs.Table.{with_operation, operation, atomic_instruction}
+use Rattle.rv_atomic.specs.declared.atomic.Atomic.{Atomic}
 use Rattle.cloak_model.specs.declared.answer.Answer.{Answer}
 use Rattle.cloak_model.specs.declared.answer.Answer.TheVariants as told
 use Rattle.cloak_model.specs.declared.context.Phase.{Phase}
 use Rattle.cloak_model.specs.declared.context.Phase.TheVariants.{Plain, CopyIn, CopyOut}
 use Rattle.cloak_model.specs.declared.outcome.Effect.{Effect}
 use Rattle.cloak_model.specs.declared.outcome.Effect.TheVariants as does
-use Rattle.cloak_model.specs.Asking.{Told}
+use Rattle.cloak_model.specs.Asking.{Told, answered}
 use Rattle.cloak_model.specs.AskPages.{ask_reach, ask_read, ask_get}
 use Rattle.cloak_model.specs.Calls.{Copy, buffer, area, call_length, byte_address, is_cloaked, in_reached, in_placed, in_step, copy_in_step, out_reached, out_got, out_placed, out_step, copy_out_step}
 use Rattle.cloak_model.specs.Contexts.{Context, context_at, domain_of, slot_of}
 use Rattle.cloak_model.specs.DomainAlone.{runs_on}
 use Rattle.cloak_model.specs.DomainState.{Domain}
-use Rattle.cloak_model.specs.DomainStep.{DomainStepped, within, instruction_ended, copy_ended, phase_step, step_if, domain_step}
+use Rattle.cloak_model.specs.DomainStep.{DomainStepped, within, instruction_ended, copy_ended, after_write, phase_step, step_if, domain_step}
 use Rattle.cloak_model.specs.Effect.{effect}
 use Rattle.cloak_model.specs.Hypercalls.{stopped}
-use Rattle.cloak_model.specs.InsideStep.{AfterInstruction, load_reached, load_inside, store_reached, store_inside, done_inside, decoded_inside, executed_inside, fetched_inside, fetch, instruction_inside}
+use Rattle.cloak_model.specs.InsideStep.{AfterInstruction, load_reached, load_inside, store_reached, store_inside, atomic_reached, atomic_placed, traps, atomic_inside, done_inside, decoded_inside, executed_inside, fetched_inside, fetch, instruction_inside}
 use Rattle.cloak_model.specs.Joint.{Moment, Turn, next_hart, cloak_of, domain_ended, after_domain_step, pages_for, by_interrupt, by_running, inside_step, turn_of, step_before_end}
-use Rattle.cloak_model.specs.KernelStep.{ticked}
+use Rattle.cloak_model.specs.KernelStep.{atomic_kind, misaligned, ticked}
 use Rattle.cloak_model.specs.World.{World, Cloaked}
-use Rattle.cause_law.specs.Presented.{hart_of_step, StepsInside, world_inside, Executes, AsksAt, Fetches, LoadsAt, StoresAt, CopiesFrom, CopiesTo, PresentsPage}
+use Rattle.cause_law.specs.Presented.{hart_of_step, StepsInside, world_inside, Executes, AsksAt, Fetches, LoadsAt, StoresAt, AtomicAt, CopiesFrom, CopiesTo, PresentsPage}
 use Rattle.cause_law.proofs.Refused.{page_is_refused}
 
 -- what is left of a step that was stopped
@@ -36,10 +42,19 @@ halted d w = record { answer = within d (stopped d.control); world = w }
 
 -- the end of an instruction, and of a copy
 abbrev ended : ℕ → Domain → Told AfterInstruction → Told DomainStepped
-ended slot d t = instruction_ended slot d t.answer.context t.answer.ending t.world
+ended slot d t =
+    let s = instruction_ended slot d t.answer.context t.answer.ending t.world in
+    answered (after_write t.answer.wrote s.answer) s.world
 
 abbrev copied : ℕ → Domain → Told Copy → Told DomainStepped
 copied slot d t = record { answer = copy_ended slot d t.answer.context t.answer.ending; world = t.world }
+
+-- that of a copy which may have written
+abbrev copied_out : ℕ → Domain → Told Copy → Told DomainStepped
+copied_out slot d t = record {
+  answer = after_write t.answer.wrote (copy_ended slot d t.answer.context t.answer.ending);
+  world = t.world;
+}
 
 -- An instruction.
 
@@ -62,47 +77,104 @@ fetch_stops slot d c q w t there plain lies same stops =
     ∙ (ap (λ (u : Told Answer). ended slot d (fetched_inside n r c q u.answer u.world)) same
     ∙ ap (λ (a : Answer). ended slot d (fetched_inside n r c q a t.world)) stops))
 
--- the instruction that a context executes
-executed_step : (slot : ℕ) (d : Domain) (c : Context) (w v : World) (i : Instr) →
-    context_at d.control.contexts slot ≡ Some c → Executes d c w i v →
+-- the word that a context executes
+word_step : (slot : ℕ) (d : Domain) (c : Context) (w v : World) (word : ℕ) →
+    context_at d.control.contexts slot ≡ Some c → Executes d c w word v →
     domain_step slot d w
-    ≡ ended slot d (done_inside d.control.number d.control.resources c i (effect i c.regs c.pc) v)
-unfolding fetch fetched_inside executed_inside decoded_inside ask_read
-executed_step slot d c w v i there runs =
+    ≡ ended slot d (decoded_inside d.control.number d.control.resources c word (instruction word) v)
+unfolding fetch fetched_inside executed_inside ask_read
+word_step slot d c w v word there runs =
     let n = d.control.number in
     let r = d.control.resources in
     plain_step slot d c w there runs.plain
     ∙ (ap (λ (o : Option PageId). ended slot d (fetch n r c o w)) runs.lies
     ∙ (ap (λ (u : Told Answer). ended slot d (fetched_inside n r c runs.page u.answer u.world)) runs.granted
-    ∙ ap (λ (o : Option Instr). ended slot d (decoded_inside n r c o v)) runs.word))
+    ∙ ap (λ (x : ℕ). ended slot d (decoded_inside n r c x (instruction x) v)) runs.has))
 
-load_stops : (slot : ℕ) (d : Domain) (c : Context) (q : PageId) (w v : World) (i : Instr) (rd va width : ℕ)
-    (is_signed : Bool) (t : Told Answer) → context_at d.control.contexts slot ≡ Some c → Executes d c w i v →
-    effect i c.regs c.pc ≡ does.Load rd va width is_signed → pages_for d (Some c) va ≡ Some q →
-    ask_reach q va Load v ≡ t → t.answer ≡ told.Stopped → domain_step slot d w ≡ halted d t.world
+executed_step : (slot : ℕ) (d : Domain) (c : Context) (w v : World) (word : ℕ) (i : Instr) →
+    context_at d.control.contexts slot ≡ Some c → Executes d c w word v → instruction word ≡ Some i →
+    domain_step slot d w
+    ≡ ended slot d (done_inside d.control.number d.control.resources c i (effect i c.regs c.pc) v)
+unfolding decoded_inside
+executed_step slot d c w v word i there runs found =
+    word_step slot d c w v word there runs
+    ∙ ap (λ (o : Option Instr). ended slot d (decoded_inside d.control.number d.control.resources c word o v)) found
+
+load_stops : (slot : ℕ) (d : Domain) (c : Context) (q : PageId) (w v : World) (word : ℕ) (i : Instr)
+    (rd va width : ℕ) (is_signed : Bool) (t : Told Answer) → context_at d.control.contexts slot ≡ Some c →
+    Executes d c w word v → instruction word ≡ Some i → effect i c.regs c.pc ≡ does.Load rd va width is_signed →
+    pages_for d (Some c) va ≡ Some q → ask_reach q va Load v ≡ t → t.answer ≡ told.Stopped →
+    domain_step slot d w ≡ halted d t.world
 unfolding done_inside load_inside load_reached instruction_ended
-load_stops slot d c q w v i rd va width is_signed t there runs loads lies same stops =
+load_stops slot d c q w v word i rd va width is_signed t there runs found loads lies same stops =
     let n = d.control.number in
     let r = d.control.resources in
-    executed_step slot d c w v i there runs
+    executed_step slot d c w v word i there runs found
     ∙ (ap (λ (e : Effect). ended slot d (done_inside n r c i e v)) loads
     ∙ (ap (λ (o : Option PageId). ended slot d (load_inside c rd va width is_signed o v)) lies
     ∙ (ap (λ (u : Told Answer). ended slot d (load_reached c q rd va width is_signed u.answer u.world)) same
     ∙ ap (λ (a : Answer). ended slot d (load_reached c q rd va width is_signed a t.world)) stops)))
 
-store_stops : (slot : ℕ) (d : Domain) (c : Context) (q : PageId) (w v : World) (i : Instr) (va width value : ℕ)
-    (t : Told Answer) → context_at d.control.contexts slot ≡ Some c → Executes d c w i v →
-    effect i c.regs c.pc ≡ does.Store va width value → pages_for d (Some c) va ≡ Some q →
-    ask_reach q va Store v ≡ t → t.answer ≡ told.Stopped → domain_step slot d w ≡ halted d t.world
+store_stops : (slot : ℕ) (d : Domain) (c : Context) (q : PageId) (w v : World) (word : ℕ) (i : Instr)
+    (va width value : ℕ) (t : Told Answer) → context_at d.control.contexts slot ≡ Some c →
+    Executes d c w word v → instruction word ≡ Some i → effect i c.regs c.pc ≡ does.Store va width value →
+    pages_for d (Some c) va ≡ Some q → ask_reach q va Store v ≡ t → t.answer ≡ told.Stopped →
+    domain_step slot d w ≡ halted d t.world
 unfolding done_inside store_inside store_reached instruction_ended
-store_stops slot d c q w v i va width value t there runs stores lies same stops =
+store_stops slot d c q w v word i va width value t there runs found stores lies same stops =
     let n = d.control.number in
     let r = d.control.resources in
-    executed_step slot d c w v i there runs
+    executed_step slot d c w v word i there runs found
     ∙ (ap (λ (e : Effect). ended slot d (done_inside n r c i e v)) stores
     ∙ (ap (λ (o : Option PageId). ended slot d (store_inside c va width value o v)) lies
     ∙ (ap (λ (u : Told Answer). ended slot d (store_reached c q va width value u.answer u.world)) same
     ∙ ap (λ (a : Answer). ended slot d (store_reached c q va width value a t.world)) stops)))
+
+-- An atomic instruction.
+
+front_of : (a b : Bool) (o : Option Atomic) (x : Atomic) → cond (a && b) o None ≡ Some x → a ≡ true
+front_of true b o x is = refl
+front_of false b o x is = let clash : None ≡ Some x = is in absurd cc
+
+-- it is none of the other table
+no_other : (word : ℕ) (a : Atomic) → atomic_instruction word ≡ Some a → instruction word ≡ None
+unfolding atomic_instruction
+no_other word a found =
+    apart word (eqb-true (opcode word) 0b0101111
+    (front_of (opcode word == 0b0101111) (funct3 word == 0b010) (with_operation word (operation word)) a found))
+
+atomic_step : (slot : ℕ) (d : Domain) (c : Context) (w v : World) (word : ℕ) (a : Atomic) →
+    context_at d.control.contexts slot ≡ Some c → Executes d c w word v → atomic_instruction word ≡ Some a →
+    register c.regs a.rs1 % 4 ≡ 0 →
+    let va = register c.regs a.rs1 in
+    domain_step slot d w
+    ≡ ended slot d (atomic_placed c a.rd a.op va (register c.regs a.rs2) (pages_for d (Some c) va) v)
+unfolding decoded_inside atomic_inside
+atomic_step slot d c w v word a there runs found aligned =
+    let n = d.control.number in
+    let r = d.control.resources in
+    let va = register c.regs a.rs1 in
+    word_step slot d c w v word there runs
+    ∙ (ap (λ (o : Option Instr). ended slot d (decoded_inside n r c word o v)) (no_other word a found)
+    ∙ (ap (λ (o : Option Atomic). ended slot d (atomic_inside n r c o v)) found
+    ∙ ap (λ (b : Bool). ended slot d (cond b
+    (atomic_placed c a.rd a.op va (register c.regs a.rs2) (pages_for d (Some c) va) v)
+    (traps c (misaligned a.op) va v))) (eq-eqb (va % 4) 0 aligned)))
+
+atomic_stops : (slot : ℕ) (d : Domain) (c : Context) (q : PageId) (w v : World) (word : ℕ) (a : Atomic)
+    (t : Told Answer) → context_at d.control.contexts slot ≡ Some c → Executes d c w word v →
+    atomic_instruction word ≡ Some a → register c.regs a.rs1 % 4 ≡ 0 →
+    pages_for d (Some c) (register c.regs a.rs1) ≡ Some q →
+    ask_reach q (register c.regs a.rs1) (atomic_kind a.op) v ≡ t → t.answer ≡ told.Stopped →
+    domain_step slot d w ≡ halted d t.world
+unfolding atomic_placed atomic_reached instruction_ended
+atomic_stops slot d c q w v word a t there runs found aligned lies same stops =
+    let va = register c.regs a.rs1 in
+    let operand = register c.regs a.rs2 in
+    atomic_step slot d c w v word a there runs found aligned
+    ∙ (ap (λ (o : Option PageId). ended slot d (atomic_placed c a.rd a.op va operand o v)) lies
+    ∙ (ap (λ (u : Told Answer). ended slot d (atomic_reached c a.rd a.op q va operand u.answer u.world)) same
+    ∙ ap (λ (x : Answer). ended slot d (atomic_reached c a.rd a.op q va operand x t.world)) stops))
 
 -- A copy.
 
@@ -139,13 +211,13 @@ out_stops slot d c q w v done total byte t there phase more lies clear got same 
     let r = d.control.resources in
     ap (λ (o : Option Context). step_if o slot d w) there
     ∙ (ap (λ (p : Phase). phase_step p slot c d w) phase
-    ∙ (ap (λ (all : Bool). copied slot d (out_step all n r c done total w)) more
+    ∙ (ap (λ (all : Bool). copied_out slot d (out_step all n r c done total w)) more
     ∙ (ap (λ (o : Option PageId).
-    copied slot d (out_placed c done total o (is_cloaked r c (byte_address (area c) done)) w)) lies
-    ∙ (ap (λ (b : Bool). copied slot d (out_placed c done total (Some q) b w)) clear
-    ∙ (ap (λ (u : Told Answer). copied slot d (out_got c q done total u.answer u.world)) got
-    ∙ (ap (λ (u : Told Answer). copied slot d (out_reached c q done total byte u.answer u.world)) same
-    ∙ ap (λ (a : Answer). copied slot d (out_reached c q done total byte a t.world)) stops))))))
+    copied_out slot d (out_placed c done total o (is_cloaked r c (byte_address (area c) done)) w)) lies
+    ∙ (ap (λ (b : Bool). copied_out slot d (out_placed c done total (Some q) b w)) clear
+    ∙ (ap (λ (u : Told Answer). copied_out slot d (out_got c q done total u.answer u.world)) got
+    ∙ (ap (λ (u : Told Answer). copied_out slot d (out_reached c q done total byte u.answer u.world)) same
+    ∙ ap (λ (a : Answer). copied_out slot d (out_reached c q done total byte a t.world)) stops))))))
 
 -- Every step: where a page for which it asks is refused, it is stopped.
 
@@ -163,12 +235,16 @@ asked_stops slot d c q va kind begun w there lies (Fetches plain at is begins) s
     fetch_stops slot d c q begun (ask_reach q va kind w) there plain
     (subst (λ (x : ℕ). pages_for d (Some c) x ≡ Some q) at lies)
     (question_at q va c.pc kind Fetch w begun at is begins) stops
-asked_stops slot d c q va kind begun w there lies (LoadsAt i runs rd width is_signed loads is) stops =
-    load_stops slot d c q begun w i rd va width is_signed (ask_reach q va kind w) there runs loads lies
+asked_stops slot d c q va kind begun w there lies (LoadsAt word i runs found rd width is_signed loads is) stops =
+    load_stops slot d c q begun w word i rd va width is_signed (ask_reach q va kind w) there runs found loads lies
     (question_at q va va kind Load w w refl is refl) stops
-asked_stops slot d c q va kind begun w there lies (StoresAt i runs width value stores is) stops =
-    store_stops slot d c q begun w i va width value (ask_reach q va kind w) there runs stores lies
+asked_stops slot d c q va kind begun w there lies (StoresAt word i runs found width value stores is) stops =
+    store_stops slot d c q begun w word i va width value (ask_reach q va kind w) there runs found stores lies
     (question_at q va va kind Store w w refl is refl) stops
+asked_stops slot d c q va kind begun w there lies (AtomicAt word a runs found at aligned is) stops =
+    atomic_stops slot d c q begun w word a (ask_reach q va kind w) there runs found
+    (subst (λ (x : ℕ). x % 4 ≡ 0) at aligned) (subst (λ (x : ℕ). pages_for d (Some c) x ≡ Some q) at lies)
+    (question_at q va (register c.regs a.rs1) kind (atomic_kind a.op) w w at is refl) stops
 asked_stops slot d c q va kind begun w there lies (CopiesFrom done phase more at clear is begins) stops =
     in_stops slot d c q begun done (ask_reach q va kind w) there phase (lt-leb (call_length c) done more)
     (subst (λ (x : ℕ). pages_for d (Some c) x ≡ Some q) at lies) clear

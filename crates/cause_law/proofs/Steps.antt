@@ -16,7 +16,7 @@ use Rattle.cloak_model.specs.declared.outcome.Kernel.TheVariants as kernel
 use Rattle.cloak_model.specs.declared.view.View.{View}
 use Rattle.cloak_model.specs.Ahead.{is_owed, settle_found, settle_while, settle_touched, settled_step, made_after}
 use Rattle.cloak_model.specs.Asking.{Told}
-use Rattle.cloak_model.specs.Cloaking.{CloakedMemory, AfterSettling, settle}
+use Rattle.cloak_model.specs.Cloaking.{CloakedMemory, AfterSettling, seen_in, settle}
 use Rattle.cloak_model.specs.Contexts.{Context, context_at, domain_of, slot_of, is_root}
 use Rattle.cloak_model.specs.Csr.{satp_of, interrupt_due}
 use Rattle.cloak_model.specs.DomainAlone.{runs_on}
@@ -24,8 +24,8 @@ use Rattle.cloak_model.specs.DomainState.{Domain}
 use Rattle.cloak_model.specs.DomainStep.{step_if, domain_step, interrupt}
 use Rattle.cloak_model.specs.Hart.{Hart, started}
 use Rattle.cloak_model.specs.HostCalls.{SteppedKernel}
-use Rattle.cloak_model.specs.Joint.{Moment, Turn, next_hart, hart_in, cloak_of, cloak_outside, memory_of, after_kernel_step, outside_ended, after_outside, outside_step, domain_ended, with_domain, after_domain_step, pages_for, interrupt_ended, after_interrupt, by_interrupt, by_running, inside_step, turn_of, step_before_end}
-use Rattle.cloak_model.specs.KernelStep.{ticked}
+use Rattle.cloak_model.specs.Joint.{Moment, Turn, next_hart, hart_in, cloak_of, cloak_outside, memory_of, after_kernel_step, outside_ended, after_outside, outside_step, without_mark, domain_ended, with_domain, after_domain_step, pages_for, interrupt_ended, after_interrupt, by_interrupt, by_running, inside_step, turn_of, step_before_end}
+use Rattle.cloak_model.specs.KernelStep.{kernel_step, ticked}
 use Rattle.cloak_base.specs.Constants.{frame_of}
 use Rattle.cloak_model.specs.Parts.{Joint}
 use Rattle.cloak_model.specs.Resuming.{resume}
@@ -34,6 +34,7 @@ use Rattle.cloak_model.specs.Walk.{walk}
 use Rattle.cloak_model.specs.World.{World, Cloak, Flat, Cloaked, Alone, items_of}
 use Rattle.settling_ahead.proofs.Laws.{keeps_rest}
 use Rattle.settling_ahead.proofs.Touching.{writes_touched_alone}
+use Rattle.kernel_isolation.proofs.Accounts.{ram_seen}
 use Rattle.kernel_isolation.proofs.Numbers.{number_at}
 use Rattle.kernel_isolation.proofs.Turns.{IsSteady}
 use Rattle.domain_isolation.proofs.InstructionScripts.{IsOwn, own_page}
@@ -72,13 +73,17 @@ quiet_meets m t kept none = record { kept = kept; met = λ v is. no_violation v 
 
 -- A hart inside.
 
+-- a reservation less changes nothing of it
+unmarked_kept : (number : ℕ) (m : CloakedMemory) → IsKept m → IsKept (without_mark number m)
+unmarked_kept number m kept = record { places = kept.places; once = kept.once }
+
 ended_calm : (m : Moment) (j : Joint) (number : ℕ) (h : Hart) (e : ℕ) (c : Cloak) (g : Went) → IsKept j.memory →
     IsCalm c → Meets m (domain_ended j number h e (Cloaked c) g)
 unfolding domain_ended
 ended_calm m j number h e c went.Stay kept calm = quiet_meets m _ kept refl
 ended_calm m j number h e c went.Stopped kept calm = quiet_meets m _ kept calm.none
 ended_calm m j number h e c (went.Remapped space) kept calm = quiet_meets m _ kept refl
-ended_calm m j number h e c (went.Leave s) kept calm = quiet_meets m _ kept refl
+ended_calm m j number h e c (went.Leave s) kept calm = quiet_meets m _ (unmarked_kept number j.memory kept) refl
 ended_calm m j number h e c (went.SpaceGone space s) kept calm =
     quiet_meets m _ (record { places = kept.places; once = kept.once }) refl
 
@@ -128,8 +133,8 @@ told_meets : (m : Moment) (s : StepsInside m) (j : Joint) (number : ℕ) (h : Ha
     (new : Domain) → s.domain.control.number ≡ domain_of s.ctx →
     Calm v ⊎ ((g ≡ went.Stopped) × MetIn s.domain s.context (world_inside m s) v) →
     Meets m (domain_ended (record (with_domain e new j) { memory = memory_of v j.memory }) number h e v g)
-told_meets m s j number h e (Flat ram) g new owner (inl calm) = absurd calm
-told_meets m s j number h e (Flat ram) g new owner (inr met) = absurd met.1.met
+told_meets m s j number h e (Flat seen) g new owner (inl calm) = absurd calm
+told_meets m s j number h e (Flat seen) g new owner (inr met) = absurd met.1.met
 told_meets m s j number h e (Cloaked c) g new owner (inl calm) = ended_calm m _ number h e c g calm.kept calm
 told_meets m s j number h e (Cloaked c) g new owner (inr met) =
     ended_met m s _ number h e c g refl owner met.0 met.1
@@ -142,7 +147,7 @@ unfolding interrupt_ended
 interrupt_meets m j number h items went.Stay kept = quiet_meets m _ kept refl
 interrupt_meets m j number h items went.Stopped kept = quiet_meets m _ kept refl
 interrupt_meets m j number h items (went.Remapped space) kept = quiet_meets m _ kept refl
-interrupt_meets m j number h items (went.Leave s) kept = quiet_meets m _ kept refl
+interrupt_meets m j number h items (went.Leave s) kept = quiet_meets m _ (unmarked_kept number j.memory kept) refl
 interrupt_meets m j number h items (went.SpaceGone space s) kept = quiet_meets m _ kept refl
 
 -- What is known of a step of a hart that runs a context of this program.
@@ -189,14 +194,15 @@ running_meets : (m : Moment) (ctx : ℕ) (was : Domain) (runs : Bool) → Runnin
     runs_on (next_hart m) (context_at was.control.contexts (slot_of ctx)) ≡ runs →
     Meets m (by_running runs m.joint (next_hart m) (ticked (hart_of_step m)) ctx was)
 unfolding by_running
-running_meets m ctx was false r is = quiet_meets m _ r.kept refl
+running_meets m ctx was false r is = quiet_meets m _ (unmarked_kept (next_hart m) m.joint.memory r.kept) refl
 running_meets m ctx was true r is = due_meets m ctx was _ r is refl
 
 inside_meets : (m : Moment) (ctx : ℕ) (found : Option Domain) → (hart_of_step m).inside ≡ Some ctx →
     IsSteady m.joint → IsKept m.joint.memory → slice_get m.joint.domains (domain_of ctx) ≡ found →
     Meets m (inside_step m.joint (next_hart m) (ticked (hart_of_step m)) ctx found)
 unfolding inside_step
-inside_meets m ctx None runs steady kept is = quiet_meets m _ kept refl
+inside_meets m ctx None runs steady kept is =
+    quiet_meets m _ (unmarked_kept (next_hart m) m.joint.memory kept) refl
 inside_meets m ctx (Some was) runs steady kept is =
     running_meets m ctx was _
     (record {
@@ -243,7 +249,9 @@ outside_leaves m kept =
     let there = touched_kept h m.joint.disk m.joint.memory kept in
     record {
       kept = record {
-        places = there.places ∙ sym (writes_touched_alone h m.joint.disk s.memory.ram).count;
+        places = there.places ∙ sym (writes_touched_alone h m.joint.disk (seen_in s.memory)).count
+            ∙ ap (λ (ram : List (List ℕ)). length ram)
+            (ram_seen (kernel_step h m.joint.disk (Flat (seen_in s.memory))).world);
         once = there.once;
       };
       root = (keeps_rest h m.joint.disk m.joint.memory).root;
@@ -387,6 +395,8 @@ outside_by : (m : Moment) (e : Kernel) → (hart_of_step m).inside ≡ None → 
 unfolding outside_ended
 outside_by m kernel.Stay outside is kept =
     plain_presents m _ (outside_turn m kernel.Stay outside is) (outside_leaves m kept).kept refl
+outside_by m kernel.Trapped outside is kept =
+    plain_presents m _ (outside_turn m kernel.Trapped outside is) (outside_leaves m kept).kept refl
 outside_by m (kernel.Put b) outside is kept =
     plain_presents m _ (outside_turn m (kernel.Put b) outside is) (outside_leaves m kept).kept refl
 outside_by m (kernel.Halt value) outside is kept =

@@ -125,6 +125,7 @@ ended_tells : (d : ℕ) (j : Joint) (number : ℕ) (ciphers : List (ℕ × List 
     Tells d None (outside_ended j number (cipher_items ciphers) e)
 unfolding outside_ended
 ended_tells d j number ciphers kernel.Stay = tells_none d _ _ (ciphers_tell d ciphers)
+ended_tells d j number ciphers kernel.Trapped = tells_none d _ _ (ciphers_tell d ciphers)
 ended_tells d j number ciphers (kernel.Put b) = tells_none d _ _ (ciphers_tell d ciphers)
 ended_tells d j number ciphers (kernel.Halt value) = tells_none d _ _ (ciphers_tell d ciphers)
 ended_tells d j number ciphers (kernel.Resume ctx reply) =
@@ -181,7 +182,7 @@ halted_by true some is = inl refl
 halted_by false some is = inr is
 
 missed_there : (v : World) (m : CloakedMemory) → is_missed v ≡ true → (memory_of v m).ledger.missed ≡ true
-missed_there (Flat ram) m is = absurd (false≢true is)
+missed_there (Flat seen) m is = absurd (false≢true is)
 missed_there (Cloaked c) m is = is
 missed_there (Alone h) m is = absurd (false≢true is)
 

@@ -3,8 +3,11 @@ use Rattle.std.specs.Prelude.{ℕ, ◌≡◌, ◌≢◌, ◌<◌, ◌%◌, true,
 use Rattle.cloak_base.specs.declared.names.Kind.{Kind}
 use Rattle.cloak_base.specs.declared.names.Kind.TheVariants.{Fetch, Load, Store}
 use Rattle.cloak_base.specs.declared.names.PageId.{PageId}
+use Rattle.cloak_base.specs.Registers.{register}
 use Rattle.rv_isa.specs.Table.{instruction}
 use Rattle.rv_isa.specs.declared.instr.Instr.{Instr}
+use Rattle.rv_atomic.specs.Table.{atomic_instruction}
+use Rattle.rv_atomic.specs.declared.atomic.Atomic.{Atomic}
 use Rattle.cloak_model.specs.declared.answer.Answer.TheVariants as answer
 use Rattle.cloak_model.specs.declared.context.Phase.TheVariants.{Plain, CopyIn, CopyOut}
 use Rattle.cloak_model.specs.declared.outcome.Effect.TheVariants as does
@@ -18,7 +21,7 @@ use Rattle.cloak_model.specs.DomainState.{Domain}
 use Rattle.cloak_model.specs.Effect.{effect}
 use Rattle.cloak_model.specs.Hart.{Hart}
 use Rattle.cloak_model.specs.Joint.{Moment, next_hart, hart_in, cloak_of, pages_for}
-use Rattle.cloak_model.specs.KernelStep.{ticked}
+use Rattle.cloak_model.specs.KernelStep.{atomic_kind, ticked}
 use Rattle.cloak_base.specs.Constants.{frame_of}
 use Rattle.cloak_model.specs.Memory.{value_in}
 use Rattle.cloak_model.specs.World.{World, Cloak, Cloaked, plain_of}
@@ -48,14 +51,13 @@ page_here s va = pages_for s.domain (Some s.context) va
 abbrev pub world_inside : (m : Moment) → StepsInside m → World
 world_inside m s = Cloaked (cloak_of m.joint.memory (ticked (hart_of_step m)) (domain_of s.ctx) (page_here s))
 
--- A context executes this instruction: its fetch is granted, which leaves memory w, and the page at its program counter has
--- the word.
-pub record Executes (d : Domain) (c : Context) (begun : World) (i : Instr) (w : World) : Type 0 where
+-- A context executes this word: its fetch is granted, which leaves memory w, and its page has it at the program counter.
+pub record Executes (d : Domain) (c : Context) (begun : World) (word : ℕ) (w : World) : Type 0 where
   pub plain : c.phase ≡ Plain
   pub page : PageId
   pub lies : pages_for d (Some c) c.pc ≡ Some page
   pub granted : ask_reach page c.pc Fetch begun ≡ record { answer = answer.Ok; world = w }
-  pub word : instruction (value_in (plain_of w page) (c.pc % 4096) 4) ≡ Some i
+  pub has : value_in (plain_of w page) (c.pc % 4096) 4 ≡ word
 
 -- The area of a call, which the kernel sees, is not cloaked at this byte.
 abbrev pub HasPlainArea : Domain → Context → ℕ → Type 0
@@ -66,10 +68,14 @@ pub data AsksAt (d : Domain) (c : Context) (begun : World) (va : ℕ) (kind : Ki
   -- for its instruction, as the step begins;
   Fetches : c.phase ≡ Plain → va ≡ c.pc → kind ≡ Fetch → w ≡ begun → AsksAt d c begun va kind w
   -- for what this loads or stores, after the fetch;
-  LoadsAt : (i : Instr) → Executes d c begun i w → (rd width : ℕ) (is_signed : Bool) →
-      effect i c.regs c.pc ≡ does.Load rd va width is_signed → kind ≡ Load → AsksAt d c begun va kind w
-  StoresAt : (i : Instr) → Executes d c begun i w → (width value : ℕ) →
+  LoadsAt : (word : ℕ) (i : Instr) → Executes d c begun word w → instruction word ≡ Some i →
+      (rd width : ℕ) (is_signed : Bool) → effect i c.regs c.pc ≡ does.Load rd va width is_signed → kind ≡ Load →
+      AsksAt d c begun va kind w
+  StoresAt : (word : ℕ) (i : Instr) → Executes d c begun word w → instruction word ≡ Some i → (width value : ℕ) →
       effect i c.regs c.pc ≡ does.Store va width value → kind ≡ Store → AsksAt d c begun va kind w
+  -- for the word of an atomic instruction, also where SC stores nothing;
+  AtomicAt : (word : ℕ) (a : Atomic) → Executes d c begun word w → atomic_instruction word ≡ Some a →
+      va ≡ register c.regs a.rs1 → va % 4 ≡ 0 → kind ≡ atomic_kind a.op → AsksAt d c begun va kind w
   -- for the next byte of a call's buffer, which is to go to the area, or which came from there.
   CopiesFrom : (done : ℕ) → c.phase ≡ CopyIn done → done < call_length c → va ≡ byte_address (buffer c) done →
       HasPlainArea d c done → kind ≡ Load → w ≡ begun → AsksAt d c begun va kind w

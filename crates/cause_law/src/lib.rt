@@ -7,9 +7,10 @@
 //! same step, unless a draw is missing, which stops the run. When a run was closed, no frame has anything left to show:
 //! all of RAM, of which the report gives the digest, is what the kernel may see.
 //!
-//! A page is presented to an access of a step (`specs/Presented`): the fetch of an instruction, its load or store, or
-//! the byte that a call's copy reaches next. The page lies at the address of the access in the context's space, and is
-//! found there in memory as the access finds it: a load comes after its fetch, which may have shown frames.
+//! A page is presented to an access of a step (`specs/Presented`): the fetch of an instruction, its load or store, the
+//! word of an atomic instruction, or the byte that a call's copy reaches next. The page lies at the address of the access
+//! in the context's space, and is found there in memory as the access finds it: a load comes after its fetch, which may
+//! have shown frames.
 //!
 //! No body turns a law, so there is no wrong body to refuse here. These changed definitions were tried on a copy, and
 //! with none of them did the proofs go through. Of the closing: the last frame is not settled. Of violations and

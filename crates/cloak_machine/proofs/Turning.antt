@@ -17,14 +17,15 @@ use Rattle.cloak_model.specs.declared.inside.Went.{Went}
 use Rattle.cloak_model.specs.declared.inside.Went.TheVariants as went
 use Rattle.cloak_model.specs.declared.item.Item.{Item}
 use Rattle.cloak_model.specs.declared.outcome.Kernel.{Kernel}
-use Rattle.cloak_model.specs.declared.outcome.Kernel.TheVariants.{Stay, Put, Halt, Resume}
+use Rattle.cloak_model.specs.declared.outcome.Kernel.TheVariants.{Stay, Trapped, Put, Halt, Resume}
 use Rattle.cloak_model.specs.Asking.{Told}
 use Rattle.cloak_model.specs.Ahead.{settled_step}
 use Rattle.cloak_model.specs.Contexts.{Context, Admitted, domain_of, slot_of}
 use Rattle.cloak_model.specs.Csr.{satp_of}
 use Rattle.cloak_model.specs.DomainState.{Control, Domain}
 use Rattle.cloak_model.specs.DomainStep.{DomainStepped, domain_step, step_if, phase_step, instruction_ended}
-use Rattle.cloak_model.specs.DomainStep.{copy_ended}
+use Rattle.cloak_model.specs.DomainStep.{after_write, copy_ended}
+use Rattle.cloak_model.specs.declared.context.WordPlace.{WordPlace}
 use Rattle.cloak_model.specs.Hart.{Hart}
 use Rattle.cloak_model.specs.HostCalls.{SteppedKernel}
 use Rattle.cloak_base.specs.declared.causes.Violation.{Violation}
@@ -120,6 +121,7 @@ resumes j hart satp ctx reply = resumes_domain j hart satp ctx reply _ refl
 goes_ended : (j : Joint) (number : ℕ) (items : List Item) (k : Kernel) → Goes j (outside_ended j number items k)
 unfolding outside_ended
 goes_ended j number items Stay = record { console = sym (append-nil j.console); loads = load_none j.domains }
+goes_ended j number items Trapped = record { console = sym (append-nil j.console); loads = load_none j.domains }
 goes_ended j number items (Put b) = record { console = refl; loads = load_none j.domains }
 goes_ended j number items (Halt value) = record { console = sym (append-nil j.console); loads = load_none j.domains }
 goes_ended j number items (Resume ctx answer) =
@@ -162,13 +164,19 @@ loads_copy slot d c copied.Stopped = same_loads (length d.loads)
 loads_copy slot d c copied.Refused = same_loads (length d.loads)
 loads_copy slot d c (copied.Loaded address byte) = one_load d address byte
 
+-- a write behind a step
+loads_written : (wrote : Option WordPlace) (d : Domain) (s : DomainStepped) → LoadsOnce d s →
+    LoadsOnce d (after_write wrote s)
+loads_written None d s once = once
+loads_written (Some place) d s once = once
+
 loads_phase : (phase : Phase) (slot : ℕ) (c : Context) (d : Domain) (w : World) →
     LoadsOnce d (phase_step phase slot c d w).answer
 unfolding phase_step
-loads_phase Plain slot c d w = loads_instruction slot d _ _ _
+loads_phase Plain slot c d w = loads_written _ d _ (loads_instruction slot d _ _ _)
 loads_phase (CopyIn done) slot c d w = loads_copy slot d _ _
 loads_phase Waiting slot c d w = same_loads (length d.loads)
-loads_phase (CopyOut done total) slot c d w = loads_copy slot d _ _
+loads_phase (CopyOut done total) slot c d w = loads_written _ d _ (loads_copy slot d _ _)
 
 loads_if : (c : Option Context) (slot : ℕ) (d : Domain) (w : World) → LoadsOnce d (step_if c slot d w).answer
 unfolding step_if

@@ -56,6 +56,7 @@ stands_same p w m m' s ram plain keys stream recorded owed =
       plain = sym plain i;
       ledger =
           record m'.ledger { keys = sym keys i; stream = sym stream i; recorded = sym recorded i; owed = sym owed i };
+      marks = m'.marks;
     } in
     subst (λ (x : CloakedMemory). StandsForMemory p w x) same here
   where
@@ -68,6 +69,7 @@ stands_same p w m m' s ram plain keys stream recorded owed =
         recorded = m.ledger.recorded;
         owed = m.ledger.owed;
       };
+      marks = m'.marks;
     }
 
     frame_same : (f : ℕ) (h : Held) → FrameStands p w m f h → FrameStands p w mixed f h

@@ -19,7 +19,8 @@ use cloak_model::{Answer, MapFault, PageSide};
 use resource_map::Resources;
 use thread_context::{Context, Contexts};
 
-/// The new context of a fork: at the next instruction, with 0 as its answer, in the new space and on no hart.
+/// The new context of a fork: at the next instruction, with 0 as its answer, in the new space, on no hart and without a
+/// reservation.
 fn child(c: &Context, space: u32) -> Context
     ensures { result ≡ spec.child space c.now }
 {
@@ -28,6 +29,7 @@ fn child(c: &Context, space: u32) -> Context
     child.regs.set(10, 0);
     child.space = space;
     child.on = None;
+    child.mark = None;
     child
 }
 

@@ -378,7 +378,7 @@ plain_stored gave first old new q at width value (Cloaked c) same shadows rights
   answer = refl;
   stands = sees_still gave first old new c
       (with_newest q (with_value_in (c.memory.plain q) at width value) c.memory) same
-      (record { stream = refl; draws = refl; missed = refl })
+      (record { stream = refl; draws = refl; missed = refl }) refl
       (still_turned old.memory.now new.memory.now c.memory _ rights count shadows (λ held. refl))
       (λ wiped s. (meets wiped c.memory s).stands) tracks reads shadows sees;
 }

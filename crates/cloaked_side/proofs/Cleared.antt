@@ -275,6 +275,7 @@ sees_copied gave first old new domain from to (Cloaked c) same still meets track
           missed = same.missed ∙ h.missed;
           agrees = agreed.agrees h.agrees;
           room = agreed.room ∙ h.room ∙ sym agreed.count;
+          marks = same.marks ∙ h.marks;
         };
         emits = subst (λ e. Emits gave first.emitter.now e (item_pieces c.items)) (sym same.emitter) sees.emits;
         violation = same.violation ∙ sees.violation;
@@ -320,6 +321,7 @@ sees_dropped gave first begun old new domain r (Cloaked c) same still meets spac
           missed = same.missed ∙ h.missed;
           agrees = agreed.agrees h.agrees;
           room = agreed.room ∙ h.room ∙ sym agreed.count;
+          marks = same.marks ∙ h.marks;
         };
         emits = subst (λ e. Emits gave first.emitter.now e (item_pieces c.items)) (sym same.emitter) shows.emits;
         violation = same.violation ∙ shows.violation;

@@ -46,6 +46,14 @@ no_more_emptied f old new stays none = record { held = held; owed = owed }
       | inr other ↦ sym (ap owed_under (stays.rights k other)) ∙ e
     ]
 
+-- a frame that held no page holds none
+pub none_still : (old new : PagerState) (f : ℕ) → HoldsNoMore old new → held_in old f ≡ None → held_in new f ≡ None
+none_still old new f less none = by_held (held_in new f) refl
+  where
+    by_held : (o : Option PageId) → held_in new f ≡ o → o ≡ None
+    by_held None is = refl
+    by_held (Some q) is = absurd (never (held_in old f) q none (less.held f q is))
+
 -- a frame came to hold page q
 pub no_other_taken : (g : ℕ) (q : PageId) (old new : PagerState) → StaysBut g old new → held_in new g ≡ Some q →
     HoldsNoOther q old new

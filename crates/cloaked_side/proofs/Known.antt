@@ -179,6 +179,7 @@ sees_with gave first old t c events left sees agrees room tracks spends maps =
         missed = sees.holds.missed;
         agrees = agrees;
         room = room ∙ sees.holds.room;
+        marks = sees.holds.marks;
       };
       emits = sees.emits;
       violation = sees.violation;

@@ -1,6 +1,7 @@
 pub mod Emitting
 pub mod Holders
 pub mod Settling
+pub mod Marking
 pub mod Presents
 pub mod Translating
 pub mod Rooming
@@ -8,6 +9,7 @@ pub mod Sided
 pub mod Answering
 pub mod Cleared
 pub mod Serving
+pub mod Atomics
 pub mod Telling
 pub mod Known
 pub mod Losing

@@ -35,7 +35,7 @@ use Rattle.cloaked_side.proofs.Emitting.{emits_none}
 use Rattle.cloaked_side.specs.Offering.{behind_ciphers, offer_left, Rooms, Offers, offer_of}
 use Rattle.cloaked_side.specs.declared.memory.Memory.{Memory}
 use Rattle.cloaked_side.specs.declared.memory.Offer.{Offer as Ended}
-use Rattle.cloaked_side.proofs.Settling.{Counts, counts, draws_by, missed_by}
+use Rattle.cloaked_side.proofs.Settling.{Counts, counts, draws_by, missed_by, marks_by}
 
 -- a frame that holds a page is owed it or owed nothing
 pub changed_or_not : (h : Held) (q : PageId) → page_of h ≡ Some q → (owed_under h ≡ Some q) ⊎ (owed_under h ≡ None)
@@ -223,11 +223,12 @@ pub rest_by : (p2 : PagerState) (w2 : PageId → Bool) (m : CloakedMemory) (g f 
 rest_by p2 w2 m g f q write true missed s outside nowhere = rest_missed m g f q write missed
 rest_by p2 w2 m g f q write false missed s outside nowhere = rest_drawn p2 w2 m g f q write missed s outside nowhere
 
--- An offer that shows nothing draws nothing.
+-- An offer that shows nothing draws nothing, and ends no reservation.
 
 record Same (m : CloakedMemory) (o : AfterOffer) : Type 0 where
   pub draws : o.memory.ledger.draws ≡ m.ledger.draws
   pub missed : o.memory.ledger.missed ≡ m.ledger.missed
+  pub marks : o.memory.marks ≡ m.marks
 
 pick : {A : Type 0} (P : A → Type 0) (b : Bool) (x y : A) → P x → P y → P (cond b x y)
 pick P true x y here there = here
@@ -249,20 +250,33 @@ compared_missed q g write (Some c) m =
     pick (λ (o : AfterOffer). o.memory.ledger.missed ≡ m.ledger.missed) (bytes_eq (get_or m.ram g []) c) _ _
     (pick (λ (x : CloakedMemory). x.ledger.missed ≡ m.ledger.missed) write _ _ refl refl) refl
 
+compared_marks : (q : PageId) (g : ℕ) (write : Bool) (r : Option (List ℕ)) (m : CloakedMemory) →
+    (compared q g write r m).memory.marks ≡ m.marks
+unfolding compared
+compared_marks q g write None m = refl
+compared_marks q g write (Some c) m =
+    pick (λ (o : AfterOffer). o.memory.marks ≡ m.marks) (bytes_eq (get_or m.ram g []) c) _ _
+    (pick (λ (x : CloakedMemory). x.marks ≡ m.marks) write _ _ refl refl) refl
+
 compared_same : (q : PageId) (g : ℕ) (write : Bool) (r : Option (List ℕ)) (m : CloakedMemory) →
     Same m (compared q g write r m)
-compared_same q g write r m = record { draws = compared_draws q g write r m; missed = compared_missed q g write r m }
+compared_same q g write r m = record {
+  draws = compared_draws q g write r m;
+  missed = compared_missed q g write r m;
+  marks = compared_marks q g write r m;
+}
 
 nothing_left : {A : Type 0} (xs ys : List A) → xs ++ ys ≡ [] → (xs ≡ []) × (ys ≡ [])
 nothing_left [] ys e = (refl, e)
 nothing_left (x ∷ xs) ys e = absurd (cc)
 
 counted_nothing : (m : CloakedMemory) (s : AfterSettling) → Counts m s → s.missed ≡ false → s.ciphers ≡ [] →
-    (s.memory.ledger.draws ≡ m.ledger.draws) × (s.memory.ledger.missed ≡ m.ledger.missed)
+    (s.memory.ledger.draws ≡ m.ledger.draws) × (s.memory.ledger.missed ≡ m.ledger.missed) × (s.memory.marks ≡ m.marks)
 counted_nothing m s c missed none = (
   c.draws ∙ ap (λ cs. draws_by cs s.missed m.ledger.draws) none,
   c.missed
       ∙ ap (λ b. missed_by b m.ledger.missed) missed,
+  c.marks ∙ ap (λ cs. marks_by cs m.marks) none,
 )
 
 unless_same : (m : CloakedMemory) (s : AfterSettling) (next : CloakedMemory → AfterOffer) → Counts m s →
@@ -281,17 +295,18 @@ unless_same m s next c same none drawn = by_value s.missed refl
         record {
           draws = ap (λ (o : AfterOffer). o.memory.ledger.draws) is ∙ second.draws ∙ first.0;
           missed = ap (λ (o : AfterOffer). o.memory.ledger.missed) is ∙ second.missed ∙ first.1;
+          marks = ap (λ (o : AfterOffer). o.memory.marks) is ∙ second.marks ∙ first.2;
         }
 
 counts_frame_if : (f : Option ℕ) (m : CloakedMemory) → Counts m (settle_frame_if f m)
-counts_frame_if None m = record { draws = refl; missed = refl }
+counts_frame_if None m = record { draws = refl; missed = refl; marks = refl }
 counts_frame_if (Some f) m = counts f m
 
 pub offer_same : (q : PageId) (g : ℕ) (write : Bool) (m : CloakedMemory) → (offer q g write m).ciphers ≡ [] →
     (offer q g write m).answer ≢ Missed →
     ((offer q g write m).memory.ledger.draws ≡ m.ledger.draws) ×
-    ((offer q g write m).memory.ledger.missed ≡ m.ledger.missed)
-offer_same q g write m none drawn = let s = same in (s.draws, s.missed)
+    ((offer q g write m).memory.ledger.missed ≡ m.ledger.missed) × ((offer q g write m).memory.marks ≡ m.marks)
+offer_same q g write m none drawn = let s = same in (s.draws, s.missed, s.marks)
   where
     by_owes : (b : Bool) → owes q (owed_in m g) ≡ b → Same m (offer q g write m)
     by_owes false e =
@@ -306,6 +321,7 @@ offer_same q g write m none drawn = let s = same in (s.draws, s.missed)
           draws = ap (λ (o : AfterOffer). o.memory.ledger.draws) is ∙ s.draws;
           missed =
               ap (λ (o : AfterOffer). o.memory.ledger.missed) is ∙ s.missed;
+          marks = ap (λ (o : AfterOffer). o.memory.marks) is ∙ s.marks;
         }
     by_owes true e =
         let is = offer_at_once q g write m (owing_is q (owed_in m g) e) in
@@ -313,6 +329,7 @@ offer_same q g write m none drawn = let s = same in (s.draws, s.missed)
           draws = ap (λ (o : AfterOffer). o.memory.ledger.draws) is;
           missed =
               ap (λ (o : AfterOffer). o.memory.ledger.missed) is;
+          marks = ap (λ (o : AfterOffer). o.memory.marks) is;
         }
 
     same : Same m (offer q g write m)
@@ -339,12 +356,12 @@ pub offers_so : {E : Type 0} (gave : E → E → List Piece → Type 0) (e e' : 
     (answer : Offer) (q : PageId) (g : ℕ) (write : Bool) (m : CloakedMemory) →
     (r : Rooms gave e e' old true q g m) → (answer ≢ Missed) → offer_of given ≡ answer →
     FollowsCallUnclashed old.pager new.pager ([], answer) (after_offer q g write) →
-    new.stream ≡ old.stream → new.draws ≡ old.draws → new.missed ≡ old.missed →
+    new.stream ≡ old.stream → new.draws ≡ old.draws → new.missed ≡ old.missed → new.reservations ≡ old.reservations →
     (answer ≡ (offer q g write r.memory).answer →
     Agrees (present (held_in new.pager) (offer q g write r.memory).memory) new.shadows) →
     new.shadows.frames ≡ old.shadows.frames → length new.pager.frames ≡ length old.pager.frames →
     (offer q g write m).memory.ledger.clashed ≡ false → Offers gave e e' new given (offer q g write m)
-offers_so {E} gave e e' old new given answer q g write m r not_missed is moves stream draws missed agrees room count clash =
+offers_so {E} gave e e' old new given answer q g write m r not_missed is moves stream draws missed marks agrees room count clash =
     let x : CloakedMemory = r.memory in
     let o : AfterOffer = offer q g write x in
     let whole : offer q g write m ≡ behind_ciphers r.ciphers o = r.offers write in
@@ -364,6 +381,7 @@ offers_so {E} gave e e' old new given answer q g write m r not_missed is moves s
         missed = missed ∙ r.holds.missed ∙ sym same.1;
         agrees = agrees ends;
         room = room ∙ r.holds.room ∙ sym count;
+        marks = marks ∙ r.holds.marks ∙ sym same.2;
       };
       emits = subst (λ (cs : List (ℕ × List ℕ)). Emits gave e e' (item_pieces (cipher_items cs)))
           (sym (ap (λ cs. r.ciphers ++ cs) none ∙ append-nil r.ciphers)) r.emits;

@@ -1,12 +1,14 @@
 -- A memory that settled a frame.
 use Rattle.std.proofs.Common.{◌≡◌, ℕ, ◌+◌, ◌-◌, ◌^◌, Bool, true, false, List, [], ◌∷◌, Option, None, Some, refl, ap}
 use Rattle.std.proofs.Common.{sym, ◌∙◌, subst}
-use Rattle.std.specs.Prelude.{min, length}
+use Rattle.std.specs.Prelude.{◌==◌, min, length, map}
 use Rattle.std.proofs.lemmas.Bool.{false≢true}
 use Rattle.cloak_base.specs.declared.names.PageId.{PageId}
+use Rattle.cloak_base.specs.Constants.{frame_of}
 use Rattle.cloak_base.specs.Random.{Random}
 use Rattle.cloak_model.specs.Cloaking.{CloakedMemory, AfterSettling, settle, settle_if, settle_owed, owed_in}
 use Rattle.cloak_model.specs.Exchange.{Piece, Emits, item_pieces}
+use Rattle.cloak_model.specs.Memory.{unless_written}
 use Rattle.cloak_model.specs.World.{cipher_items}
 use Rattle.cloak_pager.specs.State.{PagerState, held_in}
 use Rattle.cloak_pager.specs.Relation.{StandsForMemory}
@@ -28,20 +30,26 @@ abbrev pub missed_by : Bool → Bool → Bool
 missed_by true before = true
 missed_by false before = before
 
--- what a settling shows tells what became of the two
+-- the reservations behind it: a frame that showed something was written
+abbrev pub marks_by : List (ℕ × List ℕ) → List (Option ℕ) → List (Option ℕ)
+marks_by [] marks = marks
+marks_by (c ∷ ciphers) marks = map (unless_written (λ mark. frame_of mark == c.0)) marks
+
+-- what a settling shows tells what became of the three
 pub record Counts (m : CloakedMemory) (s : AfterSettling) : Type 0 where
   pub draws : s.memory.ledger.draws ≡ draws_by s.ciphers s.missed m.ledger.draws
   pub missed : s.memory.ledger.missed ≡ missed_by s.missed m.ledger.missed
+  pub marks : s.memory.marks ≡ marks_by s.ciphers m.marks
 
 counts_owed : (f : ℕ) (q : PageId) (draw : Option (List ℕ × Random)) (m : CloakedMemory) →
     Counts m (settle_owed f q draw m)
 unfolding settle_owed
-counts_owed f q None m = record { draws = refl; missed = refl }
-counts_owed f q (Some draw) m = record { draws = refl; missed = refl }
+counts_owed f q None m = record { draws = refl; missed = refl; marks = refl }
+counts_owed f q (Some draw) m = record { draws = refl; missed = refl; marks = refl }
 
 counts_if : (f : ℕ) (owed : Option PageId) (m : CloakedMemory) → Counts m (settle_if f owed m)
 unfolding settle_if
-counts_if f None m = record { draws = refl; missed = refl }
+counts_if f None m = record { draws = refl; missed = refl; marks = refl }
 counts_if f (Some q) m = counts_owed f q _ m
 
 pub counts : (f : ℕ) (m : CloakedMemory) → Counts m (settle f m)
@@ -59,11 +67,12 @@ pub settled_so : {E : Type 0} (gave : E → E → List Piece → Type 0) (e e' :
     FollowsCall old.pager old.stream p left (shown, missed) (after_touch f) →
     ((w : PageId → Bool) (m : CloakedMemory) → StandsForMemory p w m → StandsForMemory new.pager w m) →
     new.stream ≡ left → new.draws ≡ draws_by shown missed old.draws → new.missed ≡ missed_by missed old.missed →
+    new.reservations ≡ marks_by shown old.reservations →
     Emits gave e e' (item_pieces (cipher_items shown)) →
     ((m : CloakedMemory) → Holds old m → Agrees (present (held_in new.pager) (settle f m).memory) new.shadows) →
     (new.shadows.frames ≡ old.shadows.frames) → length new.pager.frames ≡ length old.pager.frames →
     (m : CloakedMemory) → Holds old m → Settles gave e e' new (settle f m)
-settled_so {E} gave e e' old new p left f shown missed meets again stream draws mark emits agrees room count m h =
+settled_so {E} gave e e' old new p left f shown missed meets again stream draws mark marks emits agrees room count m h =
     let s : AfterSettling = settle f m in
     let v = meets h.wiped m h.pager h.stream in
     let cs : shown ≡ s.ciphers = ap (λ (x : List (ℕ × List ℕ) × Bool). x.0) v.answer in
@@ -80,6 +89,8 @@ settled_so {E} gave e e' old new p left f shown missed meets again stream draws 
         missed = mark' ∙ ap (λ b. missed_by s.missed b) h.missed ∙ sym (counts f m).missed;
         agrees = agrees m h;
         room = room ∙ h.room ∙ sym count;
+        marks = marks ∙ ap (λ cs. marks_by cs old.reservations) cs ∙ ap (λ xs. marks_by s.ciphers xs) h.marks
+            ∙ sym (counts f m).marks;
       };
       emits = subst (λ (x : List (ℕ × List ℕ)). Emits gave e e' (item_pieces (cipher_items x))) cs emits;
     }

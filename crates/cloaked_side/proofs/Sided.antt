@@ -1,5 +1,5 @@
 -- A side after a call on its memory.
-use Rattle.std.proofs.Common.{suc, ◌≡◌, ◌≢◌, ◌+◌, arith, ℕ, Bool, true, cond, Option, None, length, slice_index_or, List, [], ◌∷◌, ◌++◌, append-nil, refl, ap}
+use Rattle.std.proofs.Common.{suc, ◌≡◌, ◌≢◌, ◌==◌, ◌+◌, arith, ℕ, Bool, true, cond, Option, None, length, map, slice_index_or, List, [], ◌∷◌, ◌++◌, append-nil, refl, ap}
 use Rattle.std.proofs.Common.{sym, ◌∙◌, subst}
 use Rattle.std.proofs.lemmas.List.{length-set}
 use Rattle.cloak_model.specs.declared.view.View.{View}
@@ -9,7 +9,7 @@ use Rattle.cloak_model.specs.Events.{Event, Read, Touch, Write}
 use Rattle.cloak_model.specs.World.{World, Cloak, Flat, Cloaked, Alone, cipher_items, noted, settled, settled_in, ram_of, stored_at, written}
 use Rattle.cloak_model.specs.World.{filled_frame}
 use Rattle.cloak_base.specs.Constants.{frame_of, place_of, is_in_frames}
-use Rattle.cloak_model.specs.Memory.{with_value_in, is_in_ram}
+use Rattle.cloak_model.specs.Memory.{with_value_in, is_in_ram, unless_written, word_at}
 use Rattle.cloak_model.specs.Asking.{FollowsFrom, Keeps, answered}
 use Rattle.cloak_model.specs.Ask.{ask_word, shown_word}
 use Rattle.cloak_model.specs.Exchange.{Piece, Emits, EmitsSome, item_pieces}
@@ -31,6 +31,7 @@ use Rattle.protect_meta.specs.declared.meta.Meta.{Meta}
 use Rattle.protect_meta.specs.Table.{domains_of}
 use Rattle.cloak_pager.specs.State.{PagerState, held_in}
 use Rattle.cloaked_side.proofs.Emitting.{emits_none, emits_items, some_then}
+use Rattle.cloaked_side.proofs.Marking.{stands_remarked}
 use Rattle.cloaked_side.proofs.Holders.{no_more_self, no_more_then, no_more_rights}
 use Rattle.cloaked_side.proofs.Translating.{agrees_read, agrees_rights, ending_frames}
 use Rattle.cloaked_side.specs.Tracking.{Tracks, TracksBy, MapsBy, MapsStill, spent_in}
@@ -252,10 +253,32 @@ pub record Repaged {E : Type 0} (old new : Side E) : Type 0 where
   pub stream : new.memory.now.stream ≡ old.memory.now.stream
   pub draws : new.memory.now.draws ≡ old.memory.now.draws
   pub missed : new.memory.now.missed ≡ old.memory.now.missed
+  pub marks : new.memory.now.reservations ≡ old.memory.now.reservations
   pub emitter : new.emitter.now ≡ old.emitter.now
   pub violation : new.violation ≡ old.violation
   pub view : new.view ≡ old.view
   pub space : new.space ≡ old.space
+
+-- other reservations too, since a frame was written
+pub record Rewritten {E : Type 0} (old new : Side E) : Type 0 where
+  pub stream : new.memory.now.stream ≡ old.memory.now.stream
+  pub draws : new.memory.now.draws ≡ old.memory.now.draws
+  pub missed : new.memory.now.missed ≡ old.memory.now.missed
+  pub emitter : new.emitter.now ≡ old.emitter.now
+  pub violation : new.violation ≡ old.violation
+  pub view : new.view ≡ old.view
+  pub space : new.space ≡ old.space
+
+repaged : {E : Type 0} (old new : Side E) → Repaged old new → Rewritten old new
+repaged old new same = record {
+  stream = same.stream;
+  draws = same.draws;
+  missed = same.missed;
+  emitter = same.emitter;
+  violation = same.violation;
+  view = same.view;
+  space = same.space;
+}
 
 -- another memory with this of its ledger as it was
 pub record SameDraws (m m' : CloakedMemory) : Type 0 where
@@ -290,6 +313,10 @@ still_turned old new m m' rights count same seen = record {
   count = count;
 }
 
+still_remarked : (old new : Memory) (m m' : CloakedMemory) (marks : List (Option ℕ)) → AgreesStill old new m m' →
+    AgreesStill old new m (record m' { marks = marks })
+still_remarked old new m m' marks still = record { agrees = still.agrees; room = still.room; count = still.count }
+
 -- so it is of every memory that shows the same
 abbrev pub AgreesAlways : Memory → Memory → Type 0
 AgreesAlways old new = (m m' : CloakedMemory) → ((held : ℕ → Option PageId) → present held m' ≡ present held m) → AgreesStill old new m m'
@@ -318,7 +345,8 @@ still_written old new m f n bytes shown is written same = record {
 
 -- another memory, and these events more
 pub counted_moved : {E : Type 0} (gave : E → E → List Piece → Type 0) (first old new : Side E) (c : Cloak)
-    (m' : CloakedMemory) (events : List Event) (left more : ℕ) → Repaged old new → SameDraws c.memory m' →
+    (m' : CloakedMemory) (events : List Event) (left more : ℕ) → Rewritten old new → SameDraws c.memory m' →
+    (old.memory.now.reservations ≡ c.memory.marks → new.memory.now.reservations ≡ m'.marks) →
     AgreesStill old.memory.now new.memory.now c.memory m' →
     ((w : PageId → Bool) → StandsForMemory old.memory.now.pager w c.memory →
     StandsForMemory new.memory.now.pager w m') →
@@ -326,7 +354,7 @@ pub counted_moved : {E : Type 0} (gave : E → E → List Piece → Type 0) (fir
     Spends 0 (reads_due (record { space = new.space; events = events; items = []; changed = [] })) (spent_in old.memory.now) (spent_in new.memory.now) →
     MapsStill old.memory.now new.memory.now →
     SeesCounted gave first old c left more → SeesCounted gave first new (record c { memory = m'; events = c.events ++ events }) left more
-counted_moved gave first old new c m' events left more same kept still stands tracks spends maps sees =
+counted_moved gave first old new c m' events left more same kept marks still stands tracks spends maps sees =
     let h = sees.holds in
     counted_on gave first old new c (record c { memory = m'; events = c.events ++ events }) left more events [] refl
     (sym (append-nil c.items)) (sym (same.violation ∙ sees.violation)) refl same.view same.space
@@ -339,6 +367,7 @@ counted_moved gave first old new c m' events left more same kept still stands tr
       missed = same.missed ∙ h.missed ∙ sym kept.missed;
       agrees = still.agrees h.agrees;
       room = still.room ∙ h.room ∙ sym still.count;
+      marks = marks h.marks;
     })
     (subst (λ (is : List Item). Emits gave first.emitter.now new.emitter.now (item_pieces is)) (sym (append-nil c.items))
     (subst (λ e. Emits gave first.emitter.now e (item_pieces c.items)) (sym same.emitter) sees.emits))
@@ -346,16 +375,16 @@ counted_moved gave first old new c m' events left more same kept still stands tr
 
 -- and no events
 pub sees_still : {E : Type 0} (gave : E → E → List Piece → Type 0) (first old new : Side E) (c : Cloak)
-    (m' : CloakedMemory) → Repaged old new → SameDraws c.memory m' →
+    (m' : CloakedMemory) → Repaged old new → SameDraws c.memory m' → m'.marks ≡ c.memory.marks →
     AgreesStill old.memory.now new.memory.now c.memory m' →
     ((w : PageId → Bool) → StandsForMemory old.memory.now.pager w c.memory →
     StandsForMemory new.memory.now.pager w m') →
     ((s : Fold) → Tracks old.memory.now s → Tracks new.memory.now s) →
     new.memory.now.pager.reads ≡ old.memory.now.pager.reads → new.memory.now.shadows ≡ old.memory.now.shadows →
     SeesCloak gave first old c → SeesCloak gave first new (record c { memory = m' })
-sees_still gave first old new c m' same kept still stands tracks reads shadows sees =
+sees_still gave first old new c m' same kept marks still stands tracks reads shadows sees =
     subst (λ (es : List Event). SeesCloak gave first new (record c { memory = m'; events = es })) (append-nil c.events)
-    (counted_moved gave first old new c m' [] 0 0 same kept still stands
+    (counted_moved gave first old new c m' [] 0 0 (repaged old new same) kept (λ is. same.marks ∙ is ∙ sym marks) still stands
     (λ s keeps. subst (λ (u : Fold). Tracks new.memory.now u) (no_events new.space s) (tracks s keeps))
     (spends_still old.memory.now new.memory.now reads (ap (λ (t : Table). t.counts.misses) shadows))
     (maps_same old.memory.now new.memory.now shadows) sees)
@@ -378,6 +407,7 @@ counted_read gave first old new c left more same shadows counting read sees =
         missed = same.missed ∙ h.missed;
         agrees = still.agrees h.agrees;
         room = still.room ∙ h.room ∙ sym still.count;
+        marks = same.marks ∙ h.marks;
       };
       emits = subst (λ e. Emits gave first.emitter.now e (item_pieces c.items)) (sym same.emitter) sees.emits;
       violation = same.violation ∙ sees.violation;
@@ -433,7 +463,8 @@ read_after gave first old new f (Cloaked c) show bytes a same shadows counting s
 
 -- A value was stored in a frame.
 pub stored_after : {E : Type 0} (gave : E → E → List Piece → Type 0) (first old new : Side E) (pa width value : ℕ)
-    (v : World) → Repaged old new →
+    (v : World) → Rewritten old new →
+    new.memory.now.reservations ≡ map (unless_written (λ mark. mark == word_at pa)) old.memory.now.reservations →
     ((m : CloakedMemory) → AgreesStill old.memory.now new.memory.now m (with_shown_frame (frame_of pa)
     (with_value_in (slice_index_or m.ram (frame_of pa) []) (place_of pa) width value) m)) →
     ((w : PageId → Bool) (m : CloakedMemory) → StandsForMemory old.memory.now.pager w m →
@@ -444,18 +475,27 @@ pub stored_after : {E : Type 0} (gave : E → E → List Piece → Type 0) (firs
     (g : Frame) → new.memory.now.pager.reads ≡ old.memory.now.pager.reads → new.memory.now.shadows ≡ ending (is_table g) old.memory.now.shadows →
     Sees gave first old v → FollowsFrom (λ side w. Sees gave first side w) new (tt {0})
     (record { answer = tt; world = stored_at pa width value v })
-stored_after gave first old new pa width value (Flat ram) same still stands tracks g reads ended sees = absurd sees
-stored_after gave first old new pa width value (Alone handed) same still stands tracks g reads ended sees = absurd sees
-stored_after gave first old new pa width value (Cloaked c) same still stands tracks g reads ended sees = record {
-  answer = refl;
-  stands = counted_moved gave first old new c _ (Write (frame_of pa) ∷ []) 0 0 same (record { stream = refl; draws = refl; missed = refl })
-      (still c.memory) (λ w s. stands w c.memory s) tracks (spends_ended old.memory.now new.memory.now g reads ended)
-      (maps_ending old.memory.now new.memory.now (is_table g) ended) sees;
-}
+stored_after gave first old new pa width value (Flat ram) same marks still stands tracks g reads ended sees = absurd sees
+stored_after gave first old new pa width value (Alone handed) same marks still stands tracks g reads ended sees = absurd sees
+stored_after gave first old new pa width value (Cloaked c) same marks still stands tracks g reads ended sees =
+    let m : CloakedMemory = c.memory in
+    let shown : CloakedMemory = with_shown_frame (frame_of pa)
+    (with_value_in (slice_index_or m.ram (frame_of pa) []) (place_of pa) width value) m in
+    let left : List (Option ℕ) → List (Option ℕ) = λ xs. map (unless_written (λ mark. mark == word_at pa)) xs in
+    record {
+      answer = refl;
+      stands = counted_moved gave first old new c (record shown { marks = left m.marks }) (Write (frame_of pa) ∷ []) 0 0 same
+          (record { stream = refl; draws = refl; missed = refl }) (λ is. marks ∙ ap left is)
+          (still_remarked old.memory.now new.memory.now m shown (left m.marks) (still m))
+          (λ w s. stands_remarked new.memory.now.pager w shown (left m.marks) (stands w m s)) tracks
+          (spends_ended old.memory.now new.memory.now g reads ended)
+          (maps_ending old.memory.now new.memory.now (is_table g) ended) sees;
+    }
 
 -- A frame was filled.
 pub filled_after : {E : Type 0} (gave : E → E → List Piece → Type 0) (first old new : Side E) (f : ℕ) (bytes : List ℕ)
-    (v : World) → Repaged old new →
+    (v : World) → Rewritten old new →
+    new.memory.now.reservations ≡ map (unless_written (λ mark. frame_of mark == f)) old.memory.now.reservations →
     ((m : CloakedMemory) → AgreesStill old.memory.now new.memory.now m (with_shown_frame f bytes m)) →
     ((w : PageId → Bool) (m : CloakedMemory) → StandsForMemory old.memory.now.pager w m →
     StandsForMemory new.memory.now.pager w (with_shown_frame f bytes m)) →
@@ -463,12 +503,12 @@ pub filled_after : {E : Type 0} (gave : E → E → List Piece → Type 0) (firs
     (g : Frame) → new.memory.now.pager.reads ≡ old.memory.now.pager.reads → new.memory.now.shadows ≡ ending (is_table g) old.memory.now.shadows →
     Sees gave first old v → FollowsFrom (λ side w. Sees gave first side w) new (tt {0})
     (record { answer = tt; world = filled_frame f bytes v })
-filled_after gave first old new f bytes (Flat ram) same still stands tracks g reads ended sees = absurd sees
-filled_after gave first old new f bytes (Alone handed) same still stands tracks g reads ended sees = absurd sees
-filled_after gave first old new f bytes (Cloaked c) same still stands tracks g reads ended sees = record {
+filled_after gave first old new f bytes (Flat ram) same marks still stands tracks g reads ended sees = absurd sees
+filled_after gave first old new f bytes (Alone handed) same marks still stands tracks g reads ended sees = absurd sees
+filled_after gave first old new f bytes (Cloaked c) same marks still stands tracks g reads ended sees = record {
   answer = refl;
   stands = counted_moved gave first old new c _ (Write f ∷ []) 0 0 same (record { stream = refl; draws = refl; missed = refl })
-      (still c.memory) (λ w s. stands w c.memory s) tracks (spends_ended old.memory.now new.memory.now g reads ended)
+      (λ is. marks ∙ ap (λ (xs : List (Option ℕ)). map (unless_written (λ mark. frame_of mark == f)) xs) is) (still c.memory) (λ w s. stands w c.memory s) tracks (spends_ended old.memory.now new.memory.now g reads ended)
       (maps_ending old.memory.now new.memory.now (is_table g) ended) sees;
 }
 

@@ -147,4 +147,5 @@ ended_holds old new ends is m h = subst (λ (x : Memory). Holds x m) (sym is) (r
   agrees = keeps_ending (EntryAgrees (present (held_in old.pager) m)) (EntryAgrees (present (held_in old.pager) m)) ends old.shadows
       (λ e stays agrees. agrees) h.agrees;
   room = ending_frames ends old.shadows ∙ h.room;
+  marks = h.marks;
 })

@@ -12,7 +12,7 @@ use Rattle.shadow_law.specs.Agreeing.{present}
 use Rattle.cloaked_side.specs.declared.memory.Memory.{Memory}
 
 -- The memory stands for these frames, pages and this ledger. The newest bytes of a page are lost only where a draw was
--- missing. Each live translation leads where a walk would lead now.
+-- missing. Each live translation leads where a walk would lead now. The reservations are those of the harts.
 pub record Holds (memory : Memory) (m : CloakedMemory) : Type 0 where
   pub wiped : PageId → Bool
   pub pager : StandsForMemory memory.pager wiped m
@@ -22,6 +22,7 @@ pub record Holds (memory : Memory) (m : CloakedMemory) : Type 0 where
   pub missed : memory.missed ≡ m.ledger.missed
   pub agrees : Agrees (present (held_in memory.pager) m) memory.shadows
   pub room : memory.shadows.frames ≡ length memory.pager.frames
+  pub marks : memory.reservations ≡ m.marks
 
 -- how many frames and domains there are
 abbrev pub frames_of : Memory → ℕ

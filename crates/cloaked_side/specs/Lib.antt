@@ -4,4 +4,5 @@ pub mod Seeing
 pub mod Offering
 pub mod Telling
 pub mod Leading
+pub mod Atomic
 pub mod Ending

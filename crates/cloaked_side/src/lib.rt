@@ -3,8 +3,10 @@
 //! `Memory` settles frames and offers pages, and emits what the kernel is shown on the way. A `Side` is made of it for
 //! one step. It answers what the plain step asks (`Words` of `sv32_walk`, `Ram` of `host_calls`), each time settling
 //! the frame first, and what the step of a cloaked program asks (`PageSide` of `cloak_model`), and writes each answer.
-//! It holds no page and copies none. `outside_step` is the plain step over it, `end_pages` the end of a domain's pages.
-//! The item of stores is kept from step to step (`KeptItems`), and lent to the side.
+//! Whatever writes what the kernel sees ends the reservations of words that it wrote; a page that is sealed again as it
+//! was last shown was not written. A side holds no page and copies none. `outside_step` is the plain step over it,
+//! `end_pages` the end of a domain's pages. The item of stores is kept from step to step (`KeptItems`), and lent to the
+//! side.
 //!
 //! The layer above may rely on this: for every joint world that a side stands for (`specs/Seeing`), each call answers
 //! what the definition tells, the emitter was given exactly the items that the world has written since, and the side
@@ -13,6 +15,7 @@
 //! and no frame comes to hold a page of another domain than the one that is served.
 #![tactic(auto)]
 
+mod atomic;
 mod clearing;
 mod ending;
 mod inside;

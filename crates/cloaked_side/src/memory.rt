@@ -1,5 +1,5 @@
-ghost use Rattle.std.specs.Prelude.{◌≡◌, ◌≢◌, ◌^◌, IsTrue, ◌⊎◌, ℕ, Bool, true, false, not, ◌<◌, ◌≤◌, [], ◌∷◌, Option, is_some, length};
-ghost use Rattle.cloak_base.specs.Constants.{ram_start, is_in_frames};
+ghost use Rattle.std.specs.Prelude.{◌≡◌, ◌≢◌, ◌==◌, ◌^◌, IsTrue, ◌⊎◌, ℕ, Bool, true, false, not, ◌<◌, ◌≤◌, [], ◌∷◌, Option, is_some, length, map};
+ghost use Rattle.cloak_base.specs.Constants.{frame_of, ram_start, is_in_frames};
 ghost use Rattle.cloak_model.specs.declared.item.Item.TheVariants.{Cipher};
 ghost use Rattle.shadow_fold.specs.Entries.{is_of_space};
 ghost use Rattle.shadow_fold.specs.Table.{empty_table, ending, killed};
@@ -7,6 +7,7 @@ ghost use Rattle.shadow_fold.specs.Table.{empty_table, ending, killed};
 use cloak_base::{Frame, PageId, SpaceId, is_in_frames};
 use cloak_model::Emit;
 use cloak_pager::{Offered, Pager, Touched};
+use host_calls::Reservations;
 use multi_shadow::Shadows;
 use outside_io::Stream;
 
@@ -21,7 +22,8 @@ pub enum Offer {
     Missed,
 }
 
-/// The frames of RAM with the cloaked pages in them, the random stream, and the translations that are known.
+/// The frames of RAM with the cloaked pages in them, the random stream, the reservations of the harts, and the
+/// translations that are known.
 #[derive(Drop)]
 pub struct Memory {
     pub pager: Pager,
@@ -30,6 +32,8 @@ pub struct Memory {
     pub draws: u64,
     /// A draw was missing.
     pub missed: bool,
+    /// The reservations of the harts, of words of the frames as the kernel sees them.
+    pub reservations: Reservations,
     /// The translations that are known.
     pub shadows: Shadows,
     /// Accesses without paging go through them too, as is due where they are counted.
@@ -48,6 +52,8 @@ fn end_entries(shadows: &mut Shadows, f: Frame)
 
 impl Memory {
     ghost use Rattle.cloak_model.specs.Cloaking.{CloakedMemory, settle, offer};
+    ghost use Rattle.cloak_model.specs.Joint.{without_mark};
+    ghost use Rattle.cloak_model.specs.Memory.{unless_written, with_mark};
     ghost use Rattle.cloak_model.specs.Exchange.{Emits, EmitsSome, item_pieces};
     ghost use Rattle.cloak_pager.specs.State.{held_in, owed_at, bytes_in};
     ghost use Rattle.cloak_pager.specs.Turns.{IsReadOnce, StaysBut};
@@ -61,7 +67,8 @@ impl Memory {
     ghost use Rattle.shadow_fold.specs.Following.{killed_if};
     ghost use Rattle.shadow_fold.specs.Reads.{Spends};
 
-    /// Settles a frame, and emits what the kernel is shown of it.
+    /// Settles a frame, and emits what the kernel is shown of it. A frame that shows its page's record again was not
+    /// written, so reservations in it stay.
     #[inline(always)]
     pub fn settle<E: Emit>(&mut self, f: Frame, e: &mut E)
         requires { f.0 < frames_of self.old }
@@ -239,6 +246,14 @@ impl Memory {
         self.counting = true;
     }
 
+    /// A hart has no reservation any more.
+    pub fn unmark(&mut self, hart: u32)
+        ensures state { self.new ≡ record self.old { reservations = with_mark hart None self.old.reservations } }
+        ensures holds { (m : CloakedMemory) → Holds self.old m → Holds self.new (without_mark hart m) }
+    {
+        self.reservations.unmark(hart);
+    }
+
     /// The regions of a space changed, or it ended: what was known of its pages ends.
     pub fn end_space(&mut self, s: SpaceId)
         ensures { self.new ≡ record self.old { shadows = ending (is_of_space s) self.old.shadows } }
@@ -256,7 +271,7 @@ impl Memory {
         is_in_frames(self.pager.count(), pa)
     }
 
-    /// Emits what the kernel is shown of an outside frame.
+    /// Emits what the kernel is shown of an outside frame that was written. Reservations in it end.
     #[cold]
     #[inline(never)]
     fn emit_frame<E: Emit>(&mut self, f: Frame, e: &mut E)
@@ -267,9 +282,12 @@ impl Memory {
         ensures draws { self.new.draws ≡ self.old.draws }
         ensures missed { self.new.missed ≡ self.old.missed }
         ensures shadows { self.new.shadows ≡ self.old.shadows }
+        ensures reservations { self.new.reservations ≡
+            map (unless_written (λ mark. frame_of mark == f.0)) self.old.reservations }
         ensures counting { self.new.counting ≡ self.old.counting }
         ensures emits { Emits E.gave e.old e.new (item_pieces (Cipher f.0 (bytes_in self.old.pager f.0) ∷ [])) }
     {
+        self.reservations.frame_written(f);
         e.cipher(f.0, self.pager.read_outside(f));
     }
 }

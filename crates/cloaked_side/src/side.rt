@@ -1,11 +1,13 @@
 ghost use Rattle.std.specs.Prelude.{◌≡◌, ◌<◌, ◌≤◌, ◌%◌, IsTrue, length, is_some};
 
+use crate::atomic::is_reserved;
 use crate::kept_items::KeptItems;
 use crate::memory::Memory;
 use cloak_base::{Frame, SpaceId, Violation, frame_of, place_of};
 use cloak_model::{Access, Emit, View, value_in};
 use host_calls::Ram;
 use multi_shadow::ShadowView;
+use rv_atomic::{AtomicOp, combine};
 use sv32_walk::Words;
 
 /// What the step of a hart reaches: memory, and the emitter of what it writes.
@@ -79,7 +81,8 @@ impl<'m, 'e, E: Emit> Side<'m, 'e, E> {
         )
     }
 
-    /// Stores the lowest bytes of a word at an address in an outside frame. Translations through the frame end.
+    /// Stores the lowest bytes of a word at an address in an outside frame. Translations through the frame end, and so
+    /// do reservations of the word.
     pub(crate) fn write_settled(&mut self, pa: u32, width: u32, v: u32)
         requires inside { IsTrue (is_in_frames (frames_of self.old.memory.now) pa) }
         requires outside { held_in self.old.memory.now.pager (frame_of pa) ≡ None }
@@ -91,6 +94,7 @@ impl<'m, 'e, E: Emit> Side<'m, 'e, E> {
         ensures same_count { frames_of self.new.memory.now ≡ frames_of self.old.memory.now }
     {
         let f = frame_of(pa);
+        self.memory.reservations.word_written(pa);
         self.memory
             .pager
             .write_outside(f, place_of(pa) as u32, width, v);
@@ -160,6 +164,52 @@ impl<'m, 'e, E: Emit> Ram for Side<'m, 'e, E> {
         }
     }
 
+    fn reserve(&mut self, satp: u32, access: Access, hart: u32) -> Result<u32, u32> {
+        match self.led_word(satp, access) {
+            Err(cause) => Err(cause),
+            Ok(led) => {
+                self.reserve_word(hart, led.pa);
+                Ok(led.word)
+            }
+        }
+    }
+
+    fn store_conditional(
+        &mut self,
+        satp: u32,
+        access: Access,
+        hart: u32,
+        v: u32,
+    ) -> Result<bool, u32> {
+        match self.led_word(satp, access) {
+            Err(cause) => Err(cause),
+            Ok(led) => {
+                let mark = self.memory.reservations.marked(hart);
+                Ok(self.write_if(is_reserved(mark, led.pa), hart, led.pa, v))
+            }
+        }
+    }
+
+    fn combine(
+        &mut self,
+        satp: u32,
+        access: Access,
+        op: AtomicOp,
+        operand: u32,
+    ) -> Result<u32, u32> {
+        match self.led_word(satp, access) {
+            Err(cause) => Err(cause),
+            Ok(led) => {
+                self.write_settled(led.pa, 4, combine(op, led.word, operand));
+                Ok(led.word)
+            }
+        }
+    }
+
+    fn unmark(&mut self, hart: u32) {
+        self.release(hart);
+    }
+
     fn frame(&mut self, f: Frame) -> &[u8; 4096] {
         self.settle(f);
         self.memory.pager.read_outside(f)
@@ -167,6 +217,7 @@ impl<'m, 'e, E: Emit> Ram for Side<'m, 'e, E> {
 
     fn fill(&mut self, f: Frame, b: &[u8; 4096]) {
         self.settle(f);
+        self.memory.reservations.frame_written(f);
         self.memory.pager.fill_outside(f, b);
         self.memory.shadows.kill_dependents(f);
     }

@@ -1,6 +1,6 @@
 -- The program alone: how it takes the items of one step.
 use Rattle.std.proofs.lemmas.Bool.{false≢true}
-use Rattle.std.proofs.Common.{◌≡◌, ◌∙◌, ◌-◌, ◌%◌, true, false, cond, suc, ℕ, Bool, List, [], ◌∷◌, ◌++◌, None, refl, ap, sym, subst, append_assoc, append-nil, eq-eqb, arith, length, if◌then◌else◌, Option, Some, ◌⊎◌, inl, inr, ◌≢◌}
+use Rattle.std.proofs.Common.{◌≡◌, ◌∙◌, ◌-◌, ◌%◌, true, false, cond, suc, ℕ, Bool, List, [], ◌∷◌, ◌++◌, None, refl, ap, sym, subst, append_assoc, append-nil, eq-eqb, arith, length, if◌then◌else◌, Option, Some, ◌⊎◌, ◌≢◌}
 use Rattle.std.specs.Prelude.{◌||◌, ◌==◌, slice_index}
 use Rattle.std.specs.List.{list_any}
 use Rattle.cloak_model.specs.declared.answer.Answer.{Answer}

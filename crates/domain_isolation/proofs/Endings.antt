@@ -1,8 +1,7 @@
 -- The end of a domain behind a step, and what the program alone makes of it.
 use Rattle.std.proofs.Common.{◌≡◌, ◌≢◌, ◌∙◌, inl, inr, zero, suc, ◌+◌, ◌<◌, true, false, cond, ℕ, Bool, List, [], ◌∷◌, ◌++◌, length, Option, Some, None, refl, ap, sym, subst, eq-eqb, ne_eqb, append-nil, if◌then◌else◌}
-use Rattle.std.specs.Prelude.{◌==◌, ◌||◌, is_some, replicate, slice_get, slice_index_or, slice_set}
+use Rattle.std.specs.Prelude.{◌==◌, ◌||◌, is_some, slice_get}
 use Rattle.std.specs.List.{AllByRecursion}
-use Rattle.std.proofs.lemmas.Bool.{false≢true}
 use Rattle.std.proofs.lemmas.List.Elements.{filter-append}
 use Rattle.cloak_base.specs.declared.causes.Violation.{Violation}
 use Rattle.cloak_base.specs.declared.names.PageId.{PageId}
@@ -10,26 +9,23 @@ use Rattle.cloak_model.specs.declared.item.Item.{Item}
 use Rattle.cloak_model.specs.declared.item.Item.TheVariants as item
 use Rattle.cloak_model.specs.AskPages.{ask_forget, settled_if_marked}
 use Rattle.cloak_model.specs.Cloaking.{CloakedMemory}
-use Rattle.cloak_model.specs.Contexts.{Context, context_at, domain_of}
-use Rattle.cloak_model.specs.DomainAlone as alone
-use Rattle.cloak_model.specs.DomainAlone.{DomainAlone, DomainPlace, Between, Other, Done, Stopped, handed_of, runs_on, domain_taken, take_domain_item, domain_takes, take_ended, ended_part, domain_gone, domain_step_ended, slot_on, place_for}
+use Rattle.cloak_model.specs.Contexts.{domain_of}
+use Rattle.cloak_model.specs.DomainAlone.{DomainAlone, DomainPlace, Between, Other, Done, Stopped, handed_of, domain_taken, take_domain_item, domain_takes, take_ended, ended_part, domain_gone, domain_step_ended, slot_on, place_for}
 use Rattle.cloak_model.specs.DomainState.{Domain}
 use Rattle.cloak_model.specs.Ending.{all_marked, settled_for, ask_end, cloak_for, handed_for, ended_domain}
 use Rattle.cloak_model.specs.Fork.{ask_forgets}
 use Rattle.cloak_model.specs.Halves.{is_inward, inward_half}
-use Rattle.cloak_model.specs.Hart.{Hart}
-use Rattle.cloak_model.specs.Joint.{Turn, hart_in, memory_of, turn_of, stop_of, domain_met, end_domain, refuses, ends_once, ends_resumed, ends_asked, answers_violation}
+use Rattle.cloak_model.specs.Joint.{Turn, hart_in, turn_of, stop_of, domain_met, end_domain, refuses, ends_once, ends_resumed, ends_asked, answers_violation}
 use Rattle.cloak_model.specs.Opening.{numbers_below}
 use Rattle.cloak_model.specs.Parts.{Joint, DomainPart, domain_pages}
 use Rattle.cloak_model.specs.Record.{IsOfStep}
-use Rattle.cloak_model.specs.World.{World, Cloak, Flat, Cloaked, Alone, plain_of, items_of, ram_of}
-use Rattle.domain_isolation.proofs.Alone.{alone_at, ended, RestsAt, OtherAt, StoppedAt, Opens, same_number}
+use Rattle.cloak_model.specs.World.{World, Cloaked, Alone, plain_of, items_of}
+use Rattle.domain_isolation.proofs.Alone.{alone_at, ended, RestsAt, OtherAt, same_number}
 use Rattle.domain_isolation.proofs.Answers.{alone_with, LeavesOthers, change_leaves, change_same}
 use Rattle.domain_isolation.proofs.Ignoring.{taken_append, taken_half, none_taken}
-use Rattle.domain_isolation.proofs.InOrder.{same_some, decided, inside_at, InOrder, order_ends, get_set_same, get_set_other}
+use Rattle.domain_isolation.proofs.InOrder.{same_some, decided, InOrder, order_ends, get_set_same, get_set_other}
 use Rattle.domain_isolation.proofs.InsideSteps.{memory_plain, turn_alone}
-use Rattle.domain_isolation.proofs.JointSteps.{HoldsPart, StepAlone, is_cut}
-use Rattle.domain_isolation.proofs.Runs.{runs_in}
+use Rattle.domain_isolation.proofs.JointSteps.{HoldsPart, StepAlone}
 use Rattle.domain_isolation.proofs.Scripts.{Forget}
 use Rattle.domain_isolation.proofs.Steady.{is_cloaked, Steady, Steady-refl, Steady-trans, steady_if_marked}
 

@@ -29,7 +29,7 @@ use Rattle.cloak_model.specs.DomainState.{Domain}
 use Rattle.cloak_model.specs.Hypercalls.{Stepped}
 use Rattle.cloak_model.specs.DomainStep.{DomainStepped, interrupt, interrupt_if}
 use Rattle.cloak_model.specs.Parts.{Joint, DomainPart, domain_pages}
-use Rattle.cloak_model.specs.Joint.{Turn, quiet, hart_in, with_hart, cloak_of, memory_of, domain_ended, with_domain, after_domain_step, pages_for, interrupt_ended, after_interrupt, by_interrupt, inside_step, turn_of, stop_of, stop_without_miss, by_running, left, not_running}
+use Rattle.cloak_model.specs.Joint.{Turn, quiet, hart_in, with_hart, cloak_of, memory_of, domain_ended, with_domain, after_domain_step, pages_for, interrupt_ended, after_interrupt, by_interrupt, inside_step, turn_of, stop_without_miss, by_running, left, not_running}
 use Rattle.cloak_model.specs.DomainAlone.{DomainAlone, Running, domain_taken, place_for, is_stopped, runs_on}
 use Rattle.domain_isolation.proofs.Ignoring.{half_taken, taken_half}
 use Rattle.domain_isolation.proofs.Runs.{MovesSlot, slot_kept, slot_left, has_left, runs_in}
@@ -39,7 +39,7 @@ use Rattle.domain_isolation.proofs.Steady.{is_cloaked, is_halted}
 use Rattle.domain_isolation.proofs.Answers.{IsServing}
 use Rattle.domain_isolation.proofs.Played.{answers_of, answer_items, played_serving, played_items, played_others, played_ends, played_stopped, played_met}
 use Rattle.domain_isolation.proofs.Alone.{alone_at, ended, RestsAt, part_in, timer_rests, answers_rest, StoppedAt, answers_open}
-use Rattle.domain_isolation.proofs.InOrder.{same_some, decided, inside_at, InOrder, order_kept, order_stays, order_leaves, get_set_same, get_set_other, slot_other, slot_own, order_gone, slot_idle}
+use Rattle.domain_isolation.proofs.InOrder.{same_some, decided, inside_at, InOrder, order_stays, order_leaves, get_set_same, get_set_other, slot_other, slot_own, order_gone, slot_idle}
 use Rattle.domain_isolation.proofs.KernelHarts.{ticked_inside}
 use Rattle.domain_isolation.proofs.JointSteps.{HoldsPart, StepAlone, is_cut, other_alone}
 use Rattle.domain_isolation.proofs.OutsideSteps.{outside_alone}

@@ -1,6 +1,6 @@
 -- One instruction of a context is a script.
-use Rattle.std.proofs.Common.{◌≡◌, ℕ, ◌%◌, Bool, Option, Some, None, refl}
-use Rattle.std.specs.Prelude.{option_map}
+use Rattle.std.proofs.Common.{◌≡◌, ℕ, ◌%◌, Bool, Option, Some, None, refl, true, false, cond}
+use Rattle.std.specs.Prelude.{option_map, ◌==◌}
 use Rattle.cloak_base.specs.declared.names.Kind.TheVariants.{Fetch, Load, Store}
 use Rattle.cloak_base.specs.declared.names.PageId.{PageId}
 use Rattle.rv_isa.specs.Table.{instruction}
@@ -13,9 +13,18 @@ use Rattle.cloak_model.specs.declared.outcome.Effect.TheVariants as does
 use Rattle.cloak_model.specs.declared.inside.Ran.TheVariants as ran
 use Rattle.cloak_model.specs.Effect.{effect}
 use Rattle.cloak_model.specs.Resources.{Resources, lookup, page_id, page_at}
-use Rattle.cloak_model.specs.Contexts.{Context}
+use Rattle.cloak_model.specs.Contexts.{Context, set_word, moved_on, word_of_page}
 use Rattle.cloak_model.specs.InsideStep as inside
 use Rattle.domain_isolation.proofs.Scripts.{Reach, Get, Put, Write, Ending, IsStop, Scripted, scripted_gives, scripted_asks, scripted_reads, scripted_changes}
+use Rattle.cloak_model.specs.Asking.{Asking, answered, then_ask}
+use Rattle.cloak_model.specs.AskPages.{ask_read, ask_write}
+use Rattle.cloak_model.specs.KernelStep.{atomic_kind, misaligned}
+use Rattle.cloak_base.specs.Registers.{register}
+use Rattle.rv_atomic.specs.Table.{atomic_instruction}
+use Rattle.rv_atomic.specs.Combine.{combined}
+use Rattle.rv_atomic.specs.declared.atomic.Atomic.{Atomic}
+use Rattle.rv_atomic.specs.declared.atomic.AtomicOp.{AtomicOp}
+use Rattle.rv_atomic.specs.declared.atomic.AtomicOp.TheVariants.{Lr, Sc, Swap, Add, Xor, And, Or, Min, Max, Minu, Maxu}
 
 -- Pages are the program's own.
 
@@ -76,7 +85,8 @@ unfoldable store_reached_scripted : (d : ℕ) (c : Context) (q : PageId) → q.d
     Scripted d (of_instruction c) (inside.store_reached c q va width value a)
 unfolding inside.store_reached
 store_reached_scripted d c q own va width value told.Ok =
-    scripted_changes d (of_instruction c) (Write q own (va % 4096) width value) (inside.goes_on c)
+    scripted_changes d (of_instruction c) (Write q own (va % 4096) width value)
+    (answered (inside.made_writing (moved_on c) ran.Stay (word_of_page q va)))
     (scripted_gives d (of_instruction c) _ refl)
 store_reached_scripted d c q own va width value (told.Absent cause) = scripted_gives d (of_instruction c) _ refl
 store_reached_scripted d c q own va width value (told.Word other) = scripted_gives d (of_instruction c) _ refl
@@ -119,16 +129,93 @@ done_scripted d r c i does.System = system_scripted d c i
 done_scripted d r c i does.Nothing = scripted_gives d (of_instruction c) _ refl
 done_scripted d r c i (does.Raise cause value) = scripted_gives d (of_instruction c) _ refl
 
-decoded_scripted : (d : ℕ) (r : Resources) (c : Context) (o : Option Instr) →
-    Scripted d (of_instruction c) (inside.decoded_inside d r c o)
+-- Atomic instructions.
+
+conditional_scripted : (d : ℕ) (reserved : Bool) (c : Context) (rd : ℕ) (q : PageId) → q.domain ≡ d → (va operand : ℕ) →
+    Scripted d (of_instruction c) (inside.conditional_inside reserved c rd q va operand)
+unfolding inside.conditional_inside
+conditional_scripted d true c rd q own va operand =
+    scripted_changes d (of_instruction c) (Write q own (va % 4096) 4 operand)
+    (answered (inside.made_writing (moved_on (record (set_word c rd 0) { mark = None })) ran.Stay (word_of_page q va)))
+    (scripted_gives d (of_instruction c) _ refl)
+conditional_scripted d false c rd q own va operand = scripted_gives d (of_instruction c) _ refl
+
+combine_scripted : (d : ℕ) (c : Context) (rd : ℕ) (op : AtomicOp) (q : PageId) → q.domain ≡ d → (va operand : ℕ) →
+    Scripted d (of_instruction c) (then_ask (ask_read q (va % 4096) 4)
+    (λ old. then_ask (ask_write q (va % 4096) 4 (combined op old operand))
+    (λ done. answered (inside.made_writing (moved_on (set_word c rd old)) (ran.Loaded va old) (word_of_page q va)))))
+combine_scripted d c rd op q own va operand =
+    scripted_reads d (of_instruction c) q own (va % 4096) 4
+    (λ old. then_ask (ask_write q (va % 4096) 4 (combined op old operand))
+    (λ done. answered (inside.made_writing (moved_on (set_word c rd old)) (ran.Loaded va old) (word_of_page q va))))
+    (λ old. scripted_changes d (of_instruction c) (Write q own (va % 4096) 4 (combined op old operand))
+    (answered (inside.made_writing (moved_on (set_word c rd old)) (ran.Loaded va old) (word_of_page q va)))
+    (scripted_gives d (of_instruction c) _ refl))
+
+granted_scripted : (d : ℕ) (c : Context) (rd : ℕ) (op : AtomicOp) (q : PageId) → q.domain ≡ d → (va operand : ℕ) →
+    Scripted d (of_instruction c) (inside.atomic_granted c rd op q va operand)
+unfolding inside.atomic_granted
+granted_scripted d c rd Lr q own va operand =
+    scripted_reads d (of_instruction c) q own (va % 4096) 4
+    (λ old. inside.ends_as (moved_on (record (set_word c rd old) { mark = Some (word_of_page q va) }))
+    (ran.Loaded va old))
+    (λ old. scripted_gives d (of_instruction c) _ refl)
+granted_scripted d c rd Sc q own va operand = conditional_scripted d _ c rd q own va operand
+granted_scripted d c rd Swap q own va operand = combine_scripted d c rd Swap q own va operand
+granted_scripted d c rd Add q own va operand = combine_scripted d c rd Add q own va operand
+granted_scripted d c rd Xor q own va operand = combine_scripted d c rd Xor q own va operand
+granted_scripted d c rd And q own va operand = combine_scripted d c rd And q own va operand
+granted_scripted d c rd Or q own va operand = combine_scripted d c rd Or q own va operand
+granted_scripted d c rd Min q own va operand = combine_scripted d c rd Min q own va operand
+granted_scripted d c rd Max q own va operand = combine_scripted d c rd Max q own va operand
+granted_scripted d c rd Minu q own va operand = combine_scripted d c rd Minu q own va operand
+granted_scripted d c rd Maxu q own va operand = combine_scripted d c rd Maxu q own va operand
+
+unfoldable atomic_reached_scripted : (d : ℕ) (c : Context) (rd : ℕ) (op : AtomicOp) (q : PageId) → q.domain ≡ d →
+    (va operand : ℕ) (a : Answer) →
+    Scripted d (of_instruction c) (inside.atomic_reached c rd op q va operand a)
+unfolding inside.atomic_reached
+atomic_reached_scripted d c rd op q own va operand told.Ok = granted_scripted d c rd op q own va operand
+atomic_reached_scripted d c rd op q own va operand (told.Absent cause) = scripted_gives d (of_instruction c) _ refl
+atomic_reached_scripted d c rd op q own va operand (told.Word value) = scripted_gives d (of_instruction c) _ refl
+atomic_reached_scripted d c rd op q own va operand told.Stopped = scripted_gives d (of_instruction c) _ refl
+
+atomic_placed_scripted : (d : ℕ) (c : Context) (rd : ℕ) (op : AtomicOp) (va operand : ℕ) (o : Option PageId) →
+    IsOwn d o → Scripted d (of_instruction c) (inside.atomic_placed c rd op va operand o)
+unfolding inside.atomic_placed atomic_reached_scripted IsStop
+atomic_placed_scripted d c rd op va operand None own = scripted_gives d (of_instruction c) _ refl
+atomic_placed_scripted d c rd op va operand (Some q) own =
+    scripted_asks d (of_instruction c) (Reach q own va (atomic_kind op)) (inside.atomic_reached c rd op q va operand)
+    (atomic_reached_scripted d c rd op q own va operand) refl
+
+either_scripted : (d : ℕ) (c : Context) (test : Bool) (x y : Asking inside.AfterInstruction) →
+    Scripted d (of_instruction c) x → Scripted d (of_instruction c) y →
+    Scripted d (of_instruction c) (λ w. cond test (x w) (y w))
+either_scripted d c true x y first second = first
+either_scripted d c false x y first second = second
+
+atomic_scripted : (d : ℕ) (r : Resources) (c : Context) (a : Option Atomic) →
+    Scripted d (of_instruction c) (inside.atomic_inside d r c a)
+unfolding inside.atomic_inside
+atomic_scripted d r c None = scripted_gives d (of_instruction c) _ refl
+atomic_scripted d r c (Some a) =
+    let va = register c.regs a.rs1 in
+    let operand = register c.regs a.rs2 in
+    either_scripted d c (va % 4 == 0) (inside.atomic_placed c a.rd a.op va operand (page_at d r c.space va))
+    (inside.traps c (misaligned a.op) va)
+    (atomic_placed_scripted d c a.rd a.op va operand (page_at d r c.space va) (own_page d r c.space va))
+    (scripted_gives d (of_instruction c) _ refl)
+
+decoded_scripted : (d : ℕ) (r : Resources) (c : Context) (word : ℕ) (o : Option Instr) →
+    Scripted d (of_instruction c) (inside.decoded_inside d r c word o)
 unfolding inside.decoded_inside
-decoded_scripted d r c None = scripted_gives d (of_instruction c) _ refl
-decoded_scripted d r c (Some i) = done_scripted d r c i (effect i c.regs c.pc)
+decoded_scripted d r c word None = atomic_scripted d r c (atomic_instruction word)
+decoded_scripted d r c word (Some i) = done_scripted d r c i (effect i c.regs c.pc)
 
 executed_scripted : (d : ℕ) (r : Resources) (c : Context) (word : ℕ) →
     Scripted d (of_instruction c) (inside.executed_inside d r c word)
 unfolding inside.executed_inside
-executed_scripted d r c word = decoded_scripted d r c (instruction word)
+executed_scripted d r c word = decoded_scripted d r c word (instruction word)
 
 unfoldable fetched_scripted : (d : ℕ) (r : Resources) (c : Context) (q : PageId) → q.domain ≡ d → (a : Answer) →
     Scripted d (of_instruction c) (inside.fetched_inside d r c q a)

@@ -25,8 +25,7 @@ use Rattle.kernel_isolation.specs.Isolation.{items_until}
 use Rattle.domain_isolation.proofs.Ignoring.{half_taken, taken_append, taken_half, item_taken}
 use Rattle.domain_isolation.proofs.Alone.{alone_at, ended, RestsAt, from_ended, begins, closes}
 use Rattle.domain_isolation.proofs.InOrder.{InOrder}
-use Rattle.domain_isolation.proofs.JointSteps.{HoldsPart, has_part, StepAlone}
-use Rattle.domain_isolation.proofs.InsideSteps.{turn_alone}
+use Rattle.domain_isolation.proofs.JointSteps.{HoldsPart, has_part}
 use Rattle.domain_isolation.proofs.Opened.{IsOpened, is_opened, started_part, opened_half, opened_order, opened_has, closing_half, closing_has}
 
 -- the items of these steps, behind so many others

@@ -1,19 +1,15 @@
 -- A step of the joint machine, and what the program alone makes of its items.
-use Rattle.std.proofs.Common.{◌≡◌, ◌∙◌, true, false, suc, ℕ, Bool, List, [], Option, Some, None, refl, ap, sym, subst, if◌then◌else◌, ◌≢◌, inl, inr}
+use Rattle.std.proofs.Common.{◌≡◌, ◌∙◌, true, suc, ℕ, Bool, List, [], Option, Some, None, ap, sym, subst, ◌≢◌, inl}
 use Rattle.std.specs.Prelude.{is_some, slice_get, ◌||◌}
 use Rattle.std.specs.List.{AllByRecursion}
-use Rattle.std.proofs.lemmas.Bool.{false≢true}
-use Rattle.cloak_base.specs.declared.causes.Violation.{Violation}
-use Rattle.cloak_base.specs.declared.causes.Stop.{Stop}
-use Rattle.cloak_base.specs.declared.causes.Stop.TheVariants as stop
 use Rattle.cloak_model.specs.Halves.{inward_half}
 use Rattle.cloak_model.specs.Record.{IsOfStep}
 use Rattle.cloak_model.specs.Parts.{Joint, DomainPart, domain_pages, domain_part, part_of}
-use Rattle.cloak_model.specs.Joint.{Turn, stop_of, stop_without_miss}
+use Rattle.cloak_model.specs.Joint.{Turn, stop_of}
 use Rattle.cloak_model.specs.DomainAlone.{DomainAlone, Other, domain_taken, slot_on, place_for}
 use Rattle.domain_isolation.proofs.Ignoring.{taken_half, none_taken}
 use Rattle.cloak_model.specs.Contexts.{domain_of}
-use Rattle.domain_isolation.proofs.Alone.{alone_at, ended, RestsAt, OtherAt, StoppedAt, Opens, other_rests}
+use Rattle.domain_isolation.proofs.Alone.{alone_at, ended, RestsAt, OtherAt, Opens, other_rests}
 use Rattle.domain_isolation.proofs.InOrder.{InOrder}
 
 -- The joint machine has this part as domain d.

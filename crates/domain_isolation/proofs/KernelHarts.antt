@@ -1,6 +1,6 @@
 -- Where a hart is inside after a step outside: in the context that it resumes, or where it was.
-use Rattle.std.proofs.Common.{◌≡◌, true, false, cond, ℕ, Bool, List, Option, Some, None, Result, Ok, Err, refl, subst, ◌^◌, ◌-◌}
-use Rattle.std.specs.Prelude.{◌==◌}
+use Rattle.std.proofs.Common.{◌≡◌, true, false, cond, ℕ, Bool, List, Option, Some, None, Result, Ok, Err, refl, subst, ◌^◌, ◌-◌, ◌%◌, sym}
+use Rattle.std.specs.Prelude.{◌==◌, not}
 use Rattle.cloak_base.specs.Registers.{register}
 use Rattle.cloak_base.specs.declared.names.Mode.{Mode}
 use Rattle.cloak_base.specs.declared.names.Mode.TheVariants.{U, S}
@@ -9,22 +9,27 @@ use Rattle.rv_isa.specs.Table.{instruction}
 use Rattle.rv_isa.specs.declared.instr.Instr.{Instr}
 use Rattle.rv_isa.specs.declared.instr.Instr.TheVariants.{Csrrw, Csrrs, Csrrc, Csrrwi, Csrrsi, Csrrci, Ebreak, Sret, Wfi, SfenceVma}
 use Rattle.cloak_model.specs.declared.outcome.Kernel.{Kernel}
-use Rattle.cloak_model.specs.declared.outcome.Kernel.TheVariants.{Stay, Put, Halt, Resume}
+use Rattle.cloak_model.specs.declared.outcome.Kernel.TheVariants.{Stay, Put, Halt, Resume, Trapped}
 use Rattle.cloak_model.specs.declared.outcome.Effect.{Effect}
 use Rattle.cloak_model.specs.declared.outcome.Effect.TheVariants as does
 use Rattle.cloak_model.specs.Csr.{csr_read, satp_of, interrupt_due, with_pending}
 use Rattle.cloak_base.specs.Constants.{frame_of}
-use Rattle.cloak_model.specs.Effect.{effect}
+use Rattle.cloak_model.specs.Effect.{effect, flag}
 use Rattle.cloak_model.specs.Hart.{Hart}
 use Rattle.cloak_model.specs.World.{World}
-use Rattle.cloak_model.specs.Asking.{Asking, then_ask}
-use Rattle.cloak_model.specs.Ask.{ask_load, ask_store_at, ask_count, ask_fill, ask_frame}
+use Rattle.cloak_model.specs.Asking.{Asking, then_ask, Told, answered}
+use Rattle.cloak_model.specs.Ask.{ask_load, ask_store_at, ask_count, ask_fill, ask_frame, ask_reserve, ask_store_conditional, ask_combine, ask_unmark}
 use Rattle.cloak_model.specs.HartStep.{SteppedHart, with_word, gone_on, stays, raised, csr_written, csr_found, csr_step, returned, idle, system}
 use Rattle.cloak_model.specs.HostCalls.{SteppedKernel, is_transfer, block_at, with_block, ends, host_answers, put_call, timer_call, halt_call, read_block, write_block, read_call, write_call, host_call, resumed, ecall_in, ecall}
-use Rattle.cloak_model.specs.KernelStep.{access, extended, is_ecall, or_trap, carried_out, executed, instruction_step, ticked, kernel_step}
+use Rattle.cloak_model.specs.KernelStep.{access, extended, is_ecall, or_trap, carried_out, executed, instruction_step, ticked, kernel_step, atomic_access, atomic_executed, misaligned, ends_reservation, released}
+use Rattle.rv_atomic.specs.Table.{atomic_instruction}
+use Rattle.rv_atomic.specs.declared.atomic.Atomic.{Atomic}
+use Rattle.rv_atomic.specs.declared.atomic.AtomicOp.{AtomicOp}
+use Rattle.rv_atomic.specs.declared.atomic.AtomicOp.TheVariants.{Lr, Sc, Swap, Add, Xor, And, Or, Min, Max, Minu, Maxu}
 
 abbrev pub inside_after : Kernel → Option ℕ → Option ℕ
 inside_after Stay was = was
+inside_after Trapped was = was
 inside_after (Put byte) was = was
 inside_after (Halt value) was = was
 inside_after (Resume ctx answer) was = Some ctx
@@ -167,8 +172,49 @@ carried_out_so h disk word i does.System w =
 carried_out_so h disk word i does.Nothing w = refl
 carried_out_so h disk word i (does.Raise cause value) w = raised_so h cause value
 
+operation_so : (h : Hart) (disk : List ℕ) (a : Atomic) (op : AtomicOp) (va operand : ℕ) → (w : World) →
+    let found = ask_combine (satp_of h.csrs) (access h Store va) op operand w in
+    let next : ℕ → Asking SteppedKernel = λ old. ends disk (stays (gone_on (with_word h a.rd old))) in
+    let after = or_trap h disk va found.answer next found.world in
+    after.answer.hart.inside ≡ inside_after after.answer.ending h.inside
+operation_so h disk a op va operand w =
+    let found = ask_combine (satp_of h.csrs) (access h Store va) op operand w in
+    let next : ℕ → Asking SteppedKernel = λ old. ends disk (stays (gone_on (with_word h a.rd old))) in
+    or_trap_so h.inside h disk va found.answer next refl (λ old v. refl) found.world
+
+atomic_access_so : (h : Hart) (disk : List ℕ) (a : Atomic) (op : AtomicOp) (va operand : ℕ) →
+    StepsSo h.inside (atomic_access h disk a op va operand)
+unfolding atomic_access
+atomic_access_so h disk a Lr va operand w =
+    let found = ask_reserve (satp_of h.csrs) (access h Load va) h.id w in
+    let next : ℕ → Asking SteppedKernel = λ value. ends disk (stays (gone_on (with_word h a.rd value))) in
+    or_trap_so h.inside h disk va found.answer next refl (λ value v. refl) found.world
+atomic_access_so h disk a Sc va operand w =
+    let found = ask_store_conditional (satp_of h.csrs) (access h Store va) h.id operand w in
+    let next : Bool → Asking SteppedKernel = λ is_stored.
+    ends disk (stays (gone_on (with_word h a.rd (flag (not is_stored))))) in
+    or_trap_so h.inside h disk va found.answer next refl (λ done v. refl) found.world
+atomic_access_so h disk a Swap va operand w = operation_so h disk a Swap va operand w
+atomic_access_so h disk a Add va operand w = operation_so h disk a Add va operand w
+atomic_access_so h disk a Xor va operand w = operation_so h disk a Xor va operand w
+atomic_access_so h disk a And va operand w = operation_so h disk a And va operand w
+atomic_access_so h disk a Or va operand w = operation_so h disk a Or va operand w
+atomic_access_so h disk a Min va operand w = operation_so h disk a Min va operand w
+atomic_access_so h disk a Max va operand w = operation_so h disk a Max va operand w
+atomic_access_so h disk a Minu va operand w = operation_so h disk a Minu va operand w
+atomic_access_so h disk a Maxu va operand w = operation_so h disk a Maxu va operand w
+
+atomic_so : (h : Hart) (disk : List ℕ) (word : ℕ) (a : Option Atomic) → StepsSo h.inside (atomic_executed h disk word a)
+unfolding atomic_executed
+atomic_so h disk word None w = raised_so h 2 word
+atomic_so h disk word (Some a) w =
+    let va = register h.regs a.rs1 in
+    either_so (λ (ask : Asking SteppedKernel). (ask w).answer.hart.inside ≡ inside_after (ask w).answer.ending h.inside)
+    (va % 4 == 0) (atomic_access h disk a a.op va (register h.regs a.rs2)) (ends disk (raised h (misaligned a.op) va))
+    (atomic_access_so h disk a a.op va (register h.regs a.rs2) w) (raised_so h (misaligned a.op) va)
+
 executed_so : (h : Hart) (disk : List ℕ) (word : ℕ) (o : Option Instr) → StepsSo h.inside (executed h disk word o)
-executed_so h disk word None w = raised_so h 2 word
+executed_so h disk word None w = atomic_so h disk word (atomic_instruction word) w
 executed_so h disk word (Some i) w = carried_out_so h disk word i (effect i h.regs h.pc) w
 
 instruction_so : (h : Hart) (disk : List ℕ) → StepsSo h.inside (instruction_step h disk)
@@ -187,13 +233,29 @@ ticked_inside h =
     either_so (λ (x : Hart). x.inside ≡ h.inside) (h.timer == 0) h (cond (h.timer == 1) due falls) refl
     (either_so (λ (x : Hart). x.inside ≡ h.inside) (h.timer == 1) due falls refl refl)
 
+-- ending a reservation changes nothing else
+released_by : (test : Bool) (made : SteppedKernel) (w : World) →
+    (cond test (then_ask (ask_unmark made.hart.id) (λ done. answered made) w) (answered made w)).answer ≡ made
+released_by true made w = refl
+released_by false made w = refl
+
+released_answer : (made : SteppedKernel) (w : World) → (released made w).answer ≡ made
+unfolding released
+released_answer made w = released_by (ends_reservation made.ending) made w
+
 pub kernel_step_inside : (h : Hart) (disk : List ℕ) (w : World) →
     let a = (kernel_step h disk w).answer in a.hart.inside ≡ inside_after a.ending h.inside
 unfolding kernel_step
 kernel_step_inside h disk w =
     let h' = ticked h in
-    let a = (kernel_step h disk w).answer in
-    subst (λ (was : Option ℕ). a.hart.inside ≡ inside_after a.ending was) (ticked_inside h)
-    (either_so (λ (ask : Asking SteppedKernel). (ask w).answer.hart.inside ≡ inside_after (ask w).answer.ending h'.inside)
-    (interrupt_due h'.mode h'.csrs) (ends disk (raised h' 0x80000005 0)) (instruction_step h' disk)
-    (raised_so h' 0x80000005 0) (instruction_so h' disk w))
+    let due = interrupt_due h'.mode h'.csrs in
+    let step : Told SteppedKernel = cond due (ends disk (raised h' 0x80000005 0)) (instruction_step h' disk) w in
+    let made = step.answer in
+    let so : made.hart.inside ≡ inside_after made.ending h'.inside =
+    either_so (λ (ask : Asking SteppedKernel).
+    (ask w).answer.hart.inside ≡ inside_after (ask w).answer.ending h'.inside) due
+    (ends disk (raised h' 0x80000005 0)) (instruction_step h' disk) (raised_so h' 0x80000005 0)
+    (instruction_so h' disk w) in
+    subst (λ (s : SteppedKernel). s.hart.inside ≡ inside_after s.ending h.inside)
+    (sym (released_answer made step.world))
+    (subst (λ (was : Option ℕ). made.hart.inside ≡ inside_after made.ending was) (ticked_inside h) so)

@@ -25,7 +25,7 @@ use Rattle.cloak_model.specs.Run.{settled_below, closing}
 use Rattle.cloak_model.specs.DomainAlone.{started_page, is_hart}
 use Rattle.domain_isolation.proofs.Runs.{runs_in}
 use Rattle.domain_isolation.proofs.Steady.{settle_plain, ciphers_told}
-use Rattle.domain_isolation.proofs.InOrder.{same_some, decided, inside_at, is_running, InOrder, started_outside}
+use Rattle.domain_isolation.proofs.InOrder.{same_some, decided, inside_at, InOrder, started_outside}
 use Rattle.domain_isolation.proofs.JointSteps.{HoldsPart}
 
 -- The pages of one program.

@@ -1,6 +1,6 @@
 -- A step of a hart outside: it tells no program anything, or the one whose context it resumes.
 use Rattle.std.proofs.Common.{◌≡◌, ◌∙◌, inl, inr, ◌<◌, true, cond, suc, zero, ℕ, Bool, List, [], ◌∷◌, ◌++◌, Option, Some, None, Result, Ok, Err, refl, ap, sym, subst, eq-eqb, ne_eqb, length, append-nil, if◌then◌else◌}
-use Rattle.std.specs.Prelude.{◌==◌, is_some, slice_get}
+use Rattle.std.specs.Prelude.{◌==◌, slice_get}
 use Rattle.std.specs.List.{AllByRecursion, find}
 use Rattle.std.proofs.lemmas.List.Elements.{filter-append}
 use Rattle.cloak_base.specs.declared.names.SpaceId.{SpaceId}
@@ -10,12 +10,12 @@ use Rattle.cloak_model.specs.declared.context.ResumeFault.{ResumeFault}
 use Rattle.cloak_model.specs.declared.item.Item.{Item}
 use Rattle.cloak_model.specs.declared.item.Item.TheVariants as item
 use Rattle.cloak_model.specs.declared.outcome.Kernel.{Kernel}
-use Rattle.cloak_model.specs.declared.outcome.Kernel.TheVariants.{Stay, Put, Halt, Resume}
+use Rattle.cloak_model.specs.declared.outcome.Kernel.TheVariants.{Stay, Put, Halt, Resume, Trapped}
 use Rattle.cloak_model.specs.Csr.{satp_of}
 use Rattle.cloak_model.specs.Hart.{Hart}
 use Rattle.cloak_model.specs.Halves.{is_inward, inward_half}
 use Rattle.cloak_model.specs.Record.{IsOfStep}
-use Rattle.cloak_model.specs.Cloaking.{CloakedMemory, AfterSettling, settle}
+use Rattle.cloak_model.specs.Cloaking.{CloakedMemory, AfterSettling, settle, seen_in}
 use Rattle.cloak_model.specs.Ahead.{is_owed, settle_found, settle_while, settle_touched, made_after, settled_step}
 use Rattle.cloak_model.specs.World.{Cloak, Flat, items_of}
 use Rattle.cloak_model.specs.Contexts.{Admitted, context_at, domain_of, slot_of, admit}
@@ -23,7 +23,7 @@ use Rattle.cloak_model.specs.DomainState.{Domain}
 use Rattle.cloak_model.specs.DomainStep.{resume_slot}
 use Rattle.cloak_model.specs.Resuming.{AfterResume, violated, with_roots, with_domain_control, space_of, by_root, by_context, by_domain, resume}
 use Rattle.cloak_model.specs.Parts.{Joint, DomainPart, domain_pages}
-use Rattle.cloak_model.specs.Joint.{Turn, quiet, hart_in, with_hart, cloak_outside, memory_of, outside_ended, after_outside, outside_step, stop_of}
+use Rattle.cloak_model.specs.Joint.{Turn, quiet, hart_in, with_hart, cloak_outside, memory_of, outside_ended, after_outside, outside_step}
 use Rattle.cloak_model.specs.DomainAlone.{DomainAlone, Other, domain_taken, slot_on, place_for, is_granted, with_control}
 use Rattle.domain_isolation.proofs.Ignoring.{taken_half}
 use Rattle.domain_isolation.proofs.Steady.{settle_plain, ciphers_told}
@@ -63,7 +63,7 @@ settled_step_items d h disk c = ciphers_told d c.items (settle_touched h disk c.
 settled_step_inside : (h : Hart) (disk : List ℕ) (c : Cloak) →
     let a = (settled_step h disk c).answer in a.hart.inside ≡ inside_after a.ending h.inside
 unfolding settled_step made_after
-settled_step_inside h disk c = kernel_step_inside h disk (Flat (settle_touched h disk c.memory).memory.ram)
+settled_step_inside h disk c = kernel_step_inside h disk (Flat (seen_in (settle_touched h disk c.memory).memory))
 
 -- a resuming that was granted, in the order of its parts
 resumed_half : (e d ctx reply : ℕ) (items : List Item) → inward_half d items ≡ [] →
@@ -238,6 +238,10 @@ outside_ended_alone : (d count : ℕ) (schedule : List ℕ) (k n : ℕ) (p : Dom
     StepAlone d count schedule k n p None (outside_ended (stepped_to n j h disk m) n items ending)
 unfolding outside_ended resume
 outside_ended_alone d count schedule k n p j h disk m items Stay o goes =
+    other_alone d count schedule k n p None (quiet (stepped_to n j h disk m) items) o.none o.half
+    (outside_has d count n p j h disk m items o)
+    (order_kept count j.harts j.domains n h o.order (goes ∙ sym o.out)) (λ some. tt)
+outside_ended_alone d count schedule k n p j h disk m items Trapped o goes =
     other_alone d count schedule k n p None (quiet (stepped_to n j h disk m) items) o.none o.half
     (outside_has d count n p j h disk m items o)
     (order_kept count j.harts j.domains n h o.order (goes ∙ sym o.out)) (λ some. tt)

@@ -1,15 +1,16 @@
 -- Which contexts of a program run on which harts, and what a step makes of that.
 use Rattle.std.proofs.Common.{◌≡◌, ◌≢◌, ◌<◌, ◌∙◌, not, nat_lt, length, ltb-true, ℕ, zero, suc, Bool, true, false, cond, List, [], ◌∷◌, Option, Some, None, refl, ap, sym, if◌then◌else◌}
-use Rattle.std.specs.Prelude.{slice_set, slice_index_or, is_none, is_some, unwrap_or}
+use Rattle.std.specs.Prelude.{slice_set, slice_index_or, is_none, is_some, unwrap_or, map}
 use Rattle.std.specs.List.{prefix_len}
 use Rattle.std.proofs.lemmas.List.Sums.{prefix_len_stops}
 use Rattle.cloak_model.specs.declared.inside.Went.{Went}
 use Rattle.cloak_model.specs.declared.inside.Went.TheVariants as went
-use Rattle.cloak_model.specs.Contexts.{Context, context_at, suspended, with_context, end_at}
+use Rattle.cloak_model.specs.Contexts.{Context, context_at, suspended, with_context, end_at, unless_reserved, is_reserved}
 use Rattle.cloak_model.specs.Resources.{first_free}
 use Rattle.cloak_model.specs.DomainState.{Control}
 use Rattle.cloak_model.specs.Hypercalls.{with_slot}
 use Rattle.cloak_model.specs.DomainAlone.{is_hart, runs_on}
+use Rattle.cloak_model.specs.declared.context.WordPlace.{WordPlace}
 
 -- the context of a slot runs on a hart
 abbrev pub runs_in : ℕ → List (Option Context) → ℕ → Bool
@@ -110,6 +111,28 @@ pub free_taken : (c : Context) (contexts : List (Option Context)) → c.on ≡ N
 free_taken c contexts idle free hart s =
     set_same hart contexts (unwrap_or (first_free contexts) 0) (Some c)
     (ap (is_hart hart) idle ∙ sym (free_idle hart contexts free)) s
+
+-- A word of a page is written in: reservations end, and the same contexts run.
+
+mark_ended : (hart : ℕ) (ends : Bool) (c : Context) →
+    runs_on hart (Some (cond ends (record c { mark = None }) c)) ≡ runs_on hart (Some c)
+mark_ended hart true c = refl
+mark_ended hart false c = refl
+
+written_same : (hart : ℕ) (place : WordPlace) (contexts : List (Option Context)) (s : ℕ) →
+    runs_in hart (map (unless_reserved place) contexts) s ≡ runs_in hart contexts s
+written_same hart place [] s = refl
+written_same hart place (None ∷ contexts) zero = refl
+written_same hart place (Some c ∷ contexts) zero = mark_ended hart (is_reserved place c.mark) c
+written_same hart place (c ∷ contexts) (suc s) = written_same hart place contexts s
+
+pub slot_written : (slot : ℕ) (left : Bool) (place : WordPlace) (old new : Control) → MovesSlot slot left old new →
+    MovesSlot slot left old (record new { contexts = map (unless_reserved place) new.contexts })
+slot_written slot left place old new moves = record {
+  number = moves.number;
+  others = λ hart s other. written_same hart place new.contexts s ∙ moves.others hart s other;
+  own = λ hart. written_same hart place new.contexts slot ∙ moves.own hart;
+}
 
 -- the context left its hart
 abbrev pub has_left : Went → Bool

@@ -1,6 +1,6 @@
 -- What the joint machine's questions of a program leave: the newest bytes of each page, the view, and what each
 -- program was told; and what an answer adds to that.
-use Rattle.std.proofs.Common.{sym, ◌≡◌, ◌∙◌, true, false, cond, zero, suc, ◌+◌, ◌%◌, ◌^◌, ◌*◌, ℕ, Bool, List, [], ◌∷◌, ◌++◌, Option, Some, None, Result, Ok, Err, refl, ap, append-nil, if◌then◌else◌}
+use Rattle.std.proofs.Common.{sym, ◌≡◌, ◌∙◌, true, false, cond, zero, suc, ◌+◌, ℕ, Bool, List, [], ◌∷◌, ◌++◌, Option, Some, None, Result, Ok, Err, refl, ap, append-nil, if◌then◌else◌}
 use Rattle.std.specs.Prelude.{is_some, ◌||◌}
 use Rattle.std.specs.Str.{bytes_eq}
 use Rattle.std.proofs.lemmas.List.Elements.{filter-append}

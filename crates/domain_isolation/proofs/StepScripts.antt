@@ -16,7 +16,7 @@ use Rattle.cloak_model.specs.declared.inside.Begun.{Begun}
 use Rattle.cloak_model.specs.declared.inside.Begun.TheVariants as begun
 use Rattle.cloak_model.specs.declared.resource.MapFault.{MapFault}
 use Rattle.cloak_model.specs.declared.resource.MapFault.TheVariants.{Full}
-use Rattle.cloak_model.specs.Asking.{Asking, answered, then_ask}
+use Rattle.cloak_model.specs.Asking.{Asking, answered, then_ask, Told}
 use Rattle.cloak_model.specs.Resources.{Resources, first_free}
 use Rattle.cloak_model.specs.Contexts.{Context, context_at, context_number, moved_on, has_buffer, with_context, new_context}
 use Rattle.cloak_model.specs.InsideStep as inside
@@ -26,11 +26,12 @@ use Rattle.cloak_model.specs.DomainState.{Control, Domain}
 use Rattle.cloak_model.specs.Hypercalls as hyper
 use Rattle.cloak_model.specs.DomainStep as steps
 use Rattle.cloak_model.specs.DomainAlone.{is_hart, runs_on}
-use Rattle.domain_isolation.proofs.Runs.{runs_in, MovesSlot, RunsTheSame, IsOnAs, slot_kept, slot_goes_on, slot_left, slot_ended, free_taken, has_left}
-use Rattle.domain_isolation.proofs.Scripts.{Ending, IsStop, Scripted, provided, scripted_under, scripted_gives, scripted_then}
+use Rattle.domain_isolation.proofs.Runs.{runs_in, MovesSlot, RunsTheSame, IsOnAs, slot_kept, slot_goes_on, slot_left, slot_ended, free_taken, has_left, slot_written}
+use Rattle.domain_isolation.proofs.Scripts.{Ending, IsStop, Scripted, provided, scripted_under, scripted_gives, scripted_then, Script, Gives, EndsSo, then_script, stop_then, ends_then, played_then}
 use Rattle.domain_isolation.proofs.InstructionScripts.{of_instruction, instruction_scripted}
 use Rattle.domain_isolation.proofs.CopyScripts.{of_copy, copy_in_scripted, copy_out_scripted}
 use Rattle.domain_isolation.proofs.ForkScripts.{of_fork, fork_scripted, of_end, end_scripted}
+use Rattle.cloak_model.specs.declared.context.WordPlace.{WordPlace}
 
 -- Hypercalls.
 
@@ -265,6 +266,63 @@ unfolding instruction_ended_scripted IsStop
 stopped_instruction slot d c P implies ran.Stopped is = refl
 stopped_instruction slot d c P implies e is = absurd cc
 
+-- A write, behind an end.
+
+moves_written : (slot : ℕ) (d : Domain) (wrote : Option WordPlace) (s : steps.DomainStepped) →
+    (of_domain slot d).each s → (of_domain slot d).each (steps.after_write wrote s)
+moves_written slot d None s moves = moves
+moves_written slot d (Some place) s moves = slot_written slot (has_left s.went) place d.control s.domain.control moves
+
+went_written : (wrote : Option WordPlace) (s : steps.DomainStepped) → (steps.after_write wrote s).went ≡ s.went
+went_written None s = refl
+went_written (Some place) s = refl
+
+-- a script, and then the write
+abbrev then_written : {n : ℕ} → Option WordPlace → Script n steps.DomainStepped → Script n steps.DomainStepped
+then_written wrote script = then_script script (λ s. Gives (steps.after_write wrote s))
+
+stop_written : {n : ℕ} (slot : ℕ) (d : Domain) (wrote : Option WordPlace) (script : Script n steps.DomainStepped) →
+    IsStop (of_domain slot d) script → IsStop (of_domain slot d) (then_written wrote script)
+unfolding IsStop
+stop_written slot d wrote script is =
+    stop_then (of_domain slot d) (of_domain slot d) script (λ s. Gives (steps.after_write wrote s)) is
+    (λ s stopped. went_written wrote s ∙ stopped)
+
+ends_written : {n : ℕ} (slot : ℕ) (d : Domain) (P : Type 0) (wrote : Option WordPlace)
+    (script : Script n steps.DomainStepped) →
+    EndsSo (provided P (of_domain slot d)) script → EndsSo (provided P (of_domain slot d)) (then_written wrote script)
+unfolding EndsSo IsStop
+ends_written slot d P wrote script ends =
+    let e = provided P (of_domain slot d) in
+    ends_then e e script (λ s. Gives (steps.after_write wrote s)) ends
+    (λ s moves. λ holds. moves_written slot d wrote s (moves holds)) (λ s stopped. went_written wrote s ∙ stopped)
+
+abbrev written_scripted : (n slot : ℕ) (d : Domain) (P : Type 0) (wrote : Option WordPlace)
+    (ask : Asking steps.DomainStepped) →
+    Scripted n (provided P (of_domain slot d)) ask →
+    Scripted n (provided P (of_domain slot d)) (then_ask ask (λ s. answered (steps.after_write wrote s)))
+written_scripted n slot d P wrote ask inner = record {
+  script = then_written wrote inner.script;
+  plays = λ w.
+      ap (λ (t : Told steps.DomainStepped). answered (steps.after_write wrote t.answer) t.world) (inner.plays w)
+      ∙ sym (played_then inner.script (λ s. Gives (steps.after_write wrote s)) w);
+  ends = ends_written slot d P wrote inner.script inner.ends;
+}
+
+copy_out_written : (slot : ℕ) (c : Context) (d : Domain) → IsOnAs slot c d.control → (ask : Asking calls.Copy) →
+    Scripted d.control.number (of_copy c) ask →
+    Scripted d.control.number (of_domain slot d) (then_ask ask
+    (λ copy. answered (steps.after_write copy.wrote (steps.copy_ended slot d copy.context copy.ending))))
+unfolding steps.copy_ended IsStop
+copy_out_written slot c d on ask first =
+    scripted_then d.control.number (of_copy c) (of_domain slot d) ask
+    (λ copy. answered (steps.after_write copy.wrote (steps.copy_ended slot d copy.context copy.ending))) first
+    (λ copy. scripted_gives d.control.number (provided (copy.context.on ≡ c.on) (of_domain slot d)) _
+    (λ same. moves_written slot d copy.wrote (steps.copy_ended slot d copy.context copy.ending)
+    (copy_ended_moves slot d copy.context copy.ending (on_as slot c copy.context d.control same on))))
+    (λ copy is. went_written copy.wrote (steps.copy_ended slot d copy.context copy.ending)
+    ∙ ap (λ (e : Copied). (steps.copy_ended slot d copy.context e).went) is)
+
 phase_scripted : (p : Phase) (slot : ℕ) (c : Context) (d : Domain) → IsOnAs slot c d.control →
     Scripted d.control.number (of_domain slot d) (steps.phase_step p slot c d)
 unfolding steps.phase_step
@@ -273,18 +331,20 @@ phase_scripted Plain slot c d on =
     let implies = λ (m : inside.AfterInstruction) (same : m.context.on ≡ c.on).
     on_as slot c m.context d.control same on in
     scripted_then n (of_instruction c) (of_domain slot d) (inside.instruction_inside n d.control.resources c)
-    (λ m. steps.instruction_ended slot d m.context m.ending)
+    (λ m. then_ask (steps.instruction_ended slot d m.context m.ending) (λ s. answered (steps.after_write m.wrote s)))
     (instruction_scripted n d.control.resources c)
-    (λ m. scripted_under n (IsOnAs slot m.context d.control) (m.context.on ≡ c.on) (of_domain slot d)
+    (λ m. written_scripted n slot d (m.context.on ≡ c.on) m.wrote (steps.instruction_ended slot d m.context m.ending)
+    (scripted_under n (IsOnAs slot m.context d.control) (m.context.on ≡ c.on) (of_domain slot d)
     (steps.instruction_ended slot d m.context m.ending) (implies m)
-    (instruction_ended_scripted slot d m.context m.ending))
-    (λ m is. stopped_instruction slot d m.context (m.context.on ≡ c.on) (implies m) m.ending is)
+    (instruction_ended_scripted slot d m.context m.ending)))
+    (λ m is. stop_written slot d m.wrote _
+    (stopped_instruction slot d m.context (m.context.on ≡ c.on) (implies m) m.ending is))
 phase_scripted (CopyIn done) slot c d on =
     copy_scripted slot c d on _ (copy_in_scripted d.control.number d.control.resources c done)
 phase_scripted Waiting slot c d on =
     scripted_gives d.control.number (of_domain slot d) _ (stays_moves slot c d.control on)
 phase_scripted (CopyOut done total) slot c d on =
-    copy_scripted slot c d on _ (copy_out_scripted d.control.number d.control.resources c done total)
+    copy_out_written slot c d on _ (copy_out_scripted d.control.number d.control.resources c done total)
 
 step_if_scripted : (o : Option Context) (slot : ℕ) (d : Domain) → context_at d.control.contexts slot ≡ o →
     Scripted d.control.number (of_domain slot d) (steps.step_if o slot d)

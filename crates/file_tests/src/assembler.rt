@@ -74,6 +74,26 @@ static LISTING: [(&str, u32); 63] = [
     (".word -2147483648", 0x8000_0000),
 ];
 
+/// Atomic instructions as clang 14 (`-march=rv32ima`) spells them.
+static ATOMICS: [(&str, u32); 16] = [
+    ("lr.w x7, (x5)", 0x1002_a3af),
+    ("sc.w x8, x6, (x5)", 0x1862_a42f),
+    ("amoadd.w x7, x6, (x5)", 0x0062_a3af),
+    ("amoswap.w x25, x26, (x27)", 0x09ad_acaf),
+    ("amoxor.w x25, x26, (x27)", 0x21ad_acaf),
+    ("amoand.w x25, x26, (x27)", 0x61ad_acaf),
+    ("amoor.w x25, x26, (x27)", 0x41ad_acaf),
+    ("amomin.w x25, x26, (x27)", 0x81ad_acaf),
+    ("amomax.w x25, x26, (x27)", 0xa1ad_acaf),
+    ("amominu.w x25, x26, (x27)", 0xc1ad_acaf),
+    ("amomaxu.w x25, x26, (x27)", 0xe1ad_acaf),
+    ("lr.w.aq x28, (x29)", 0x140e_ae2f),
+    ("lr.w.rl x28,(x29)", 0x120e_ae2f),
+    ("lr.w.aqrl x28, (x29) # last", 0x160e_ae2f),
+    ("sc.w.rl x28, x29, (x30)", 0x1bdf_2e2f),
+    ("amoadd.w.aqrl x0, x0, (x0)", 0x0600_202f),
+];
+
 /// LUI and ADDI as clang 14 spells them, with the parts by hand.
 static NUMBERS: [(&str, [u32; 2]); 16] = [
     ("li x5, 0x80000001", [0x8000_02b7, 0x0012_8293]),
@@ -114,7 +134,7 @@ static LINES: [(&str, u32); 16] = [
     ("add:\nj add", 0x0000_006f),
 ];
 
-static FAULTY: [(&str, AsmFault); 51] = [
+static FAULTY: [(&str, AsmFault); 60] = [
     ("ebreak\naddi x1,x1", AsmFault::BadOperand(2)),
     ("j away", AsmFault::BadLabel(1)),
     ("nop", AsmFault::UnknownWord(1)),
@@ -163,6 +183,15 @@ static FAULTY: [(&str, AsmFault); 51] = [
     (".word", AsmFault::BadOperand(1)),
     ("la x1", AsmFault::BadOperand(1)),
     ("la x1, away", AsmFault::BadLabel(1)),
+    ("amoadd x7, x6, (x5)", AsmFault::UnknownWord(1)),
+    ("amoadd.d x7, x6, (x5)", AsmFault::UnknownWord(1)),
+    ("lr.w.aq.rl x7, (x5)", AsmFault::UnknownWord(1)),
+    ("lr.w. x7, (x5)", AsmFault::UnknownWord(1)),
+    ("lr.w x7, x6, (x5)", AsmFault::BadOperand(1)),
+    ("sc.w x7, (x5)", AsmFault::BadOperand(1)),
+    ("sc.w x7, x6, x5", AsmFault::BadOperand(1)),
+    ("sc.w x7, x6, 4(x5)", AsmFault::BadOperand(1)),
+    ("sc.w x7, x6, (x5)x", AsmFault::BadOperand(1)),
     // A later line's unknown word does not go before an earlier line's label.
     ("j away\nnop", AsmFault::BadLabel(1)),
     // A line that has a fault of its own does not hide an earlier definition.
@@ -210,6 +239,9 @@ fn assembles(rt: &impl Abort, alloc: Global, text: &str, expected: &[u32]) -> Re
 #[test]
 fn assembles_other_lines(rt: HostRuntime) -> Result<(), Fail> {
     for (text, expected) in &LINES {
+        assembles(&rt, rt.alloc(), text, &[*expected])?;
+    }
+    for (text, expected) in &ATOMICS {
         assembles(&rt, rt.alloc(), text, &[*expected])?;
     }
     for (text, expected) in &NUMBERS {

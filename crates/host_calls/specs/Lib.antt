@@ -1,2 +1,3 @@
 pub mod Lending
 pub mod Stepping
+pub mod Written

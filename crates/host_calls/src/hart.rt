@@ -1,7 +1,9 @@
 ghost use Rattle.std.specs.Prelude.{◌≡◌};
+ghost use Rattle.cloak_model.specs.KernelStep as step;
 ghost use Rattle.cloak_model.specs.Leaving as spec;
 
-use cloak_base::{Mode, Regs, Shown, TRAMPOLINE};
+use cloak_base::{Kind, Mode, Regs, Shown, TRAMPOLINE};
+use cloak_model::Access;
 use rv_traps::Csrs;
 use std::marker::Model;
 
@@ -17,6 +19,8 @@ pub struct Hart {
     pub timer: u32,
     /// The context that it runs.
     pub inside: Option<u32>,
+    /// Its number, from 0 on.
+    pub id: u32,
 }
 
 impl Model for Hart {
@@ -25,7 +29,7 @@ impl Model for Hart {
 
     ghost Value = { model.Hart };
 
-    ghost view = { λ h. record { regs = h.regs; csrs = h.csrs; mode = h.mode; pc = h.pc; timer = h.timer; inside = h.inside } };
+    ghost view = { λ h. record { regs = h.regs; csrs = h.csrs; mode = h.mode; pc = h.pc; timer = h.timer; inside = h.inside; id = h.id } };
 
     ghost invariant = { λ h. h.pc % 4 ≡ 0 };
 }
@@ -49,7 +53,21 @@ impl Hart {
             pc: entry,
             timer: 0,
             inside: None,
+            id: number,
         }
+    }
+}
+
+/// An access of this hart.
+pub fn access(h: &Hart, kind: Kind, va: u32) -> Access
+    ensures { result ≡ step.access h.now kind va }
+{
+    Access {
+        mode: h.mode,
+        sum: h.csrs.sum(),
+        mxr: h.csrs.mxr(),
+        va,
+        kind,
     }
 }
 

@@ -33,7 +33,7 @@ pub fn raise(h: &mut Hart, cause: u32, tval: u32) -> Kernel
 {
     h.pc = h.csrs.enter_trap(h.mode, cause, tval, h.pc);
     h.mode = Mode::S;
-    Kernel::Stay
+    Kernel::Trapped
 }
 
 #[tactic(auto, unfolding(cloak_model::specs::HartStep::csr_written))]

@@ -11,6 +11,7 @@ use Rattle.cloak_model.specs.declared.answer.Answer.TheVariants as told
 use Rattle.cloak_model.specs.declared.context.Phase.{Phase}
 use Rattle.cloak_model.specs.declared.context.Phase.TheVariants.{Plain, CopyIn, Waiting, CopyOut}
 use Rattle.cloak_model.specs.declared.context.ResumeFault.{ResumeFault}
+use Rattle.cloak_model.specs.declared.context.WordPlace.{WordPlace}
 use Rattle.cloak_model.specs.declared.context.Why.{Why}
 use Rattle.cloak_model.specs.declared.context.Why.TheVariants as why
 use Rattle.cloak_model.specs.declared.inside.Begun.{Begun}
@@ -31,11 +32,11 @@ use Rattle.cloak_model.specs.declared.resource.Owner.TheVariants.{File}
 use Rattle.cloak_model.specs.declared.resource.Region.{Region}
 use Rattle.cloak_model.specs.declared.resource.Resource.{Resource}
 use Rattle.cloak_model.specs.AskPages.{ask_clear, ask_copy, ask_forget}
-use Rattle.cloak_model.specs.Asking.{answered}
+use Rattle.cloak_model.specs.Asking.{answered, then_ask}
 use Rattle.cloak_model.specs.Calls.{copy_in_step, copy_out_step}
-use Rattle.cloak_model.specs.Contexts.{Context, moved_on, suspended, end_at, context_at, context_number, shown, Resumed, resume_if, resume_at}
+use Rattle.cloak_model.specs.Contexts.{Context, moved_on, suspended, end_at, context_at, context_number, shown, Resumed, resume_if, resume_at, is_reserved, unless_reserved}
 use Rattle.cloak_model.specs.DomainState.{Control, Domain}
-use Rattle.cloak_model.specs.DomainStep.{DomainStepped, within, with_load, instruction_ended, copy_ended, phase_step, step_if, domain_step, interrupt_if, interrupt, answer_in, answer_taken, resume_told, resume_slot}
+use Rattle.cloak_model.specs.DomainStep.{DomainStepped, within, with_load, instruction_ended, copy_ended, phase_step, step_if, domain_step, interrupt_if, interrupt, answer_in, answer_taken, resume_told, resume_slot, after_write}
 use Rattle.cloak_model.specs.Files.{file_found, file_resource, holds_file}
 use Rattle.cloak_model.specs.Fork.{Spaces, marked, private_numbers, copies, with_copy, with_copies, forked_resources, child, forked, ask_copies, Fork, fork_stopped, fork_cleared, fork_fits, fork_if, fork, End, end_stopped, ask_forgets, end_cleared, end_if, end_context, is_of_space}
 use Rattle.cloak_model.specs.Hypercalls.{Stepped, with_slot, stays_inside, leaves, stopped, fault_word, bad_call, with_answer, answers_word, number_word, number_told, remapped, map_told, new_call, map_call, unmap_call, file_call, thread_at, thread_call, with_spaces, fork_told, fork_call, end_told, exit_call, call_begun, kernel_call, Hypercall, New, Map, Unmap, File as FileCall, Thread, ForkSpace, Exit, Call, Unknown, hypercall, hypercall_of}
@@ -43,7 +44,7 @@ use Rattle.cloak_model.specs.InsideStep.{instruction_inside}
 use Rattle.cloak_model.specs.Record.{IsItem, IsWord}
 use Rattle.cloak_model.specs.Resources.{Resources, resource_at, regions_in, pages_of, all_pages, first_free, Mapped, refused, made_at, new_resource, is_region, overlaps, mapped, map_region, starts_at, unmap_region, without_space, drop_space}
 use Rattle.cloak_model.specs.World.{World}
-use Rattle.item_law.proofs.Bounds.{either, all_set, all_or}
+use Rattle.item_law.proofs.Bounds.{either, all_set, all_or, all_map}
 use Rattle.item_law.proofs.Programs.{ContextFits, set_word_fits, moved_on_fits, register_fits, new_context_fits, WhyFits, shown_fits, RanFits, InstructionFits, instruction_told, CopiedFits, CopyFits, copy_in_told, copy_out_told, begin_call_fits, finish_call_fits}
 use Rattle.item_law.proofs.Worlds.{WorldFits, ToldFits, Anything, AnswerFits, then_fits, clear_told, copy_told, forget_told}
 
@@ -536,13 +537,46 @@ copy_ended_fits slot d c copied.Refused low fits here e = step_of d _ (stays_fit
 copy_ended_fits slot d c (copied.Loaded address byte) low fits here e =
     step_of (with_load address byte d) _ (stays_fits slot c d.control fits here)
 
+-- a word was written in
+
+unreserved_fits : (place : WordPlace) (o : Option Context) → SlotFits o → SlotFits (unless_reserved place o)
+unreserved_fits place None fits = tt
+unreserved_fits place (Some c) fits =
+    either ContextFits (is_reserved place c.mark) (record c { mark = None }) c (record {
+      regs = fits.regs;
+      pc = fits.pc;
+    }) fits
+
+after_write_fits : (wrote : Option WordPlace) (s : DomainStepped) → DomainStepFits s →
+    DomainStepFits (after_write wrote s)
+after_write_fits None s fits = fits
+after_write_fits (Some place) s fits =
+    let contexts : List (Option Context) = s.domain.control.contexts in
+    let few = fits.control.slots.few in
+    let same = length-map contexts (unless_reserved place) in
+    record {
+      control = record {
+        number = fits.control.number;
+        slots = record {
+          few = omega (arith, few, same);
+          each = all_map SlotFits SlotFits (unless_reserved place) contexts (unreserved_fits place)
+              fits.control.slots.each;
+        };
+        numbers = fits.control.numbers;
+      };
+      ended = fits.ended;
+    }
+
 phase_told : (phase : Phase) (slot : ℕ) (c : Context) (d : Domain) (w : World) → slot < 8 → ControlFits d.control →
     ContextFits c → WorldFits w → ToldFits DomainStepFits (phase_step phase slot c d w)
 unfolding phase_step
 phase_told Plain slot c d w low fits here world =
     then_fits InstructionFits DomainStepFits (instruction_inside d.control.number d.control.resources c)
-    (λ made. instruction_ended slot d made.context made.ending) w (instruction_told _ _ c w here world)
-    (λ made v m there. instruction_ended_told slot d made.context made.ending v low fits m.context m.ending there)
+    (λ made. then_ask (instruction_ended slot d made.context made.ending) (λ s. answered (after_write made.wrote s))) w
+    (instruction_told _ _ c w here world)
+    (λ made v m there.
+    let ended = instruction_ended_told slot d made.context made.ending v low fits m.context m.ending there in
+    record { answer = after_write_fits made.wrote _ ended.answer; world = ended.world })
 phase_told (CopyIn done) slot c d w low fits here world =
     then_fits CopyFits DomainStepFits (copy_in_step d.control.number d.control.resources c done)
     (λ copy. answered (copy_ended slot d copy.context copy.ending)) w (copy_in_told _ _ c done w here world)
@@ -553,9 +587,11 @@ phase_told (CopyIn done) slot c d w low fits here world =
 phase_told Waiting slot c d w low fits here world = done_told d _ w (stays_fits slot c d.control fits here) world
 phase_told (CopyOut done total) slot c d w low fits here world =
     then_fits CopyFits DomainStepFits (copy_out_step d.control.number d.control.resources c done total)
-    (λ copy. answered (copy_ended slot d copy.context copy.ending)) w (copy_out_told _ _ c done total w here world)
+    (λ copy. answered (after_write copy.wrote (copy_ended slot d copy.context copy.ending))) w
+    (copy_out_told _ _ c done total w here world)
     (λ copy v m there. record {
-      answer = copy_ended_fits slot d copy.context copy.ending low fits m.context m.ending;
+      answer = after_write_fits copy.wrote _
+          (copy_ended_fits slot d copy.context copy.ending low fits m.context m.ending);
       world = there;
     })
 

@@ -80,7 +80,7 @@ integer_fits (negsuc n) = omega arith
 at_most : (n m : ℕ) → n ≤ m → IsWord m → IsWord n
 at_most n m le below = omega (arith, le, below)
 
-flag_fits : (b : Bool) → IsWord (flag b)
+pub flag_fits : (b : Bool) → IsWord (flag b)
 flag_fits true = omega arith
 flag_fits false = omega arith
 

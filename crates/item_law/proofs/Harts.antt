@@ -147,6 +147,7 @@ ticked_fits h fits =
 
 abbrev pub EndingFits : Kernel → Type 0
 EndingFits ending.Stay = Unit {0}
+EndingFits ending.Trapped = Unit {0}
 EndingFits (ending.Put b) = Unit {0}
 EndingFits (ending.Halt value) = Unit {0}
 EndingFits (ending.Resume ctx answer) = IsWord ctx × IsWord answer

@@ -1,30 +1,34 @@
 -- The plain step of a hart: the hart, the disk and memory stay words and bytes.
 use Rattle.std.proofs.Common.{ℕ, ◌+◌, ◌-◌, ◌*◌, ◌^◌, ◌<◌, Bool, true, false, cond, List, Option, Some, None, IfSome, Result, Ok, Err, arith}
-use Rattle.std.specs.Prelude.{◌==◌}
+use Rattle.std.specs.Prelude.{◌==◌, ◌%◌, not}
 use Rattle.cloak_base.specs.Registers.{register}
 use Rattle.cloak_base.specs.declared.names.Kind.TheVariants.{Fetch, Load, Store}
 use Rattle.cloak_base.specs.declared.names.Mode.{Mode}
 use Rattle.cloak_base.specs.declared.names.Mode.TheVariants.{U, S}
 use Rattle.rv_isa.specs.Table.{instruction}
 use Rattle.rv_isa.specs.declared.instr.Instr.{Instr}
-use Rattle.cloak_model.specs.Ask.{ask_count, ask_frame, ask_fill, ask_load, ask_store_at}
-use Rattle.cloak_model.specs.Asking.{Asking}
+use Rattle.rv_atomic.specs.Table.{atomic_instruction}
+use Rattle.rv_atomic.specs.declared.atomic.Atomic.{Atomic}
+use Rattle.rv_atomic.specs.declared.atomic.AtomicOp.{AtomicOp}
+use Rattle.rv_atomic.specs.declared.atomic.AtomicOp.TheVariants.{Lr, Sc}
+use Rattle.cloak_model.specs.Ask.{ask_count, ask_frame, ask_fill, ask_load, ask_store_at, ask_reserve, ask_store_conditional, ask_combine}
+use Rattle.cloak_model.specs.Asking.{Asking, then_ask}
 use Rattle.cloak_model.specs.Csr.{interrupt_due, with_pending, satp_of}
-use Rattle.cloak_model.specs.Effect.{effect}
+use Rattle.cloak_model.specs.Effect.{effect, flag}
 use Rattle.cloak_model.specs.declared.outcome.Effect.{Effect}
 use Rattle.cloak_model.specs.declared.outcome.Effect.TheVariants as does
 use Rattle.cloak_model.specs.Hart.{Hart}
 use Rattle.cloak_model.specs.HartStep.{SteppedHart, with_word, gone_on, stays, raised, system}
 use Rattle.cloak_model.specs.HostCalls.{SteppedKernel, ends, block_at, with_block, is_transfer, host_answers, put_call, timer_call, halt_call, read_block, write_block, read_call, write_call, host_call, resumed, ecall_in, ecall}
-use Rattle.cloak_model.specs.KernelStep.{access, extended, is_ecall, or_trap, carried_out, executed, instruction_step, ticked, kernel_step}
+use Rattle.cloak_model.specs.KernelStep.{access, extended, is_ecall, misaligned, or_trap, carried_out, atomic_access, atomic_executed, executed, instruction_step, ticked, ends_reservation, released, kernel_step}
 use Rattle.cloak_base.specs.Constants.{frame_of}
 use Rattle.cloak_model.specs.Record.{IsWord}
 use Rattle.cloak_model.specs.World.{World}
 use Rattle.item_law.specs.Writing.{AreBytes}
 use Rattle.item_law.proofs.Bounds.{all_append, all_take, all_drop, extended_below}
-use Rattle.item_law.proofs.Effects.{FieldsFit, EffectFits, instruction_fits, effect_fits}
+use Rattle.item_law.proofs.Effects.{FieldsFit, EffectFits, instruction_fits, flag_fits, effect_fits}
 use Rattle.item_law.proofs.Harts.{HartFits, EndingFits, MadeFits, zero_registers_fit, with_pending_fits, register_fits, with_word_fits, gone_on_fits, with_pc_fits, ticked_fits, stays_fits, raised_fits, illegal_fits, system_fits}
-use Rattle.item_law.proofs.Worlds.{WorldFits, ToldFits, Anything, FoundFits, then_fits, either_told, count_told, load_told, store_at_told, frame_told, fill_told}
+use Rattle.item_law.proofs.Worlds.{WorldFits, ToldFits, Anything, FoundFits, then_fits, either_told, count_told, load_told, store_at_told, unmark_told, reserve_told, store_conditional_told, combine_told, frame_told, fill_told}
 
 pub record AfterFits (a : SteppedKernel) : Type 0 where
   pub hart : HartFits a.hart
@@ -181,10 +185,65 @@ carried_out_told h disk word i does.Nothing w fits bytes here f e world =
 carried_out_told h disk word i (does.Raise cause value) w fits bytes here f e world =
     ends_told disk _ w bytes (raised_fits h cause value fits e.0 e.1) world
 
+-- Atomic instructions.
+
+misaligned_fits : (op : AtomicOp) → IsWord (misaligned op)
+misaligned_fits Lr = omega arith
+misaligned_fits op = omega arith
+
+combine_step_told : (h : Hart) (disk : List ℕ) (rd : ℕ) (op : AtomicOp) (va operand : ℕ) (w : World) → HartFits h →
+    AreBytes disk → IsWord va → WorldFits w →
+    let done : ℕ → Asking SteppedKernel = λ old. ends disk (stays (gone_on (with_word h rd old))) in
+    ToldFits AfterFits (then_ask (ask_combine (satp_of h.csrs) (access h Store va) op operand)
+    (λ (found : Result ℕ ℕ). or_trap h disk va found done) w)
+combine_step_told h disk rd op va operand w fits bytes at world =
+    let done : ℕ → Asking SteppedKernel = λ old. ends disk (stays (gone_on (with_word h rd old))) in
+    then_fits (FoundFits IsWord) AfterFits (ask_combine (satp_of h.csrs) (access h Store va) op operand)
+    (λ found. or_trap h disk va found done) w (combine_told (satp_of h.csrs) (access h Store va) op operand w world)
+    (λ found v finds there. or_trap_told IsWord h disk va found done v finds fits bytes at there
+    (λ old below. ends_told disk _ v bytes (stays_fits _ (gone_on_fits _ (with_word_fits h rd old fits below))) there))
+
+atomic_access_told : (h : Hart) (disk : List ℕ) (a : Atomic) (op : AtomicOp) (va operand : ℕ) (w : World) →
+    HartFits h → AreBytes disk → IsWord va → WorldFits w →
+    ToldFits AfterFits (atomic_access h disk a op va operand w)
+unfolding atomic_access
+atomic_access_told h disk a Lr va operand w fits bytes at world =
+    let done : ℕ → Asking SteppedKernel = λ value. ends disk (stays (gone_on (with_word h a.rd value))) in
+    then_fits (FoundFits IsWord) AfterFits (ask_reserve (satp_of h.csrs) (access h Load va) h.id)
+    (λ found. or_trap h disk va found done) w (reserve_told (satp_of h.csrs) (access h Load va) h.id w world)
+    (λ found v finds there. or_trap_told IsWord h disk va found done v finds fits bytes at there
+    (λ value below. ends_told disk _ v bytes (stays_fits _ (gone_on_fits _ (with_word_fits h a.rd value fits below)))
+    there))
+atomic_access_told h disk a Sc va operand w fits bytes at world =
+    let done : Bool → Asking SteppedKernel = λ is_stored.
+    ends disk (stays (gone_on (with_word h a.rd (flag (not is_stored))))) in
+    then_fits (FoundFits Anything) AfterFits (ask_store_conditional (satp_of h.csrs) (access h Store va) h.id operand)
+    (λ found. or_trap h disk va found done) w
+    (store_conditional_told (satp_of h.csrs) (access h Store va) h.id operand w world)
+    (λ found v finds there. or_trap_told Anything h disk va found done v finds fits bytes at there
+    (λ is_stored p. ends_told disk _ v bytes
+    (stays_fits _ (gone_on_fits _ (with_word_fits h a.rd _ fits (flag_fits (not is_stored))))) there))
+atomic_access_told h disk a op va operand w fits bytes at world =
+    combine_step_told h disk a.rd op va operand w fits bytes at world
+
+atomic_told : (h : Hart) (disk : List ℕ) (word : ℕ) (o : Option Atomic) (w : World) → HartFits h → AreBytes disk →
+    IsWord word → WorldFits w → ToldFits AfterFits (atomic_executed h disk word o w)
+unfolding atomic_executed
+atomic_told h disk word None w fits bytes here world = ends_told disk _ w bytes (illegal_fits h word fits here) world
+atomic_told h disk word (Some a) w fits bytes here world =
+    let va = register h.regs a.rs1 in
+    let at = register_fits h a.rs1 fits in
+    either_asking AfterFits (va % 4 == 0) (atomic_access h disk a a.op va (register h.regs a.rs2))
+    (ends disk (raised h (misaligned a.op) va)) w
+    (atomic_access_told h disk a a.op va (register h.regs a.rs2) w fits bytes at world)
+    (ends_told disk _ w bytes (raised_fits h (misaligned a.op) va fits (misaligned_fits a.op) at) world)
+
+-- A step.
+
 executed_told : (h : Hart) (disk : List ℕ) (word : ℕ) (o : Option Instr) (w : World) → HartFits h → AreBytes disk →
     IsWord word → IfSome o FieldsFit → WorldFits w → ToldFits AfterFits (executed h disk word o w)
 executed_told h disk word None w fits bytes here f world =
-    ends_told disk _ w bytes (illegal_fits h word fits here) world
+    atomic_told h disk word (atomic_instruction word) w fits bytes here world
 executed_told h disk word (Some i) w fits bytes here f world =
     carried_out_told h disk word i (effect i h.regs h.pc) w fits bytes here f (effect_fits i h.regs h.pc f fits.regs) world
 
@@ -198,12 +257,25 @@ instruction_told h disk w fits bytes world =
     (λ found v finds there. or_trap_told IsWord h disk h.pc found done v finds fits bytes fits.pc there
     (λ word here. executed_told h disk word (instruction word) v fits bytes here (instruction_fits word) there))
 
+released_told : (made : SteppedKernel) (w : World) → AfterFits made → WorldFits w →
+    ToldFits AfterFits (released made w)
+unfolding released
+released_told made w fits world =
+    let told = unmark_told made.hart.id w world in
+    either_told AfterFits (ends_reservation made.ending) _ _ (record { answer = fits; world = told.world })
+    (record { answer = fits; world = world })
+
 pub kernel_step_told : (h : Hart) (disk : List ℕ) (w : World) → HartFits h → AreBytes disk → WorldFits w →
     ToldFits AfterFits (kernel_step h disk w)
 unfolding kernel_step
 kernel_step_told h disk w fits bytes world =
     let h' : Hart = ticked h in
     let fits' = ticked_fits h fits in
-    either_asking AfterFits (interrupt_due h'.mode h'.csrs) (ends disk (raised h' 0x80000005 0)) (instruction_step h' disk) w
+    let made : Asking SteppedKernel =
+    cond (interrupt_due h'.mode h'.csrs) (ends disk (raised h' 0x80000005 0)) (instruction_step h' disk) in
+    then_fits AfterFits AfterFits made released w
+    (either_asking AfterFits (interrupt_due h'.mode h'.csrs) (ends disk (raised h' 0x80000005 0))
+    (instruction_step h' disk) w
     (ends_told disk _ w bytes (raised_fits h' 0x80000005 0 fits' (omega arith) (omega arith)) world)
-    (instruction_told h' disk w fits' bytes world)
+    (instruction_told h' disk w fits' bytes world))
+    (λ a v m there. released_told a v m there)

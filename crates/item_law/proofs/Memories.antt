@@ -8,9 +8,10 @@ use Rattle.cloak_base.specs.Random.{Random}
 use Rattle.cloak_base.specs.Pages.{zero_page}
 use Rattle.cloak_base.specs.declared.names.PageId.{PageId}
 use Rattle.cloak_model.specs.Ahead.{is_owed, settle_found, settle_while, settle_touched, with_shown}
-use Rattle.cloak_model.specs.Cloaking.{CloakedMemory, AfterSettling, AfterOffer, owed_in, settle_owed, settle_if, settle, settle_frame_if, owing_frame, owes, with_owed, with_comparison, taken, Ready, Mismatch, compared, unless_missed, offer}
+use Rattle.cloak_model.specs.Cloaking.{CloakedMemory, AfterSettling, AfterOffer, owed_in, settle_owed, settle_if, settle, settle_frame_if, owing_frame, owes, with_owed, with_comparison, taken, Ready, Mismatch, compared, unless_missed, offer, seen_in}
 use Rattle.cloak_model.specs.Hart.{Hart}
 use Rattle.cloak_model.specs.Ledger.{Keys, key_in, key_of, vector_of}
+use Rattle.cloak_model.specs.Memory.{Seen, filled}
 use Rattle.cloak_model.specs.Record.{IsItem}
 use Rattle.cloak_model.specs.Touched.{touched}
 use Rattle.cloak_model.specs.World.{cipher_items}
@@ -60,11 +61,11 @@ shows_append a b m n first second =
 abbrev AreSealed : List (ℕ × List ℕ) → Type 0
 AreSealed ciphers = AllByRecursion (λ (c : ℕ × List ℕ). SealedFits c.1) ciphers
 
-shown_frames : (ciphers : List (ℕ × List ℕ)) (ram : List (List ℕ)) → AreSealed ciphers → FramesFit ram →
-    FramesFit (with_shown ciphers ram)
-shown_frames [] ram all fits = fits
-shown_frames (c ∷ ciphers) ram all fits =
-    shown_frames ciphers (slice_set ram c.0 c.1) all.1 (frame_set ram c.0 c.1 fits all.0.bytes)
+shown_frames : (ciphers : List (ℕ × List ℕ)) (seen : Seen) → AreSealed ciphers → FramesFit seen.ram →
+    FramesFit (with_shown ciphers seen).ram
+shown_frames [] seen all fits = fits
+shown_frames (c ∷ ciphers) seen all fits =
+    shown_frames ciphers (filled c.0 c.1 seen) all.1 (frame_set seen.ram c.0 c.1 fits all.0.bytes)
 
 shown_items : (ciphers : List (ℕ × List ℕ)) (ram : List (List ℕ)) → length ram ≤ 4096 → AreSealed ciphers →
     AreFrames ram ciphers → AllByRecursion IsItem (cipher_items ciphers)
@@ -115,7 +116,8 @@ shows_fit : (m : CloakedMemory) (ciphers : List (ℕ × List ℕ)) (after : Cloa
     ShownBy m ciphers after → Seals m ciphers after → ShowsFit ciphers after
 shows_fit m ciphers after fits shown seals = record {
   memory = record {
-    ram = subst FramesFit (sym shown.ram) (shown_frames ciphers m.ram seals.sealed fits.ram);
+    ram = subst (λ (seen : Seen). FramesFit seen.ram) (sym shown.seen)
+        (shown_frames ciphers (seen_in m) seals.sealed fits.ram);
     plain = subst (λ (plain : PageId → List ℕ). (q : PageId) → AreBytes (plain q)) (sym seals.plain) fits.plain;
     keys = subst (λ (keys : Keys). (q : PageId) → IsBytes 16 (key_in keys q)) (sym seals.keys) fits.keys;
     stream = seals.stream;

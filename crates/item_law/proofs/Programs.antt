@@ -1,17 +1,23 @@
 -- The step of a program: registers and program counters of its contexts stay words, and so is what a context shows as it
 -- leaves.
 use Rattle.std.proofs.Common.{inl, ℕ, ◌+◌, ◌*◌, ◌/◌, ◌%◌, nat_le, Bool, true, false, Option, Some, None, IfSome, refl, arith}
-use Rattle.std.specs.Prelude.{◌&&◌}
+use Rattle.std.specs.Prelude.{◌&&◌, ◌==◌}
 use Rattle.cloak_base.specs.Registers.{register, zero_registers}
 use Rattle.cloak_base.specs.declared.names.Kind.TheVariants.{Fetch, Load, Store}
 use Rattle.cloak_base.specs.declared.names.PageId.{PageId}
 use Rattle.rv_isa.specs.Table.{instruction}
 use Rattle.rv_isa.specs.declared.instr.Instr.{Instr}
 use Rattle.rv_isa.specs.declared.instr.Instr.TheVariants as instr
+use Rattle.rv_atomic.specs.Combine.{combined}
+use Rattle.rv_atomic.specs.Table.{atomic_instruction}
+use Rattle.rv_atomic.specs.declared.atomic.Atomic.{Atomic}
+use Rattle.rv_atomic.specs.declared.atomic.AtomicOp.{AtomicOp}
+use Rattle.rv_atomic.specs.declared.atomic.AtomicOp.TheVariants.{Lr, Sc}
 use Rattle.cloak_model.specs.declared.answer.Answer.{Answer}
 use Rattle.cloak_model.specs.declared.answer.Answer.TheVariants as told
 use Rattle.cloak_model.specs.declared.context.Phase.{Phase}
 use Rattle.cloak_model.specs.declared.context.Phase.TheVariants.{Plain, CopyIn, Waiting, CopyOut}
+use Rattle.cloak_model.specs.declared.context.WordPlace.{WordPlace}
 use Rattle.cloak_model.specs.declared.context.Why.{Why}
 use Rattle.cloak_model.specs.declared.context.Why.TheVariants as why
 use Rattle.cloak_model.specs.declared.inside.Copied.{Copied}
@@ -22,18 +28,19 @@ use Rattle.cloak_model.specs.declared.item.Item.TheVariants as item
 use Rattle.cloak_model.specs.declared.outcome.Effect.{Effect}
 use Rattle.cloak_model.specs.declared.outcome.Effect.TheVariants as does
 use Rattle.cloak_model.specs.AskPages.{ask_reach, ask_read, ask_write, ask_get, ask_put}
-use Rattle.cloak_model.specs.Asking.{then_ask}
+use Rattle.cloak_model.specs.Asking.{Asking, answered, then_ask}
 use Rattle.cloak_model.specs.Calls.{buffer, area, call_length, call_number, takes_bytes, gives_bytes, is_in_bounds, is_good, BeginsCall, copy_begin, call_begin, begin_call, Copy, copy_ends, copy_refused, byte_address, in_put, in_reached, in_placed, in_step, copy_in_step, out_reached, out_got, out_placed, out_step, copy_out_step, finish_call, is_cloaked}
-use Rattle.cloak_model.specs.Contexts.{Context, set_word, moved_on, in_phase, new_context, has_buffer, call_arguments, no_arguments, is_about_address, shown_address, shown}
+use Rattle.cloak_model.specs.Contexts.{Context, set_word, moved_on, in_phase, new_context, has_buffer, call_arguments, no_arguments, is_about_address, shown_address, shown, word_of_page}
 use Rattle.cloak_model.specs.Effect.{IsWidth, effect}
-use Rattle.cloak_model.specs.InsideStep.{AfterInstruction, ends_as, goes_on, traps, stops, loaded_inside, load_reached, load_got, load_inside, store_reached, store_put, store_inside, system_inside, done_inside, decoded_inside, executed_inside, fetched_inside, fetch, instruction_inside}
+use Rattle.cloak_model.specs.KernelStep.{atomic_kind, misaligned}
+use Rattle.cloak_model.specs.InsideStep.{AfterInstruction, made_writing, ends_as, goes_on, traps, stops, loaded_inside, load_reached, load_got, load_inside, store_reached, store_put, store_inside, system_inside, done_inside, decoded_inside, executed_inside, fetched_inside, fetch, instruction_inside, conditional_inside, atomic_granted, atomic_reached, uncloaked, atomic_placed, atomic_inside}
 use Rattle.cloak_model.specs.Record.{IsItem, IsWord}
 use Rattle.cloak_model.specs.Resources.{Resources, page_at}
 use Rattle.cloak_model.specs.World.{World}
 use Rattle.item_law.proofs.Bounds.{AreWords, either, rest_below, word_at, all_replicate, extended_below}
 use Rattle.item_law.proofs.Effects.{FieldsFit, EffectFits, instruction_fits, effect_fits}
 use Rattle.item_law.proofs.Harts.{with_register_fits, zero_registers_fit}
-use Rattle.item_law.proofs.Worlds.{WorldFits, ToldFits, Anything, AnswerFits, then_fits, reach_told, read_told, write_told, get_told, put_told}
+use Rattle.item_law.proofs.Worlds.{WorldFits, ToldFits, Anything, AnswerFits, then_fits, either_told, reach_told, read_told, write_told, get_told, put_told}
 
 pub record ContextFits (c : Context) : Type 0 where
   pub regs : AreWords c.regs
@@ -126,6 +133,10 @@ traps_told c cause address w fits x y world = ends_told c (ran.Trap cause addres
 stops_told : (c : Context) (w : World) → ContextFits c → WorldFits w → ToldFits InstructionFits (stops c w)
 stops_told c w fits world = ends_told c ran.Stopped w fits tt world
 
+writes_told : (c : Context) (e : Ran) (place : WordPlace) (w : World) → ContextFits c → RanFits e → WorldFits w →
+    ToldFits InstructionFits (answered (made_writing c e place) w)
+writes_told c e place w fits ends world = record { answer = record { context = fits; ending = ends }; world = world }
+
 loaded_told : (c : Context) (rd va width : ℕ) (is_signed : Bool) (value : ℕ) (w : World) → ContextFits c →
     IsWord value → WorldFits w → ToldFits InstructionFits (loaded_inside c rd va width is_signed value w)
 unfolding loaded_inside
@@ -169,8 +180,10 @@ store_reached_told : (c : Context) (q : PageId) (va width value : ℕ) (a : Answ
     IsWord va → AnswerFits a → WorldFits w → ToldFits InstructionFits (store_reached c q va width value a w)
 unfolding store_reached
 store_reached_told c q va width value told.Ok w fits at a world =
-    then_fits Anything InstructionFits (ask_write q (va % 4096) width value) (λ done. goes_on c) w
-    (write_told q (va % 4096) width value w world) (λ done v p there. goes_told c v fits there)
+    then_fits Anything InstructionFits (ask_write q (va % 4096) width value)
+    (λ done. answered (made_writing (moved_on c) ran.Stay (word_of_page q va))) w
+    (write_told q (va % 4096) width value w world)
+    (λ done v p there. writes_told (moved_on c) ran.Stay (word_of_page q va) v (moved_on_fits c fits) tt there)
 store_reached_told c q va width value (told.Absent cause) w fits at a world = traps_told c cause va w fits a at world
 store_reached_told c q va width value (told.Word other) w fits at a world = stops_told c w fits world
 store_reached_told c q va width value told.Stopped w fits at a world = stops_told c w fits world
@@ -192,6 +205,97 @@ store_told c va width value (Some q) w fits at is world =
 store_told c va width value None w fits at is world =
     then_fits AnswerFits InstructionFits (ask_put va width value) (store_put c va) w
     (put_told va width value w is world) (λ a v here there. store_put_told c va a v fits at here there)
+
+-- Atomic instructions.
+
+marked_fits : (c : Context) (mark : Option WordPlace) → ContextFits c → ContextFits (record c { mark = mark })
+marked_fits c mark fits = record { regs = fits.regs; pc = fits.pc }
+
+conditional_told : (reserved : Bool) (c : Context) (rd : ℕ) (q : PageId) (va operand : ℕ) (w : World) → ContextFits c →
+    WorldFits w → ToldFits InstructionFits (conditional_inside reserved c rd q va operand w)
+unfolding conditional_inside
+conditional_told true c rd q va operand w fits world =
+    let c' : Context = record (set_word c rd 0) { mark = None } in
+    let fits' = marked_fits (set_word c rd 0) None (set_word_fits c rd 0 fits (omega arith)) in
+    then_fits Anything InstructionFits (ask_write q (va % 4096) 4 operand)
+    (λ done. answered (made_writing (moved_on c') ran.Stay (word_of_page q va))) w
+    (write_told q (va % 4096) 4 operand w world)
+    (λ done v p there. writes_told (moved_on c') ran.Stay (word_of_page q va) v (moved_on_fits c' fits') tt there)
+conditional_told false c rd q va operand w fits world =
+    let c' : Context = record (set_word c rd 1) { mark = None } in
+    let fits' = marked_fits (set_word c rd 1) None (set_word_fits c rd 1 fits (omega arith)) in
+    ends_told (moved_on c') ran.Stay w (moved_on_fits c' fits') tt world
+
+combined_told : (c : Context) (rd : ℕ) (op : AtomicOp) (q : PageId) (va operand : ℕ) (w : World) → ContextFits c →
+    WorldFits w →
+    ToldFits InstructionFits (then_ask (ask_read q (va % 4096) 4)
+    (λ (old : ℕ). then_ask (ask_write q (va % 4096) 4 (combined op old operand))
+    (λ done. answered (made_writing (moved_on (set_word c rd old)) (ran.Loaded va old) (word_of_page q va)))) w)
+combined_told c rd op q va operand w fits world =
+    let place : WordPlace = word_of_page q va in
+    let wrote : ℕ → Unit {0} → Asking AfterInstruction = λ old done.
+    answered (made_writing (moved_on (set_word c rd old)) (ran.Loaded va old) place) in
+    then_fits IsWord InstructionFits (ask_read q (va % 4096) 4)
+    (λ old. then_ask (ask_write q (va % 4096) 4 (combined op old operand)) (wrote old)) w
+    (read_told q (va % 4096) 4 w world)
+    (λ old v below there. then_fits Anything InstructionFits (ask_write q (va % 4096) 4 (combined op old operand))
+    (wrote old) v (write_told q (va % 4096) 4 (combined op old operand) v there)
+    (λ done u p last. writes_told (moved_on (set_word c rd old)) (ran.Loaded va old) place u
+    (moved_on_fits _ (set_word_fits c rd old fits below)) tt last))
+
+granted_told : (c : Context) (rd : ℕ) (op : AtomicOp) (q : PageId) (va operand : ℕ) (w : World) → ContextFits c →
+    WorldFits w → ToldFits InstructionFits (atomic_granted c rd op q va operand w)
+unfolding atomic_granted
+granted_told c rd Lr q va operand w fits world =
+    let mark : Option WordPlace = Some (word_of_page q va) in
+    then_fits IsWord InstructionFits (ask_read q (va % 4096) 4)
+    (λ old. ends_as (moved_on (record (set_word c rd old) { mark = mark })) (ran.Loaded va old)) w
+    (read_told q (va % 4096) 4 w world)
+    (λ old v below there. ends_told _ (ran.Loaded va old) v
+    (moved_on_fits _ (marked_fits (set_word c rd old) mark (set_word_fits c rd old fits below))) tt there)
+granted_told c rd Sc q va operand w fits world = conditional_told _ c rd q va operand w fits world
+granted_told c rd op q va operand w fits world = combined_told c rd op q va operand w fits world
+
+atomic_reached_told : (c : Context) (rd : ℕ) (op : AtomicOp) (q : PageId) (va operand : ℕ) (a : Answer) (w : World) →
+    ContextFits c → IsWord va → AnswerFits a → WorldFits w →
+    ToldFits InstructionFits (atomic_reached c rd op q va operand a w)
+unfolding atomic_reached
+atomic_reached_told c rd op q va operand told.Ok w fits at a world = granted_told c rd op q va operand w fits world
+atomic_reached_told c rd op q va operand (told.Absent cause) w fits at a world =
+    traps_told c cause va w fits a at world
+atomic_reached_told c rd op q va operand (told.Word value) w fits at a world = stops_told c w fits world
+atomic_reached_told c rd op q va operand told.Stopped w fits at a world = stops_told c w fits world
+
+uncloaked_fits : (op : AtomicOp) → IsWord (uncloaked op)
+uncloaked_fits Lr = omega arith
+uncloaked_fits op = omega arith
+
+misaligned_fits : (op : AtomicOp) → IsWord (misaligned op)
+misaligned_fits Lr = omega arith
+misaligned_fits op = omega arith
+
+atomic_placed_told : (c : Context) (rd : ℕ) (op : AtomicOp) (va operand : ℕ) (place : Option PageId) (w : World) →
+    ContextFits c → IsWord va → WorldFits w → ToldFits InstructionFits (atomic_placed c rd op va operand place w)
+unfolding atomic_placed
+atomic_placed_told c rd op va operand None w fits at world =
+    traps_told c (uncloaked op) va w fits (uncloaked_fits op) at world
+atomic_placed_told c rd op va operand (Some q) w fits at world =
+    then_fits AnswerFits InstructionFits (ask_reach q va (atomic_kind op)) (atomic_reached c rd op q va operand) w
+    (reach_told q va (atomic_kind op) w world)
+    (λ a v here there. atomic_reached_told c rd op q va operand a v fits at here there)
+
+atomic_told : (domain : ℕ) (r : Resources) (c : Context) (o : Option Atomic) (w : World) → ContextFits c →
+    WorldFits w → ToldFits InstructionFits (atomic_inside domain r c o w)
+unfolding atomic_inside
+atomic_told domain r c None w fits world = traps_told c 2 0 w fits (omega arith) (omega arith) world
+atomic_told domain r c (Some a) w fits world =
+    let va = register c.regs a.rs1 in
+    let at = register_fits c a.rs1 fits in
+    either_told InstructionFits (va % 4 == 0) _ _
+    (atomic_placed_told c a.rd a.op va (register c.regs a.rs2) (page_at domain r c.space va) w fits at world)
+    (traps_told c (misaligned a.op) va w fits (misaligned_fits a.op) at world)
+
+-- Instructions.
 
 system_told : (c : Context) (i : Instr) (w : World) → ContextFits c → WorldFits w →
     ToldFits InstructionFits (system_inside c i w)
@@ -215,18 +319,18 @@ done_told domain r c i does.System w fits e world = system_told c i w fits world
 done_told domain r c i does.Nothing w fits e world = goes_told c w fits world
 done_told domain r c i (does.Raise cause value) w fits e world = traps_told c cause value w fits e.0 e.1 world
 
-decoded_told : (domain : ℕ) (r : Resources) (c : Context) (o : Option Instr) (w : World) → ContextFits c →
-    IfSome o FieldsFit → WorldFits w → ToldFits InstructionFits (decoded_inside domain r c o w)
+decoded_told : (domain : ℕ) (r : Resources) (c : Context) (word : ℕ) (o : Option Instr) (w : World) → ContextFits c →
+    IfSome o FieldsFit → WorldFits w → ToldFits InstructionFits (decoded_inside domain r c word o w)
 unfolding decoded_inside
-decoded_told domain r c None w fits f world = traps_told c 2 0 w fits (omega arith) (omega arith) world
-decoded_told domain r c (Some i) w fits f world =
+decoded_told domain r c word None w fits f world = atomic_told domain r c (atomic_instruction word) w fits world
+decoded_told domain r c word (Some i) w fits f world =
     done_told domain r c i (effect i c.regs c.pc) w fits (effect_fits i c.regs c.pc f fits.regs) world
 
 executed_told : (domain : ℕ) (r : Resources) (c : Context) (word : ℕ) (w : World) → ContextFits c → WorldFits w →
     ToldFits InstructionFits (executed_inside domain r c word w)
 unfolding executed_inside
 executed_told domain r c word w fits world =
-    decoded_told domain r c (instruction word) w fits (instruction_fits word) world
+    decoded_told domain r c word (instruction word) w fits (instruction_fits word) world
 
 fetched_told : (domain : ℕ) (r : Resources) (c : Context) (q : PageId) (a : Answer) (w : World) → ContextFits c →
     AnswerFits a → WorldFits w → ToldFits InstructionFits (fetched_inside domain r c q a w)
@@ -327,9 +431,16 @@ out_reached_told : (c : Context) (q : PageId) (done total byte : ℕ) (a : Answe
 unfolding out_reached
 out_reached_told c q done total byte told.Ok w fits a world =
     let at : ℕ = byte_address (buffer c) done % 4096 in
+    let made : Copy = record {
+      context = in_phase (CopyOut (done + 1) total) c;
+      ending = copied.Going;
+      wrote = Some (word_of_page q (byte_address (buffer c) done));
+    } in
     then_fits Anything CopyFits (ask_write q at 1 byte)
-    (λ stored. copy_ends (in_phase (CopyOut (done + 1) total) c) copied.Going) w (write_told q at 1 byte w world)
-    (λ stored v p there. copy_told _ copied.Going v (in_phase_fits (CopyOut (done + 1) total) c fits) tt there)
+    (λ stored. answered made) w (write_told q at 1 byte w world) (λ stored v p there. record {
+      answer = record { context = in_phase_fits (CopyOut (done + 1) total) c fits; ending = tt };
+      world = there;
+    })
 out_reached_told c q done total byte (told.Absent cause) w fits a world =
     copy_told c (copied.Absent cause (byte_address (buffer c) done)) w fits (a, rest_below _) world
 out_reached_told c q done total byte (told.Word value) w fits a world = copy_told c copied.Stopped w fits tt world

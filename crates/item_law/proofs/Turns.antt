@@ -4,7 +4,7 @@ use Rattle.cloak_model.specs.Exchange.{shown_words}
 use Rattle.cloak_model.specs.DomainAlone.{runs_on}
 use Rattle.cloak_model.specs.Opening.{numbers_below}
 use Rattle.cloak_model.specs.Ending.{all_marked, settled_for, ask_end, cloak_for, ended_domain}
-use Rattle.std.proofs.Common.{◌≡◌, ◌∙◌, ℕ, zero, suc, ◌<◌, Bool, true, false, List, [], ◌∷◌, ◌++◌, slice_get, Option, Some, None, IfSome, Result, Ok, Err, refl, sym, arith, ◌+◌, length, ap}
+use Rattle.std.proofs.Common.{◌≡◌, ◌∙◌, ℕ, zero, suc, ◌<◌, Bool, true, false, List, [], ◌∷◌, ◌++◌, slice_get, Option, Some, None, IfSome, Result, Ok, Err, refl, sym, subst, arith, ◌+◌, length, ap}
 use Rattle.std.specs.List.{AllByRecursion}
 use Rattle.std.proofs.lemmas.Bool.{false≢true}
 use Rattle.cloak_base.specs.declared.causes.Shown.{Shown}
@@ -16,17 +16,17 @@ use Rattle.cloak_model.specs.declared.inside.Went.TheVariants as went
 use Rattle.cloak_model.specs.declared.item.Item.{Item}
 use Rattle.cloak_model.specs.declared.item.Item.TheVariants as item
 use Rattle.cloak_model.specs.declared.outcome.Kernel.{Kernel}
-use Rattle.cloak_model.specs.declared.outcome.Kernel.TheVariants.{Stay, Put, Halt, Resume}
+use Rattle.cloak_model.specs.declared.outcome.Kernel.TheVariants.{Stay, Put, Halt, Resume, Trapped}
 use Rattle.cloak_model.specs.Ahead.{settle_touched, settled_step, made_after}
 use Rattle.cloak_model.specs.Asking.{Told}
-use Rattle.cloak_model.specs.Cloaking.{CloakedMemory, AfterSettling}
+use Rattle.cloak_model.specs.Cloaking.{CloakedMemory, AfterSettling, seen_in}
 use Rattle.cloak_model.specs.Contexts.{Admitted, context_at, domain_of, slot_of}
 use Rattle.cloak_model.specs.Csr.{satp_of, interrupt_due}
 use Rattle.cloak_model.specs.DomainState.{Control, Domain}
 use Rattle.cloak_model.specs.DomainStep.{DomainStepped, domain_step}
 use Rattle.cloak_model.specs.Hart.{Hart, started}
 use Rattle.cloak_model.specs.Hypercalls.{Stepped}
-use Rattle.cloak_model.specs.Joint.{Moment, Turn, next_hart, hart_in, with_hart, cloak_of, cloak_outside, memory_of, outside_ended, after_outside, outside_step, without_root, domain_ended, with_domain, after_domain_step, pages_for, interrupt_ended, after_interrupt, by_interrupt, inside_step, turn_of, joint_step, left, not_running, by_running, domain_met, end_domain, refuses, ends_once, ends_resumed, ends_asked, answers_violation, step_before_end}
+use Rattle.cloak_model.specs.Joint.{Moment, Turn, next_hart, hart_in, with_hart, cloak_of, cloak_outside, memory_of, outside_ended, after_outside, outside_step, without_root, domain_ended, with_domain, after_domain_step, pages_for, interrupt_ended, after_interrupt, by_interrupt, inside_step, turn_of, joint_step, left, not_running, by_running, domain_met, end_domain, refuses, ends_once, ends_resumed, ends_asked, answers_violation, step_before_end, without_mark}
 use Rattle.cloak_model.specs.KernelStep.{kernel_step, ticked}
 use Rattle.cloak_model.specs.Leaving.{leave}
 use Rattle.cloak_model.specs.Parts.{Joint}
@@ -34,12 +34,12 @@ use Rattle.cloak_model.specs.Record.{IsItem, IsWord}
 use Rattle.cloak_model.specs.Resuming.{AfterResume, with_roots, by_root, by_context, by_domain, resume}
 use Rattle.cloak_model.specs.World.{World, Cloak, Flat, Cloaked, Alone, items_of}
 use Rattle.settling_ahead.proofs.Touching.{writes_touched_alone}
-use Rattle.kernel_isolation.proofs.Accounts.{is_joint}
+use Rattle.kernel_isolation.proofs.Accounts.{is_joint, ram_seen}
 use Rattle.kernel_isolation.proofs.StepAccounts.{accounts_domain_step}
 use Rattle.item_law.specs.Writing.{AreBytes}
 use Rattle.item_law.proofs.Bounds.{AreWords, all_append, all_or, all_set}
 use Rattle.item_law.proofs.Harts.{HartFits, EndingFits, started_fits, ticked_fits, leave_fits}
-use Rattle.item_law.proofs.Memories.{MemoryFits, ShowsFit, touched_fits}
+use Rattle.item_law.proofs.Memories.{FramesFit, MemoryFits, ShowsFit, touched_fits}
 use Rattle.item_law.proofs.Worlds.{CloakFits, WorldFits, ToldFits, frames_of, marked_fits}
 use Rattle.item_law.proofs.KernelSteps.{kernel_step_told}
 use Rattle.item_law.proofs.Controls.{ControlFits, WentFits, SteppedFits, DomainStepFits, domain_step_told, interrupt_fits, resume_slot_fits, forgets_told}
@@ -140,6 +140,7 @@ ended_fits : (j : Joint) (number : ℕ) (items : List Item) (e : Kernel) → Joi
     EndingFits e → TurnFits (outside_ended j number items e)
 unfolding outside_ended
 ended_fits j number items Stay fits all e = record { joint = fits; items = all }
+ended_fits j number items Trapped fits all e = record { joint = fits; items = all }
 ended_fits j number items (Put b) fits all e = record {
   joint = record { harts = fits.harts; disk = fits.disk; memory = fits.memory; programs = fits.programs };
   items = all;
@@ -153,18 +154,19 @@ outside_by : (j : Joint) (number : ℕ) (h : Hart) (s : AfterSettling) → Joint
     ShowsFit s.ciphers s.memory → TurnFits (after_outside j number (made_after h j.disk (cloak_outside j.memory h) s))
 unfolding after_outside made_after
 outside_by j number h s fits here shows =
-    let told = kernel_step h j.disk (Flat s.memory.ram) in
-    let made = kernel_step_told h j.disk (Flat s.memory.ram) here fits.disk shows.memory.ram in
-    let count = (writes_touched_alone h j.disk s.memory.ram).count in
+    let told = kernel_step h j.disk (Flat (seen_in s.memory)) in
+    let made = kernel_step_told h j.disk (Flat (seen_in s.memory)) here fits.disk shows.memory.ram in
+    let count = (writes_touched_alone h j.disk (seen_in s.memory)).count in
+    let same = ram_seen told.world in
     ended_fits _ number _ told.answer.ending (record {
       harts = all_set HartFits j.harts number told.answer.hart fits.harts made.answer.hart;
       disk = made.answer.disk;
       memory = record {
-        ram = frames_of told.world made.world;
+        ram = subst FramesFit same (frames_of told.world made.world);
         plain = shows.memory.plain;
         keys = shows.memory.keys;
         stream = shows.memory.stream;
-        places = shows.memory.places ∙ sym count;
+        places = shows.memory.places ∙ (sym count ∙ ap length same);
       };
       programs = fits.programs;
     }) shows.items made.answer.ending
@@ -180,6 +182,19 @@ left_fits : (j : Joint) (number : ℕ) (h : Hart) (items : List Item) (s : Shown
     AllByRecursion IsItem items → IsItem (item.Leave s) → AllByRecursion IsItem (items ++ item.Leave s ∷ [])
 left_fits j number h items s fits here all shown = all_append IsItem items (item.Leave s ∷ []) all (shown, tt)
 
+unmarked_fits : (number : ℕ) (m : CloakedMemory) → MemoryFits m → MemoryFits (without_mark number m)
+unmarked_fits number m fits =
+    record { ram = fits.ram; plain = fits.plain; keys = fits.keys; stream = fits.stream; places = fits.places }
+
+left_joint : (number : ℕ) (h : Hart) (j : Joint) → JointFits j → HartFits h →
+    JointFits (with_hart number h (record j { memory = without_mark number j.memory }))
+left_joint number h j fits here = record {
+  harts = all_set HartFits j.harts number h fits.harts here;
+  disk = fits.disk;
+  memory = unmarked_fits number j.memory fits.memory;
+  programs = fits.programs;
+}
+
 root_gone : (s : SpaceId) (m : CloakedMemory) → MemoryFits m → MemoryFits (without_root s m)
 root_gone s m fits =
     record { ram = fits.ram; plain = fits.plain; keys = fits.keys; stream = fits.stream; places = fits.places }
@@ -194,11 +209,11 @@ went_fits j number h d w went.Stopped fits here all ends =
 went_fits j number h d w (went.Remapped space) fits here all ends =
     record { joint = with_hart_fits number h j fits here; items = all }
 went_fits j number h d w (went.Leave s) fits here all ends = record {
-  joint = with_hart_fits number (leave h s) j fits (leave_fits h s here ends.1);
+  joint = left_joint number (leave h s) j fits (leave_fits h s here ends.1);
   items = left_fits j number h (items_of w) s fits here all ends;
 }
 went_fits j number h d w (went.SpaceGone space s) fits here all ends = record {
-  joint = with_hart_fits number (leave h s) _
+  joint = left_joint number (leave h s) _
       (record {
         harts = fits.harts;
         disk = fits.disk;
@@ -239,7 +254,7 @@ interrupted_fits j number h items went.Stopped fits here all ends =
 interrupted_fits j number h items (went.Remapped space) fits here all ends =
     record { joint = with_hart_fits number h j fits here; items = all }
 interrupted_fits j number h items (went.Leave s) fits here all ends = record {
-  joint = with_hart_fits number (leave h s) j fits (leave_fits h s here ends.1);
+  joint = left_joint number (leave h s) j fits (leave_fits h s here ends.1);
   items = left_fits j number h items s fits here all ends;
 }
 interrupted_fits j number h items (went.SpaceGone space s) fits here all ends =
@@ -277,7 +292,7 @@ gone_fits j number h ctx fits here word =
     let words : AreWords (shown_words (not_running ctx)) =
     (cause_word, (zero_word, (word, (zero_word, (zero_word, (zero_word, (zero_word, (zero_word, (zero_word, (zero_word, tt)))))))))) in
     record {
-      joint = with_hart_fits number (leave h (not_running ctx)) j fits (leave_fits h (not_running ctx) here words);
+      joint = left_joint number (leave h (not_running ctx)) j fits (leave_fits h (not_running ctx) here words);
       items = left_fits j number h [] (not_running ctx) fits here tt (refl, words);
     }
 

@@ -5,6 +5,8 @@ use Rattle.std.specs.List.{AllByRecursion}
 use Rattle.std.proofs.lemmas.Bool.{cond_both, ltb-true}
 use Rattle.std.proofs.lemmas.List.{length-set}
 use Rattle.rv_isa.specs.Fields.{bits}
+use Rattle.rv_atomic.specs.Combine.{combined}
+use Rattle.rv_atomic.specs.declared.atomic.AtomicOp.{AtomicOp}
 use Rattle.cloak_base.specs.declared.names.Kind.{Kind}
 use Rattle.cloak_base.specs.declared.names.Kind.TheVariants.{Fetch, Load, Store}
 use Rattle.cloak_base.specs.declared.names.PageId.{PageId}
@@ -13,18 +15,18 @@ use Rattle.cloak_model.specs.declared.access.Access.{Access}
 use Rattle.cloak_model.specs.declared.answer.Answer.{Answer}
 use Rattle.cloak_model.specs.declared.answer.Answer.TheVariants as answer
 use Rattle.cloak_model.specs.declared.item.Item.{Item}
-use Rattle.cloak_model.specs.Ask.{ask_word, ask_second, ask_after, ask_first, ask_walk, ask_inside, ask_translate, ask_led, opened, ask_count, ask_value, ask_store, loaded_at, ask_load, stored_to, ask_store_at, ask_frame, ask_fill}
+use Rattle.cloak_model.specs.Ask.{ask_word, ask_second, ask_after, ask_first, ask_walk, ask_inside, ask_translate, ask_led, opened, ask_count, ask_value, ask_store, loaded_at, ask_load, stored_to, ask_store_at, ask_mark, ask_unmark, ask_marked, reserved_at, ask_reserve, is_reserved, stored_value, stored_if, conditional_at, ask_store_conditional, combined_at, ask_combine, ask_frame, ask_fill}
 use Rattle.cloak_model.specs.AskPages.{answer_item, replies, if_drawn, inside_access, ask_inside_address, is_store, offered_by, ask_offer, reached, reach_by_table, get_at, got, get_by_table, put_at, stored_inside, put_by_table, settled_if_marked, clear_from, ask_reach, ask_read, ask_write, ask_get, ask_put, ask_clear, ask_copy, ask_forget}
 use Rattle.cloak_model.specs.Asking.{Told, Asking, answered, then_ask}
-use Rattle.cloak_model.specs.Cloaking.{Offer, Ready, Mismatch, Missed}
+use Rattle.cloak_model.specs.Cloaking.{Offer, Ready, Mismatch, Missed, seen_in, with_seen}
 use Rattle.cloak_model.specs.Effect.{IsWidth}
 use Rattle.cloak_model.specs.Events.{Event}
 use Rattle.cloak_base.specs.Constants.{frame_of, place_of}
-use Rattle.cloak_model.specs.Memory.{is_in_ram, with_value_at, value_at}
+use Rattle.cloak_model.specs.Memory.{Seen, is_in_ram, with_value_at, value_at, stored, filled}
 use Rattle.cloak_model.specs.PageMoves.{copy_pages, drop_pages}
 use Rattle.cloak_model.specs.Record.{IsItem, IsWord}
 use Rattle.cloak_model.specs.Walk.{Walk, FirstWord, Ends, GoesOn, access_fault, page_fault, first_entry, has_paging, is_valid, is_pointer, is_plain_pointer, allows, frame_at, first_leaf, second_leaf, first_word, second_word}
-use Rattle.cloak_model.specs.World.{World, Cloak, Flat, Cloaked, Alone, ram_of, settled, settled_in, stored_at, filled_frame, written, noted, view_of, plain_of, is_missed}
+use Rattle.cloak_model.specs.World.{World, Cloak, Flat, Cloaked, Alone, ram_of, settled, settled_in, with_marks, stored_at, filled_frame, written, noted, view_of, plain_of, is_missed}
 use Rattle.item_law.specs.Writing.{AreBytes}
 use Rattle.item_law.proofs.Bounds.{either, all_append, all_or, both_true, zero_bytes, value_in_below, bytes_with_value}
 use Rattle.item_law.proofs.Memories.{FramesFit, MemoryFits, frame_set, settle_fits, offer_fits}
@@ -36,7 +38,7 @@ pub record CloakFits (c : Cloak) : Type 0 where
   pub items : AllByRecursion IsItem c.items
 
 abbrev pub WorldFits : World → Type 0
-WorldFits (Flat ram) = FramesFit ram
+WorldFits (Flat seen) = FramesFit seen.ram
 WorldFits (Cloaked c) = CloakFits c
 WorldFits (Alone h) = ⊥
 
@@ -69,9 +71,9 @@ settled_fits f (Flat ram) fits = fits
 settled_fits f (Cloaked c) fits = settled_cloak f c fits
 settled_fits f (Alone h) fits = absurd fits
 
-with_ram : (c : Cloak) (ram : List (List ℕ)) (events : List Event) → length ram ≡ length c.memory.ram → CloakFits c →
-    FramesFit ram → CloakFits (record c { memory = record c.memory { ram = ram }; events = events })
-with_ram c ram events same fits here = record {
+with_ram : (c : Cloak) (seen : Seen) (events : List Event) → length seen.ram ≡ length c.memory.ram → CloakFits c →
+    FramesFit seen.ram → CloakFits (record c { memory = with_seen seen c.memory; events = events })
+with_ram c seen events same fits here = record {
   memory = record {
     ram = here;
     plain = fits.memory.plain;
@@ -90,16 +92,32 @@ stored_frames pa width value ram fits =
     frame_set ram (frame_of pa) _ fits (bytes_with_value _ (place_of pa) width value (frame_bytes ram (frame_of pa) fits))
 
 stored_fits : (pa width value : ℕ) (w : World) → WorldFits w → WorldFits (stored_at pa width value w)
-stored_fits pa width value (Flat ram) fits = stored_frames pa width value ram fits
+stored_fits pa width value (Flat seen) fits = stored_frames pa width value seen.ram fits
 stored_fits pa width value (Cloaked c) fits =
-    with_ram c _ _ (length-set c.memory.ram _ _) fits (stored_frames pa width value c.memory.ram fits.memory.ram)
+    with_ram c (stored pa width value (seen_in c.memory)) _ (length-set c.memory.ram _ _) fits
+    (stored_frames pa width value c.memory.ram fits.memory.ram)
 stored_fits pa width value (Alone h) fits = absurd fits
 
 filled_fits : (f : ℕ) (bytes : List ℕ) (w : World) → WorldFits w → AreBytes bytes → WorldFits (filled_frame f bytes w)
-filled_fits f bytes (Flat ram) fits here = frame_set ram f bytes fits here
+filled_fits f bytes (Flat seen) fits here = frame_set seen.ram f bytes fits here
 filled_fits f bytes (Cloaked c) fits here =
-    with_ram c _ _ (length-set c.memory.ram f bytes) fits (frame_set c.memory.ram f bytes fits.memory.ram here)
+    with_ram c (filled f bytes (seen_in c.memory)) _ (length-set c.memory.ram f bytes) fits
+    (frame_set c.memory.ram f bytes fits.memory.ram here)
 filled_fits f bytes (Alone h) fits here = absurd fits
+
+marks_fit : (marks : List (Option ℕ)) (w : World) → WorldFits w → WorldFits (with_marks marks w)
+marks_fit marks (Flat seen) fits = fits
+marks_fit marks (Cloaked c) fits = record {
+  memory = record {
+    ram = fits.memory.ram;
+    plain = fits.memory.plain;
+    keys = fits.memory.keys;
+    stream = fits.memory.stream;
+    places = fits.memory.places;
+  };
+  items = fits.items;
+}
+marks_fit marks (Alone h) fits = absurd fits
 
 noted_fits : (events : List Event) (w : World) → WorldFits w → WorldFits (noted events w)
 noted_fits events (Flat ram) fits = fits
@@ -282,6 +300,86 @@ unfolding ask_store_at
 store_at_told satp a width value w fits =
     then_fits LeadFits (FoundFits Anything) (ask_led satp a) (stored_to satp a width value) w (led_told satp a w fits)
     (λ to v leads there. stored_to_told satp a width value to v leads there)
+
+-- Reservations, and atomic instructions.
+
+mark_told : (hart pa : ℕ) (w : World) → WorldFits w → ToldFits Anything (ask_mark hart pa w)
+unfolding ask_mark
+mark_told hart pa w fits = record { answer = tt; world = marks_fit _ w fits }
+
+pub unmark_told : (hart : ℕ) (w : World) → WorldFits w → ToldFits Anything (ask_unmark hart w)
+unfolding ask_unmark
+unmark_told hart w fits = record { answer = tt; world = marks_fit _ w fits }
+
+marked_told : (hart : ℕ) (w : World) → WorldFits w → ToldFits Anything (ask_marked hart w)
+unfolding ask_marked
+marked_told hart w fits = record { answer = tt; world = fits }
+
+reserved_told : (satp : ℕ) (a : Access) (hart : ℕ) (to : Result ℕ ℕ) (w : World) → LeadFits to → WorldFits w →
+    ToldFits (FoundFits IsWord) (reserved_at satp a hart to w)
+unfolding reserved_at
+reserved_told satp a hart (Err cause) w leads fits = record { answer = leads; world = fits }
+reserved_told satp a hart (Ok pa) w leads fits =
+    then_fits IsWord (FoundFits IsWord) (ask_value satp a pa 4)
+    (λ value. then_ask (ask_mark hart pa) (λ done. answered (Ok value))) w (value_told satp a pa 4 w fits)
+    (λ value v below there. let told = mark_told hart pa v there in record { answer = below; world = told.world })
+
+pub reserve_told : (satp : ℕ) (a : Access) (hart : ℕ) (w : World) → WorldFits w →
+    ToldFits (FoundFits IsWord) (ask_reserve satp a hart w)
+unfolding ask_reserve
+reserve_told satp a hart w fits =
+    then_fits LeadFits (FoundFits IsWord) (ask_led satp a) (reserved_at satp a hart) w (led_told satp a w fits)
+    (λ to v leads there. reserved_told satp a hart to v leads there)
+
+stored_if_told : (test : Bool) (hart pa value : ℕ) (w : World) → WorldFits w →
+    ToldFits Anything (stored_if test hart pa value w)
+unfolding stored_if
+stored_if_told true hart pa value w fits =
+    let told = unmark_told hart (stored_at pa 4 value w) (stored_fits pa 4 value w fits) in
+    record { answer = tt; world = told.world }
+stored_if_told false hart pa value w fits =
+    let told = unmark_told hart w fits in record { answer = tt; world = told.world }
+
+conditional_told : (satp : ℕ) (a : Access) (hart value : ℕ) (to : Result ℕ ℕ) (w : World) → LeadFits to →
+    WorldFits w → ToldFits (FoundFits Anything) (conditional_at satp a hart value to w)
+unfolding conditional_at
+conditional_told satp a hart value (Err cause) w leads fits = record { answer = leads; world = fits }
+conditional_told satp a hart value (Ok pa) w leads fits =
+    let tested : Option ℕ → Asking (Result Bool ℕ) = λ mark.
+    then_ask (stored_if (is_reserved pa mark) hart pa value) (λ done. answered (Ok done)) in
+    then_fits IsWord (FoundFits Anything) (ask_value satp a pa 4) (λ old. then_ask (ask_marked hart) tested) w
+    (value_told satp a pa 4 w fits)
+    (λ old v below there. then_fits Anything (FoundFits Anything) (ask_marked hart) tested v (marked_told hart v there)
+    (λ mark u p last. let told = stored_if_told (is_reserved pa mark) hart pa value u last in record {
+      answer = tt;
+      world = told.world;
+    }))
+
+pub store_conditional_told : (satp : ℕ) (a : Access) (hart value : ℕ) (w : World) → WorldFits w →
+    ToldFits (FoundFits Anything) (ask_store_conditional satp a hart value w)
+unfolding ask_store_conditional
+store_conditional_told satp a hart value w fits =
+    then_fits LeadFits (FoundFits Anything) (ask_led satp a) (conditional_at satp a hart value) w
+    (led_told satp a w fits) (λ to v leads there. conditional_told satp a hart value to v leads there)
+
+combined_told : (satp : ℕ) (a : Access) (op : AtomicOp) (operand : ℕ) (to : Result ℕ ℕ) (w : World) → LeadFits to →
+    WorldFits w → ToldFits (FoundFits IsWord) (combined_at satp a op operand to w)
+unfolding combined_at
+combined_told satp a op operand (Err cause) w leads fits = record { answer = leads; world = fits }
+combined_told satp a op operand (Ok pa) w leads fits =
+    then_fits IsWord (FoundFits IsWord) (ask_value satp a pa 4)
+    (λ old. then_ask (stored_value pa 4 (combined op old operand)) (λ done. answered (Ok old))) w
+    (value_told satp a pa 4 w fits)
+    (λ old v below there. record { answer = below; world = stored_fits pa 4 (combined op old operand) v there })
+
+pub combine_told : (satp : ℕ) (a : Access) (op : AtomicOp) (operand : ℕ) (w : World) → WorldFits w →
+    ToldFits (FoundFits IsWord) (ask_combine satp a op operand w)
+unfolding ask_combine
+combine_told satp a op operand w fits =
+    then_fits LeadFits (FoundFits IsWord) (ask_led satp a) (combined_at satp a op operand) w (led_told satp a w fits)
+    (λ to v leads there. combined_told satp a op operand to v leads there)
+
+-- Whole frames.
 
 pub frame_told : (f : ℕ) (w : World) → WorldFits w → ToldFits AreBytes (ask_frame f w)
 unfolding ask_frame

@@ -5,7 +5,7 @@ use Rattle.std.proofs.lemmas.List.{append-nil}
 use Rattle.cloak_model.specs.declared.context.ResumeFault.{ResumeFault}
 use Rattle.cloak_model.specs.declared.item.Item.{Item}
 use Rattle.cloak_model.specs.declared.outcome.Kernel.{Kernel}
-use Rattle.cloak_model.specs.declared.outcome.Kernel.TheVariants.{Stay, Put, Halt, Resume}
+use Rattle.cloak_model.specs.declared.outcome.Kernel.TheVariants.{Stay, Trapped, Put, Halt, Resume}
 use Rattle.cloak_model.specs.declared.inside.Went.{Went}
 use Rattle.cloak_model.specs.declared.inside.Went.TheVariants as went
 use Rattle.cloak_model.specs.Ahead.{settled_step, made_after}
@@ -58,6 +58,7 @@ resume_leaves j hart satp ctx reply = domain_leaves j hart satp ctx reply _
 ended_outside : (j : model.Joint) (number : ℕ) (items : List Item) (k : Kernel) → (outside_ended j number items k).joint.memory.ledger.clashed ≡ j.memory.ledger.clashed
 unfolding outside_ended
 ended_outside j number items Stay = refl
+ended_outside j number items Trapped = refl
 ended_outside j number items (Put b) = refl
 ended_outside j number items (Halt value) = refl
 ended_outside j number items (Resume ctx answer) = (resume_leaves j number _ ctx answer).clashed
@@ -65,6 +66,7 @@ ended_outside j number items (Resume ctx answer) = (resume_leaves j number _ ctx
 shown_outside : (j : model.Joint) (number : ℕ) (items : List Item) (k : Kernel) → (outside_ended j number items k).joint.console ≡ j.console ++ (outside_ended j number items k).console
 unfolding outside_ended
 shown_outside j number items Stay = sym (append-nil j.console)
+shown_outside j number items Trapped = sym (append-nil j.console)
 shown_outside j number items (Put b) = refl
 shown_outside j number items (Halt value) = sym (append-nil j.console)
 shown_outside j number items (Resume ctx answer) = (resume_leaves j number _ ctx answer).console ∙ sym (append-nil j.console)

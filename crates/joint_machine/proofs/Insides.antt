@@ -27,7 +27,7 @@ use Rattle.cloaked_side.proofs.Emitting.{emits_items}
 use Rattle.hypercalls.specs.declared.domain.Domain.{Domain}
 use Rattle.hypercalls.specs.Standing.{EndsAs}
 use Rattle.joint_machine.specs.declared.stepping.Stepped.{Stepped}
-use Rattle.joint_machine.specs.Turning.{AreRoots, GoesOn, InterruptsIn, StepsDomain, TurnsIn, begun}
+use Rattle.joint_machine.specs.Turning.{AreRoots, GoesOn, InterruptsIn, StepsDomain, TurnsIn, Unmarks, begun}
 use Rattle.joint_machine.proofs.RootedPages.{root_of}
 use Rattle.joint_machine.proofs.RootedSteps.{rooted_domain_step}
 
@@ -97,13 +97,13 @@ begun_is m view slot was h d satp sum mxr domain = λ i. record {
 }
 
 -- A program's step, and what followed.
-pub turns_stepped : {E : Type 0} (gave : E → E → List Piece → Type 0) (e e' e'' : E) (h h' : Hart) (domain : Domain) (roots' : List (List (Option ℕ))) (memory : Memory) (stepped : Stepped) (given : Option Violation) (j : model.Joint) (number d slot : ℕ) (was : program.Domain) →
+pub turns_stepped : {E : Type 0} (gave : E → E → List Piece → Type 0) (e e' e'' : E) (h h' : Hart) (domain : Domain) (roots' : List (List (Option ℕ))) (memory memory' : Memory) (stepped : Stepped) (given : Option Violation) (j : model.Joint) (number d slot : ℕ) (was : program.Domain) →
     StepsDomain gave e e' memory domain stepped (told_of j h d slot was) →
-    GoesOn gave e' e'' h' roots' given (stepped_joint j d (told_of j h d slot was)) number (items_of (told_of j h d slot was).world)
+    GoesOn gave e' e'' h' roots' memory memory' given (stepped_joint j d (told_of j h d slot was)) number (items_of (told_of j h d slot was).world)
     (domain_ended (stepped_joint j d (told_of j h d slot was)) number h d (told_of j h d slot was).world (told_of j h d slot was).answer.went) →
-    TurnsIn gave e e'' h' domain roots' memory given j number d (by_interrupt false j number h d slot was)
+    TurnsIn gave e e'' h' domain roots' memory' given j number d (by_interrupt false j number h d slot was)
 unfolding by_interrupt after_domain_step
-turns_stepped gave e e' e'' h h' domain roots' memory stepped given j number d slot was steps goes =
+turns_stepped gave e e' e'' h h' domain roots' memory memory' stepped given j number d slot was steps goes =
     let told = told_of j h d slot was in
     record {
       emits = subst (λ (items : List Item). Emits gave e e'' (item_pieces items)) (sym goes.items_are) (emits_items (items_of told.world) goes.more steps.emits goes.emits);
@@ -117,15 +117,15 @@ turns_stepped gave e e' e'' h h' domain roots' memory stepped given j number d s
       disk = goes.disk;
       ends = record { ended = goes.ends.ended; refused = goes.ends.refused };
       roots_are = goes.roots_are;
-      holds = goes.holds memory (holds_memory memory told.world j.memory steps.holds);
+      holds = goes.holds (holds_memory memory told.world j.memory steps.holds);
     }
 
--- An interrupt changes no memory.
-pub turns_interrupted : {E : Type 0} (gave : E → E → List Piece → Type 0) (e e' : E) (h h' : Hart) (domain : Domain) (roots : List (List (Option ℕ))) (memory : Memory) (given : Option Violation) (j : model.Joint) (number d slot : ℕ) (was : program.Domain) →
-    given ≡ None → Holds memory j.memory → AreRoots roots j.memory.ledger.root → InterruptsIn gave e e' h' domain j number d (after_interrupt j number h d was (interrupt slot was.control)) →
-    TurnsIn gave e e' h' domain roots memory given j number d (by_interrupt true j number h d slot was)
+-- An interrupt ends the hart's reservation, and changes no memory else.
+pub turns_interrupted : {E : Type 0} (gave : E → E → List Piece → Type 0) (e e' : E) (h h' : Hart) (domain : Domain) (roots : List (List (Option ℕ))) (memory memory' : Memory) (given : Option Violation) (j : model.Joint) (number d slot : ℕ) (was : program.Domain) →
+    given ≡ None → Holds memory j.memory → Unmarks number memory memory' → AreRoots roots j.memory.ledger.root → InterruptsIn gave e e' h' domain j number d (after_interrupt j number h d was (interrupt slot was.control)) →
+    TurnsIn gave e e' h' domain roots memory' given j number d (by_interrupt true j number h d slot was)
 unfolding by_interrupt
-turns_interrupted gave e e' h h' domain roots memory given j number d slot was none holds are i = record {
+turns_interrupted gave e e' h h' domain roots memory memory' given j number d slot was none holds unmarks are i = record {
   emits = i.emits;
   violation = none ∙ sym i.violation;
   console = i.console;
@@ -137,7 +137,7 @@ turns_interrupted gave e e' h h' domain roots memory given j number d slot was n
   disk = i.disk;
   ends = i.ends;
   roots_are = subst (λ (m : CloakedMemory). AreRoots roots m.ledger.root) (sym i.memory) are;
-  holds = subst (λ (m : CloakedMemory). Holds memory m) (sym i.memory) holds;
+  holds = subst (λ (m : CloakedMemory). Holds memory' m) (sym i.memory) (unmarks.holds j.memory holds);
 }
 
 -- The interrupt by itself: the context leaves.
@@ -181,15 +181,15 @@ steps_on gave e e' old new domain given told keeps s =
     record { went = s.went; violation = s.violation; emits = s.emits; holds = world_on old new told.world keeps s.holds; stands = s.stands }
 
 -- A program's step over the memory as it begins, and what followed.
-pub turns_stepping : {E : Type 0} (gave : E → E → List Piece → Type 0) (e e' e'' : E) (h h' : Hart) (domain : Domain) (roots roots' : List (List (Option ℕ))) (memory : Memory) (stepped : Stepped) (given : Option Violation) (j : model.Joint) (number d slot : ℕ) (was : program.Domain) (view : View) →
+pub turns_stepping : {E : Type 0} (gave : E → E → List Piece → Type 0) (e e' e'' : E) (h h' : Hart) (domain : Domain) (roots roots' : List (List (Option ℕ))) (memory memory' : Memory) (stepped : Stepped) (given : Option Violation) (j : model.Joint) (number d slot : ℕ) (was : program.Domain) (view : View) →
     begun j.memory view slot was ≡ cloak_of j.memory h d (pages_for was (context_at was.control.contexts slot)) → AreRoots roots j.memory.ledger.root →
     (is_clashed (domain_step slot was (Cloaked (begun j.memory view slot was))).world ≡ false → StepsDomain gave e e' memory domain stepped (domain_step slot was (Cloaked (begun j.memory view slot was)))) →
-    ((after : model.Joint) (w : World) → stepped.violation ≡ violation_of w → AreRoots roots after.memory.ledger.root → GoesOn gave e' e'' h' roots' given after number (items_of w) (domain_ended after number h d w stepped.went)) →
-    (by_interrupt false j number h d slot was).joint.memory.ledger.clashed ≡ false → TurnsIn gave e e'' h' domain roots' memory given j number d (by_interrupt false j number h d slot was)
-turns_stepping gave e e' e'' h h' domain roots roots' memory stepped given j number d slot was view begins are steps goes none =
+    ((after : model.Joint) (w : World) → stepped.violation ≡ violation_of w → AreRoots roots after.memory.ledger.root → GoesOn gave e' e'' h' roots' memory memory' given after number (items_of w) (domain_ended after number h d w stepped.went)) →
+    (by_interrupt false j number h d slot was).joint.memory.ledger.clashed ≡ false → TurnsIn gave e e'' h' domain roots' memory' given j number d (by_interrupt false j number h d slot was)
+turns_stepping gave e e' e'' h h' domain roots roots' memory memory' stepped given j number d slot was view begins are steps goes none =
     let told = told_of j h d slot was in
     let after = stepped_joint j d told in
     let s : StepsDomain gave e e' memory domain stepped told = subst (λ (c : Cloak). is_clashed (domain_step slot was (Cloaked c)).world ≡ false → StepsDomain gave e e' memory domain stepped (domain_step slot was (Cloaked c))) begins steps (step_unclashed j number h d slot was none) in
-    turns_stepped gave e e' e'' h h' domain roots' memory stepped given j number d slot was s
-    (subst (λ (x : Went). GoesOn gave e' e'' h' roots' given after number (items_of told.world) (domain_ended after number h d told.world x)) s.went
+    turns_stepped gave e e' e'' h h' domain roots' memory memory' stepped given j number d slot was s
+    (subst (λ (x : Went). GoesOn gave e' e'' h' roots' memory memory' given after number (items_of told.world) (domain_ended after number h d told.world x)) s.went
     (goes after told.world s.violation (roots_stepped roots j h d slot was are)))

@@ -1,13 +1,15 @@
 -- The pages of programs as a run begins, over plain variables.
 use Rattle.std.proofs.Common.{◌≡◌, ◌≢◌, ◌≤◌, ◌+◌, ◌-◌, ◌^◌, ℕ, zero, suc, Bool, true, false, List, [], ◌∷◌, length, slice_index_or, Option, None, Some, is_some, unwrap_or, min, refl, ap, sym, ◌∙◌, subst, arith, add-one, inl, inr}
-use Rattle.std.specs.Prelude.{option_and_then, IfSome}
+use Rattle.std.specs.Prelude.{option_and_then, IfSome, map, ◌==◌}
 use Rattle.std.proofs.lemmas.Bool.{cases_lt}
 use Rattle.cloak_base.specs.declared.names.PageId.{PageId}
 use Rattle.cloak_base.specs.declared.names.SpaceId.{SpaceId}
 use Rattle.cloak_base.specs.Random.{Random}
 use Rattle.cloak_model.specs.declared.image.Program.{Program}
 use Rattle.cloak_model.specs.Cloaking.{CloakedMemory, ciphertext_of}
+use Rattle.cloak_base.specs.Constants.{frame_of}
 use Rattle.cloak_model.specs.Ledger.{vector_of}
+use Rattle.cloak_model.specs.Memory.{unless_written}
 use Rattle.cloak_model.specs.Opening.{place_pages, place_programs, program_page}
 use Rattle.cloak_model.specs.PageMoves.{place, place_with}
 use Rattle.protect_meta.specs.Table.{meta_at}
@@ -99,11 +101,12 @@ places_by : (old new : Memory) (given : Bool) (w : PageId → Bool) (m : Cloaked
     KeepsLedgerIf m o → (new.missed ≡ false → (q : PageId) → w q ≡ false) → new.missed ≡ old.missed →
     new.draws ≡ draws_if given old.draws → old.draws ≡ m.ledger.draws → old.missed ≡ m.ledger.missed →
     (given ≡ true → IfSome o (λ m'. Agrees (present (held_in new.pager) m') new.shadows)) →
-    (given ≡ true → new.shadows.frames ≡ length new.pager.frames) → PlacesTo new given o
-places_by old new true w m None answer stands stream keeps whole missed draws counted marked agrees room = absurd (cc)
-places_by old new false w m None answer stands stream keeps whole missed draws counted marked agrees room = tt
-places_by old new false w m (Some m') answer stands stream keeps whole missed draws counted marked agrees room = absurd (cc)
-places_by old new true w m (Some m') answer stands stream keeps whole missed draws counted marked agrees room = record {
+    (given ≡ true → new.shadows.frames ≡ length new.pager.frames) →
+    (given ≡ true → IfSome o (λ m'. new.reservations ≡ m'.marks)) → PlacesTo new given o
+places_by old new true w m None answer stands stream keeps whole missed draws counted marked agrees room marks = absurd (cc)
+places_by old new false w m None answer stands stream keeps whole missed draws counted marked agrees room marks = tt
+places_by old new false w m (Some m') answer stands stream keeps whole missed draws counted marked agrees room marks = absurd (cc)
+places_by old new true w m (Some m') answer stands stream keeps whole missed draws counted marked agrees room marks = record {
   wiped = w;
   pager = stands;
   whole = whole;
@@ -112,6 +115,7 @@ places_by old new true w m (Some m') answer stands stream keeps whole missed dra
   missed = missed ∙ (marked ∙ sym keeps.missed);
   agrees = agrees refl;
   room = room refl;
+  marks = marks refl;
 }
 
 -- the translations through the frame of a page that was placed ended
@@ -127,20 +131,39 @@ placed_agrees : (held : ℕ → Option PageId) (q : PageId) (f : ℕ) (bytes : L
 unfolding place
 placed_agrees held q f bytes m t agrees = agrees_with held q f bytes (vector_of m.ledger q) m t agrees
 
+-- the reservations after a frame was written
+abbrev pub unless_in : ℕ → List (Option ℕ) → List (Option ℕ)
+unless_in f marks = map (unless_written (λ mark. frame_of mark == f)) marks
+
+-- reservations of words in the frame of a page that was placed ended
+marks_with : (q : PageId) (f : ℕ) (bytes : List ℕ) (draw : Option (List ℕ × Random)) (m : CloakedMemory) (marks : List (Option ℕ)) →
+    marks ≡ m.marks → IfSome (place_with q f bytes draw m) (λ m'. unless_in f marks ≡ m'.marks)
+unfolding place_with
+marks_with q f bytes None m marks is = tt
+marks_with q f bytes (Some draw) m marks is = ap (unless_in f) is
+
+placed_marks : (q : PageId) (f : ℕ) (bytes : List ℕ) (m : CloakedMemory) (marks : List (Option ℕ)) → marks ≡ m.marks →
+    IfSome (place q f bytes m) (λ m'. unless_in f marks ≡ m'.marks)
+unfolding place
+placed_marks q f bytes m marks is = marks_with q f bytes (vector_of m.ledger q) m marks is
+
 -- a page was placed in the memory's pager, or not
 pub page_placed : (old new : Memory) (given : Bool) (q : PageId) (f : ℕ) (bytes : List ℕ) →
     FollowsCall old.pager old.stream new.pager new.stream given (after_place q f bytes) → new.missed ≡ old.missed →
     new.draws ≡ draws_if given old.draws → new.pager.rights ≡ old.pager.rights →
     length new.pager.frames ≡ length old.pager.frames →
     (given ≡ true → new.shadows ≡ ending (is_table (frame f)) old.shadows) →
+    (given ≡ true → new.reservations ≡ unless_in f old.reservations) →
     (m : CloakedMemory) → Holds old m → PlacesTo new given (place q f bytes m)
-page_placed old new given q f bytes meets missed draws rights count ended m h =
+page_placed old new given q f bytes meets missed draws rights count ended unmarked m h =
     let v = meets h.wiped m h.pager h.stream in
     places_by old new given h.wiped m (place q f bytes m) v.answer v.stands v.drawn (keeps_ledger q f bytes m)
     (λ none. h.whole (sym missed ∙ none)) missed draws h.draws h.missed
     (λ is. subst (λ (u : Table). IfSome (place q f bytes m) (λ m'. Agrees (present (held_in new.pager) m') u)) (sym (ended is))
     (placed_agrees (held_in new.pager) q f bytes m old.shadows (agrees_rights old.pager new.pager m old.shadows rights h.agrees)))
     (λ is. ap (λ (u : Table). u.frames) (ended is) ∙ ending_frames (is_table (frame f)) old.shadows ∙ h.room ∙ sym count)
+    (λ is. subst (λ (marks : List (Option ℕ)). IfSome (place q f bytes m) (λ m'. marks ≡ m'.marks)) (sym (unmarked is))
+    (placed_marks q f bytes m old.reservations h.marks))
 
 -- Pages one after another.
 

@@ -4,6 +4,10 @@ use Rattle.cloak_base.specs.declared.names.PageId.{PageId}
 use Rattle.rv_isa.specs.declared.instr.Instr.{Instr}
 use Rattle.rv_isa.specs.declared.instr.Instr.TheVariants.{Ecall, Ebreak}
 use Rattle.rv_isa.specs.Table.{instruction}
+use Rattle.rv_atomic.specs.Table.{atomic_instruction}
+use Rattle.rv_atomic.specs.declared.atomic.Atomic.{Atomic}
+use Rattle.rv_atomic.specs.declared.atomic.AtomicOp.{AtomicOp}
+use Rattle.rv_atomic.specs.declared.atomic.AtomicOp.TheVariants.{Lr, Sc}
 use Rattle.cloak_model.specs.declared.outcome.Effect.{Effect}
 use Rattle.cloak_model.specs.declared.outcome.Effect.TheVariants as does
 use Rattle.cloak_model.specs.declared.answer.Answer.{Answer}
@@ -11,7 +15,7 @@ use Rattle.cloak_model.specs.declared.answer.Answer.TheVariants as told
 use Rattle.cloak_model.specs.World.{World}
 use Rattle.cloak_model.specs.Contexts.{Context}
 use Rattle.cloak_model.specs.Resources.{Resources}
-use Rattle.cloak_model.specs.InsideStep.{loaded_inside, load_reached, load_got, load_inside, store_reached, store_put, store_inside, system_inside, done_inside, decoded_inside, executed_inside, fetched_inside, fetch, instruction_inside}
+use Rattle.cloak_model.specs.InsideStep.{loaded_inside, load_reached, load_got, load_inside, store_reached, store_put, store_inside, system_inside, done_inside, decoded_inside, executed_inside, fetched_inside, fetch, instruction_inside, conditional_inside, atomic_granted, atomic_reached, atomic_placed, atomic_inside}
 use Rattle.cloak_model.specs.declared.context.Phase.{Phase}
 use Rattle.cloak_model.specs.declared.context.Phase.TheVariants.{Plain, CopyIn, Waiting, CopyOut}
 use Rattle.cloak_model.specs.Calls.{in_put, in_reached, in_placed, in_step, copy_in_step, out_reached, out_got, out_placed, out_step, copy_out_step}
@@ -22,7 +26,7 @@ use Rattle.cloak_model.specs.declared.inside.Ran.TheVariants as ran
 use Rattle.cloak_model.specs.DomainState.{Control, Domain}
 use Rattle.cloak_model.specs.Hypercalls.{Hypercall, New, Map, Unmap, File, Thread, ForkSpace, Exit, Call, Unknown, hypercall, fork_call, exit_call}
 use Rattle.cloak_model.specs.DomainStep.{instruction_ended, phase_step, step_if, domain_step}
-use Rattle.joint_machine.proofs.RootedPages.{SameRoot, same_refl, same_trans, rooted_reach, rooted_read, rooted_write, rooted_get, rooted_put, rooted_clear, rooted_copy, rooted_forget}
+use Rattle.joint_machine.proofs.RootedPages.{SameRoot, same_either, same_refl, same_trans, rooted_reach, rooted_read, rooted_write, rooted_get, rooted_put, rooted_clear, rooted_copy, rooted_forget}
 
 pub rooted_loaded : (c : Context) (rd va width : ℕ) (signed : Bool) (value : ℕ) (w : World) → SameRoot w (loaded_inside c rd va width signed value w).world
 unfolding loaded_inside
@@ -83,14 +87,42 @@ rooted_done domain r c i does.System w = rooted_system c i w
 rooted_done domain r c i does.Nothing w = same_refl w
 rooted_done domain r c i (does.Raise cause value) w = same_refl w
 
-pub rooted_decoded : (domain : ℕ) (r : Resources) (c : Context) (i : Option Instr) (w : World) → SameRoot w (decoded_inside domain r c i w).world
+rooted_conditional : (reserved : Bool) (c : Context) (rd : ℕ) (q : PageId) (va operand : ℕ) (w : World) → SameRoot w (conditional_inside reserved c rd q va operand w).world
+unfolding conditional_inside
+rooted_conditional true c rd q va operand w = rooted_write _ _ _ _ w
+rooted_conditional false c rd q va operand w = same_refl w
+
+rooted_granted : (c : Context) (rd : ℕ) (op : AtomicOp) (q : PageId) (va operand : ℕ) (w : World) → SameRoot w (atomic_granted c rd op q va operand w).world
+unfolding atomic_granted
+rooted_granted c rd Lr q va operand w = rooted_read _ _ _ w
+rooted_granted c rd Sc q va operand w = rooted_conditional _ c rd q va operand w
+rooted_granted c rd op q va operand w = same_trans _ _ _ (rooted_read _ _ _ w) (rooted_write _ _ _ _ _)
+
+rooted_atomic_reached : (c : Context) (rd : ℕ) (op : AtomicOp) (q : PageId) (va operand : ℕ) (a : Answer) (w : World) → SameRoot w (atomic_reached c rd op q va operand a w).world
+unfolding atomic_reached
+rooted_atomic_reached c rd op q va operand told.Ok w = rooted_granted c rd op q va operand w
+rooted_atomic_reached c rd op q va operand (told.Absent cause) w = same_refl w
+rooted_atomic_reached c rd op q va operand (told.Word value) w = same_refl w
+rooted_atomic_reached c rd op q va operand told.Stopped w = same_refl w
+
+rooted_atomic_placed : (c : Context) (rd : ℕ) (op : AtomicOp) (va operand : ℕ) (place : Option PageId) (w : World) → SameRoot w (atomic_placed c rd op va operand place w).world
+unfolding atomic_placed
+rooted_atomic_placed c rd op va operand None w = same_refl w
+rooted_atomic_placed c rd op va operand (Some q) w = same_trans _ _ _ (rooted_reach _ va _ w) (rooted_atomic_reached c rd op q va operand _ _)
+
+rooted_atomic : (domain : ℕ) (r : Resources) (c : Context) (a : Option Atomic) (w : World) → SameRoot w (atomic_inside domain r c a w).world
+unfolding atomic_inside
+rooted_atomic domain r c None w = same_refl w
+rooted_atomic domain r c (Some a) w = same_either _ _ _ w (rooted_atomic_placed c a.rd a.op _ _ _ w) (same_refl w)
+
+pub rooted_decoded : (domain : ℕ) (r : Resources) (c : Context) (word : ℕ) (i : Option Instr) (w : World) → SameRoot w (decoded_inside domain r c word i w).world
 unfolding decoded_inside
-rooted_decoded domain r c None w = same_refl w
-rooted_decoded domain r c (Some i) w = rooted_done domain r c i _ w
+rooted_decoded domain r c word None w = rooted_atomic domain r c (atomic_instruction word) w
+rooted_decoded domain r c word (Some i) w = rooted_done domain r c i _ w
 
 pub rooted_executed : (domain : ℕ) (r : Resources) (c : Context) (word : ℕ) (w : World) → SameRoot w (executed_inside domain r c word w).world
 unfolding executed_inside
-rooted_executed domain r c word w = rooted_decoded domain r c (instruction word) w
+rooted_executed domain r c word w = rooted_decoded domain r c word (instruction word) w
 
 pub rooted_fetched : (domain : ℕ) (r : Resources) (c : Context) (q : PageId) (a : Answer) (w : World) → SameRoot w (fetched_inside domain r c q a w).world
 unfolding fetched_inside

@@ -85,8 +85,8 @@ read_then a b c first second = record {
 }
 
 pub read_once : (a b : Memory) → IsReadOnce a.pager b.pager → b.stream ≡ a.stream → b.draws ≡ a.draws →
-    b.missed ≡ a.missed → b.shadows ≡ a.shadows → IsReadOnly a b
-read_once a b once stream draws missed shadows = record {
+    b.missed ≡ a.missed → b.shadows ≡ a.shadows → b.reservations ≡ a.reservations → IsReadOnly a b
+read_once a b once stream draws missed shadows marks = record {
   frames = ap (λ (p : PagerState). p.frames) once;
   rights = ap (λ (p : PagerState). p.rights) once;
   domains = ap (λ (p : PagerState). domains_of p.table) once;
@@ -100,6 +100,7 @@ read_once a b once stream draws missed shadows = record {
     missed = missed ∙ h.missed;
     agrees = (still a b m once shadows).agrees h.agrees;
     room = (still a b m once shadows).room ∙ h.room ∙ sym (still a b m once shadows).count;
+    marks = marks ∙ h.marks;
   };
 }
 

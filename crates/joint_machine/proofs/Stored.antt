@@ -1,5 +1,5 @@
 -- RAM as a run begins, over plain variables.
-use Rattle.std.proofs.Common.{inl, inr, ◌≡◌, ◌<◌, ◌≤◌, ◌+◌, ◌-◌, ◌*◌, ◌/◌, ◌%◌, ℕ, false, List, [], ◌∷◌, ◌++◌, length, drop, take, reverse, suc, slice_index_or, slice_set, All, refl, ap, sym, ◌∙◌, subst, arith, add-one, None, Some, Option, map}
+use Rattle.std.proofs.Common.{inl, inr, ◌≡◌, ◌<◌, ◌≤◌, ◌+◌, ◌-◌, ◌*◌, ◌/◌, ◌%◌, ℕ, false, List, [], ◌∷◌, ◌++◌, length, drop, take, reverse, suc, slice_index_or, slice_set, All, refl, ap, sym, ◌∙◌, subst, arith, add-one, None, Some, Option, map, replicate}
 use Rattle.std.proofs.lemmas.List.{get_or_past, set_split, length-set, length-replicate, length-take, length-drop, length-reverse, at_drop_more, at_drop_all, take-append-drop, reverse-append, reverse-reverse}
 use Rattle.std.proofs.lemmas.Bool.{cases_lt}
 use Rattle.std.proofs.lemmas.List.Elements.{All-nil, All-set, All-replicate}
@@ -342,6 +342,7 @@ blank_memory k keys stream = record {
   ram = zero_ram k.frames;
   plain = λ page. zero_page;
   ledger = started_ledger k.frames keys stream;
+  marks = replicate k.harts None;
 }
 
 stands_blank : (p : PagerState) (k : KernelImage) (keys : Keys) (stream : Random) → StandsBlank k.frames keys p →
@@ -387,10 +388,11 @@ loaded_stands old p k domains keys stream is =
     }
 
 pub loaded_holds : (old p : PagerState) (k : KernelImage) (domains : ℕ) (keys : Keys) (stream : Random) (t : Table) →
-    IsLoaded old p k domains keys → t ≡ empty_table k.frames →
-    Holds (record { pager = p; stream = stream; draws = 0; missed = false; shadows = t; counting = false }) (started_memory k keys stream)
-unfolding started_memory started_ledger
-loaded_holds old p k domains keys stream t is empty = record {
+    (marks : List (Option ℕ)) → IsLoaded old p k domains keys → t ≡ empty_table k.frames → marks ≡ replicate k.harts None →
+    Holds (record { pager = p; stream = stream; draws = 0; missed = false; reservations = marks; shadows = t; counting = false })
+    (started_memory k keys stream)
+unfolding started_memory started_kernel started_ledger
+loaded_holds old p k domains keys stream t marks is empty none = record {
   wiped = none_wiped;
   pager = loaded_stands old p k domains keys stream is;
   whole = λ drawn q. refl;
@@ -399,4 +401,5 @@ loaded_holds old p k domains keys stream t is empty = record {
   missed = refl;
   agrees = subst (λ (u : Table). Agrees (present (held_in p) (started_memory k keys stream)) u) (sym empty) (All-nil _);
   room = ap (λ (u : Table). u.frames) empty ∙ sym (loaded_count old p k domains keys is);
+  marks = none;
 }

@@ -26,12 +26,12 @@ use Rattle.cloak_model.specs.declared.item.Item.{Item}
 use Rattle.cloaked_side.specs.declared.memory.Memory.{Memory}
 use Rattle.cloaked_side.proofs.Tracking.{goes_on, no_events, tracks_on}
 use Rattle.cloak_model.specs.Events.{Event, Space}
-use Rattle.cloak_pager.specs.State.{held_in}
+use Rattle.cloak_pager.specs.State.{PagerState, held_in}
 use Rattle.shadow_fold.specs.Entries.{is_of_space}
 use Rattle.shadow_fold.specs.Table.{Table, ending}
 use Rattle.shadow_fold.specs.Events as events
 use Rattle.shadow_fold.specs.Fold.{Fold, after_event, after_events}
-use Rattle.joint_machine.specs.Turning.{begun, spaces_below}
+use Rattle.joint_machine.specs.Turning.{IsSameButMarks, begun, spaces_below}
 use Rattle.joint_machine.proofs.Insides.{step_unclashed}
 use Rattle.joint_machine.proofs.Running.{run_asks, run_step}
 
@@ -59,6 +59,29 @@ goes_still memory space = record {
   maps = λ mapped make are. are;
   gone = tt;
 }
+
+-- Reservations have no part in it.
+
+-- with this pager, and these translations
+abbrev seeing : Memory → PagerState → Table → Bool → Memory
+seeing memory pager shadows counting = record memory { pager = pager; shadows = shadows; counting = counting }
+
+pub goes_same : (old mid new : Memory) (a : Asked) → IsSameButMarks mid new → GoesBy old mid a → GoesBy old new a
+goes_same old mid new a same goes =
+    let first : GoesBy old (seeing old mid.pager mid.shadows mid.counting) a =
+    record { tracks = goes.tracks; spends = goes.spends; maps = goes.maps; gone = all_gone mid (seeing old mid.pager mid.shadows mid.counting) refl a.changed goes.gone } in
+    let last : GoesBy old (seeing old new.pager new.shadows new.counting) a =
+    subst (λ (p : PagerState). GoesBy old (seeing old p new.shadows new.counting) a) (sym same.pager)
+    (subst (λ (t : Table). GoesBy old (seeing old mid.pager t new.counting) a) (sym same.shadows)
+    (subst (λ (b : Bool). GoesBy old (seeing old mid.pager mid.shadows b) a) (sym same.counting) first)) in
+    record { tracks = last.tracks; spends = last.spends; maps = last.maps; gone = all_gone (seeing old new.pager new.shadows new.counting) new refl a.changed last.gone }
+  where
+    all_gone : (m m' : Memory) → m'.shadows ≡ m.shadows → (changed : List SpaceId) → AreAll (IsGone m) changed → AreAll (IsGone m') changed
+    all_gone m m' is [] are = tt
+    all_gone m m' is (x ∷ changed) are = (
+      subst (λ (t : Table). All (λ e. is_of_space x e ≡ false) t.live) (sym is) are.0,
+      all_gone m m' is changed are.1,
+    )
 
 -- a space changed or ended, and its translations with it
 all_ended : (x : SpaceId) (t : Table) → All (λ e. is_of_space x e ≡ false) (ending (is_of_space x) t).live
@@ -179,8 +202,9 @@ goes_stepped old mid new due j number h d slot was c space view ended is there h
         (subst (λ (x : Went). GoesBy mid new (record { space = Some space; events = []; items = []; changed = events.changed_by d x })) made.0 (ends (Some space))))
 
 -- the context does not run on the hart
-pub goes_stopped : (memory : Memory) (a : Asked) → a ≡ events.nothing_asked → GoesBy memory memory a
-goes_stopped memory a nothing = subst (λ (x : Asked). GoesBy memory memory x) (sym nothing) (goes_still memory None)
+pub goes_stopped : (old new : Memory) (a : Asked) → IsSameButMarks old new → a ≡ events.nothing_asked → GoesBy old new a
+goes_stopped old new a same nothing =
+    goes_same old old new a same (subst (λ (x : Asked). GoesBy old old x) (sym nothing) (goes_still old None))
 
 -- the step of a program in its place
 pub goes_turned : (old new : Memory) (j : model.Joint) (number : ℕ) (h at_start : Hart) (ctx : ℕ) (was : program.Domain) → h ≡ at_start → slice_get j.domains (domain_of ctx) ≡ Some was →

@@ -31,7 +31,7 @@ use Rattle.settling_ahead.proofs.Laws.{keeps_rest}
 use Rattle.joint_machine.specs.declared.ended.Ended.{Ended}
 use Rattle.joint_machine.specs.declared.joint.Joint.{Joint}
 use Rattle.joint_machine.specs.Standing.{AreDomains, StandsForJoint, shown_byte, turn_in}
-use Rattle.joint_machine.specs.Turning.{AreRoots, EndsTurn, ResumesJoint, StepsPlainly, TurnsIn, running_in}
+use Rattle.joint_machine.specs.Turning.{AreRoots, EndsTurn, ResumesJoint, StepsPlainly, TurnsIn, Unmarks, running_in}
 use Rattle.joint_machine.proofs.Insides.{holds_memory}
 use Rattle.joint_machine.proofs.Places.{domains_set}
 use Rattle.joint_machine.proofs.Running.{not_run, run_step, run_there, unrun_step}
@@ -46,12 +46,12 @@ hart_is hs js n h same inside is =
 -- the context does not run on the hart, which leaves it
 pub ends_stopped : {E : Type 0} (gave : E → E → List Piece → Type 0) (e e' : E) (old new : Joint) (given : Ended) (j : model.Joint) (number : ℕ) (h at_start : Hart) (ctx : ℕ) → h ≡ at_start →
     StandsForJoint old j → running_in number ctx (slice_get old.domains.items (domain_of ctx)) ≡ None →
-    new.harts.items ≡ slice_set old.harts.items number (leave h (not_running ctx)) → new.disk ≡ old.disk → new.memory ≡ old.memory → new.domains.items ≡ old.domains.items → new.roots ≡ old.roots →
+    new.harts.items ≡ slice_set old.harts.items number (leave h (not_running ctx)) → new.disk ≡ old.disk → Unmarks number old.memory new.memory → new.domains.items ≡ old.domains.items → new.roots ≡ old.roots →
     new.ended ≡ old.ended → new.refused ≡ old.refused →
     given ≡ record { console = None; violation = None; halt = None } →
     Emits gave e e' (item_pieces (item.Leave (not_running ctx) ∷ [])) →
     EndsTurn gave e e' new given (inside_step j number at_start ctx (slice_get j.domains (domain_of ctx)))
-ends_stopped gave e e' old new given j number h at_start ctx same s unrun harts disk memory domains roots ended refused none emits =
+ends_stopped gave e e' old new given j number h at_start ctx same s unrun harts disk unmarks domains roots ended refused none emits =
     subst (λ (y : Hart). EndsTurn gave e e' new given (inside_step j number y ctx (slice_get j.domains (domain_of ctx)))) same
     (subst (λ (t : Turn). EndsTurn gave e e' new given t)
     (sym (unrun_step j number h ctx (slice_get j.domains (domain_of ctx)) (not_run old.domains.items j.domains number ctx s.domains unrun))) (record {
@@ -62,7 +62,7 @@ ends_stopped gave e e' old new given j number h at_start ctx same s unrun harts 
       stands = record {
         harts = harts ∙ ap (λ (hs : List Hart). slice_set hs number (leave h (not_running ctx))) s.harts;
         disk = disk ∙ s.disk;
-        memory = subst (λ (m : Memory). Holds m j.memory) (sym memory) s.memory;
+        memory = unmarks.holds j.memory s.memory;
         domains = subst (λ (xs : List Domain). AreDomains xs j.domains) (sym domains) s.domains;
         roots = subst (λ (r : List (List (Option ℕ))). AreRoots r j.memory.ledger.root) (sym roots) s.roots;
         ended = ended ∙ s.ended;
@@ -146,6 +146,16 @@ module _ {E : Type 0} (gave : E → E → List Piece → Type 0) (e e' : E) (joi
   pub ends_stay : given ≡ kernel.Stay → ended ≡ record { console = None; violation = None; halt = None } → EndsTurn gave e e' joint ended (after_outside j number told)
   unfolding after_outside outside_ended
   ends_stay is none = subst (λ (k : Kernel). EndsTurn gave e e' joint ended (outside_ended (after_kernel_step j number told) number (items_of told.world) k)) (sym is ∙ s.answer) (record {
+    emits = s.emits;
+    console = ap (λ (x : Ended). shown_byte x.console) none;
+    violation = ap (λ (x : Ended). x.violation) none;
+    halt = ap (λ (x : Ended). x.halt) none;
+    stands = s.stands;
+  })
+
+  pub ends_trapped : given ≡ kernel.Trapped → ended ≡ record { console = None; violation = None; halt = None } → EndsTurn gave e e' joint ended (after_outside j number told)
+  unfolding after_outside outside_ended
+  ends_trapped is none = subst (λ (k : Kernel). EndsTurn gave e e' joint ended (outside_ended (after_kernel_step j number told) number (items_of told.world) k)) (sym is ∙ s.answer) (record {
     emits = s.emits;
     console = ap (λ (x : Ended). shown_byte x.console) none;
     violation = ap (λ (x : Ended). x.violation) none;

@@ -19,7 +19,7 @@ use Rattle.cloak_model.specs.Exchange.{Piece, Emits, item_pieces}
 use Rattle.cloak_model.specs.Resuming.{AfterResume}
 use Rattle.cloak_model.specs.Opening.{numbers_below}
 use Rattle.cloak_model.specs.Parts as model
-use Rattle.cloak_model.specs.Joint.{Turn, pages_for, after_kernel_step}
+use Rattle.cloak_model.specs.Joint.{Turn, pages_for, after_kernel_step, without_mark}
 use Rattle.thread_context.specs.Recorded.{root_at}
 use Rattle.cloak_model.specs.Resources.{Resources}
 use Rattle.cloak_pager.specs.State.{PagerState, IsNoneHeld, held_in}
@@ -131,10 +131,21 @@ pub record StepsDomain {E : Type 0} (gave : E → E → List Piece → Type 0) (
   pub holds : HoldsWorld memory told.world
   pub stands : StandsFor domain told.answer.domain
 
--- The end of a program's step has come about in the hart and in the recorded page tables.
+-- a memory is as it was but for reservations
+pub record IsSameButMarks (old new : Memory) : Type 0 where
+  pub pager : new.pager ≡ old.pager
+  pub shadows : new.shadows ≡ old.shadows
+  pub counting : new.counting ≡ old.counting
+
+-- a hart has no reservation in a memory any more, which is as it was otherwise
+pub record Unmarks (number : ℕ) (old new : Memory) : Type 0 where
+  pub same : IsSameButMarks old new
+  pub holds : (m : CloakedMemory) → Holds old m → Holds new (without_mark number m)
+
+-- The end of a program's step has come about in the hart, in the recorded page tables and in memory.
 pub record GoesOn {E : Type 0} (gave : E → E → List Piece → Type 0) (e e' : E) (h : Hart)
-    (roots : List (List (Option ℕ))) (given : Option Violation) (j : model.Joint) (number : ℕ) (items : List Item)
-    (t : Turn) : Type 0 where
+    (roots : List (List (Option ℕ))) (memory memory' : Memory) (given : Option Violation) (j : model.Joint) (number : ℕ)
+    (items : List Item) (t : Turn) : Type 0 where
   pub more : List Item
   pub items_are : t.items ≡ items ++ more
   pub emits : Emits gave e e' (item_pieces more)
@@ -146,7 +157,7 @@ pub record GoesOn {E : Type 0} (gave : E → E → List Piece → Type 0) (e e' 
   pub disk : t.joint.disk ≡ j.disk
   pub ends : SameEnds t.joint j
   pub roots_are : AreRoots roots t.joint.memory.ledger.root
-  pub holds : (memory : Memory) → Holds memory j.memory → Holds memory t.joint.memory
+  pub holds : Holds memory j.memory → Holds memory' t.joint.memory
 
 -- A step of a hart inside has come about in the hart, in the program that has this place, in the recorded page tables
 -- and in memory.
@@ -179,7 +190,7 @@ pub record InterruptsIn {E : Type 0} (gave : E → E → List Piece → Type 0) 
   pub domains : t.joint.domains ≡ slice_set j.domains d after
   pub disk : t.joint.disk ≡ j.disk
   pub ends : SameEnds t.joint j
-  pub memory : t.joint.memory ≡ j.memory
+  pub memory : t.joint.memory ≡ without_mark number j.memory
 
 -- The end of a domain.
 

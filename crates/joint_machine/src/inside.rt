@@ -18,7 +18,7 @@ ghost use Rattle.cloak_base.specs.declared.names.SpaceId.{SpaceId as AnySpace};
 ghost use Rattle.joint_machine.specs.Mapping.{MakesIn};
 ghost use Rattle.space_law.specs.Mapping.{mapped_in, page_of};
 ghost use Rattle.hypercalls.specs.Standing.{StandsFor, control_of, number_of};
-ghost use Rattle.joint_machine.specs.Turning.{AreRoots, HoldsNoFree, HoldsNoOthers, InterruptsIn, TurnsIn, running_in};
+ghost use Rattle.joint_machine.specs.Turning.{AreRoots, HoldsNoFree, HoldsNoOthers, InterruptsIn, TurnsIn, Unmarks, running_in};
 
 use crate::ended::Ended;
 use crate::going::{go_on, leave_context, leave_stopped};
@@ -44,19 +44,28 @@ fn running_space(domains: &[Domain], number: usize, ctx: u32) -> Option<u32>
     }
 }
 
-/// The timer interrupts the hart, and the context of the slot leaves.
-fn take_interrupt<E: Emit>(h: &mut Hart, d: u8, slot: u32, domain: &mut Domain, e: &mut E)
+/// The timer interrupts the hart of this number, and the context of the slot leaves.
+fn take_interrupt<E: Emit>(
+    h: &mut Hart,
+    number: u32,
+    d: u8,
+    slot: u32,
+    domain: &mut Domain,
+    memory: &mut Memory,
+    e: &mut E,
+)
     requires runs { IsSome (context_at (control_of domain.old).contexts slot) }
     ensures number { number_of domain.new ≡ number_of domain.old }
     ensures resources { (control_of domain.new).resources ≡ (control_of domain.old).resources }
     ensures emits_some { EmitsSome E.gave e.old e.new }
-    ensures interrupts { (j : parts.Joint) (number : ℕ) (was : model.Domain) → StandsFor domain.old was →
+    ensures unmarks { Unmarks number memory.old memory.new }
+    ensures interrupts { (j : parts.Joint) (was : model.Domain) → StandsFor domain.old was →
         InterruptsIn E.gave e.old e.new h.new domain.new j number d
         (after_interrupt j number h.old d was (spec.interrupt slot was.control)) }
 {
     e.item(&Item::Timer { domain: d });
     let shown = domain.interrupt(slot);
-    leave_context(h, &shown, e);
+    leave_context(h, number, &shown, memory, e);
 }
 
 /// The translations of a space of the domain end whose regions the step changed, or which it ended.
@@ -83,10 +92,11 @@ fn end_space(memory: &mut Memory, domain: u32, went: &Went)
     }
 }
 
-/// Makes the step of a hart that runs the context of a slot of this domain, which has this space, after its timer fell.
-/// Returns what the kernel presented in place of what is recorded, if that stopped the step.
+/// Makes the step of the hart of this number, which runs the context of a slot of this domain, which has this space, after
+/// its timer fell. Returns what the kernel presented in place of what is recorded, if that stopped the step.
 fn step_context<E: Emit>(
     h: &mut Hart,
+    number: u32,
     d: u8,
     slot: u32,
     space: u32,
@@ -108,12 +118,12 @@ fn step_context<E: Emit>(
     ensures emits_some { EmitsSome E.gave e.old e.new }
     ensures others { HoldsNoOthers d memory.old.pager memory.new.pager }
     ensures unused { HoldsNoFree d (control_of domain.new).resources memory.new.pager }
-    ensures turns { (j : parts.Joint) (number : ℕ) (was : model.Domain) →
+    ensures turns { (j : parts.Joint) (was : model.Domain) →
         let t = by_interrupt (interrupt_due h.old.mode h.old.csrs) j number h.old d slot was in
         StandsFor domain.old was → Holds memory.old j.memory → AreRoots roots.old j.memory.ledger.root →
         t.joint.memory.ledger.clashed ≡ false →
         TurnsIn E.gave e.old e.new h.new domain.new roots.new memory.new result j number d t }
-    ensures goes { (j : parts.Joint) (number : ℕ) (was : model.Domain) →
+    ensures goes { (j : parts.Joint) (was : model.Domain) →
         let due = interrupt_due h.old.mode h.old.csrs in
         StandsFor domain.old was → Holds memory.old j.memory →
         (by_interrupt due j number h.old d slot was).joint.memory.ledger.clashed ≡ false →
@@ -125,7 +135,7 @@ fn step_context<E: Emit>(
         (context_at was.control.contexts slot)) }
 {
     if h.csrs.due(h.mode) {
-        take_interrupt(h, d, slot, domain, e);
+        take_interrupt(h, number, d, slot, domain, memory, e);
         return None;
     }
     domain.whole(space);
@@ -140,7 +150,7 @@ fn step_context<E: Emit>(
     };
     step_domain(domain, slot, view, space, memory, items, e, &mut stepped);
     end_space(memory, d as u32, &stepped.went);
-    go_on(h, d as u32, roots, &stepped, e)
+    go_on(h, number, d as u32, roots, &stepped, memory, e)
 }
 
 impl Joint {
@@ -175,13 +185,14 @@ impl Joint {
         let h = &mut self.harts[number];
         tick(h);
         let Some(space) = running_space(&self.domains, number, ctx) else {
-            leave_stopped(h, ctx, e);
+            leave_stopped(h, number as u32, ctx, &mut self.memory, e);
             return Ended::met(None);
         };
         let d = (ctx / 8) as usize;
         let domain = &mut self.domains[d];
         Ended::met(step_context(
             h,
+            number as u32,
             d as u8,
             ctx % 8,
             space,

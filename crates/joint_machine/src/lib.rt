@@ -1,4 +1,4 @@
-//! The joint machine: harts, memory over the pager, programs, recorded page tables, and disk.
+//! The joint machine: harts, memory over the pager with the reservations of harts, programs, recorded page tables, and disk.
 //!
 //! `Joint::open` stands for the opening of a joint run, `turn` for the next step of a hart, with the end of the domain of
 //! a violation that it met, and `close` for the closing (`cloak_model`, `specs/Opening`, `Joint`, `Run`). Items are

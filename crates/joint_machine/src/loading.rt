@@ -12,7 +12,7 @@ use cloak_base::{Frame, NoMemory, RAM_START};
 use cloak_model::{KernelImage, Segment};
 use cloak_pager::Pager;
 use cloaked_side::Memory;
-use host_calls::Disk;
+use host_calls::{Disk, Reservations};
 use multi_shadow::Shadows;
 use outside_io::Stream;
 use std::alloc::Global;
@@ -74,8 +74,8 @@ fn store_segment(pager: &mut Pager, segment: Segment)
     }
 }
 
-/// Memory before any page is placed: zeros, and then the kernel's segments in their order, each of which is given back; and the
-/// disk, in the memory of the image's disk.
+/// Memory before any page is placed: zeros, and then the kernel's segments in their order, each of which is given back. No hart
+/// has a reservation. And the disk, in the memory of the image's disk.
 pub(crate) fn load(
     alloc: Global,
     k: KernelImage,
@@ -97,6 +97,7 @@ pub(crate) fn load(
 {
     let KernelImage {
         frames,
+        harts,
         segments,
         disk,
         ..
@@ -114,6 +115,7 @@ pub(crate) fn load(
         stream,
         draws: 0,
         missed: false,
+        reservations: Reservations::none(harts),
         shadows,
         counting: false,
     };

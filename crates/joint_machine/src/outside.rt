@@ -52,6 +52,7 @@ impl Joint {
     {
         match self.step_plainly(number, e) {
             Kernel::Stay => Ended::met(None),
+            Kernel::Trapped => Ended::met(None),
             Kernel::Put(b) => Ended {
                 console: Some(b),
                 violation: None,

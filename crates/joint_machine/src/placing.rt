@@ -50,6 +50,7 @@ fn place_page(memory: &mut Memory, domain: u32, first: u32, page: u32, bytes: &[
     if !memory.pager.place(q, f, bytes, &mut memory.stream) {
         return false;
     }
+    memory.reservations.frame_written(f);
     memory.shadows.kill_dependents(f);
     memory.draws = memory.draws.saturating_add(1);
     true

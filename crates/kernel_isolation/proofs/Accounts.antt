@@ -14,14 +14,14 @@ use Rattle.cloak_model.specs.declared.item.Item.TheVariants as item
 use Rattle.cloak_model.specs.Ask.{ask_word, ask_second, ask_after, ask_first, ask_walk, ask_inside, ask_translate, ask_led, opened}
 use Rattle.cloak_model.specs.AskPages.{answer_item, is_store, replies, if_drawn, ask_inside_address, offered_by, ask_offer, reached, reach_by_table, get_at, got, get_by_table, put_at, stored_inside, put_by_table, settled_if_marked, clear_from, ask_reach, ask_read, ask_write, ask_get, ask_put, ask_clear, ask_copy, ask_forget}
 use Rattle.cloak_model.specs.Asking.{Told, Asking}
-use Rattle.cloak_model.specs.Cloaking.{Offer, Ready, Mismatch, Missed, offer, settle}
+use Rattle.cloak_model.specs.Cloaking.{Offer, Ready, Mismatch, Missed, offer, settle, seen_in}
 use Rattle.cloak_model.specs.Effect.{IsWidth}
 use Rattle.cloak_model.specs.Events.{Event}
 use Rattle.cloak_base.specs.Constants.{frame_of}
-use Rattle.cloak_model.specs.Memory.{is_in_ram}
+use Rattle.cloak_model.specs.Memory.{is_in_ram, Seen, stored}
 use Rattle.cloak_model.specs.PageMoves.{copy_pages, drop_pages}
 use Rattle.cloak_model.specs.Walk.{Walk, FirstWord, Ends, GoesOn, first_entry}
-use Rattle.cloak_model.specs.World.{World, Cloak, Flat, Cloaked, Alone, Handed, ram_of, owed_of, items_of, noted, settled, cipher_items}
+use Rattle.cloak_model.specs.World.{World, Cloak, Flat, Cloaked, Alone, Handed, ram_of, seen_of, owed_of, items_of, noted, settled, cipher_items}
 use Rattle.kernel_isolation.proofs.Items.{AreWithin, with_items, with_items-append, length-with_items, within_stays, within-append, ciphers_within, with_ciphers}
 use Rattle.kernel_isolation.proofs.Settlings.{ShownBy, settle_shown, offer_shown}
 use Rattle.kernel_isolation.proofs.Leading.{LeadsInside, leads_inside, low_bytes_stored, is_aligned}
@@ -41,7 +41,7 @@ pub record Account (w v : World) : Type 0 where
   pub items : List Item
   pub written : items_of v ≡ items_of w ++ items
   pub within : AreWithin (ram_of w) items
-  pub ram : ram_of v ≡ with_items items (ram_of w)
+  pub seen : seen_of v ≡ with_items items (seen_of w)
   pub joint : IsJointWorld v
 
 pub record Accounts (w v : World) : Type 0 where
@@ -49,8 +49,27 @@ pub record Accounts (w v : World) : Type 0 where
 
 pub Accounts-refl : (w : World) → Accounts w w
 Accounts-refl w = record {
-  by = λ joint. record { items = []; written = sym (append-nil (items_of w)); within = tt; ram = refl; joint = joint };
+  by = λ joint. record {
+    items = [];
+    written = sym (append-nil (items_of w));
+    within = tt;
+    seen = refl;
+    joint = joint;
+  };
 }
+
+-- RAM is that of what is seen
+pub ram_seen : (w : World) → ram_of w ≡ (seen_of w).ram
+ram_seen (Flat seen) = refl
+ram_seen (Cloaked c) = refl
+ram_seen (Alone h) = refl
+
+-- settling leaves which addresses are in RAM
+length-account : (w v : World) → Account w v → length (ram_of v) ≡ length (ram_of w)
+length-account w v a =
+    ap length (ram_seen v)
+    ∙ (ap (λ (x : Seen). length x.ram) a.seen
+    ∙ (length-with_items a.items (seen_of w) ∙ sym (ap length (ram_seen w))))
 
 Account-trans : (u v w : World) → Account u v → Account v w → Account u w
 Account-trans u v w p q = record {
@@ -58,8 +77,8 @@ Account-trans u v w p q = record {
   written = q.written ∙ (ap (λ (l : List Item). l ++ q.items) p.written ∙ append_assoc (items_of u) p.items q.items);
   within = within-append (ram_of u) p.items q.items p.within
       (within_stays (ram_of v) (ram_of u) q.items
-      (sym (ap length p.ram ∙ length-with_items p.items (ram_of u))) q.within);
-  ram = q.ram ∙ (ap (with_items q.items) p.ram ∙ sym (with_items-append p.items q.items (ram_of u)));
+      (sym (length-account u v p)) q.within);
+  seen = q.seen ∙ (ap (with_items q.items) p.seen ∙ sym (with_items-append p.items q.items (seen_of u)));
   joint = q.joint;
 }
 
@@ -74,22 +93,25 @@ Accounts-either true m n w p q = p
 Accounts-either false m n w p q = q
 
 -- of no other world anything has to be said
-no_flat : (ram : List (List ℕ)) (v : World) → Accounts (Flat ram) v
+no_flat : (ram : Seen) (v : World) → Accounts (Flat ram) v
 no_flat ram v = record { by = λ joint. absurd (false≢true joint.form) }
 
 no_alone : (h : Handed) (v : World) → Accounts (Alone h) v
 no_alone h v = record { by = λ joint. absurd (false≢true joint.form) }
 
 -- RAM and what is owed are as they were, and nothing is written
-same_account : (c c' : Cloak) → c'.items ≡ c.items → c'.memory.ram ≡ c.memory.ram →
+same_account : (c c' : Cloak) → c'.items ≡ c.items → seen_in c'.memory ≡ seen_in c.memory →
     c'.memory.ledger.owed ≡ c.memory.ledger.owed → Accounts (Cloaked c) (Cloaked c')
-same_account c c' items ram owed = record {
+same_account c c' items seen owed = record {
   by = λ joint. record {
     items = [];
     written = items ∙ sym (append-nil c.items);
     within = tt;
-    ram = ram;
-    joint = record { form = refl; places = ap length owed ∙ (joint.places ∙ sym (ap length ram)) };
+    seen = seen;
+    joint = record {
+      form = refl;
+      places = ap length owed ∙ (joint.places ∙ sym (ap (λ (x : Seen). length x.ram) seen));
+    };
   };
 }
 
@@ -100,7 +122,7 @@ shown_account c c' ciphers items shown = record {
   items = cipher_items ciphers;
   written = items;
   within = ciphers_within c.memory.ram ciphers shown.frames;
-  ram = shown.ram ∙ sym (with_ciphers ciphers c.memory.ram);
+  seen = shown.seen ∙ sym (with_ciphers ciphers (seen_in c.memory));
   joint = record { form = refl; places = shown.places };
 }
 
@@ -121,10 +143,6 @@ Accounts-noted events (Alone h) = no_alone h _
 
 Accounts-opened : (satp : ℕ) (a : Access) (pa : ℕ) (w : World) → Accounts w (opened satp a pa w)
 Accounts-opened satp a pa w = Accounts-trans _ _ _ (Accounts-settled (frame_of pa) w) (Accounts-noted _ _)
-
--- settling leaves which addresses are in RAM
-length-account : (w v : World) → Account w v → length (ram_of v) ≡ length (ram_of w)
-length-account w v a = ap length a.ram ∙ length-with_items a.items (ram_of w)
 
 accounts_word : (pa : ℕ) (w : World) → Accounts w (ask_word pa w).world
 unfolding ask_word
@@ -169,7 +187,7 @@ inward_account c d answer.Ok = record {
     items = item.Ok d ∷ [];
     written = refl;
     within = (refl, tt);
-    ram = refl;
+    seen = refl;
     joint = record { form = refl; places = joint.places };
   };
 }
@@ -178,7 +196,7 @@ inward_account c d (answer.Absent cause) = record {
     items = item.Absent d cause ∷ [];
     written = refl;
     within = (refl, tt);
-    ram = refl;
+    seen = refl;
     joint = record { form = refl; places = joint.places };
   };
 }
@@ -187,7 +205,7 @@ inward_account c d (answer.Word value) = record {
     items = item.Word d value ∷ [];
     written = refl;
     within = (refl, tt);
-    ram = refl;
+    seen = refl;
     joint = record { form = refl; places = joint.places };
   };
 }
@@ -196,7 +214,7 @@ inward_account c d answer.Stopped = record {
     items = item.Stopped d ∷ [];
     written = refl;
     within = (refl, tt);
-    ram = refl;
+    seen = refl;
     joint = record { form = refl; places = joint.places };
   };
 }
@@ -279,7 +297,9 @@ put_account pa width value c inside aligned is = record {
     items = item.Put pa width (value % 2 ^ (8 * width)) ∷ (item.Ok c.view.domain ∷ []);
     written = append_assoc c.items (item.Put pa width (value % 2 ^ (8 * width)) ∷ []) (item.Ok c.view.domain ∷ []);
     within = (and_from _ _ inside aligned, (refl, tt));
-    ram = low_bytes_stored pa width value c.memory.ram is;
+    seen = ap (λ (ram : List (List ℕ)). let x : Seen =
+        record { ram = ram; marks = (stored pa width value (seen_in c.memory)).marks } in x)
+        (low_bytes_stored pa width value c.memory.ram is);
     joint = record { form = refl; places = joint.places ∙ sym (length-set c.memory.ram (frame_of pa) _) };
   };
 }

@@ -1,5 +1,5 @@
 -- The end of a domain: what the kernel is shown by it, in frames that were owed a page.
-use Rattle.std.proofs.Common.{◌≡◌, ◌≢◌, ◌∙◌, ℕ, zero, suc, ◌+◌, ◌<◌, Bool, true, false, cond, List, [], ◌∷◌, ◌++◌, length, Option, None, Some, slice_set, slice_index_or, refl, sym, ap, subst, append_assoc, arith}
+use Rattle.std.proofs.Common.{◌≡◌, ◌≢◌, ◌∙◌, ℕ, zero, suc, ◌+◌, Bool, true, false, cond, List, [], ◌∷◌, ◌++◌, length, Option, None, Some, slice_index_or, refl, sym, ap, append_assoc, arith}
 use Rattle.std.specs.List.{find, AllByRecursion, Contains}
 use Rattle.std.proofs.lemmas.Bool.{false≢true}
 use Rattle.std.proofs.lemmas.List.{append-nil, get_or-set_other, map-append}
@@ -15,10 +15,10 @@ use Rattle.cloak_model.specs.PageMoves.{drop_pages}
 use Rattle.cloak_model.specs.Ending.{all_marked, settled_for, ask_end, cloak_for}
 use Rattle.cloak_model.specs.Fork.{ask_forgets}
 use Rattle.cloak_model.specs.Ledger.{vector_of}
+use Rattle.cloak_model.specs.Memory.{Seen, filled}
 use Rattle.cloak_model.specs.Opening.{numbers_below}
-use Rattle.cloak_model.specs.World.{World, Cloak, Flat, Cloaked, Alone, items_of, settled_in, cipher_items}
+use Rattle.cloak_model.specs.World.{World, Cloak, Cloaked, settled_in, cipher_items}
 use Rattle.settling_ahead.proofs.Settled.{still_owed}
-use Rattle.kernel_isolation.proofs.Shown.{AreFrames}
 use Rattle.kernel_isolation.proofs.Settlings.{HasPlaces, ShownBy, ShownBy-none, ShownBy-append, settle_shown}
 
 -- each is shown in a frame that is owed a page
@@ -56,13 +56,13 @@ before_owed m after [] more all = tt
 before_owed m after (c ∷ ciphers) more all = (more c.0 all.0, before_owed m after ciphers more all.1)
 
 -- A frame that is owed nothing keeps its bytes.
-pub with_shown-apart : (m : CloakedMemory) (ciphers : List (ℕ × List ℕ)) (ram : List (List ℕ)) (f : ℕ) →
+pub with_shown-apart : (m : CloakedMemory) (ciphers : List (ℕ × List ℕ)) (seen : Seen) (f : ℕ) →
     is_owed m f ≡ false → AreOwed m ciphers →
-    slice_index_or (with_shown ciphers ram) f [] ≡ slice_index_or ram f []
-with_shown-apart m [] ram f none all = refl
-with_shown-apart m (c ∷ ciphers) ram f none all =
+    slice_index_or (with_shown ciphers seen).ram f [] ≡ slice_index_or seen.ram f []
+with_shown-apart m [] seen f none all = refl
+with_shown-apart m (c ∷ ciphers) seen f none all =
     let other : f ≢ c.0 = λ same. false≢true (sym none ∙ ap (is_owed m) same ∙ all.0) in
-    with_shown-apart m ciphers (slice_set ram c.0 c.1) f none all.1 ∙ get_or-set_other ram c.0 f c.1 [] other
+    with_shown-apart m ciphers (filled c.0 c.1 seen) f none all.1 ∙ get_or-set_other seen.ram c.0 f c.1 [] other
 
 -- what none of a list passes none of its elements passes
 find_stops : {A : Type 0} (p : A → Bool) (test : Bool) (x : A) (later : Option A) → p x ≡ test →
@@ -158,7 +158,7 @@ forget_shows d r c places = record {
   shows = record {
     ciphers = [];
     items = sym (append-nil c.items);
-    shown = record { frames = tt; ram = refl; places = places };
+    shown = record { frames = tt; seen = refl; places = places };
     owed = tt;
     still = λ f is. is;
   };

@@ -6,7 +6,7 @@ use Rattle.cloak_base.specs.declared.causes.Shown.{Shown}
 use Rattle.cloak_model.specs.declared.item.Item.{Item}
 use Rattle.cloak_model.specs.declared.item.Item.TheVariants as item
 use Rattle.cloak_model.specs.Hart.{Hart, started}
-use Rattle.cloak_model.specs.KernelAlone.{KernelAlone, Between, Inside, Left, kernel_unfit, kernel_hart, with_kernel_hart, kernel_step_ended, kernel_step_begun, take_kernel_step, take_leave, kernel_takes, take_kernel_item, kernel_taken}
+use Rattle.cloak_model.specs.KernelAlone.{KernelAlone, Between, Inside, Left, kernel_unfit, kernel_hart, with_kernel_hart, kernel_step_ended, kernel_step_begun, take_kernel_step, take_leave, kernel_takes, take_kernel_item, kernel_taken, kernel_seen, with_kernel_seen}
 use Rattle.cloak_model.specs.KernelStep.{ticked}
 use Rattle.cloak_model.specs.Leaving.{leave}
 use Rattle.cloak_model.specs.Parts.{KernelPart}
@@ -14,10 +14,16 @@ use Rattle.kernel_isolation.proofs.Ignoring.{kernel_append, taken_fit}
 use Rattle.kernel_isolation.proofs.Between.{KernelGoesOn, KernelStepIsAlone, hart_behind, ended_between}
 use Rattle.kernel_isolation.proofs.Shown.{with_ram, fits}
 use Rattle.kernel_isolation.proofs.Items.{AreWithin, with_items, items_taken}
+use Rattle.cloak_model.specs.Memory.{with_mark}
 
 -- the kernel's part after such a step, whose hart is now this
 abbrev pub after_inside : ℕ → Hart → List Item → KernelPart → KernelPart
-after_inside hart h items k = record (with_kernel_hart hart h k) { ram = with_items items k.ram }
+after_inside hart h items k = with_kernel_seen (with_items items (kernel_seen k)) (with_kernel_hart hart h k)
+
+-- one that has left has no reservation
+abbrev pub left_inside : ℕ → Hart → List Item → KernelPart → KernelPart
+left_inside hart h items k =
+    let k' = after_inside hart h items k in record k' { marks = with_mark hart None k'.marks }
 
 -- the hart of a part, its timer counted
 abbrev pub ticked_hart : ℕ → KernelPart → Hart
@@ -54,7 +60,7 @@ step_taken schedule n ctx s none place halted inside =
 
 -- the state behind the items of a step inside
 abbrev behind_items : ℕ → ℕ → ℕ → List Item → KernelAlone → KernelAlone
-behind_items hart ctx n items s = with_ram (with_items items s.kernel.ram) (begun_inside hart ctx n s)
+behind_items hart ctx n items s = with_ram (with_items items (kernel_seen s.kernel)) (begun_inside hart ctx n s)
 
 inside_taken : (schedule : List ℕ) (n ctx : ℕ) (s : KernelAlone) (items : List Item) → s.unfit ≡ None →
     s.place ≡ Between → s.halted ≡ false → (kernel_hart s.kernel (hart_behind schedule n)).inside ≡ Some ctx →
@@ -94,10 +100,14 @@ staying_step_is_alone schedule n ctx k items stops inside all s on =
 
 -- A step that leaves.
 
+-- a part whose hart has left
+abbrev left_hart : ℕ → Hart → KernelPart → KernelPart
+left_hart hart h k = with_kernel_hart hart h (record k { marks = with_mark hart None k.marks })
+
 leave_taken : (schedule : List ℕ) (hart ctx : ℕ) (shown : Shown) (s : KernelAlone) → s.unfit ≡ None →
     s.place ≡ Inside hart ctx → shown.ctx ≡ ctx →
     kernel_taken schedule s (item.Leave shown ∷ [])
-    ≡ record s { kernel = with_kernel_hart hart (leave (kernel_hart s.kernel hart) shown) s.kernel; place = Left }
+    ≡ record s { kernel = left_hart hart (leave (kernel_hart s.kernel hart) shown) s.kernel; place = Left }
 unfolding kernel_taken kernel_takes take_leave
 leave_taken schedule hart ctx shown s none place same =
     taken_fit schedule s (item.Leave shown) none
@@ -107,7 +117,7 @@ leave_taken schedule hart ctx shown s none place same =
 -- the state behind a step that left
 abbrev behind_leave : ℕ → Shown → ℕ → List Item → KernelAlone → KernelAlone
 behind_leave hart shown n items s = record s {
-  kernel = after_inside hart (leave (ticked_hart hart s.kernel) shown) items s.kernel;
+  kernel = left_inside hart (leave (ticked_hart hart s.kernel) shown) items s.kernel;
   steps = suc n;
   place = Left;
 }
@@ -117,11 +127,18 @@ hart_same : (hart : ℕ) (h : Hart) (k : KernelPart) → hart < length k.harts �
 hart_same hart h k lt = get_or-set_same k.harts hart h (started 0 0) lt
 
 twice : (hart : ℕ) (a b : Hart) (items : List Item) (k : KernelPart) →
-    with_kernel_hart hart b (record (with_kernel_hart hart a k) { ram = with_items items k.ram })
-    ≡ after_inside hart b items k
+    left_hart hart b (with_kernel_seen (with_items items (kernel_seen k)) (with_kernel_hart hart a k))
+    ≡ left_inside hart b items k
 twice hart a b items k =
+    let now = with_items items (kernel_seen k) in
     ap (λ (l : List Hart). let p : KernelPart =
-    record { harts = l; ram = with_items items k.ram; disk = k.disk; console = k.console } in p)
+    record {
+      harts = l;
+      ram = now.ram;
+      disk = k.disk;
+      console = k.console;
+      marks = with_mark hart None now.marks;
+    } in p)
     (set-set k.harts hart a b)
 
 leaving_taken : (schedule : List ℕ) (n : ℕ) (s : KernelAlone) (items : List Item) (shown : Shown) → s.unfit ≡ None →
@@ -139,14 +156,14 @@ leaving_taken schedule n s items shown none place halted lt inside all =
     (inside_taken schedule n shown.ctx s items none place halted inside all)
     ∙ leave_taken schedule hart shown.ctx shown t none refl refl
     ∙ ap (λ x. let r : KernelAlone =
-    record t { kernel = with_kernel_hart hart (leave x shown) t.kernel; place = Left } in r) now
+    record t { kernel = left_hart hart (leave x shown) t.kernel; place = Left } in r) now
     ∙ ap (λ (p : KernelPart). let r : KernelAlone = record t { kernel = p; place = Left } in r)
     (twice hart h (leave h shown) items s.kernel)
 
 leaving_ends : (hart n : ℕ) (s : KernelAlone) (items : List Item) (shown : Shown) (stops : Bool) → s.unfit ≡ None →
     s.halted ≡ false → let t = behind_leave hart shown n items s in
     KernelGoesOn (kernel_step_ended t.place t) (suc n)
-    (after_inside hart (leave (ticked_hart hart s.kernel) shown) items s.kernel) stops
+    (left_inside hart (leave (ticked_hart hart s.kernel) shown) items s.kernel) stops
 unfolding kernel_step_ended
 leaving_ends hart n s items shown stops none halted =
     record { rests = record { same = refl; steps = refl; place = refl; fits = none }; halted = λ e. halted }
@@ -156,7 +173,7 @@ pub leaving_step_is_alone : (schedule : List ℕ) (n : ℕ) (k : KernelPart) (it
     let hart = hart_behind schedule n in hart < length k.harts → (kernel_hart k hart).inside ≡ Some shown.ctx →
     AreWithin k.ram items →
     KernelStepIsAlone schedule n k (items ++ item.Leave shown ∷ [])
-    (after_inside hart (leave (ticked_hart hart k) shown) items k) stops
+    (left_inside hart (leave (ticked_hart hart k) shown) items k) stops
 leaving_step_is_alone schedule n k items shown stops lt inside all s on =
     let hart : ℕ = hart_behind schedule n in
     let r = on.rests in
@@ -164,7 +181,7 @@ leaving_step_is_alone schedule n k items shown stops lt inside all s on =
     let inside' = subst (λ (p : KernelPart). (kernel_hart p hart).inside ≡ Some shown.ctx) (sym r.same) inside in
     let all' = subst (λ (p : KernelPart). AreWithin p.ram items) (sym r.same) all in
     let taken = leaving_taken schedule n s items shown r.fits r.place (on.halted refl) lt' inside' all' in
-    let after = λ (p : KernelPart). after_inside hart (leave (ticked_hart hart p) shown) items p in
+    let after = λ (p : KernelPart). left_inside hart (leave (ticked_hart hart p) shown) items p in
     let s' = kernel_taken schedule s (item.Step (suc n) ∷ (items ++ item.Leave shown ∷ [])) in
     subst (λ (p : KernelPart). KernelGoesOn (kernel_step_ended s'.place s') (suc n) (after p) stops) r.same
     (subst (λ (t : KernelAlone). KernelGoesOn (kernel_step_ended t.place t) (suc n) (after s.kernel) stops) (sym taken)

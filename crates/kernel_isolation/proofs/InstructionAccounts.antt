@@ -12,11 +12,14 @@ use Rattle.cloak_model.specs.declared.outcome.Effect.{Effect}
 use Rattle.cloak_model.specs.declared.outcome.Effect.TheVariants as does
 use Rattle.cloak_model.specs.Contexts.{Context}
 use Rattle.cloak_model.specs.Effect.{IsWidth, offset, effect, jump, go, branch, load_effect, store_effect}
-use Rattle.cloak_model.specs.InsideStep.{loaded_inside, load_reached, load_got, load_inside, store_reached, store_put, store_inside, system_inside, done_inside, decoded_inside, executed_inside, fetched_inside, fetch, instruction_inside}
+use Rattle.cloak_model.specs.InsideStep.{loaded_inside, load_reached, load_got, load_inside, store_reached, store_put, store_inside, system_inside, done_inside, decoded_inside, executed_inside, fetched_inside, fetch, instruction_inside, conditional_inside, atomic_granted, atomic_reached, atomic_placed, atomic_inside}
 use Rattle.cloak_model.specs.Resources.{Resources}
 use Rattle.cloak_model.specs.World.{World}
-use Rattle.kernel_isolation.proofs.Accounts.{Accounts, Accounts-refl, Accounts-trans, accounts_reach, accounts_read, accounts_write, accounts_get, accounts_put}
+use Rattle.kernel_isolation.proofs.Accounts.{Accounts, Accounts-refl, Accounts-trans, accounts_reach, accounts_read, accounts_write, accounts_get, accounts_put, Accounts-either}
 use Rattle.kernel_isolation.proofs.Shown.{either}
+use Rattle.rv_atomic.specs.declared.atomic.Atomic.{Atomic}
+use Rattle.rv_atomic.specs.declared.atomic.AtomicOp.{AtomicOp}
+use Rattle.rv_atomic.specs.declared.atomic.AtomicOp.TheVariants.{Lr, Sc}
 
 -- A store is at a multiple of its width.
 
@@ -152,17 +155,52 @@ accounts_done domain r c i does.System w at = accounts_system c i w
 accounts_done domain r c i does.Nothing w at = Accounts-refl w
 accounts_done domain r c i (does.Raise cause value) w at = Accounts-refl w
 
-accounts_decoded : (domain : ℕ) (r : Resources) (c : Context) (i : Option Instr) (w : World) →
-    Accounts w (decoded_inside domain r c i w).world
+accounts_conditional : (reserved : Bool) (c : Context) (rd : ℕ) (q : PageId) (va operand : ℕ) (w : World) →
+    Accounts w (conditional_inside reserved c rd q va operand w).world
+unfolding conditional_inside
+accounts_conditional true c rd q va operand w = accounts_write _ _ _ _ w
+accounts_conditional false c rd q va operand w = Accounts-refl w
+
+accounts_granted : (c : Context) (rd : ℕ) (op : AtomicOp) (q : PageId) (va operand : ℕ) (w : World) →
+    Accounts w (atomic_granted c rd op q va operand w).world
+unfolding atomic_granted
+accounts_granted c rd Lr q va operand w = accounts_read _ _ _ w
+accounts_granted c rd Sc q va operand w = accounts_conditional _ c rd q va operand w
+accounts_granted c rd op q va operand w = Accounts-trans _ _ _ (accounts_read _ _ _ w) (accounts_write _ _ _ _ _)
+
+accounts_atomic_reached : (c : Context) (rd : ℕ) (op : AtomicOp) (q : PageId) (va operand : ℕ) (a : Answer)
+    (w : World) → Accounts w (atomic_reached c rd op q va operand a w).world
+unfolding atomic_reached
+accounts_atomic_reached c rd op q va operand told.Ok w = accounts_granted c rd op q va operand w
+accounts_atomic_reached c rd op q va operand (told.Absent cause) w = Accounts-refl w
+accounts_atomic_reached c rd op q va operand (told.Word value) w = Accounts-refl w
+accounts_atomic_reached c rd op q va operand told.Stopped w = Accounts-refl w
+
+accounts_atomic_placed : (c : Context) (rd : ℕ) (op : AtomicOp) (va operand : ℕ) (place : Option PageId) (w : World) →
+    Accounts w (atomic_placed c rd op va operand place w).world
+unfolding atomic_placed
+accounts_atomic_placed c rd op va operand None w = Accounts-refl w
+accounts_atomic_placed c rd op va operand (Some q) w =
+    Accounts-trans _ _ _ (accounts_reach _ va _ w) (accounts_atomic_reached c rd op _ va operand _ _)
+
+accounts_atomic : (domain : ℕ) (r : Resources) (c : Context) (a : Option Atomic) (w : World) →
+    Accounts w (atomic_inside domain r c a w).world
+unfolding atomic_inside
+accounts_atomic domain r c None w = Accounts-refl w
+accounts_atomic domain r c (Some a) w =
+    Accounts-either _ _ _ w (accounts_atomic_placed c a.rd a.op _ _ _ w) (Accounts-refl w)
+
+accounts_decoded : (domain : ℕ) (r : Resources) (c : Context) (word : ℕ) (i : Option Instr) (w : World) →
+    Accounts w (decoded_inside domain r c word i w).world
 unfolding decoded_inside
-accounts_decoded domain r c None w = Accounts-refl w
-accounts_decoded domain r c (Some i) w =
+accounts_decoded domain r c word None w = accounts_atomic domain r c _ w
+accounts_decoded domain r c word (Some i) w =
     accounts_done domain r c i (effect i c.regs c.pc) w (aligned_effect i c.regs c.pc)
 
 accounts_executed : (domain : ℕ) (r : Resources) (c : Context) (word : ℕ) (w : World) →
     Accounts w (executed_inside domain r c word w).world
 unfolding executed_inside
-accounts_executed domain r c word w = accounts_decoded domain r c (instruction word) w
+accounts_executed domain r c word w = accounts_decoded domain r c word (instruction word) w
 
 accounts_fetched : (domain : ℕ) (r : Resources) (c : Context) (q : PageId) (a : Answer) (w : World) →
     Accounts w (fetched_inside domain r c q a w).world

@@ -1,5 +1,5 @@
 -- The items of a step inside, before its Leave, as the kernel alone reads them.
-use Rattle.std.proofs.Common.{◌≡◌, ◌∙◌, ℕ, ◌%◌, Bool, true, false, ◌&&◌, nat_lt, List, [], ◌∷◌, ◌++◌, length, None, slice_set, refl, ap}
+use Rattle.std.proofs.Common.{◌≡◌, ◌∙◌, ℕ, ◌%◌, Bool, true, false, ◌&&◌, nat_lt, List, [], ◌∷◌, ◌++◌, length, None, refl, ap}
 use Rattle.std.specs.Prelude.{◌==◌}
 use Rattle.std.specs.List.{AllByRecursion}
 use Rattle.std.proofs.lemmas.Bool.{lt-ltb}
@@ -7,21 +7,21 @@ use Rattle.std.proofs.lemmas.List.{length-set}
 use Rattle.cloak_model.specs.declared.item.Item.{Item}
 use Rattle.cloak_model.specs.declared.item.Item.TheVariants as item
 use Rattle.cloak_model.specs.Ahead.{with_shown}
-use Rattle.cloak_model.specs.KernelAlone.{KernelAlone, Inside, kernel_takes, take_cipher, take_put, take_kernel_item, kernel_taken}
-use Rattle.cloak_model.specs.Memory.{is_in_ram, with_value_at}
+use Rattle.cloak_model.specs.KernelAlone.{KernelAlone, Inside, kernel_takes, take_cipher, take_put, take_kernel_item, kernel_taken, kernel_seen}
+use Rattle.cloak_model.specs.Memory.{Seen, is_in_ram, stored, filled}
 use Rattle.cloak_model.specs.World.{cipher_items}
 use Rattle.kernel_isolation.proofs.Ignoring.{taken_fit}
 use Rattle.kernel_isolation.proofs.Shown.{AreFrames, with_ram, fits}
 
--- what an item makes of RAM
-abbrev pub with_item : Item → List (List ℕ) → List (List ℕ)
-with_item (item.Cipher f bytes) ram = slice_set ram f bytes
-with_item (item.Put pa width value) ram = with_value_at pa width value ram
-with_item _ ram = ram
+-- what an item makes of RAM and reservations
+abbrev pub with_item : Item → Seen → Seen
+with_item (item.Cipher f bytes) seen = filled f bytes seen
+with_item (item.Put pa width value) seen = stored pa width value seen
+with_item _ seen = seen
 
-abbrev pub with_items : List Item → List (List ℕ) → List (List ℕ)
-with_items [] ram = ram
-with_items (i ∷ items) ram = with_items items (with_item i ram)
+abbrev pub with_items : List Item → Seen → Seen
+with_items [] seen = seen
+with_items (i ∷ items) seen = with_items items (with_item i seen)
 
 -- A Cipher of a frame that there is, a Put at a multiple of its width in RAM, or an inward item.
 abbrev pub is_within : List (List ℕ) → Item → Bool
@@ -43,29 +43,29 @@ abbrev pub AreWithin : List (List ℕ) → List Item → Type 0
 AreWithin ram items = AllByRecursion (λ i. is_within ram i ≡ true) items
 
 -- how many frames there are stays
-pub length-with_item : (i : Item) (ram : List (List ℕ)) → length (with_item i ram) ≡ length ram
-length-with_item (item.Cipher f bytes) ram = length-set ram f bytes
-length-with_item (item.Put pa width value) ram = length-set ram _ _
-length-with_item (item.Leave x) ram = refl
-length-with_item (item.Step number) ram = refl
-length-with_item (item.Close steps) ram = refl
-length-with_item item.End ram = refl
-length-with_item (item.Ok domain) ram = refl
-length-with_item (item.Absent domain cause) ram = refl
-length-with_item (item.Word domain value) ram = refl
-length-with_item (item.Timer domain) ram = refl
-length-with_item (item.Resume domain ctx answer) ram = refl
-length-with_item (item.Stopped domain) ram = refl
-length-with_item (item.Ended domain) ram = refl
+pub length-with_item : (i : Item) (seen : Seen) → length (with_item i seen).ram ≡ length seen.ram
+length-with_item (item.Cipher f bytes) seen = length-set seen.ram f bytes
+length-with_item (item.Put pa width value) seen = length-set seen.ram _ _
+length-with_item (item.Leave x) seen = refl
+length-with_item (item.Step number) seen = refl
+length-with_item (item.Close steps) seen = refl
+length-with_item item.End seen = refl
+length-with_item (item.Ok domain) seen = refl
+length-with_item (item.Absent domain cause) seen = refl
+length-with_item (item.Word domain value) seen = refl
+length-with_item (item.Timer domain) seen = refl
+length-with_item (item.Resume domain ctx answer) seen = refl
+length-with_item (item.Stopped domain) seen = refl
+length-with_item (item.Ended domain) seen = refl
 
-pub length-with_items : (items : List Item) (ram : List (List ℕ)) → length (with_items items ram) ≡ length ram
-length-with_items [] ram = refl
-length-with_items (i ∷ items) ram = length-with_items items (with_item i ram) ∙ length-with_item i ram
+pub length-with_items : (items : List Item) (seen : Seen) → length (with_items items seen).ram ≡ length seen.ram
+length-with_items [] seen = refl
+length-with_items (i ∷ items) seen = length-with_items items (with_item i seen) ∙ length-with_item i seen
 
-pub with_items-append : (a b : List Item) (ram : List (List ℕ)) →
-    with_items (a ++ b) ram ≡ with_items b (with_items a ram)
-with_items-append [] b ram = refl
-with_items-append (i ∷ a) b ram = with_items-append a b (with_item i ram)
+pub with_items-append : (a b : List Item) (seen : Seen) →
+    with_items (a ++ b) seen ≡ with_items b (with_items a seen)
+with_items-append [] b seen = refl
+with_items-append (i ∷ a) b seen = with_items-append a b (with_item i seen)
 
 one_stays : (ram ram' : List (List ℕ)) (i : Item) → length ram' ≡ length ram → is_within ram' i ≡ is_within ram i
 one_stays ram ram' (item.Cipher f bytes) same = rw same refl
@@ -98,15 +98,15 @@ pub ciphers_within : (ram : List (List ℕ)) (ciphers : List (ℕ × List ℕ)) 
 ciphers_within ram [] all = tt
 ciphers_within ram (c ∷ ciphers) all = (lt-ltb _ _ all.0, ciphers_within ram ciphers all.1)
 
-pub with_ciphers : (ciphers : List (ℕ × List ℕ)) (ram : List (List ℕ)) →
-    with_items (cipher_items ciphers) ram ≡ with_shown ciphers ram
-with_ciphers [] ram = refl
-with_ciphers (c ∷ ciphers) ram = with_ciphers ciphers (slice_set ram c.0 c.1)
+pub with_ciphers : (ciphers : List (ℕ × List ℕ)) (seen : Seen) →
+    with_items (cipher_items ciphers) seen ≡ with_shown ciphers seen
+with_ciphers [] seen = refl
+with_ciphers (c ∷ ciphers) seen = with_ciphers ciphers (filled c.0 c.1 seen)
 
 -- The kernel alone reads them.
 
 fit_taken : (schedule : List ℕ) (hart ctx : ℕ) (i : Item) (s : KernelAlone) → s.place ≡ Inside hart ctx →
-    is_within s.kernel.ram i ≡ true → kernel_takes schedule i s ≡ with_ram (with_item i s.kernel.ram) s
+    is_within s.kernel.ram i ≡ true → kernel_takes schedule i s ≡ with_ram (with_item i (kernel_seen s.kernel)) s
 unfolding kernel_takes take_cipher take_put
 fit_taken schedule hart ctx (item.Cipher f bytes) s place within =
     ap (λ p. take_cipher p f bytes s) place ∙ fits _ s _ within
@@ -126,17 +126,18 @@ fit_taken schedule hart ctx (item.Ended domain) s place within = refl
 
 item_taken : (schedule : List ℕ) (hart ctx : ℕ) (i : Item) (s : KernelAlone) → s.unfit ≡ None →
     s.place ≡ Inside hart ctx →
-    is_within s.kernel.ram i ≡ true → take_kernel_item schedule s i ≡ with_ram (with_item i s.kernel.ram) s
+    is_within s.kernel.ram i ≡ true → take_kernel_item schedule s i ≡ with_ram (with_item i (kernel_seen s.kernel)) s
 item_taken schedule hart ctx i s none place within =
     taken_fit schedule s i none ∙ fit_taken schedule hart ctx i s place within
 
 pub items_taken : (schedule : List ℕ) (hart ctx : ℕ) (items : List Item) (s : KernelAlone) → s.unfit ≡ None →
     s.place ≡ Inside hart ctx → AreWithin s.kernel.ram items →
-    kernel_taken schedule s items ≡ with_ram (with_items items s.kernel.ram) s
+    kernel_taken schedule s items ≡ with_ram (with_items items (kernel_seen s.kernel)) s
 unfolding kernel_taken
 items_taken schedule hart ctx [] s none place all = refl
 items_taken schedule hart ctx (i ∷ items) s none place all =
-    let s' = with_ram (with_item i s.kernel.ram) s in
+    let s' = with_ram (with_item i (kernel_seen s.kernel)) s in
     ap (λ t. kernel_taken schedule t items) (item_taken schedule hart ctx i s none place all.0)
     ∙ items_taken schedule hart ctx items s' none place
-    (within_stays s.kernel.ram (with_item i s.kernel.ram) items (length-with_item i s.kernel.ram) all.1)
+    (within_stays s.kernel.ram (with_item i (kernel_seen s.kernel)).ram items
+    (length-with_item i (kernel_seen s.kernel)) all.1)

@@ -19,9 +19,10 @@ use Rattle.cloak_model.specs.declared.inside.Went.TheVariants as went
 use Rattle.cloak_model.specs.declared.resource.MapFault.{MapFault}
 use Rattle.cloak_model.specs.Contexts.{Context, context_number, domain_of, slot_of, shown}
 use Rattle.cloak_model.specs.DomainState.{Control, Domain}
-use Rattle.cloak_model.specs.DomainStep.{DomainStepped, instruction_ended, copy_ended, phase_step, step_if, domain_step, interrupt_if, interrupt, answer_taken, resume_told, resume_slot}
+use Rattle.cloak_model.specs.DomainStep.{DomainStepped, instruction_ended, copy_ended, phase_step, step_if, domain_step, interrupt_if, interrupt, answer_taken, resume_told, resume_slot, after_write}
 use Rattle.cloak_model.specs.Hypercalls.{Stepped, remapped, new_call, map_call, unmap_call, file_call, thread_at, thread_call, fork_told, fork_call, end_told, exit_call, call_begun, kernel_call, leaves, Hypercall, New, Map, Unmap, File, Thread, ForkSpace, Exit, Call, Unknown, hypercall}
 use Rattle.cloak_model.specs.World.{World}
+use Rattle.cloak_model.specs.declared.context.WordPlace.{WordPlace}
 
 -- what is shown, if anything is, is of this context
 abbrev pub ShowsContext : ℕ → Went → Type 0
@@ -140,13 +141,19 @@ numbers_copy slot d c copied.Stopped = record { number = refl; shows = tt }
 numbers_copy slot d c copied.Refused = record { number = refl; shows = tt }
 numbers_copy slot d c (copied.Loaded address byte) = record { number = refl; shows = tt }
 
+-- a write leaves numbers
+numbers_write : (slot : ℕ) (d : Domain) (wrote : Option WordPlace) (s : DomainStepped) → StepNumbers slot d s →
+    StepNumbers slot d (after_write wrote s)
+numbers_write slot d None s keeps = keeps
+numbers_write slot d (Some place) s keeps = record { number = keeps.number; shows = keeps.shows }
+
 numbers_phase : (phase : Phase) (slot : ℕ) (c : Context) (d : Domain) (w : World) →
     StepNumbers slot d (phase_step phase slot c d w).answer
 unfolding phase_step
-numbers_phase Plain slot c d w = numbers_instruction slot d _ _ _
+numbers_phase Plain slot c d w = numbers_write slot d _ _ (numbers_instruction slot d _ _ _)
 numbers_phase (CopyIn done) slot c d w = numbers_copy slot d _ _
 numbers_phase Waiting slot c d w = record { number = refl; shows = tt }
-numbers_phase (CopyOut done total) slot c d w = numbers_copy slot d _ _
+numbers_phase (CopyOut done total) slot c d w = numbers_write slot d _ _ (numbers_copy slot d _ _)
 
 numbers_if : (c : Option Context) (slot : ℕ) (d : Domain) (w : World) → StepNumbers slot d (step_if c slot d w).answer
 unfolding step_if

@@ -1,6 +1,6 @@
 -- The opening of a run: what the kernel is shown of placed pages is what RAM has of them, and all else is the image's.
 use Rattle.std.proofs.Common.{◌≡◌, ◌≢◌, ◌∙◌, ◌⊎◌, inl, inr, ℕ, zero, suc, ◌+◌, ◌≤◌, ◌<◌, nat_le, nat_lt, Bool, true, false, cond, ◌&&◌, List, [], ◌∷◌, ◌++◌, length, map, filter, slice_set, slice_index_or, Option, Some, None, Ok, refl, sym, ap, subst, arith}
-use Rattle.std.specs.Prelude.{option_and_then}
+use Rattle.std.specs.Prelude.{option_and_then, replicate, ◌==◌}
 use Rattle.std.proofs.lemmas.Bool.{cases_lt, cases_eq, le-leb, lt-ltb, and_from}
 use Rattle.std.proofs.lemmas.List.{length-set, length-replicate, get_or-set_same, get_or-set_other, ext_get_or, map-append}
 use Rattle.std.proofs.lemmas.List.Elements.{filter-append}
@@ -13,10 +13,10 @@ use Rattle.cloak_model.specs.declared.image.Segment.{Segment}
 use Rattle.cloak_model.specs.declared.item.Item.{Item}
 use Rattle.cloak_model.specs.declared.item.Item.TheVariants as item
 use Rattle.cloak_model.specs.Ahead.{with_shown}
-use Rattle.cloak_model.specs.Cloaking.{CloakedMemory}
+use Rattle.cloak_model.specs.Cloaking.{CloakedMemory, seen_in}
 use Rattle.cloak_model.specs.DomainState.{started_domain, started_control}
 use Rattle.cloak_model.specs.Ledger.{Keys, vector_of}
-use Rattle.cloak_model.specs.Memory.{zero_ram, with_bytes, with_byte}
+use Rattle.cloak_model.specs.Memory.{zero_ram, with_bytes, with_byte, Seen, unless_written, filled}
 use Rattle.cloak_model.specs.Opening.{key_count, drawn_keys, keys_for, with_segments, numbers_below, started_ledger, started_kernel, started_memory, program_page, place_pages, place_programs, started_domains, started_joint, is_placed, opening_items, Opened, opened_with, opened_by, opening}
 use Rattle.cloak_model.specs.PageMoves.{place, place_with}
 use Rattle.cloak_model.specs.Parts.{KernelPart, kernel_part}
@@ -25,6 +25,8 @@ use Rattle.kernel_isolation.proofs.Shown.{AreFrames}
 use Rattle.kernel_isolation.proofs.Settlings.{HasPlaces, length-with_shown, with_shown-append}
 use Rattle.kernel_isolation.proofs.Numbers.{AreFrom}
 use Rattle.kernel_isolation.proofs.Turns.{IsSteady}
+use Rattle.cloak_model.specs.KernelAlone.{kernel_seen, with_kernel_seen}
+use Rattle.cloak_base.specs.Constants.{frame_of}
 
 -- the bytes of a frame
 abbrev frame_in : List (List ℕ) → ℕ → List ℕ
@@ -32,10 +34,31 @@ frame_in ram f = slice_index_or ram f []
 
 -- Placing.
 
+-- no hart has a reservation
+abbrev AreNone : ℕ → List (Option ℕ) → Type 0
+AreNone n marks = marks ≡ replicate n None
+
+-- a write ends none where there is none
+still_none : (gone : ℕ → Bool) (n : ℕ) → map (unless_written gone) (replicate n None) ≡ replicate n None
+still_none gone zero = refl
+still_none gone (suc n) = ap (λ (l : List (Option ℕ)). None ∷ l) (still_none gone n)
+
+none_filled : (f : ℕ) (bytes : List ℕ) (n : ℕ) (seen : Seen) → AreNone n seen.marks →
+    AreNone n (filled f bytes seen).marks
+none_filled f bytes n seen none =
+    ap (map (unless_written (λ mark. frame_of mark == f))) none ∙ still_none (λ mark. frame_of mark == f) n
+
+none_shown : (ciphers : List (ℕ × List ℕ)) (n : ℕ) (seen : Seen) → AreNone n seen.marks →
+    AreNone n (with_shown ciphers seen).marks
+none_shown [] n seen none = none
+none_shown (c ∷ ciphers) n seen none = none_shown ciphers n (filled c.0 c.1 seen) (none_filled c.0 c.1 n seen none)
+
 -- what is owed stays, and so does each frame that is apart
 record PlacesApart (apart : ℕ → Type 0) (m after : CloakedMemory) : Type 0 where
   pub count : length after.ram ≡ length m.ram
   pub owed : after.ledger.owed ≡ m.ledger.owed
+  -- where no hart had a reservation, none has
+  pub marks : (n : ℕ) → AreNone n m.marks → AreNone n after.marks
   pub others : (f : ℕ) → apart f → frame_in after.ram f ≡ frame_in m.ram f
 
 abbrev PlacesIf : (ℕ → Type 0) → CloakedMemory → Option CloakedMemory → Type 0
@@ -43,12 +66,16 @@ PlacesIf apart m None = Unit {0}
 PlacesIf apart m (Some after) = PlacesApart apart m after
 
 places_none : (apart : ℕ → Type 0) (m : CloakedMemory) → PlacesApart apart m m
-places_none apart m = record { count = refl; owed = refl; others = λ f is. refl }
+places_none apart m = record { count = refl; owed = refl; marks = λ n none. none; others = λ f is. refl }
 
 places_then : (apart : ℕ → Type 0) (m m' m'' : CloakedMemory) → PlacesApart apart m m' → PlacesApart apart m' m'' →
     PlacesApart apart m m''
-places_then apart m m' m'' p q =
-    record { count = q.count ∙ p.count; owed = q.owed ∙ p.owed; others = λ f is. q.others f is ∙ p.others f is }
+places_then apart m m' m'' p q = record {
+  count = q.count ∙ p.count;
+  owed = q.owed ∙ p.owed;
+  marks = λ n none. q.marks n (p.marks n none);
+  others = λ f is. q.others f is ∙ p.others f is;
+}
 
 places_weaker : (apart far : ℕ → Type 0) (m : CloakedMemory) (o : Option CloakedMemory) → ((f : ℕ) → far f → apart f) →
     PlacesIf apart m o → PlacesIf far m o
@@ -56,6 +83,7 @@ places_weaker apart far m None less p = tt
 places_weaker apart far m (Some after) less p = record {
   count = p.count;
   owed = p.owed;
+  marks = p.marks;
   others = λ f is. p.others f (less f is);
 }
 
@@ -74,8 +102,12 @@ one_places : (q : PageId) (f : ℕ) (bytes : List ℕ) (draw : Option (List ℕ 
     PlacesIf (λ g. g ≢ f) m (place_with q f bytes draw m)
 unfolding place_with
 one_places q f bytes None m = tt
-one_places q f bytes (Some draw) m =
-    record { count = length-set m.ram f _; owed = refl; others = λ g other. get_or-set_other m.ram f g _ [] other }
+one_places q f bytes (Some draw) m = record {
+  count = length-set m.ram f _;
+  owed = refl;
+  marks = λ n none. none_filled f [] n (seen_in m) none;
+  others = λ g other. get_or-set_other m.ram f g _ [] other;
+}
 
 place_apart : (q : PageId) (f : ℕ) (bytes : List ℕ) (m : CloakedMemory) → PlacesIf (λ g. g ≢ f) m (place q f bytes m)
 unfolding place
@@ -152,11 +184,11 @@ record IsShownBelow (n : ℕ) (ram was now : List (List ℕ)) : Type 0 where
   pub low : (i : ℕ) → i < n → frame_in now i ≡ frame_in ram i
   pub high : (i : ℕ) → n ≤ i → frame_in now i ≡ frame_in was i
 
-show_one : (test : Bool) (n : ℕ) (ram was now : List (List ℕ)) → n < length now →
+show_one : (test : Bool) (n : ℕ) (ram was : List (List ℕ)) (seen : Seen) → n < length seen.ram →
     (test ≡ false → frame_in ram n ≡ frame_in was n) →
-    IsShownBelow n ram was now →
-    IsShownBelow (suc n) ram was (with_shown (map (λ (f : ℕ). (f, frame_in ram f)) (cond test (n ∷ []) [])) now)
-show_one true n ram was now lt away s = record {
+    IsShownBelow n ram was seen.ram →
+    IsShownBelow (suc n) ram was (with_shown (map (λ (f : ℕ). (f, frame_in ram f)) (cond test (n ∷ []) [])) seen).ram
+show_one true n ram was seen lt away s = (let now = seen.ram in record {
   low = λ i less. elim (cases_eq i n) [
     | inl same ↦
         subst (λ (x : ℕ). frame_in (slice_set now n (frame_in ram n)) x ≡ frame_in ram x) (sym same)
@@ -166,36 +198,36 @@ show_one true n ram was now lt away s = record {
   high = λ i above.
       get_or-set_other now n i (frame_in ram n) [] (λ same. absurd (omega (arith, above, same)))
       ∙ s.high i (omega (arith, above));
-}
-show_one false n ram was now lt away s = record {
+})
+show_one false n ram was seen lt away s = (let now = seen.ram in record {
   low = λ i less. elim (cases_eq i n) [
     | inl same ↦
         subst (λ (x : ℕ). frame_in now x ≡ frame_in ram x) (sym same) (s.high n (omega arith) ∙ sym (away refl))
     | inr other ↦ s.low i (omega (arith, less, other))
   ];
   high = λ i above. s.high i (omega (arith, above));
-}
+})
 
-show_below : (test : ℕ → Bool) (ram was : List (List ℕ)) →
-    ((f : ℕ) → test f ≡ false → frame_in ram f ≡ frame_in was f) →
-    (n : ℕ) → n ≤ length was → IsShownBelow n ram was (with_shown (shown_below test ram n) was)
+show_below : (test : ℕ → Bool) (ram : List (List ℕ)) (was : Seen) →
+    ((f : ℕ) → test f ≡ false → frame_in ram f ≡ frame_in was.ram f) →
+    (n : ℕ) → n ≤ length was.ram → IsShownBelow n ram was.ram (with_shown (shown_below test ram n) was).ram
 show_below test ram was away zero le = record { low = λ i less. absurd (omega (arith, less)); high = λ i above. refl }
 show_below test ram was away (suc n) le =
-    let now : List (List ℕ) = with_shown (shown_below test ram n) was in
+    let now : Seen = with_shown (shown_below test ram n) was in
     let count = length-with_shown (shown_below test ram n) was in
-    subst (λ (x : List (List ℕ)). IsShownBelow (suc n) ram was x)
+    subst (λ (x : Seen). IsShownBelow (suc n) ram was.ram x.ram)
     (sym (ap (λ (l : List (ℕ × List ℕ)). with_shown l was) (below_more test ram n)
     ∙ with_shown-append (shown_below test ram n) (map (λ (f : ℕ). (f, frame_in ram f)) (filter test (n ∷ []))) was))
-    (show_one (test n) n ram was now (omega (arith, count, le)) (away n)
+    (show_one (test n) n ram was.ram now (omega (arith, count, le)) (away n)
     (show_below test ram was away n (omega (arith, le))))
 
-pub shown_whole : (test : ℕ → Bool) (ram was : List (List ℕ)) → length ram ≡ length was →
-    ((f : ℕ) → test f ≡ false → frame_in ram f ≡ frame_in was f) → with_shown (shown_below test ram (length ram)) was
-    ≡ ram
+pub shown_whole : (test : ℕ → Bool) (ram : List (List ℕ)) (was : Seen) → length ram ≡ length was.ram →
+    ((f : ℕ) → test f ≡ false → frame_in ram f ≡ frame_in was.ram f) →
+    (with_shown (shown_below test ram (length ram)) was).ram ≡ ram
 shown_whole test ram was count away =
     let s = show_below test ram was away (length ram) (omega (arith, count)) in
     let same = length-with_shown (shown_below test ram (length ram)) was in
-    ext_get_or [] (with_shown (shown_below test ram (length ram)) was) ram (same ∙ sym count)
+    ext_get_or [] (with_shown (shown_below test ram (length ram)) was).ram ram (same ∙ sym count)
     (λ i less. s.low i (omega (arith, less, same, count)))
 
 frames_one : (test : Bool) (n : ℕ) (ram was : List (List ℕ)) → n < length was → (rest : List (ℕ × List ℕ)) →
@@ -246,24 +278,34 @@ pub record IsOpened (b : Bundle) (o : Opened) : Type 0 where
   pub items : o.items ≡ cipher_items ciphers
   pub frames : AreFrames (started_kernel b.kernel).ram ciphers
   pub part : kernel_part o.joint
-      ≡ record (started_kernel b.kernel) { ram = with_shown ciphers (started_kernel b.kernel).ram }
+      ≡ with_kernel_seen (with_shown ciphers (kernel_seen (started_kernel b.kernel))) (started_kernel b.kernel)
   pub steady : IsSteady o.joint
+
+started_none : (k : KernelImage) → AreNone k.harts (started_kernel k).marks
+unfolding started_kernel
+started_none k = refl
 
 opened_memory : (b : Bundle) (keys : Keys) (rest : Random) (m : CloakedMemory) →
     PlacesApart (IsAway b.programs) (started_memory b.kernel keys rest) m →
     IsOpened b (record { joint = started_joint b m; items = opening_items b.programs m.ram })
 unfolding started_memory started_joint
 opened_memory b keys rest m placed =
-    let was : List (List ℕ) = (started_kernel b.kernel).ram in
+    let k : KernelPart = started_kernel b.kernel in
+    let was : Seen = kernel_seen k in
     let ciphers : List (ℕ × List ℕ) = shown_below (is_placed b.programs) m.ram (length m.ram) in
-    let whole = shown_whole (is_placed b.programs) m.ram was placed.count placed.others in
+    let whole : (with_shown ciphers was).ram ≡ m.ram =
+    shown_whole (is_placed b.programs) m.ram was placed.count placed.others in
+    let none = started_none b.kernel in
+    let marks : m.marks ≡ (with_shown ciphers was).marks =
+    placed.marks b.kernel.harts none ∙ sym (none_shown ciphers b.kernel.harts was none) in
     let count = placed.count in
     record {
       ciphers = ciphers;
       items = items_by m.ram (filter (is_placed b.programs) (numbers_below (length m.ram)));
-      frames = frames_below (is_placed b.programs) m.ram was (length m.ram) (omega (arith, count));
-      part = ap (λ (ram : List (List ℕ)). let k : KernelPart = record (started_kernel b.kernel) { ram = ram } in k)
-          (sym whole);
+      frames = frames_below (is_placed b.programs) m.ram was.ram (length m.ram) (omega (arith, count));
+      part = ap (λ (ram : List (List ℕ)). with_kernel_seen (record { ram = ram; marks = m.marks }) k) (sym whole)
+          ∙ ap (λ (l : List (Option ℕ)). with_kernel_seen (record { ram = (with_shown ciphers was).ram; marks = l }) k)
+          marks;
       steady = record {
         places = ap length placed.owed ∙ (started_places b.kernel keys rest ∙ sym placed.count);
         programs = started_from 0 b.programs;

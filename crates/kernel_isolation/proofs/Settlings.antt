@@ -1,17 +1,20 @@
 -- What the kernel is shown by settling and by offers: RAM is then as it was shown, and a frame that was shown is there.
 use Rattle.std.proofs.Common.{◌≡◌, ◌∙◌, ℕ, zero, suc, ◌<◌, Bool, true, false, List, [], ◌∷◌, ◌++◌, length, Option, None, Some, slice_set, slice_index_or, refl, sym, ap, subst, inl, inr}
+use Rattle.std.specs.Prelude.{◌==◌}
 use Rattle.std.specs.List.{find}
 use Rattle.std.specs.Str.{bytes_eq}
 use Rattle.std.proofs.lemmas.Bool.{cases_lt}
-use Rattle.std.proofs.lemmas.List.{length-set, get_or_past}
+use Rattle.std.proofs.lemmas.List.{length-set, map-set, get_or_past}
 use Rattle.cloak_base.specs.declared.names.PageId.{PageId}
+use Rattle.cloak_base.specs.Constants.{frame_of}
 use Rattle.cloak_base.specs.Random.{Random}
 use Rattle.cloak_model.specs.Ahead.{is_owed, settle_found, settle_while, settle_touched, with_shown}
-use Rattle.cloak_model.specs.Cloaking.{CloakedMemory, AfterSettling, AfterOffer, owed_in, settle_owed, settle_if, settle, settle_frame_if, owing_frame, owes, with_owed, with_comparison, taken, Ready, Mismatch, compared, unless_missed, offer}
+use Rattle.cloak_model.specs.Cloaking.{CloakedMemory, AfterSettling, AfterOffer, owed_in, settle_owed, settle_if, settle, settle_frame_if, owing_frame, owes, with_owed, with_comparison, taken, Ready, Mismatch, compared, unless_missed, offer, seen_in}
 use Rattle.cloak_model.specs.Hart.{Hart}
 use Rattle.cloak_model.specs.Ledger.{vector_of}
 use Rattle.cloak_model.specs.Touched.{touched}
 use Rattle.kernel_isolation.proofs.Shown.{AreFrames, either, frames_stay}
+use Rattle.cloak_model.specs.Memory.{Seen, filled, unless_written, with_mark}
 
 -- each frame of RAM has its place among what is owed
 abbrev pub HasPlaces : CloakedMemory → Type 0
@@ -20,18 +23,35 @@ HasPlaces m = length m.ledger.owed ≡ length m.ram
 -- A memory after the kernel was shown these Ciphers.
 pub record ShownBy (m : CloakedMemory) (ciphers : List (ℕ × List ℕ)) (after : CloakedMemory) : Type 0 where
   pub frames : AreFrames m.ram ciphers
-  pub ram : after.ram ≡ with_shown ciphers m.ram
+  pub seen : seen_in after ≡ with_shown ciphers (seen_in m)
   pub places : HasPlaces after
 
-pub length-with_shown : (ciphers : List (ℕ × List ℕ)) (ram : List (List ℕ)) →
-    length (with_shown ciphers ram) ≡ length ram
-length-with_shown [] ram = refl
-length-with_shown (c ∷ ciphers) ram = length-with_shown ciphers (slice_set ram c.0 c.1) ∙ length-set ram c.0 c.1
+pub length-with_shown : (ciphers : List (ℕ × List ℕ)) (seen : Seen) →
+    length (with_shown ciphers seen).ram ≡ length seen.ram
+length-with_shown [] seen = refl
+length-with_shown (c ∷ ciphers) seen = length-with_shown ciphers (filled c.0 c.1 seen) ∙ length-set seen.ram c.0 c.1
 
-pub with_shown-append : (a b : List (ℕ × List ℕ)) (ram : List (List ℕ)) →
-    with_shown (a ++ b) ram ≡ with_shown b (with_shown a ram)
-with_shown-append [] b ram = refl
-with_shown-append (c ∷ a) b ram = with_shown-append a b (slice_set ram c.0 c.1)
+pub with_shown-append : (a b : List (ℕ × List ℕ)) (seen : Seen) →
+    with_shown (a ++ b) seen ≡ with_shown b (with_shown a seen)
+with_shown-append [] b seen = refl
+with_shown-append (c ∷ a) b seen = with_shown-append a b (filled c.0 c.1 seen)
+
+-- a hart's reservation ends
+abbrev pub unmarked : ℕ → Seen → Seen
+unmarked hart seen = record seen { marks = with_mark hart None seen.marks }
+
+filled_unmarked : (hart f : ℕ) (bytes : List ℕ) (seen : Seen) →
+    filled f bytes (unmarked hart seen) ≡ unmarked hart (filled f bytes seen)
+filled_unmarked hart f bytes seen =
+    ap (λ (marks : List (Option ℕ)). let s : Seen = record { ram = slice_set seen.ram f bytes; marks = marks } in s)
+    (map-set (unless_written (λ mark. frame_of mark == f)) seen.marks hart None)
+
+-- it may as well end before something is shown
+pub shown_unmarked : (hart : ℕ) (ciphers : List (ℕ × List ℕ)) (seen : Seen) →
+    with_shown ciphers (unmarked hart seen) ≡ unmarked hart (with_shown ciphers seen)
+shown_unmarked hart [] seen = refl
+shown_unmarked hart (c ∷ ciphers) seen =
+    ap (with_shown ciphers) (filled_unmarked hart c.0 c.1 seen) ∙ shown_unmarked hart ciphers (filled c.0 c.1 seen)
 
 pub frames-append : (ram : List (List ℕ)) (a b : List (ℕ × List ℕ)) → AreFrames ram a → AreFrames ram b →
     AreFrames ram (a ++ b)
@@ -39,14 +59,15 @@ frames-append ram [] b here there = there
 frames-append ram (c ∷ a) b here there = (here.0, frames-append ram a b here.1 there)
 
 pub ShownBy-none : (m : CloakedMemory) → HasPlaces m → ShownBy m [] m
-ShownBy-none m places = record { frames = tt; ram = refl; places = places }
+ShownBy-none m places = record { frames = tt; seen = refl; places = places }
 
 pub ShownBy-append : (m n o : CloakedMemory) (a b : List (ℕ × List ℕ)) → ShownBy m a n → ShownBy n b o →
     ShownBy m (a ++ b) o
 ShownBy-append m n o a b first second = record {
   frames = frames-append m.ram a b first.frames
-      (frames_stay n.ram m.ram b (sym (ap length first.ram ∙ length-with_shown a m.ram)) second.frames);
-  ram = second.ram ∙ (ap (with_shown b) first.ram ∙ sym (with_shown-append a b m.ram));
+      (frames_stay n.ram m.ram b
+      (sym (ap (λ (x : Seen). length x.ram) first.seen ∙ length-with_shown a (seen_in m))) second.frames);
+  seen = second.seen ∙ (ap (with_shown b) first.seen ∙ sym (with_shown-append a b (seen_in m)));
   places = second.places;
 }
 
@@ -60,13 +81,14 @@ within xs f q some = elim (cases_lt f (length xs)) [
 ]
 
 one_shown : (m after : CloakedMemory) (f : ℕ) (bytes : List ℕ) → HasPlaces m → f < length m.ram →
-    after.ram ≡ slice_set m.ram f bytes → after.ledger.owed ≡ slice_set m.ledger.owed f None →
+    seen_in after ≡ filled f bytes (seen_in m) → after.ledger.owed ≡ slice_set m.ledger.owed f None →
     ShownBy m ((f, bytes) ∷ []) after
-one_shown m after f bytes places lt ram owed = record {
+one_shown m after f bytes places lt seen owed = record {
   frames = (lt, tt);
-  ram = ram;
+  seen = seen;
   places = ap length owed
-      ∙ (length-set m.ledger.owed f None ∙ (places ∙ (sym (length-set m.ram f bytes) ∙ sym (ap length ram))));
+      ∙ (length-set m.ledger.owed f None
+      ∙ (places ∙ (sym (length-set m.ram f bytes) ∙ sym (ap (λ (x : Seen). length x.ram) seen))));
 }
 
 owed_shown : (f : ℕ) (q : PageId) (draw : Option (List ℕ × Random)) (m : CloakedMemory) → HasPlaces m →
@@ -122,21 +144,24 @@ frame_if_shown None m places = ShownBy-none m places
 frame_if_shown (Some f) m places = settle_shown f m places
 
 -- what is owed changes, and not in number
-owed_kept : (m after : CloakedMemory) (f : ℕ) (o : Option PageId) → HasPlaces m → after.ram ≡ m.ram →
+owed_kept : (m after : CloakedMemory) (f : ℕ) (o : Option PageId) → HasPlaces m → seen_in after ≡ seen_in m →
     after.ledger.owed ≡ slice_set m.ledger.owed f o → ShownBy m [] after
-owed_kept m after f o places ram owed = record {
+owed_kept m after f o places seen owed = record {
   frames = tt;
-  ram = ram;
-  places = ap length owed ∙ (length-set m.ledger.owed f o ∙ (places ∙ sym (ap length ram)));
+  seen = seen;
+  places = ap length owed ∙ (length-set m.ledger.owed f o ∙ (places ∙ sym (ap (λ (x : Seen). length x.ram) seen)));
 }
 
-taken_shown : (q : PageId) (g : ℕ) (write : Bool) (m after : CloakedMemory) → HasPlaces m → after.ram ≡ m.ram →
+taken_shown : (q : PageId) (g : ℕ) (write : Bool) (m after : CloakedMemory) → HasPlaces m → seen_in after ≡ seen_in m →
     after.ledger.owed ≡ m.ledger.owed → ShownBy m [] (taken q g write after)
-taken_shown q g true m after places ram owed =
-    owed_kept m (taken q g true after) g (Some q) places ram
+taken_shown q g true m after places seen owed =
+    owed_kept m (taken q g true after) g (Some q) places seen
     (ap (λ (l : List (Option PageId)). slice_set l g (Some q)) owed)
-taken_shown q g false m after places ram owed =
-    record { frames = tt; ram = ram; places = ap length owed ∙ (places ∙ sym (ap length ram)) }
+taken_shown q g false m after places seen owed = record {
+  frames = tt;
+  seen = seen;
+  places = ap length owed ∙ (places ∙ sym (ap (λ (x : Seen). length x.ram) seen));
+}
 
 compared_shown : (q : PageId) (g : ℕ) (write : Bool) (recorded : Option (List ℕ)) (m : CloakedMemory) → HasPlaces m →
     OfferShown m (compared q g write recorded m)
@@ -148,7 +173,7 @@ compared_shown q g write (Some c) m places =
     let same : AfterOffer = record { memory = taken q g write after; ciphers = []; answer = Ready } in
     let other : AfterOffer = record { memory = after; ciphers = []; answer = Mismatch } in
     either (OfferShown m) (bytes_eq there c) same other (taken_shown q g write m after places refl refl)
-    (record { frames = tt; ram = refl; places = places })
+    (record { frames = tt; seen = refl; places = places })
 
 unless_shown : (m : CloakedMemory) (s : AfterSettling) (next : CloakedMemory → AfterOffer) →
     ShownBy m s.ciphers s.memory →

@@ -12,24 +12,24 @@ use Rattle.cloak_model.specs.declared.inside.Went.TheVariants as went
 use Rattle.cloak_model.specs.declared.item.Item.{Item}
 use Rattle.cloak_model.specs.declared.item.Item.TheVariants as item
 use Rattle.cloak_model.specs.declared.outcome.Kernel.{Kernel}
-use Rattle.cloak_model.specs.declared.outcome.Kernel.TheVariants.{Stay, Put, Halt, Resume}
+use Rattle.cloak_model.specs.declared.outcome.Kernel.TheVariants.{Stay, Put, Halt, Resume, Trapped}
 use Rattle.cloak_model.specs.Ahead.{settle_touched, settled_step, made_after, with_shown}
 use Rattle.cloak_model.specs.Asking.{Told}
-use Rattle.cloak_model.specs.Cloaking.{CloakedMemory, AfterSettling}
+use Rattle.cloak_model.specs.Cloaking.{CloakedMemory, AfterSettling, seen_in, with_seen}
 use Rattle.cloak_model.specs.Contexts.{Admitted, context_at, context_number, domain_of, slot_of}
 use Rattle.cloak_model.specs.Csr.{satp_of}
 use Rattle.cloak_model.specs.DomainState.{Control, Domain}
 use Rattle.cloak_model.specs.DomainStep.{DomainStepped}
 use Rattle.cloak_model.specs.Hart.{Hart, started}
 use Rattle.cloak_model.specs.Hypercalls.{Stepped}
-use Rattle.cloak_model.specs.Joint.{Moment, Turn, quiet, next_hart, hart_in, with_hart, cloak_of, cloak_outside, memory_of, outside_ended, after_outside, outside_step, domain_ended, with_domain, after_domain_step, pages_for, interrupt_ended, after_interrupt, by_interrupt, left, not_running, by_running, inside_step, turn_of, domain_met, without_domain_roots, end_domain, refuses, ends_once, ends_resumed, ends_asked, answers_violation, step_before_end, joint_step, stop_of}
-use Rattle.cloak_model.specs.KernelAlone.{kernel_hart, with_kernel_hart, console_byte, has_halted}
+use Rattle.cloak_model.specs.Joint.{Moment, Turn, quiet, next_hart, hart_in, with_hart, cloak_of, cloak_outside, memory_of, outside_ended, after_outside, outside_step, domain_ended, with_domain, after_domain_step, pages_for, interrupt_ended, after_interrupt, by_interrupt, left, not_running, by_running, inside_step, turn_of, domain_met, without_domain_roots, end_domain, refuses, ends_once, ends_resumed, ends_asked, answers_violation, step_before_end, joint_step, stop_of, without_mark}
+use Rattle.cloak_model.specs.KernelAlone.{kernel_hart, with_kernel_hart, console_byte, has_halted, after_plain_step, kernel_seen, with_kernel_seen}
 use Rattle.cloak_model.specs.KernelStep.{kernel_step, ticked}
 use Rattle.cloak_model.specs.Leaving.{leave}
 use Rattle.cloak_model.specs.Parts.{Joint, KernelPart, kernel_part}
 use Rattle.cloak_model.specs.Resuming.{AfterResume, by_root, by_context, by_domain, resume}
-use Rattle.cloak_model.specs.World.{World, Cloak, Flat, Cloaked, Alone, ram_of, items_of, cipher_items}
-use Rattle.std.specs.List.{find, Contains}
+use Rattle.cloak_model.specs.World.{World, Cloak, Flat, Cloaked, Alone, items_of, cipher_items, seen_of}
+use Rattle.std.specs.List.{find}
 use Rattle.cloak_model.specs.Ahead.{is_owed}
 use Rattle.cloak_model.specs.Ending.{ask_end, cloak_for, ended_domain}
 use Rattle.cloak_model.specs.HostCalls.{SteppedKernel}
@@ -41,15 +41,16 @@ use Rattle.settling_ahead.specs.Touching.{Agrees}
 use Rattle.kernel_isolation.proofs.Between.{KernelStepIsAlone, hart_behind}
 use Rattle.kernel_isolation.proofs.Shown.{AreFrames, frames_stay}
 use Rattle.kernel_isolation.proofs.OutsideSteps.{AreInward, HaltsAsStops, shown_part, plain_told, plain_part, outside_step_is_alone}
-use Rattle.kernel_isolation.proofs.Settlings.{HasPlaces, ShownBy, length-with_shown, with_shown-append, frames-append, touched_shown}
-use Rattle.kernel_isolation.proofs.Resumes.{is_resume, resume_keeps}
+use Rattle.kernel_isolation.proofs.Settlings.{HasPlaces, ShownBy, length-with_shown, with_shown-append, unmarked, shown_unmarked, frames-append, touched_shown}
+use Rattle.kernel_isolation.proofs.Resumes.{is_resume, marked, resume_keeps}
 use Rattle.kernel_isolation.proofs.Ends.{AreOwed, with_shown-apart, find_none, EndsIn, end_shows}
 use Rattle.kernel_isolation.proofs.Items.{AreWithin, with_items, with_items-append, length-with_items, within-append, ciphers_within, with_ciphers}
-use Rattle.kernel_isolation.proofs.InsideSteps.{after_inside, ticked_hart, staying_step_is_alone, leaving_step_is_alone}
+use Rattle.kernel_isolation.proofs.InsideSteps.{after_inside, ticked_hart, staying_step_is_alone, leaving_step_is_alone, left_inside}
 use Rattle.kernel_isolation.proofs.Markers.{AreOfStep, of_step-append, ciphers_of_step, inward_of_step, within_of_step}
-use Rattle.kernel_isolation.proofs.Accounts.{IsJointWorld, is_joint, Account}
+use Rattle.kernel_isolation.proofs.Accounts.{IsJointWorld, is_joint, Account, ram_seen}
 use Rattle.kernel_isolation.proofs.StepAccounts.{accounts_domain_step}
 use Rattle.kernel_isolation.proofs.Numbers.{AreFrom, ShowsContext, number_of_context, number_at, set_number, numbers_step, numbers_interrupt, resume_number}
+use Rattle.cloak_model.specs.Memory.{Seen, with_mark}
 
 -- What each step keeps of the joint machine.
 pub record IsSteady (j : Joint) : Type 0 where
@@ -169,6 +170,14 @@ ends_as j number items Stay steady = record {
   halts = λ none. refl;
   steady = steady;
 }
+ends_as j number items Trapped steady = record {
+  others = [];
+  written = sym (append-nil items);
+  inward = tt;
+  part = console_same j;
+  halts = λ none. refl;
+  steady = steady;
+}
 ends_as j number items (Put b) steady = record {
   others = [];
   written = sym (append-nil items);
@@ -209,102 +218,110 @@ outside_for schedule n k ciphers others stops number same outside frames inward 
     (λ out ends. outside_step_is_alone schedule n k ciphers others stops out frames inward ends) outside halts
 
 -- A resuming that is refused: what is shown behind it may as well be shown before its step, which does not touch these
--- frames, and writes none.
+-- frames, writes none, and ends its hart's reservation alone.
 
 record IsRefused (j : Joint) (number : ℕ) (s : AfterSettling) (ctx reply : ℕ) : Type 0 where
   pub paid : find (is_owed s.memory) (touched (hart_in j number) s.memory.ram j.disk) ≡ None
   pub shown : ShownBy j.memory s.ciphers s.memory
-  pub ends : (kernel_step (hart_in j number) j.disk (Flat s.memory.ram)).answer.ending ≡ Resume ctx reply
+  pub ends : (kernel_step (hart_in j number) j.disk (Flat (seen_in s.memory))).answer.ending ≡ Resume ctx reply
+
+-- what the step tells behind what is shown
+refused_later : (j : Joint) (number : ℕ) (s : AfterSettling) (ctx reply : ℕ) (c : List (ℕ × List ℕ)) →
+    IsRefused j number s ctx reply → AreOwed s.memory c →
+    let a = (kernel_step (hart_in j number) j.disk (Flat (seen_in s.memory))).answer in
+    let later : Seen = with_shown c (seen_in s.memory) in
+    kernel_step (hart_in j number) j.disk (Flat later)
+    ≡ record { answer = a; world = Flat (unmarked a.hart.id later) }
+refused_later j number s ctx reply c r owed =
+    let h = hart_in j number in
+    let before : Seen = seen_in s.memory in
+    let later : Seen = with_shown c before in
+    let apart : Seen = marked before.marks later in
+    let agrees : Agrees (touched h before.ram j.disk) before apart = record {
+      count = length-with_shown c before;
+      same = λ f there. with_shown-apart s.memory c before f
+          (find_none (is_owed s.memory) (touched h before.ram j.disk) f r.paid there) owed;
+      marks = refl;
+    } in
+    let same : (kernel_step h j.disk (Flat apart)).answer ≡ (kernel_step h j.disk (Flat before)).answer =
+    reads_touched_alone h j.disk before apart agrees in
+    let ends : (kernel_step h j.disk (Flat apart)).answer.ending ≡ Resume ctx reply =
+    ap (λ (a : SteppedKernel). a.ending) same ∙ r.ends in
+    resume_keeps h j.disk apart later.marks (ap is_resume ends)
+    ∙ ap (λ (a : SteppedKernel). let t : Told SteppedKernel =
+    record { answer = a; world = Flat (unmarked a.hart.id later) } in t) same
+
+-- what it leaves of memory
+refused_world : (j : Joint) (number : ℕ) (s : AfterSettling) (ctx reply : ℕ) → IsRefused j number s ctx reply →
+    let told = kernel_step (hart_in j number) j.disk (Flat (seen_in s.memory)) in
+    told.world ≡ Flat (unmarked told.answer.hart.id (seen_in s.memory))
+refused_world j number s ctx reply r =
+    ap (λ (told : Told SteppedKernel). told.world)
+    (resume_keeps (hart_in j number) j.disk (seen_in s.memory) s.memory.marks (ap is_resume r.ends))
 
 refused_part : (j : Joint) (number : ℕ) (s : AfterSettling) (ctx reply : ℕ) (c : List (ℕ × List ℕ)) →
     IsRefused j number s ctx reply → AreOwed s.memory c →
-    let told = kernel_step (hart_in j number) j.disk (Flat s.memory.ram) in
+    let told = kernel_step (hart_in j number) j.disk (Flat (seen_in s.memory)) in
     let after : KernelPart = record {
       harts = slice_set j.harts number told.answer.hart;
-      ram = with_shown c (ram_of told.world);
+      ram = (with_shown c (seen_of told.world)).ram;
       disk = told.answer.disk;
       console = j.console;
+      marks = (with_shown c (seen_of told.world)).marks;
     } in
     let again = shown_part (s.ciphers ++ c) (kernel_part j) in
     (after ≡ plain_part number again) × (has_halted (plain_told number again).answer.ending ≡ false)
 refused_part j number s ctx reply c r owed =
-    let h = hart_in j number in
-    let before : List (List ℕ) = s.memory.ram in
-    let later : List (List ℕ) = with_shown c before in
     let k : KernelPart = kernel_part j in
-    let agrees : Agrees (touched h before j.disk) before later = record {
-      count = length-with_shown c before;
-      same = λ f there. with_shown-apart s.memory c before f
-          (find_none (is_owed s.memory) (touched h before j.disk) f r.paid there) owed;
+    let before : Seen = seen_in s.memory in
+    let later : Seen = with_shown c before in
+    let told = kernel_step (hart_in j number) j.disk (Flat before) in
+    let hart : ℕ = told.answer.hart.id in
+    let told_later = refused_later j number s ctx reply c r owed in
+    let all : with_shown (s.ciphers ++ c) (seen_in j.memory) ≡ later =
+    with_shown-append s.ciphers c (seen_in j.memory) ∙ ap (with_shown c) (sym r.shown.seen) in
+    let shown : unmarked hart later ≡ with_shown c (seen_of told.world) =
+    sym (shown_unmarked hart c before)
+    ∙ ap (λ (w : World). with_shown c (seen_of w)) (sym (refused_world j number s ctx reply r)) in
+    let made : Seen → KernelPart = λ seen. plain_part number (with_kernel_seen seen k) in
+    let with_both : List ℕ → Seen → KernelPart = λ console seen. record {
+      harts = slice_set j.harts number told.answer.hart;
+      ram = seen.ram;
+      disk = told.answer.disk;
+      console = console;
+      marks = seen.marks;
     } in
-    let same : (kernel_step h j.disk (Flat later)).answer ≡ (kernel_step h j.disk (Flat before)).answer =
-    reads_touched_alone h j.disk before later agrees in
-    let ends : (kernel_step h j.disk (Flat later)).answer.ending ≡ Resume ctx reply =
-    ap (λ (a : SteppedKernel). a.ending) same ∙ r.ends in
-    let now = resume_keeps h j.disk before (ap is_resume r.ends) in
-    let then = resume_keeps h j.disk later (ap is_resume ends) in
-    let all : with_shown (s.ciphers ++ c) j.memory.ram ≡ later =
-    with_shown-append s.ciphers c j.memory.ram ∙ ap (with_shown c) (sym r.shown.ram) in
-    let made : List (List ℕ) → KernelPart = λ ram. plain_part number (record k { ram = ram }) in
-    let of_answer : List (List ℕ) → SteppedKernel → KernelPart = λ ram a. record {
-      harts = slice_set j.harts number a.hart;
-      ram = ram;
-      disk = a.disk;
-      console = j.console ++ console_byte a.ending;
-    } in
-    let told = kernel_step h j.disk (Flat before) in
-    let part : made later ≡ record {
-      harts = slice_set j.harts number told.answer.hart;
-      ram = with_shown c (ram_of told.world);
-      disk = told.answer.disk;
-      console = j.console;
-    } =
-    ap (λ (w : World). of_answer (ram_of w) (kernel_step h j.disk (Flat later)).answer) then
-    ∙ ap (of_answer later) same
-    ∙ ap (λ (e : Kernel). let p : KernelPart = record {
-      harts = slice_set j.harts number told.answer.hart;
-      ram = later;
-      disk = told.answer.disk;
-      console = j.console ++ console_byte e;
-    } in p) r.ends
-    ∙ ap (λ (bytes : List ℕ). let p : KernelPart = record {
-      harts = slice_set j.harts number told.answer.hart;
-      ram = later;
-      disk = told.answer.disk;
-      console = bytes;
-    } in p) (append-nil j.console)
-    ∙ ap (λ (w : World). let p : KernelPart = record {
-      harts = slice_set j.harts number told.answer.hart;
-      ram = with_shown c (ram_of w);
-      disk = told.answer.disk;
-      console = j.console;
-    } in p) (sym now) in (
+    let part : made later ≡ with_both j.console (with_shown c (seen_of told.world)) =
+    ap (λ (t : Told SteppedKernel). after_plain_step k number t) told_later
+    ∙ ap (λ (e : Kernel). with_both (j.console ++ console_byte e) (unmarked hart later)) r.ends
+    ∙ ap (λ (bytes : List ℕ). with_both bytes (unmarked hart later)) (append-nil j.console)
+    ∙ ap (with_both j.console) shown in (
       sym part ∙ ap made (sym all),
-      ap (λ (ram : List (List ℕ)). has_halted (plain_told number (record k { ram = ram })).answer.ending) all
-          ∙ ap has_halted ends,
+      ap (λ (seen : Seen). has_halted (plain_told number (with_kernel_seen seen k)).answer.ending) all
+          ∙ ap (λ (t : Told SteppedKernel). has_halted t.answer.ending) told_later
+          ∙ ap has_halted r.ends,
     )
 
 refused_extends : (schedule : List ℕ) (n : ℕ) (j : Joint) (number : ℕ) (s : AfterSettling) (ctx reply : ℕ)
     (v : Violation) → hart_behind schedule n ≡ number → (hart_in j number).inside ≡ None →
     IsRefused j number s ctx reply →
-    let told = kernel_step (hart_in j number) j.disk (Flat s.memory.ram) in
+    let told = kernel_step (hart_in j number) j.disk (Flat (seen_in s.memory)) in
     let after : Joint = record j {
       harts = slice_set j.harts number told.answer.hart;
       disk = told.answer.disk;
-      memory = record s.memory { ram = ram_of told.world };
+      memory = with_seen (seen_of told.world) s.memory;
     } in
     Extends schedule n (kernel_part j)
     (record (quiet after (cipher_items s.ciphers ++ [])) { violation = Some v })
 refused_extends schedule n j number s ctx reply v same outside r c d stops frames owed =
     let k : KernelPart = kernel_part j in
-    let h = hart_in j number in
-    let told = kernel_step h j.disk (Flat s.memory.ram) in
+    let told = kernel_step (hart_in j number) j.disk (Flat (seen_in s.memory)) in
     let p = refused_part j number s ctx reply c r owed in
-    let now = resume_keeps h j.disk s.memory.ram (ap is_resume r.ends) in
-    let count : length k.ram ≡ length (ram_of told.world) =
-    sym (ap (λ (w : World). length (ram_of w)) now ∙ ap length r.shown.ram ∙ length-with_shown s.ciphers k.ram) in
+    let count : length k.ram ≡ length (seen_of told.world).ram =
+    sym (ap (λ (w : World). length (seen_of w).ram) (refused_world j number s ctx reply r)
+    ∙ ap (λ (x : Seen). length x.ram) r.shown.seen ∙ length-with_shown s.ciphers (kernel_seen k)) in
     let all : AreFrames k.ram (s.ciphers ++ c) =
-    frames-append k.ram s.ciphers c r.shown.frames (frames_stay (ram_of told.world) k.ram c count frames) in
+    frames-append k.ram s.ciphers c r.shown.frames (frames_stay (seen_of told.world).ram k.ram c count frames) in
     let items : (cipher_items s.ciphers ++ []) ++ (cipher_items c ++ item.Ended d ∷ [])
     ≡ cipher_items (s.ciphers ++ c) ++ item.Ended d ∷ [] =
     ap (λ (l : List Item). l ++ (cipher_items c ++ item.Ended d ∷ [])) (append-nil (cipher_items s.ciphers))
@@ -318,26 +335,28 @@ refused_extends schedule n j number s ctx reply v same outside r c d stops frame
 ends_extends : (schedule : List ℕ) (n : ℕ) (j : Joint) (number : ℕ) (s : AfterSettling) (e : Kernel) →
     hart_behind schedule n ≡ number → (hart_in j number).inside ≡ None → ShownBy j.memory s.ciphers s.memory →
     find (is_owed s.memory) (touched (hart_in j number) s.memory.ram j.disk) ≡ None →
-    let told = kernel_step (hart_in j number) j.disk (Flat s.memory.ram) in
+    let told = kernel_step (hart_in j number) j.disk (Flat (seen_in s.memory)) in
     told.answer.ending ≡ e →
     let after : Joint = record j {
       harts = slice_set j.harts number told.answer.hart;
       disk = told.answer.disk;
-      memory = record s.memory { ram = ram_of told.world };
+      memory = with_seen (seen_of told.world) s.memory;
     } in
     IsSteady after →
     let t : Turn = outside_ended after number (cipher_items s.ciphers) e in
     (v : Violation) → t.violation ≡ Some v → Extends schedule n (kernel_part j) t
 unfolding outside_ended
 ends_extends schedule n j number s Stay same outside shown paid is steady v met = let clash : None ≡ Some v = met in absurd cc
+ends_extends schedule n j number s Trapped same outside shown paid is steady v met =
+    let clash : None ≡ Some v = met in absurd cc
 ends_extends schedule n j number s (Put b) same outside shown paid is steady v met = let clash : None ≡ Some v = met in absurd cc
 ends_extends schedule n j number s (Halt value) same outside shown paid is steady v met = let clash : None ≡ Some v = met in absurd cc
 ends_extends schedule n j number s (Resume ctx reply) same outside shown paid is steady v met =
-    let told = kernel_step (hart_in j number) j.disk (Flat s.memory.ram) in
+    let told = kernel_step (hart_in j number) j.disk (Flat (seen_in s.memory)) in
     let after : Joint = record j {
       harts = slice_set j.harts number told.answer.hart;
       disk = told.answer.disk;
-      memory = record s.memory { ram = ram_of told.world };
+      memory = with_seen (seen_of told.world) s.memory;
     } in
     let r : AfterResume = resume after number (satp_of (hart_in after number).csrs) ctx reply in
     let u : IsUnseen after r = unseen after number (satp_of (hart_in after number).csrs) ctx reply steady in
@@ -357,25 +376,28 @@ unfolding after_outside made_after
 outside_by schedule n j number s same steady outside shown paid =
     let h = hart_in j number in
     let k : KernelPart = kernel_part j in
-    let told = kernel_step h j.disk (Flat s.memory.ram) in
+    let told = kernel_step h j.disk (Flat (seen_in s.memory)) in
     let after : Joint = record {
       harts = slice_set j.harts number told.answer.hart;
       disk = told.answer.disk;
       console = j.console;
-      memory = record s.memory { ram = ram_of told.world };
+      memory = with_seen (seen_of told.world) s.memory;
       domains = j.domains;
       ended = j.ended;
       refused = j.refused;
     } in
     let items : List Item = cipher_items s.ciphers in
-    let count = (writes_touched_alone h j.disk s.memory.ram).count in
-    let steady' : IsSteady after = record { places = shown.places ∙ sym count; programs = steady.programs } in
+    let count = (writes_touched_alone h j.disk (seen_in s.memory)).count in
+    let steady' : IsSteady after = record {
+      places = shown.places ∙ (sym count ∙ ap length (ram_seen told.world));
+      programs = steady.programs;
+    } in
     let t : Turn = outside_ended after number items told.answer.ending in
     let e : EndsAs after items told.answer.ending t = ends_as after number items told.answer.ending steady' in
     let stops = is_some (stop_of t) in
-    let made = λ (ram : List (List ℕ)). plain_part number (record k { ram = ram }) in
-    let part : kernel_part t.joint ≡ made (with_shown s.ciphers k.ram) = e.part ∙ ap made shown.ram in
-    let halts = subst (λ (ram : List (List ℕ)). HaltsAsStops number (record k { ram = ram }) stops) shown.ram e.halts in
+    let made = λ (seen : Seen). plain_part number (with_kernel_seen seen k) in
+    let part : kernel_part t.joint ≡ made (with_shown s.ciphers (kernel_seen k)) = e.part ∙ ap made shown.seen in
+    let halts = subst (λ (seen : Seen). HaltsAsStops number (with_kernel_seen seen k) stops) shown.seen e.halts in
     record {
       alone = told_as schedule n k (items ++ e.others) t.items _ (kernel_part t.joint) stops e.written part
           (outside_for schedule n k s.ciphers e.others stops number same outside shown.frames e.inward halts);
@@ -398,7 +420,7 @@ outside_turn schedule n j number same steady outside =
 -- the joint machine after the items of a step inside
 record IsReached (j j' : Joint) (items : List Item) : Type 0 where
   pub within : AreWithin j.memory.ram items
-  pub part : kernel_part j' ≡ record (kernel_part j) { ram = with_items items j.memory.ram }
+  pub part : kernel_part j' ≡ with_kernel_seen (with_items items (seen_in j.memory)) (kernel_part j)
   pub steady : IsSteady j'
 
 -- the hart that makes the step
@@ -407,7 +429,7 @@ record IsInside (schedule : List ℕ) (n : ℕ) (j : Joint) (number ctx : ℕ) :
   pub inside : (hart_in j number).inside ≡ Some ctx
 
 there_by : (harts : List Hart) (number ctx : ℕ) → (started 0 0).inside ≡ None →
-    (kernel_hart (record { harts = harts; ram = []; disk = []; console = [] }) number).inside ≡ Some ctx →
+    (kernel_hart (record { harts = harts; ram = []; disk = []; console = []; marks = [] }) number).inside ≡ Some ctx →
     number < length harts
 there_by harts number ctx none inside = elim (cases_lt number (length harts)) [
   | inl lt ↦ lt
@@ -428,14 +450,16 @@ stays_on schedule n j j' number ctx items t inside reached written joint c d sto
     let k : KernelPart = kernel_part j in
     let h = ticked (hart_in j number) in
     let more : List Item = cipher_items c ++ item.Ended d ∷ [] in
-    let ram : t.joint.memory.ram ≡ with_items items k.ram =
-    ap (λ (x : Joint). x.memory.ram) joint ∙ ap (λ (p : KernelPart). p.ram) reached.part in
+    let seen : seen_in t.joint.memory ≡ with_items items (kernel_seen k) =
+    ap (λ (x : Joint). seen_in x.memory) joint ∙ ap (λ (p : KernelPart). kernel_seen p) reached.part in
     let part : kernel_part t.joint ≡ after_inside number h items k =
     ap (λ (x : Joint). kernel_part x) joint ∙ ap (with_kernel_hart number h) reached.part in
-    let shown : with_shown c (with_items items k.ram) ≡ with_items (items ++ more) k.ram =
-    sym (with_items-append items more k.ram ∙ with_items-append (cipher_items c) (item.Ended d ∷ []) (with_items items k.ram)
-    ∙ with_ciphers c (with_items items k.ram)) in
-    let count : length k.ram ≡ length t.joint.memory.ram = sym (ap length ram ∙ length-with_items items k.ram) in
+    let shown : with_shown c (with_items items (kernel_seen k)) ≡ with_items (items ++ more) (kernel_seen k) =
+    sym (with_items-append items more (kernel_seen k)
+    ∙ with_items-append (cipher_items c) (item.Ended d ∷ []) (with_items items (kernel_seen k))
+    ∙ with_ciphers c (with_items items (kernel_seen k))) in
+    let count : length k.ram ≡ length t.joint.memory.ram =
+    sym (ap (λ (x : Seen). length x.ram) seen ∙ length-with_items items (kernel_seen k)) in
     let within : AreWithin k.ram (items ++ more) =
     within-append k.ram items more reached.within
     (within-append k.ram (cipher_items c) (item.Ended d ∷ [])
@@ -446,7 +470,7 @@ stays_on schedule n j j' number ctx items t inside reached written joint c d sto
     told_as schedule n k (items ++ more) (t.items ++ more) _ (shown_part c (kernel_part t.joint)) stops
     (ap (λ (l : List Item). l ++ more) written)
     (ap (shown_part c) part
-    ∙ ap (λ (x : List (List ℕ)). let p : KernelPart = record (with_kernel_hart number h k) { ram = x } in p) shown) step
+    ∙ ap (λ (x : Seen). with_kernel_seen x (with_kernel_hart number h k)) shown) step
 
 staying : (schedule : List ℕ) (n : ℕ) (j j' : Joint) (number ctx : ℕ) (items : List Item) (t : Turn) →
     IsInside schedule n j number ctx → IsReached j j' items → t.items ≡ items →
@@ -472,18 +496,22 @@ staying schedule n j j' number ctx items t inside reached written joint =
 
 leaving : (schedule : List ℕ) (n : ℕ) (j j' : Joint) (number ctx : ℕ) (items : List Item) (s : Shown) (t : Turn) →
     IsInside schedule n j number ctx → IsReached j j' items → s.ctx ≡ ctx → t.items ≡ items ++ item.Leave s ∷ [] →
-    t.joint ≡ with_hart number (leave (ticked (hart_in j number)) s) j' → t.violation ≡ None → TurnIsAlone schedule n j t
+    t.joint
+    ≡ with_hart number (leave (ticked (hart_in j number)) s) (record j' { memory = without_mark number j'.memory }) →
+    t.violation ≡ None → TurnIsAlone schedule n j t
 leaving schedule n j j' number ctx items s t inside reached same written joint none =
     let k : KernelPart = kernel_part j in
     let h = leave (ticked (hart_in j number)) s in
     let stops = is_some (stop_of t) in
     let lt = there_by j.harts number ctx started_outside inside.inside in
     let in_ctx : (hart_in j number).inside ≡ Some s.ctx = inside.inside ∙ ap (λ (c : ℕ). Some c) (sym same) in
-    let part : kernel_part t.joint ≡ after_inside number h items k =
-    ap (λ (x : Joint). kernel_part x) joint ∙ ap (with_kernel_hart number h) reached.part in
+    let part : kernel_part t.joint ≡ left_inside number h items k =
+    ap (λ (x : Joint). kernel_part x) joint
+    ∙ ap (λ (p : KernelPart). with_kernel_hart number h (record p { marks = with_mark number None p.marks }))
+    reached.part in
     let step = subst (λ (x : ℕ). x < length k.harts → (kernel_hart k x).inside ≡ Some s.ctx →
     KernelStepIsAlone schedule n k (items ++ item.Leave s ∷ [])
-    (after_inside x (leave (ticked_hart x k) s) items k) stops)
+    (left_inside x (leave (ticked_hart x k) s) items k) stops)
     inside.turn (λ low in'. leaving_step_is_alone schedule n k items s stops low in' reached.within) lt in_ctx in
     record {
       alone = told_as schedule n k (items ++ item.Leave s ∷ []) t.items _ (kernel_part t.joint) stops written part step;
@@ -521,7 +549,7 @@ domain_turn schedule n j j' number ctx d w (went.SpaceGone space s) items inside
     })
     shows (ap (λ (l : List Item). l ++ item.Leave s ∷ []) written) refl refl
 
-memory_ram : (w : World) (m : CloakedMemory) → is_joint w ≡ true → (memory_of w m).ram ≡ ram_of w
+memory_ram : (w : World) (m : CloakedMemory) → is_joint w ≡ true → seen_in (memory_of w m) ≡ seen_of w
 memory_ram (Flat ram) m form = refl
 memory_ram (Cloaked c) m form = refl
 memory_ram (Alone h) m form = absurd (false≢true form)
@@ -542,12 +570,12 @@ told_turn : (schedule : List ℕ) (n : ℕ) (j : Joint) (number ctx d : ℕ) (wa
 unfolding after_domain_step
 told_turn schedule n j number ctx d was c told inside steady there memory none account number' shows =
     let j' : Joint = record (with_domain d told.answer.domain j) { memory = memory_of told.world j.memory } in
-    let ram : (memory_of told.world j.memory).ram ≡ with_items account.items j.memory.ram =
+    let seen : seen_in (memory_of told.world j.memory) ≡ with_items account.items (seen_in j.memory) =
     memory_ram told.world j.memory account.joint.form
-    ∙ (account.ram ∙ ap (λ (m : CloakedMemory). with_items account.items m.ram) memory) in
+    ∙ (account.seen ∙ ap (λ (m : CloakedMemory). with_items account.items (seen_in m)) memory) in
     let reached : IsReached j j' account.items = record {
       within = subst (λ (m : CloakedMemory). AreWithin m.ram account.items) memory account.within;
-      part = ap (λ (x : List (List ℕ)). let k : KernelPart = record (kernel_part j) { ram = x } in k) ram;
+      part = ap (λ (x : Seen). with_kernel_seen x (kernel_part j)) seen;
       steady = record {
         places = memory_places told.world j.memory account.joint;
         programs = set_number d j.domains was told.answer.domain steady.programs there number';
@@ -690,7 +718,7 @@ end_alone schedule n j t d domain v turn met there =
     record {
       alone = told_as schedule n (kernel_part j) (t.items ++ more) _ _ (kernel_part (ended (Cloaked e.after)).joint) stops
           (ap (λ (l : List Item). t.items ++ (l ++ item.Ended d ∷ [])) e.shows.items)
-          (ap (λ (ram : List (List ℕ)). let p : KernelPart = record (kernel_part t.joint) { ram = ram } in p) e.shows.shown.ram)
+          (ap (λ (x : Seen). with_kernel_seen x (kernel_part t.joint)) e.shows.shown.seen)
           (turn.extends v met e.shows.ciphers d stops e.shows.shown.frames e.shows.owed);
       items = of_step-append t.items (e.after.items ++ item.Ended d ∷ []) turn.items
           (subst (λ (l : List Item). AreOfStep (l ++ item.Ended d ∷ [])) (sym e.shows.items)

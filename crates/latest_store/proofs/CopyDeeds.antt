@@ -26,7 +26,7 @@ use Rattle.latest_store.specs.Deeds.{load_at, byte_moves, phase_moves, context_m
 use Rattle.latest_store.proofs.Moved.{Agrees}
 use Rattle.latest_store.proofs.Numbers.{MapsHeld, HeldPlace, held_page, follows_same}
 use Rattle.latest_store.proofs.Fits.{fits_load, fits_store}
-use Rattle.latest_store.proofs.Heard.{Heard, heard_asked, Did, quiet, if_granted, with_plain_rewrites}
+use Rattle.latest_store.proofs.Heard.{Heard, heard_asked, Did, quiet, written_did, if_granted, with_plain_rewrites}
 use Rattle.latest_store.proofs.InstructionDeeds.{instruction_did}
 
 -- a copying step, and then its end
@@ -172,11 +172,12 @@ phase_did : (p : Phase) (slot : ℕ) (d : Domain) (history : List Move) (plain :
     (w : World) → Agrees history plain → Heard d.control.number plain [] w →
     Did plain d (phase_moves p history d.control c) (phase_step p slot c d w)
 unfolding phase_step phase_moves copy_in_step copy_out_step
-phase_did Plain slot d history plain c w agrees heard = instruction_did slot d history plain c w agrees heard
+phase_did Plain slot d history plain c w agrees heard =
+    written_did plain d _ _ _ (instruction_did slot d history plain c w agrees heard)
 phase_did (CopyIn done) slot d history plain c w agrees heard = in_step_did _ slot d plain c done w heard
 phase_did Waiting slot d history plain c w agrees heard = quiet _ _ _ _ _ w heard refl refl (follows_same _)
 phase_did (CopyOut done total) slot d history plain c w agrees heard =
-    out_step_did _ slot d plain c done total w heard
+    written_did plain d _ _ _ (out_step_did _ slot d plain c done total w heard)
 
 step_if_did : (o : Option Context) (slot : ℕ) (d : Domain) (history : List Move) (plain : PageId → List ℕ)
     (w : World) → Agrees history plain → Heard d.control.number plain [] w →

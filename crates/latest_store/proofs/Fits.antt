@@ -8,10 +8,12 @@ use Rattle.std.proofs.lemmas.List.Elements.{All-head, All-tail}
 use Rattle.cloak_base.specs.Pages.{is_of, page_in}
 use Rattle.cloak_base.proofs.Pages.{same_page-other, is_of-other, is_of-here}
 use Rattle.cloak_base.specs.declared.names.PageId.{PageId}
+use Rattle.rv_atomic.specs.Combine.{combined}
+use Rattle.rv_atomic.specs.declared.atomic.AtomicOp.{AtomicOp}
 use Rattle.cloak_model.specs.declared.resource.MapFault.{MapFault}
 use Rattle.cloak_model.specs.Fork.{private_numbers, copies, forked_resources}
 use Rattle.cloak_model.specs.Resources.{Resources, resource_at, drop_space}
-use Rattle.latest_store.specs.Moves.{Move, Makes, Stores, Copies, Zeros, Drops, Loads, covers, latest, with_moves}
+use Rattle.latest_store.specs.Moves.{Move, Makes, Stores, Combines, Copies, Zeros, Drops, Loads, covers, latest, latest_value, with_moves}
 use Rattle.latest_store.specs.Deeds.{made_moves}
 use Rattle.latest_store.proofs.Moved.{IsSound, AreSound}
 use Rattle.latest_store.proofs.Numbers.{MapsHeld, HasFew, Follows, HeldPlace, dropped_free, drop_maps, drop_few, Enough, fork_maps, fork_few, fork_free, fork_apart}
@@ -55,6 +57,28 @@ fits_store d r p from width value held = record {
   few = λ few. few;
   free = λ maps history zero q own free at.
       other_store p q from width value at history (λ same.
+      false≢true (ap is_some (sym free) ∙ ap (λ (x : PageId). is_some (resource_at r x.resource)) same ∙ held maps))
+      ∙ zero q own free at;
+}
+
+other_combine : (p q : PageId) (from : ℕ) (op : AtomicOp) (operand at : ℕ) (history : List Move) → q ≢ p →
+    latest (Combines p from op operand ∷ history) q at ≡ latest history q at
+unfolding latest
+other_combine p q from op operand at history other =
+    ap (λ (b : Bool). cond (b && covers from 4 at)
+    (slice_index (to_le_bytes w32 (combined op (latest_value history p from 4) operand)) (at - from))
+    (latest history q at)) (same_page-other q p other)
+
+-- an operation, after the load of the word that stood
+pub fits_combine : (d : ℕ) (r : Resources) (p : PageId) (address from : ℕ) (op : AtomicOp) (operand : ℕ) →
+    (MapsHeld r → HeldPlace r (Some p)) →
+    Fits d r (Loads p address 4 ∷ Combines p from op operand ∷ []) r
+unfolding latest
+fits_combine d r p address from op operand held = record {
+  maps = λ maps. maps;
+  few = λ few. few;
+  free = λ maps history zero q own free at.
+      other_combine p q from op operand at (Loads p address 4 ∷ history) (λ same.
       false≢true (ap is_some (sym free) ∙ ap (λ (x : PageId). is_some (resource_at r x.resource)) same ∙ held maps))
       ∙ zero q own free at;
 }
@@ -138,6 +162,8 @@ other_latest d (Makes p bytes) history q at sound other =
     (same_page-other q p (λ same. other (ap (λ (x : PageId). x.domain) same ∙ sound.0)))
 other_latest d (Stores p from width value) history q at sound other =
     other_store p q from width value at history (λ same. other (ap (λ (x : PageId). x.domain) same ∙ sound.0))
+other_latest d (Combines p from op operand) history q at sound other =
+    other_combine p q from op operand at history (λ same. other (ap (λ (x : PageId). x.domain) same ∙ sound.0))
 other_latest d (Copies domain from to) history q at sound other =
     ap (λ (b : Bool). cond b (latest history (page_in from q) at) (latest history q at))
     (is_of-other domain to q (λ is. other (is.0 ∙ sound)))

@@ -1,9 +1,10 @@
 -- What a program was told so far in a step, and what a part of a step did to its pages.
-use Rattle.std.proofs.Common.{◌≡◌, ◌∙◌, ℕ, Bool, true, cond, List, [], ◌∷◌, ◌++◌, refl, sym, ap, append-nil, eq-eqb}
+use Rattle.std.proofs.Common.{◌≡◌, ◌∙◌, ℕ, Bool, true, cond, List, [], ◌∷◌, ◌++◌, Option, Some, None, refl, sym, ap, append-nil, eq-eqb}
 use Rattle.std.specs.Prelude.{if◌then◌else◌}
 use Rattle.cloak_base.specs.declared.names.PageId.{PageId}
 use Rattle.cloak_model.specs.declared.answer.Answer.{Answer}
 use Rattle.cloak_model.specs.declared.answer.Answer.TheVariants as told
+use Rattle.cloak_model.specs.declared.context.WordPlace.{WordPlace}
 use Rattle.cloak_model.specs.declared.item.Item.{Item}
 use Rattle.cloak_model.specs.declared.item.Item.TheVariants as item
 use Rattle.cloak_model.specs.Halves.{inward_half}
@@ -11,7 +12,7 @@ use Rattle.cloak_model.specs.World.{World, Flat, Cloaked, Alone, plain_of, view_
 use Rattle.cloak_model.specs.Asking.{Told}
 use Rattle.cloak_model.specs.AskPages.{answer_item}
 use Rattle.cloak_model.specs.DomainState.{Domain}
-use Rattle.cloak_model.specs.DomainStep.{DomainStepped}
+use Rattle.cloak_model.specs.DomainStep.{DomainStepped, after_write}
 use Rattle.domain_isolation.proofs.Scripts.{Question, asked}
 use Rattle.domain_isolation.proofs.Steady.{is_cloaked}
 use Rattle.domain_isolation.proofs.Answers.{question_answered}
@@ -87,6 +88,27 @@ quiet plain was moves answers x w heard none same follows =
     (ap (λ (ms : List Move). given_by ms plain) none) same
     (fits_none was.control.number was.control.resources (moves answers) x.domain.control.resources none follows)
 
+-- A word that was written in changes reservations alone.
+pub written_did : (plain : PageId → List ℕ) (was : Domain) (moves : List Item → List Move) (wrote : Option WordPlace)
+    (t : Told DomainStepped) → Did plain was moves t →
+    Did plain was moves (record { answer = after_write wrote t.answer; world = t.world })
+written_did plain was moves None t did = record {
+  answers = did.answers;
+  form = did.form;
+  told = did.told;
+  pages = did.pages;
+  loads = did.loads;
+  fits = did.fits;
+}
+written_did plain was moves (Some place) t did = record {
+  answers = did.answers;
+  form = did.form;
+  told = did.told;
+  pages = did.pages;
+  loads = did.loads;
+  fits = did.fits;
+}
+
 -- moves that are made where the first question was granted
 abbrev pub if_fetched : (List Item → List Move) → List Item → List Move
 if_fetched moves answers = if first_granted answers then moves answers else []
@@ -104,6 +126,6 @@ pub record Rewrites (w v : World) (plain : PageId → List ℕ) : Type 0 where
 
 pub with_plain_rewrites : (d : ℕ) (plain : PageId → List ℕ) (w : World) → is_cloaked w ≡ true →
     Rewrites w (with_plain d plain w) plain
-with_plain_rewrites d plain (Flat ram) form = absurd cc
+with_plain_rewrites d plain (Flat seen) form = absurd cc
 with_plain_rewrites d plain (Cloaked c) form = record { form = refl; view = refl; pages = refl; items = refl }
 with_plain_rewrites d plain (Alone h) form = absurd cc

@@ -50,7 +50,7 @@ copies_made : (n : ℕ) (list : List (ℕ × ℕ)) (w : World) → is_cloaked w 
     Makes w (ask_copies n list w).world (copy_moves n list)
 unfolding ask_copies ask_copy copy_pages
 copies_made n [] w form = record { form = form; items = refl; pages = refl }
-copies_made n (copy ∷ list) (Flat ram) form = absurd cc
+copies_made n (copy ∷ list) (Flat seen) form = absurd cc
 copies_made n (copy ∷ list) (Cloaked c) form =
     let rest = copies_made n list (ask_copy n copy.0 copy.1 (Cloaked c)).world refl in
     record { form = rest.form; items = rest.items; pages = rest.pages }
@@ -60,7 +60,7 @@ pub drops_made : (n : ℕ) (list : List ℕ) (w : World) → is_cloaked w ≡ tr
     Makes w (ask_forgets n list w).world (drop_moves n list)
 unfolding ask_forgets ask_forget drop_pages
 drops_made n [] w form = record { form = form; items = refl; pages = refl }
-drops_made n (resource ∷ list) (Flat ram) form = absurd cc
+drops_made n (resource ∷ list) (Flat seen) form = absurd cc
 drops_made n (resource ∷ list) (Cloaked c) form =
     let rest = drops_made n list (ask_forget n resource (Cloaked c)).world refl in
     record { form = rest.form; items = rest.items; pages = rest.pages }

@@ -12,3 +12,4 @@ pub mod Told
 pub mod Held
 pub mod Over
 pub mod Histories
+pub mod Sums

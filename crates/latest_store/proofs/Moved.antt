@@ -1,12 +1,13 @@
 -- What moves make of pages, and that they have the bytes of the history then.
-use Rattle.std.proofs.Common.{◌≡◌, ◌∙◌, ℕ, ◌-◌, ◌%◌, Bool, true, false, ◌&&◌, cond, List, [], ◌∷◌, ◌++◌, length, get_or, refl, sym, ap, append_assoc, append-nil}
+use Rattle.std.proofs.Common.{◌≡◌, ◌∙◌, ℕ, ◌-◌, ◌%◌, Bool, true, false, ◌&&◌, cond, List, [], ◌∷◌, ◌++◌, length, get_or, refl, sym, ap, subst, append_assoc, append-nil}
 use Rattle.std.specs.Prelude.{◌==◌}
 use Rattle.std.specs.Int.{w32, to_le_bytes}
 use Rattle.cloak_base.specs.Pages.{zero_page, same_page, is_of, page_in, with_page, with_resource, with_copied}
 use Rattle.cloak_base.proofs.Pages.{same_page-decides}
 use Rattle.cloak_base.specs.declared.names.PageId.{PageId}
+use Rattle.rv_atomic.specs.Combine.{combined}
 use Rattle.cloak_model.specs.Memory.{value_in, with_value_in}
-use Rattle.latest_store.specs.Moves.{Move, Makes, Stores, Copies, Zeros, Drops, Loads, covers, latest, latest_value, loads_of, with_moves}
+use Rattle.latest_store.specs.Moves.{Move, Makes, Stores, Combines, Copies, Zeros, Drops, Loads, covers, latest, latest_value, loads_of, with_moves}
 use Rattle.latest_store.specs.LatestStore.{IsLatest}
 use Rattle.latest_store.proofs.Values.{IsPlace, stored_byte, stored_whole, zero_page_at, zero_page_whole, read_value}
 
@@ -18,6 +19,8 @@ Agrees history plain = (q : PageId) → IsLatest history q (plain q)
 abbrev pub moved : Move → (PageId → List ℕ) → PageId → List ℕ
 moved (Makes p bytes) plain = with_page plain p bytes
 moved (Stores p from width value) plain = with_page plain p (with_value_in (plain p) from width value)
+moved (Combines p from op operand) plain =
+    with_page plain p (with_value_in (plain p) from 4 (combined op (value_in (plain p) from 4) operand))
 moved (Copies domain from to) plain = with_copied plain domain from to
 moved (Zeros domain resource) plain = plain
 moved (Drops domain resource) plain = with_resource plain domain resource zero_page
@@ -31,6 +34,7 @@ moved_by (m ∷ moves) plain = moved_by moves (moved m plain)
 abbrev pub given : Move → (PageId → List ℕ) → List (ℕ × ℕ)
 given (Makes p bytes) plain = []
 given (Stores p from width value) plain = []
+given (Combines p from op operand) plain = []
 given (Copies domain from to) plain = []
 given (Zeros domain resource) plain = []
 given (Drops domain resource) plain = []
@@ -44,6 +48,7 @@ given_by (m ∷ moves) plain = given m plain ++ given_by moves (moved m plain)
 abbrev pub IsSound : ℕ → List Move → Move → Type 0
 IsSound d history (Makes p bytes) = (p.domain ≡ d) × (length bytes ≡ 4096)
 IsSound d history (Stores p from width value) = (p.domain ≡ d) × IsPlace from width
+IsSound d history (Combines p from op operand) = (p.domain ≡ d) × IsPlace from 4
 IsSound d history (Copies domain from to) = domain ≡ d
 IsSound d history (Zeros domain resource) =
     (domain ≡ d) × ((q : PageId) → is_of domain resource q ≡ true → (at : ℕ) → latest history q at ≡ 0)
@@ -77,6 +82,22 @@ zero_either : (b : Bool) (x : ℕ) → (b ≡ true → x ≡ 0) → x ≡ cond b
 zero_either true x is = is refl
 zero_either false x is = refl
 
+store_agrees : (p : PageId) (from width value : ℕ) (history : List Move) (plain : PageId → List ℕ) →
+    IsPlace from width → Agrees history plain →
+    Agrees (Stores p from width value ∷ history) (moved (Stores p from width value) plain)
+unfolding latest
+store_agrees p from width value history plain place agrees = λ q. record {
+  whole = whole_either (same_page q p) _ (plain q) (stored_whole (plain p) from width value (agrees p).whole place)
+      (agrees q).whole;
+  each = λ at.
+      store_either (same_page q p) (covers from width at) (with_value_in (plain p) from width value) (plain q) at
+      (get_or (to_le_bytes w32 value) (at - from) 0) (latest history q at)
+      (λ same. stored_byte (plain p) from width value at (agrees p).whole place
+      ∙ ap (λ (v : ℕ). cond (covers from width at) (get_or (to_le_bytes w32 value) (at - from) 0) v)
+      ((agrees p).each at ∙ ap (λ (r : PageId). latest history r at) (sym ((same_page-decides q p).0 same))))
+      ((agrees q).each at);
+}
+
 pub move_agrees : (d : ℕ) (m : Move) (history : List Move) (plain : PageId → List ℕ) → IsSound d history m →
     Agrees history plain → Agrees (m ∷ history) (moved m plain)
 unfolding latest
@@ -84,17 +105,16 @@ move_agrees d (Makes p bytes) history plain sound agrees = λ q. record {
   whole = whole_either (same_page q p) bytes (plain q) sound.1 (agrees q).whole;
   each = λ at. byte_either (same_page q p) bytes (plain q) at _ _ refl ((agrees q).each at);
 }
-move_agrees d (Stores p from width value) history plain sound agrees = λ q. record {
-  whole = whole_either (same_page q p) _ (plain q) (stored_whole (plain p) from width value (agrees p).whole sound.1)
-      (agrees q).whole;
-  each = λ at.
-      store_either (same_page q p) (covers from width at) (with_value_in (plain p) from width value) (plain q) at
-      (get_or (to_le_bytes w32 value) (at - from) 0) (latest history q at)
-      (λ same. stored_byte (plain p) from width value at (agrees p).whole sound.1
-      ∙ ap (λ (v : ℕ). cond (covers from width at) (get_or (to_le_bytes w32 value) (at - from) 0) v)
-      ((agrees p).each at ∙ ap (λ (r : PageId). latest history r at) (sym ((same_page-decides q p).0 same))))
-      ((agrees q).each at);
-}
+move_agrees d (Stores p from width value) history plain sound agrees =
+    store_agrees p from width value history plain sound.1 agrees
+-- it is the store of what is made of the latest word
+move_agrees d (Combines p from op operand) history plain sound agrees = λ q.
+    let value : ℕ = combined op (latest_value history p from 4) operand in
+    let stored = store_agrees p from 4 value history plain sound.1 agrees q in
+    let word = read_value history p (plain p) from 4 (agrees p) in
+    subst (λ (old : ℕ). IsLatest (Combines p from op operand ∷ history) q
+    (with_page plain p (with_value_in (plain p) from 4 (combined op old operand)) q)) (sym word)
+    (record { whole = stored.whole; each = stored.each })
 move_agrees d (Copies domain from to) history plain sound agrees = λ q. record {
   whole = whole_either (is_of domain to q) _ _ (agrees (page_in from q)).whole (agrees q).whole;
   each = λ at. byte_either (is_of domain to q) _ _ at _ _ ((agrees (page_in from q)).each at) ((agrees q).each at);
@@ -133,6 +153,7 @@ move_loads : (d e : ℕ) (m : Move) (history : List Move) (plain : PageId → Li
 unfolding loads_of
 move_loads d e (Makes p bytes) history plain sound agrees = none_more (d == e) (loads_of e history)
 move_loads d e (Stores p from width value) history plain sound agrees = none_more (d == e) (loads_of e history)
+move_loads d e (Combines p from op operand) history plain sound agrees = none_more (d == e) (loads_of e history)
 move_loads d e (Copies domain from to) history plain sound agrees = none_more (d == e) (loads_of e history)
 move_loads d e (Zeros domain resource) history plain sound agrees = none_more (d == e) (loads_of e history)
 move_loads d e (Drops domain resource) history plain sound agrees = none_more (d == e) (loads_of e history)

@@ -11,7 +11,7 @@ use Rattle.cloak_model.specs.declared.inside.Went.TheVariants as went
 use Rattle.cloak_model.specs.declared.item.Item.{Item}
 use Rattle.cloak_model.specs.declared.item.Item.TheVariants as item
 use Rattle.cloak_model.specs.declared.outcome.Kernel.{Kernel}
-use Rattle.cloak_model.specs.declared.outcome.Kernel.TheVariants.{Stay, Put, Halt, Resume}
+use Rattle.cloak_model.specs.declared.outcome.Kernel.TheVariants.{Stay, Put, Halt, Resume, Trapped}
 use Rattle.cloak_model.specs.Contexts.{Context, Admitted, Resumed, context_at, domain_of, slot_of, resume_if, resume_at}
 use Rattle.cloak_model.specs.DomainAlone.{runs_on}
 use Rattle.cloak_model.specs.DomainState.{Control, Domain}
@@ -141,6 +141,7 @@ module _ (d : ℕ) where
         Same j' (outside_ended j' number items k).joint
     unfolding outside_ended resume
     kernel_same j' number items Stay alike = refl
+    kernel_same j' number items Trapped alike = refl
     kernel_same j' number items (Put b) alike = refl
     kernel_same j' number items (Halt value) alike = refl
     kernel_same j' number items (Resume ctx answer) alike =

@@ -9,6 +9,10 @@ use Rattle.cloak_base.specs.declared.names.PageId.{PageId}
 use Rattle.rv_isa.specs.declared.instr.Instr.{Instr}
 use Rattle.rv_isa.specs.declared.instr.Instr.TheVariants as instr
 use Rattle.rv_isa.specs.Table.{instruction}
+use Rattle.rv_atomic.specs.Table.{atomic_instruction}
+use Rattle.rv_atomic.specs.declared.atomic.Atomic.{Atomic}
+use Rattle.rv_atomic.specs.declared.atomic.AtomicOp.{AtomicOp}
+use Rattle.rv_atomic.specs.declared.atomic.AtomicOp.TheVariants.{Lr, Sc}
 use Rattle.cloak_model.specs.declared.context.Phase.{Phase}
 use Rattle.cloak_model.specs.declared.context.Phase.TheVariants.{Plain, CopyIn, Waiting, CopyOut}
 use Rattle.cloak_model.specs.declared.item.Item.{Item}
@@ -18,7 +22,7 @@ use Rattle.cloak_model.specs.declared.outcome.Effect.TheVariants as does
 use Rattle.cloak_model.specs.declared.resource.MapFault.{MapFault}
 use Rattle.cloak_model.specs.declared.resource.Owner.TheVariants.{Space, File}
 use Rattle.cloak_model.specs.Calls.{buffer, byte_address}
-use Rattle.cloak_model.specs.Contexts.{Context}
+use Rattle.cloak_model.specs.Contexts.{Context, word_of_page, is_reserved}
 use Rattle.cloak_model.specs.DomainState.{Control}
 use Rattle.cloak_model.specs.Effect.{offset, effect, jump, go, branch, load_effect}
 use Rattle.cloak_model.specs.Fork.{copies, private_numbers}
@@ -26,8 +30,8 @@ use Rattle.cloak_model.specs.Hypercalls as hyper
 use Rattle.cloak_model.specs.Hypercalls.{Hypercall, New, ForkSpace, Exit, hypercall_of}
 use Rattle.cloak_model.specs.Resources.{Resources, resource_at, page_at}
 use Rattle.domain_isolation.proofs.InstructionScripts.{IsOwn, own_page}
-use Rattle.latest_store.specs.Moves.{Move, Copies, Drops, latest, latest_value}
-use Rattle.latest_store.specs.Deeds.{first_granted, both_granted, load_at, store_at, made_moves, file_moves, hypercall_moves, ecall_moves, effect_moves, word_moves, fetched_moves, byte_moves, phase_moves, context_moves}
+use Rattle.latest_store.specs.Moves.{Move, Stores, Copies, Drops, latest, latest_value}
+use Rattle.latest_store.specs.Deeds.{first_granted, both_granted, load_at, store_at, atomic_at, made_moves, file_moves, hypercall_moves, ecall_moves, effect_moves, atomic_moves, word_moves, fetched_moves, byte_moves, phase_moves, context_moves}
 use Rattle.latest_store.proofs.Values.{IsPlace}
 use Rattle.latest_store.proofs.Numbers.{made_free}
 use Rattle.latest_store.proofs.Moved.{AreSound}
@@ -178,11 +182,36 @@ effect_sound d c i (does.Store va width value) history answers zeros inside =
 effect_sound d c i does.System history answers zeros inside = ecall_sound d c i history answers zeros
 effect_sound d c i _ history answers zeros inside = tt
 
-word_sound : (d : Control) (c : Context) (i : Option Instr) (history : List Move) (answers : List Item) →
-    FreeZero history d.number d.resources → AreSound d.number history (word_moves d c i answers)
+atomic_at_sound : (n : ℕ) (c : Context) (op : AtomicOp) (va operand : ℕ) (history : List Move) (place : Option PageId) →
+    IsOwn n place → va % 4 ≡ 0 → AreSound n history (atomic_at c op va operand place)
+atomic_at_sound n c op va operand history None own aligned = tt
+atomic_at_sound n c Lr va operand history (Some q) own aligned = (own, tt)
+atomic_at_sound n c Sc va operand history (Some q) own aligned =
+    sound_if (is_reserved (word_of_page q va) c.mark) n history (Stores q (va % 4096) 4 operand ∷ [])
+    ((own, four_place va aligned), tt)
+atomic_at_sound n c op va operand history (Some q) own aligned = (own, ((own, four_place va aligned), tt))
+
+aligned_sound : (test : Bool) (n : ℕ) (history moves : List Move) → (test ≡ true → AreSound n history moves) →
+    AreSound n history (cond test moves [])
+aligned_sound true n history moves sound = sound refl
+aligned_sound false n history moves sound = tt
+
+atomic_sound : (d : Control) (c : Context) (a : Option Atomic) (history : List Move) (answers : List Item) →
+    AreSound d.number history (atomic_moves d c a answers)
+unfolding atomic_moves
+atomic_sound d c None history answers = tt
+atomic_sound d c (Some a) history answers =
+    let va = register c.regs a.rs1 in
+    aligned_sound (va % 4 == 0) d.number history _ (λ test.
+    sound_if (both_granted answers) d.number history _
+    (atomic_at_sound d.number c a.op va _ history _ (own_page d.number d.resources c.space va)
+    (eqb-true (va % 4) 0 test)))
+
+word_sound : (d : Control) (c : Context) (word : ℕ) (i : Option Instr) (history : List Move) (answers : List Item) →
+    FreeZero history d.number d.resources → AreSound d.number history (word_moves d c word i answers)
 unfolding word_moves
-word_sound d c None history answers zeros = tt
-word_sound d c (Some i) history answers zeros =
+word_sound d c word None history answers zeros = atomic_sound d c (atomic_instruction word) history answers
+word_sound d c word (Some i) history answers zeros =
     effect_sound d c i (effect i c.regs c.pc) history answers zeros (effect_inside i c.regs c.pc)
 
 fetched_sound : (history : List Move) (d : Control) (c : Context) (place : Option PageId) (answers : List Item) →
@@ -190,7 +219,7 @@ fetched_sound : (history : List Move) (d : Control) (c : Context) (place : Optio
 unfolding fetched_moves
 fetched_sound history d c None answers zeros = tt
 fetched_sound history d c (Some q) answers zeros =
-    word_sound d c (instruction (latest_value history q (c.pc % 4096) 4)) history answers zeros
+    let word = latest_value history q (c.pc % 4096) 4 in word_sound d c word (instruction word) history answers zeros
 
 bytes_sound : (n va : ℕ) (history : List Move) (place : Option PageId) (answers : List Item) → IsOwn n place →
     AreSound n history (byte_moves va place answers)

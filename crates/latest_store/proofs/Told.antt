@@ -1,14 +1,17 @@
 -- What a step told programs: no domain ends in it, but for the end after it; and where it met a violation, the last
 -- answer of its context was that it stops. So the end of the domain takes nothing back that the step did.
-use Rattle.std.proofs.Common.{◌≡◌, ◌∙◌, ℕ, Bool, true, false, ◌||◌, cond, List, [], ◌∷◌, ◌++◌, slice_get, Option, Some, None, Result, Ok, Err, refl, sym, ap, subst, append-nil, eq-eqb}
-use Rattle.std.specs.Prelude.{is_some}
+use Rattle.std.proofs.Common.{◌≡◌, ◌∙◌, ◌%◌, ℕ, Bool, true, false, ◌||◌, cond, List, [], ◌∷◌, ◌++◌, slice_get, Option, Some, None, Result, Ok, Err, refl, sym, ap, subst, append-nil, eq-eqb}
+use Rattle.std.specs.Prelude.{is_some, ◌==◌}
 use Rattle.std.proofs.lemmas.Bool.{false≢true}
 use Rattle.std.proofs.lemmas.List.Elements.{filter-append}
 use Rattle.std.proofs.lemmas.List.Folds.{list_any-append}
 use Rattle.cloak_base.specs.declared.causes.Shown.{Shown}
 use Rattle.cloak_base.specs.declared.names.PageId.{PageId}
+use Rattle.cloak_base.specs.Registers.{register}
 use Rattle.rv_isa.specs.declared.instr.Instr.{Instr}
 use Rattle.rv_isa.specs.declared.instr.Instr.TheVariants as instr
+use Rattle.rv_atomic.specs.Table.{atomic_instruction}
+use Rattle.rv_atomic.specs.declared.atomic.Atomic.{Atomic}
 use Rattle.cloak_model.specs.declared.answer.Answer.{Answer}
 use Rattle.cloak_model.specs.declared.answer.Answer.TheVariants as told
 use Rattle.cloak_model.specs.declared.context.Phase.{Phase}
@@ -21,7 +24,7 @@ use Rattle.cloak_model.specs.declared.item.Item.TheVariants as item
 use Rattle.cloak_model.specs.declared.outcome.Effect.{Effect}
 use Rattle.cloak_model.specs.declared.outcome.Effect.TheVariants as does
 use Rattle.cloak_model.specs.declared.outcome.Kernel.{Kernel}
-use Rattle.cloak_model.specs.declared.outcome.Kernel.TheVariants.{Stay, Put, Halt, Resume}
+use Rattle.cloak_model.specs.declared.outcome.Kernel.TheVariants.{Stay, Put, Halt, Resume, Trapped}
 use Rattle.cloak_model.specs.Ahead.{settle_touched, settled_step, made_after}
 use Rattle.cloak_model.specs.AskPages.{answer_item}
 use Rattle.cloak_model.specs.Asking.{Told}
@@ -47,8 +50,8 @@ use Rattle.domain_isolation.proofs.Steady.{ciphers_told}
 use Rattle.domain_isolation.proofs.StepScripts.{of_domain, step_scripted}
 use Rattle.kernel_isolation.proofs.Numbers.{AreFrom, number_at}
 use Rattle.store_law.specs.OwnPages.{is_end_of, ends_in}
-use Rattle.latest_store.specs.Moves.{Move}
-use Rattle.latest_store.specs.Deeds.{first_granted, both_granted, page_for, hypercall_moves, ecall_moves, effect_moves, word_moves, fetched_moves, byte_moves, phase_moves, context_moves, program_moves}
+use Rattle.latest_store.specs.Moves.{Move, latest_value}
+use Rattle.latest_store.specs.Deeds.{first_granted, both_granted, page_for, hypercall_moves, ecall_moves, effect_moves, atomic_moves, word_moves, fetched_moves, byte_moves, phase_moves, context_moves, program_moves}
 
 -- No domain ends in a step itself.
 
@@ -145,6 +148,7 @@ kernel_ends : (j : Joint) (number : ℕ) (items : List Item) (k : Kernel) → En
     EndsNone (outside_ended j number items k).items
 unfolding outside_ended
 kernel_ends j number items Stay ends = ends
+kernel_ends j number items Trapped ends = ends
 kernel_ends j number items (Put b) ends = ends
 kernel_ends j number items (Halt value) ends = ends
 kernel_ends j number items (Resume ctx answer) ends = ends_append items _ ends (resume_ends j number _ ctx answer)
@@ -329,16 +333,23 @@ module _ (items items' : List Item) (same : SameDeeds items items') where
   effect_same d c i does.System = ecall_same d c i
   effect_same d c i _ = refl
 
-  word_same : (d : Control) (c : Context) (o : Option Instr) → word_moves d c o items' ≡ word_moves d c o items
+  atomic_same : (d : Control) (c : Context) (o : Option Atomic) → atomic_moves d c o items' ≡ atomic_moves d c o items
+  unfolding atomic_moves
+  atomic_same d c None = refl
+  atomic_same d c (Some a) =
+      ap (λ (moves : List Move). cond (register c.regs a.rs1 % 4 == 0) moves []) (granted_same _)
+
+  word_same : (d : Control) (c : Context) (word : ℕ) (o : Option Instr) →
+      word_moves d c word o items' ≡ word_moves d c word o items
   unfolding word_moves
-  word_same d c None = refl
-  word_same d c (Some i) = effect_same d c i (effect i c.regs c.pc)
+  word_same d c word None = atomic_same d c (atomic_instruction word)
+  word_same d c word (Some i) = effect_same d c i (effect i c.regs c.pc)
 
   fetched_same : (history : List Move) (d : Control) (c : Context) (place : Option PageId) →
       fetched_moves history d c place items' ≡ fetched_moves history d c place items
   unfolding fetched_moves
   fetched_same history d c None = refl
-  fetched_same history d c (Some q) = word_same d c _
+  fetched_same history d c (Some q) = word_same d c (latest_value history q (c.pc % 4096) 4) _
 
   phase_same : (p : Phase) (history : List Move) (d : Control) (c : Context) →
       phase_moves p history d c items' ≡ phase_moves p history d c items

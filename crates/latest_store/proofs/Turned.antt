@@ -13,7 +13,7 @@ use Rattle.cloak_model.specs.declared.inside.Went.TheVariants as went
 use Rattle.cloak_model.specs.declared.item.Item.{Item}
 use Rattle.cloak_model.specs.declared.item.Item.TheVariants as item
 use Rattle.cloak_model.specs.declared.outcome.Kernel.{Kernel}
-use Rattle.cloak_model.specs.declared.outcome.Kernel.TheVariants.{Stay, Put, Halt, Resume}
+use Rattle.cloak_model.specs.declared.outcome.Kernel.TheVariants.{Stay, Put, Halt, Resume, Trapped}
 use Rattle.cloak_model.specs.Ahead.{settled_step, made_after}
 use Rattle.cloak_model.specs.Asking.{Told}
 use Rattle.cloak_model.specs.Cloaking.{CloakedMemory}
@@ -189,6 +189,7 @@ ended_keeps : (j : Joint) (number : ℕ) (items : List Item) (k : Kernel) →
     Keeps j (outside_ended j number items k).joint
 unfolding outside_ended
 ended_keeps j number items Stay = kept j j refl refl
+ended_keeps j number items Trapped = kept j j refl refl
 ended_keeps j number items (Put b) = kept j _ refl refl
 ended_keeps j number items (Halt value) = kept j j refl refl
 ended_keeps j number items (Resume ctx answer) = resume_keeps j number _ ctx answer
@@ -289,7 +290,7 @@ timer_told : (e : ℕ) → inward_half e (item.Timer e ∷ []) ≡ item.Timer e 
 timer_told e = ap (λ (b : Bool). cond b (item.Timer e ∷ []) []) (eq-eqb e e refl)
 
 pub memory_plain : (w : World) (m : CloakedMemory) → is_cloaked w ≡ true → plain_of w ≡ (memory_of w m).plain
-memory_plain (Flat ram) m form = absurd cc
+memory_plain (Flat seen) m form = absurd cc
 memory_plain (Cloaked c) m form = refl
 memory_plain (Alone h) m form = absurd cc
 

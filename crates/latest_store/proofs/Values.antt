@@ -8,7 +8,7 @@ use Rattle.cloak_base.specs.Pages.{zero_page}
 use Rattle.cloak_base.specs.declared.names.PageId.{PageId}
 use Rattle.cloak_model.specs.Effect.{IsWidth}
 use Rattle.cloak_model.specs.Memory.{value_in, with_value_in}
-use Rattle.latest_store.specs.Moves.{Move, covers, latest, latest_bytes, latest_value}
+use Rattle.latest_store.specs.Moves.{Move, covers, bytes_from, latest, latest_value}
 use Rattle.latest_store.specs.LatestStore.{IsLatest}
 
 -- a place and a width inside a page
@@ -107,21 +107,20 @@ outer_at width k i bytes past =
     get_or-append_right (take width bytes) (replicate k 0) (length (take width bytes)) i 0 refl
     (omega (arith, past, length-take width bytes)) ∙ zeros_at k (i - length (take width bytes))
 
-latest_at : (history : List Move) (q : PageId) (at width i : ℕ) → i < width →
-    get_or (latest_bytes history q at width) i 0 ≡ latest history q (at + i)
-latest_at history q at zero i less = absurd (omega (arith, less))
-latest_at history q at (suc n) zero less = ap (latest history q) (omega arith)
-latest_at history q at (suc n) (suc i) less =
-    latest_at history q (at + 1) n i (omega (arith, less)) ∙ ap (latest history q) (omega arith)
+pub byte_from : (byte : ℕ → ℕ) (at width i : ℕ) → i < width → get_or (bytes_from byte at width) i 0 ≡ byte (at + i)
+byte_from byte at zero i less = absurd (omega (arith, less))
+byte_from byte at (suc n) zero less = ap byte (omega arith)
+byte_from byte at (suc n) (suc i) less =
+    byte_from byte (at + 1) n i (omega (arith, less)) ∙ ap byte (omega arith)
 
-latest_past : (history : List Move) (q : PageId) (at width i : ℕ) → width ≤ i →
-    get_or (latest_bytes history q at width) i 0 ≡ 0
-latest_past history q at zero i past = refl
-latest_past history q at (suc n) zero past = absurd (omega (arith, past))
-latest_past history q at (suc n) (suc i) past = latest_past history q (at + 1) n i (omega (arith, past))
+pub past_bytes : (byte : ℕ → ℕ) (at width i : ℕ) → width ≤ i → get_or (bytes_from byte at width) i 0 ≡ 0
+past_bytes byte at zero i past = refl
+past_bytes byte at (suc n) zero past = absurd (omega (arith, past))
+past_bytes byte at (suc n) (suc i) past = past_bytes byte (at + 1) n i (omega (arith, past))
 
 -- numbers of the same four bytes are one
-four_bytes : (xs ys : List ℕ) → ((i : ℕ) → get_or xs i 0 ≡ get_or ys i 0) → from_le_bytes w32 xs ≡ from_le_bytes w32 ys
+pub four_bytes : (xs ys : List ℕ) → ((i : ℕ) → get_or xs i 0 ≡ get_or ys i 0) →
+    from_le_bytes w32 xs ≡ from_le_bytes w32 ys
 four_bytes xs ys same =
     let a = same 0 in let b = same 1 in let c = same 2 in let d = same 3 in rw (a, b, c, d) refl
 
@@ -129,11 +128,11 @@ four_bytes xs ys same =
 pub read_value : (history : List Move) (q : PageId) (page : List ℕ) (at width : ℕ) → IsLatest history q page →
     value_in page at width ≡ latest_value history q at width
 read_value history q page at width is =
-    four_bytes (take width (drop at page) ++ replicate (4 - width) 0) (latest_bytes history q at width) (λ i.
+    four_bytes (take width (drop at page) ++ replicate (4 - width) 0) (bytes_from (latest history q) at width) (λ i.
     elim (cases_lt i width) [
       | inl less ↦
           inner_at width (4 - width) i (drop at page) less ∙ get_or-drop at page i 0 ∙ is.each (at + i)
-          ∙ sym (latest_at history q at width i less)
+          ∙ sym (byte_from (latest history q) at width i less)
       | inr past ↦
-          outer_at width (4 - width) i (drop at page) past ∙ sym (latest_past history q at width i past)
+          outer_at width (4 - width) i (drop at page) past ∙ sym (past_bytes (latest history q) at width i past)
     ])

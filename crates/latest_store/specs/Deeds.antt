@@ -1,13 +1,17 @@
 -- What a step does to cloaked pages. It is told by the contexts and the regions of the program that makes the step, by
 -- what the program is answered in the step, and by the history before it: the instruction is the word that was stored
 -- last where the program counter points. No page, no frame and no page table is looked at.
-use Rattle.std.specs.Prelude.{ℕ, ◌%◌, Bool, true, false, List, [], ◌∷◌, map, slice_get, Option, Some, None, if◌then◌else◌, position, Result, Ok, Err}
+use Rattle.std.specs.Prelude.{ℕ, ◌%◌, ◌==◌, Bool, true, false, List, [], ◌∷◌, map, slice_get, Option, Some, None, if◌then◌else◌, position, Result, Ok, Err}
 use Rattle.std.specs.List.{flat_map}
 use Rattle.cloak_base.specs.Registers.{register}
 use Rattle.cloak_base.specs.declared.names.PageId.{PageId}
 use Rattle.rv_isa.specs.Table.{instruction}
 use Rattle.rv_isa.specs.declared.instr.Instr.{Instr}
 use Rattle.rv_isa.specs.declared.instr.Instr.TheVariants.{Ecall}
+use Rattle.rv_atomic.specs.Table.{atomic_instruction}
+use Rattle.rv_atomic.specs.declared.atomic.Atomic.{Atomic}
+use Rattle.rv_atomic.specs.declared.atomic.AtomicOp.{AtomicOp}
+use Rattle.rv_atomic.specs.declared.atomic.AtomicOp.TheVariants.{Lr, Sc}
 use Rattle.cloak_model.specs.declared.context.Phase.{Phase}
 use Rattle.cloak_model.specs.declared.context.Phase.TheVariants.{Plain, CopyIn, Waiting, CopyOut}
 use Rattle.cloak_model.specs.declared.item.Item.{Item}
@@ -20,14 +24,14 @@ use Rattle.cloak_model.specs.Effect.{effect}
 use Rattle.cloak_model.specs.Halves.{inward_half}
 use Rattle.cloak_model.specs.Opening.{numbers_below}
 use Rattle.cloak_model.specs.Resources.{page_at, new_resource}
-use Rattle.cloak_model.specs.Contexts.{Context, context_at, domain_of, slot_of}
+use Rattle.cloak_model.specs.Contexts.{Context, context_at, domain_of, slot_of, word_of_page, is_reserved}
 use Rattle.cloak_model.specs.DomainState.{Control, Domain}
 use Rattle.cloak_model.specs.Calls.{buffer, byte_address}
 use Rattle.cloak_model.specs.Fork.{copies, private_numbers}
 use Rattle.cloak_model.specs.Files.{holds_file}
 use Rattle.cloak_model.specs.Hypercalls as hyper
 use Rattle.cloak_model.specs.Hypercalls.{Hypercall, New, ForkSpace, Exit, hypercall_of}
-use Rattle.latest_store.specs.Moves.{Move, Stores, Copies, Zeros, Drops, Loads, latest_value}
+use Rattle.latest_store.specs.Moves.{Move, Stores, Combines, Copies, Zeros, Drops, Loads, latest_value}
 
 -- A step of a program asks at most twice: mostly for its instruction, and then for what this is about. Here is what it
 -- does if the first question was granted, or if both were.
@@ -57,6 +61,16 @@ load_at address width (Some q) = Loads q address width ∷ []
 abbrev pub store_at : ℕ → ℕ → ℕ → Option PageId → List Move
 store_at address width value None = []
 store_at address width value (Some q) = Stores q (address % 4096) width value ∷ []
+
+-- An atomic instruction of the word at an address, if this is cloaked. LR is a load. SC is a store if the context has
+-- the word reserved. An operation is a load of the word that stood, and then stores what it makes of this word and its
+-- operand.
+abbrev pub atomic_at : Context → AtomicOp → ℕ → ℕ → Option PageId → List Move
+atomic_at c op address operand None = []
+atomic_at c Lr address operand (Some q) = Loads q address 4 ∷ []
+atomic_at c Sc address operand (Some q) =
+    if is_reserved (word_of_page q address) c.mark then Stores q (address % 4096) 4 operand ∷ [] else []
+atomic_at c op address operand (Some q) = Loads q address 4 ∷ Combines q (address % 4096) op operand ∷ []
 
 -- a resource that was made, if one was
 abbrev pub made_moves : ℕ → Result ℕ MapFault → List Move
@@ -95,15 +109,24 @@ effect_moves d c i (does.Store address width value) told =
 effect_moves d c i does.System told = ecall_moves d c i told
 effect_moves d c i _ told = []
 
+-- what an atomic instruction does, at an address that is a multiple of 4
+unfoldable pub atomic_moves : Control → Context → Option Atomic → List Item → List Move
+atomic_moves d c None told = []
+atomic_moves d c (Some a) told =
+    let address = register c.regs a.rs1 in
+    if address % 4 == 0 then
+    (if both_granted told then atomic_at c a.op address (register c.regs a.rs2) (page_for d c address) else []) else []
+
 -- a word, which may be an instruction
-unfoldable pub word_moves : Control → Context → Option Instr → List Item → List Move
-word_moves d c None told = []
-word_moves d c (Some i) told = effect_moves d c i (effect i c.regs c.pc) told
+unfoldable pub word_moves : Control → Context → ℕ → Option Instr → List Item → List Move
+word_moves d c word None told = atomic_moves d c (atomic_instruction word) told
+word_moves d c word (Some i) told = effect_moves d c i (effect i c.regs c.pc) told
 
 -- the word at the program counter
 unfoldable pub fetched_moves : List Move → Control → Context → Option PageId → List Item → List Move
 fetched_moves earlier d c None told = []
-fetched_moves earlier d c (Some q) told = word_moves d c (instruction (latest_value earlier q (c.pc % 4096) 4)) told
+fetched_moves earlier d c (Some q) told =
+    let word = latest_value earlier q (c.pc % 4096) 4 in word_moves d c word (instruction word) told
 
 -- READ: the byte that was told is stored at an address of the buffer, if this was granted
 abbrev pub byte_moves : ℕ → Option PageId → List Item → List Move

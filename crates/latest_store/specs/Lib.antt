@@ -1,3 +1,4 @@
 pub mod Moves
 pub mod Deeds
 pub mod LatestStore
+pub mod Sums

@@ -3,12 +3,16 @@ use Rattle.std.specs.Prelude.{ℕ, zero, suc, ◌+◌, ◌-◌, ◌%◌, ◌==�
 use Rattle.std.specs.Int.{w32, to_le_bytes, from_le_bytes}
 use Rattle.cloak_base.specs.Pages.{same_page, is_of, page_in}
 use Rattle.cloak_base.specs.declared.names.PageId.{PageId}
+use Rattle.rv_atomic.specs.Combine.{combined}
+use Rattle.rv_atomic.specs.declared.atomic.AtomicOp.{AtomicOp}
 
 pub data Move : Type 0 where
   -- a page is made with these bytes
   Makes : PageId → List ℕ → Move
   -- the lowest 1, 2 or 4 bytes of a word are stored from a place of a page on, the lowest first
   Stores : PageId → ℕ → ℕ → ℕ → Move
+  -- the word at a place of a page becomes what an operation makes of it and an operand
+  Combines : PageId → ℕ → AtomicOp → ℕ → Move
   -- each page of the second resource of a domain is made as the page of the first
   Copies : ℕ → ℕ → ℕ → Move
   -- the pages of a resource of a domain are made, as zeros
@@ -24,6 +28,15 @@ pub data Move : Type 0 where
 abbrev pub covers : ℕ → ℕ → ℕ → Bool
 covers from width at = nat_le from at && nat_lt at (from + width)
 
+-- the bytes from a place on, where each place has this one
+abbrev pub bytes_from : (ℕ → ℕ) → ℕ → ℕ → List ℕ
+bytes_from byte at zero = []
+bytes_from byte at (suc n) = byte at ∷ bytes_from byte (at + 1) n
+
+-- the number that they spell, the lowest byte first
+abbrev pub value_from : (ℕ → ℕ) → ℕ → ℕ → ℕ
+value_from byte at width = from_le_bytes w32 (bytes_from byte at width)
+
 -- The byte that was stored last at a place of a page since the page was made; where there was none, the byte with which
 -- it was made. Where there is no page there are zeros.
 unfoldable pub latest : List Move → PageId → ℕ → ℕ
@@ -32,20 +45,19 @@ latest (Makes p bytes ∷ earlier) q at = if same_page q p then slice_index byte
 latest (Stores p from width value ∷ earlier) q at =
     if same_page q p && covers from width at then slice_index (to_le_bytes w32 value) (at - from) else
     latest earlier q at
+latest (Combines p from op operand ∷ earlier) q at =
+    if same_page q p && covers from 4 at then
+    slice_index (to_le_bytes w32 (combined op (value_from (latest earlier p) from 4) operand)) (at - from) else
+    latest earlier q at
 latest (Copies domain from to ∷ earlier) q at =
     if is_of domain to q then latest earlier (page_in from q) at else latest earlier q at
 latest (Zeros domain resource ∷ earlier) q at = if is_of domain resource q then 0 else latest earlier q at
 latest (Drops domain resource ∷ earlier) q at = if is_of domain resource q then 0 else latest earlier q at
 latest (Loads p address width ∷ earlier) q at = latest earlier q at
 
--- these bytes of a page, from a place on
-abbrev pub latest_bytes : List Move → PageId → ℕ → ℕ → List ℕ
-latest_bytes history q at zero = []
-latest_bytes history q at (suc n) = latest history q at ∷ latest_bytes history q (at + 1) n
-
--- the number that they spell, the lowest byte first
+-- the value of 1, 2 or 4 bytes that were stored last, from a place of a page on
 abbrev pub latest_value : List Move → PageId → ℕ → ℕ → ℕ
-latest_value history q at width = from_le_bytes w32 (latest_bytes history q at width)
+latest_value history q at width = value_from (latest history q) at width
 
 -- The loads that a domain completed, in order, each with its address and with the value of its bytes that were stored
 -- last before it.
@@ -53,6 +65,7 @@ unfoldable pub loads_of : ℕ → List Move → List (ℕ × ℕ)
 loads_of domain [] = []
 loads_of domain (Makes p bytes ∷ earlier) = loads_of domain earlier
 loads_of domain (Stores p from width value ∷ earlier) = loads_of domain earlier
+loads_of domain (Combines p from op operand ∷ earlier) = loads_of domain earlier
 loads_of domain (Copies d from to ∷ earlier) = loads_of domain earlier
 loads_of domain (Zeros d resource ∷ earlier) = loads_of domain earlier
 loads_of domain (Drops d resource ∷ earlier) = loads_of domain earlier

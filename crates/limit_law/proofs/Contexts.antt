@@ -1,25 +1,34 @@
 -- One instruction, whatever is answered to its questions: the context stays steady.
-use Rattle.std.proofs.Common.{◌≡◌, ℕ, zero, suc, ◌+◌, ◌%◌, ◌^◌, Bool, true, false, ℤ, cond, List, [], ◌∷◌, length, slice_set, Option, Some, None, refl, sym, subst, ◌∙◌, arith}
+use Rattle.std.proofs.Common.{◌≡◌, ℕ, zero, suc, ◌+◌, ◌%◌, ◌^◌, Bool, true, false, ℤ, cond, List, [], ◌∷◌, length, slice_set, Option, Some, None, IfSome, refl, sym, subst, ◌∙◌, arith}
 use Rattle.std.specs.Prelude.{◌==◌}
 use Rattle.std.proofs.lemmas.Bool.{eqb-true}
 use Rattle.std.proofs.lemmas.List.{length-set}
 use Rattle.cloak_base.specs.Registers.{register, with_register}
 use Rattle.cloak_base.specs.declared.names.PageId.{PageId}
+use Rattle.rv_atomic.specs.Table.{atomic_instruction}
+use Rattle.rv_atomic.specs.declared.atomic.Atomic.{Atomic}
+use Rattle.rv_atomic.specs.declared.atomic.AtomicOp.{AtomicOp}
+use Rattle.rv_atomic.specs.declared.atomic.AtomicOp.TheVariants.{Lr, Sc, Swap, Add, Xor, And, Or, Min, Max, Minu, Maxu}
 use Rattle.rv_isa.specs.declared.instr.Instr.{Instr}
 use Rattle.rv_isa.specs.declared.instr.Instr.TheVariants as instr
 use Rattle.cloak_model.specs.declared.answer.Answer.{Answer}
 use Rattle.cloak_model.specs.declared.answer.Answer.TheVariants as told
 use Rattle.cloak_model.specs.declared.context.Phase.TheVariants.{Plain}
+use Rattle.cloak_model.specs.declared.context.WordPlace.{WordPlace}
 use Rattle.cloak_model.specs.declared.inside.Ran.{Ran}
 use Rattle.cloak_model.specs.declared.inside.Ran.TheVariants as ran
 use Rattle.cloak_model.specs.declared.outcome.Effect.{Effect}
 use Rattle.cloak_model.specs.declared.outcome.Effect.TheVariants as does
-use Rattle.cloak_model.specs.Contexts.{Context, set_word, moved_on}
+use Rattle.cloak_model.specs.AskPages.{ask_read}
+use Rattle.cloak_model.specs.Asking.{Told}
+use Rattle.cloak_model.specs.Contexts.{Context, set_word, moved_on, word_of_page, is_reserved}
 use Rattle.cloak_model.specs.Effect.{jump, go, branch, load_effect, store_effect, effect}
-use Rattle.cloak_model.specs.InsideStep.{AfterInstruction, loaded_inside, load_reached, load_got, load_inside, store_reached, store_put, store_inside, system_inside, done_inside, decoded_inside, executed_inside, fetched_inside, fetch, instruction_inside}
-use Rattle.cloak_model.specs.Resources.{Resources}
+use Rattle.cloak_model.specs.InsideStep.{AfterInstruction, made, made_writing, traps, loaded_inside, load_reached, load_got, load_inside, store_reached, store_put, store_inside, conditional_inside, atomic_granted, atomic_reached, atomic_placed, atomic_inside, system_inside, done_inside, decoded_inside, executed_inside, fetched_inside, fetch, instruction_inside}
+use Rattle.cloak_model.specs.KernelStep.{misaligned}
+use Rattle.cloak_model.specs.Resources.{Resources, page_at}
 use Rattle.cloak_model.specs.World.{World}
-use Rattle.limit_law.specs.Limits.{IsPhase, IsSteady}
+use Rattle.limit_law.specs.Limits.{IsWordPlace, IsPhase, IsSteady}
+use Rattle.limit_law.proofs.Pages.{IsPage, AreInPages, place_there}
 
 -- A register is written.
 
@@ -54,23 +63,32 @@ pub record AfterOne (c : Context) (a : AfterInstruction) : Type 0 where
 next_word : (pc : ℕ) → pc % 4 ≡ 0 → ((pc + 4) % 2 ^ 32) % 4 ≡ 0
 next_word pc is = omega (arith, is)
 
--- a plain context with other registers and another program counter
-plain_steady : (c : Context) (regs : List ℕ) (pc : ℕ) → c.phase ≡ Plain → length regs ≡ 32 → register regs 0 ≡ 0 →
-    pc % 4 ≡ 0 → IsSteady (record c { regs = regs; pc = pc })
-plain_steady c regs pc plain long none aligned = record {
+-- a plain context with other registers, another program counter and another reservation
+plain_steady : (c : Context) (regs : List ℕ) (pc : ℕ) (mark : Option WordPlace) → c.phase ≡ Plain → length regs ≡ 32 →
+    register regs 0 ≡ 0 → pc % 4 ≡ 0 → IfSome mark IsWordPlace →
+    IsSteady (record c { regs = regs; pc = pc; mark = mark })
+plain_steady c regs pc mark plain long none aligned place = record {
   registers = long;
   zero_register = none;
   aligned = aligned;
   phase = subst (IsPhase regs) (sym plain) tt;
+  mark = place;
 }
 
 pub moved_steady : (c : Context) → IsSteady c → IsSteady (moved_on c)
 moved_steady c s =
-    record { registers = s.registers; zero_register = s.zero_register; aligned = next_word c.pc s.aligned; phase = s.phase }
+    record {
+      registers = s.registers;
+      zero_register = s.zero_register;
+      aligned = next_word c.pc s.aligned;
+      phase = s.phase;
+      mark = s.mark;
+    }
 
 pub word_steady : (c : Context) (i v : ℕ) → c.phase ≡ Plain → IsSteady c → IsSteady (set_word c i v)
 word_steady c i v plain s =
-    plain_steady c _ c.pc plain (with_register_length c.regs i v s.registers) (with_register_zero c.regs i v s.zero_register) s.aligned
+    plain_steady c _ c.pc c.mark plain (with_register_length c.regs i v s.registers)
+    (with_register_zero c.regs i v s.zero_register) s.aligned s.mark
 
 abbrev Targets : Effect → Type 0
 Targets (does.Write rd value) = Unit {0}
@@ -83,29 +101,38 @@ Targets does.Nothing = Unit {0}
 Targets (does.Raise cause value) = Unit {0}
 
 module _ (c : Context) (plain : c.phase ≡ Plain) (s : IsSteady c) where
-  after : (regs : List ℕ) (pc : ℕ) (e : Ran) → length regs ≡ 32 → register regs 0 ≡ 0 → pc % 4 ≡ 0 →
-      (e ≡ ran.Ecall → record c { regs = regs; pc = pc } ≡ c) →
-      AfterOne c (record { context = record c { regs = regs; pc = pc }; ending = e })
-  after regs pc e long none aligned calls = record {
-    steady = plain_steady c regs pc plain long none aligned;
+  after : (regs : List ℕ) (pc : ℕ) (mark : Option WordPlace) (e : Ran) (written : Option WordPlace) →
+      length regs ≡ 32 → register regs 0 ≡ 0 → pc % 4 ≡ 0 → IfSome mark IsWordPlace →
+      (e ≡ ran.Ecall → record c { regs = regs; pc = pc; mark = mark } ≡ c) →
+      AfterOne c (record { context = record c { regs = regs; pc = pc; mark = mark }; ending = e; wrote = written })
+  after regs pc mark e written long none aligned place calls = record {
+    steady = plain_steady c regs pc mark plain long none aligned place;
     space = refl;
     phase = plain;
     on = refl;
     calls = calls;
   }
 
-  pub same : (e : Ran) → AfterOne c (record { context = c; ending = e })
+  pub same : (e : Ran) → AfterOne c (made c e)
   same e = record { steady = s; space = refl; phase = plain; on = refl; calls = λ is. refl }
 
-  -- a word is written, and it goes on
-  wrote : (rd v : ℕ) (e : Ran) → (e ≡ ran.Ecall → ⊥) →
-      AfterOne c (record { context = moved_on (set_word c rd v); ending = e })
-  wrote rd v e other =
-      after (with_register c.regs rd v) _ e (with_register_length c.regs rd v s.registers)
-      (with_register_zero c.regs rd v s.zero_register) (next_word c.pc s.aligned) (λ is. absurd (other is))
+  -- a word is written into a register, and it goes on, with another reservation
+  marked : (rd v : ℕ) (mark : Option WordPlace) (e : Ran) (written : Option WordPlace) → (e ≡ ran.Ecall → ⊥) →
+      IfSome mark IsWordPlace →
+      AfterOne c (record { context = moved_on (record (set_word c rd v) { mark = mark }); ending = e; wrote = written })
+  marked rd v mark e written other place =
+      after (with_register c.regs rd v) ((c.pc + 4) % 2 ^ 32) mark e written
+      (with_register_length c.regs rd v s.registers) (with_register_zero c.regs rd v s.zero_register)
+      (next_word c.pc s.aligned) place (λ is. absurd (other is))
 
-  on_stay : AfterOne c (record { context = moved_on c; ending = ran.Stay })
-  on_stay = after c.regs _ ran.Stay s.registers s.zero_register (next_word c.pc s.aligned) (λ is. absurd cc)
+  wrote : (rd v : ℕ) (e : Ran) → (e ≡ ran.Ecall → ⊥) → AfterOne c (made (moved_on (set_word c rd v)) e)
+  wrote rd v e other = marked rd v c.mark e None other s.mark
+
+  on_stay : (written : Option WordPlace) →
+      AfterOne c (record { context = moved_on c; ending = ran.Stay; wrote = written })
+  on_stay written =
+      after c.regs ((c.pc + 4) % 2 ^ 32) c.mark ran.Stay written s.registers s.zero_register (next_word c.pc s.aligned)
+      s.mark (λ is. absurd cc)
 
   loaded_one : (rd va width : ℕ) (is_signed : Bool) (value : ℕ) (w : World) →
       AfterOne c (loaded_inside c rd va width is_signed value w).answer
@@ -137,14 +164,14 @@ module _ (c : Context) (plain : c.phase ≡ Plain) (s : IsSteady c) where
   store_reached_one : (q : PageId) (va width value : ℕ) (a : Answer) (w : World) →
       AfterOne c (store_reached c q va width value a w).answer
   unfolding store_reached
-  store_reached_one q va width value told.Ok w = on_stay
+  store_reached_one q va width value told.Ok w = on_stay (Some (word_of_page q va))
   store_reached_one q va width value (told.Absent cause) w = same _
   store_reached_one q va width value (told.Word other) w = same _
   store_reached_one q va width value told.Stopped w = same _
 
   store_put_one : (va : ℕ) (a : Answer) (w : World) → AfterOne c (store_put c va a w).answer
   unfolding store_put
-  store_put_one va told.Ok w = on_stay
+  store_put_one va told.Ok w = on_stay None
   store_put_one va (told.Absent cause) w = same _
   store_put_one va (told.Word value) w = same _
   store_put_one va told.Stopped w = same _
@@ -154,6 +181,64 @@ module _ (c : Context) (plain : c.phase ≡ Plain) (s : IsSteady c) where
   unfolding store_inside
   store_one va width value (Some q) w = store_reached_one q va width value _ _
   store_one va width value None w = store_put_one va _ _
+
+  conditional_one : (reserved : Bool) (rd : ℕ) (q : PageId) (va operand : ℕ) (w : World) →
+      AfterOne c (conditional_inside reserved c rd q va operand w).answer
+  unfolding conditional_inside
+  conditional_one true rd q va operand w = marked rd 0 None ran.Stay (Some (word_of_page q va)) (λ is. cc) tt
+  conditional_one false rd q va operand w = marked rd 1 None ran.Stay None (λ is. cc) tt
+
+  operation_one : (rd : ℕ) (q : PageId) (va old : ℕ) →
+      AfterOne c (made_writing (moved_on (set_word c rd old)) (ran.Loaded va old) (word_of_page q va))
+  operation_one rd q va old = marked rd old c.mark (ran.Loaded va old) (Some (word_of_page q va)) (λ is. cc) s.mark
+
+  granted_one : (rd : ℕ) (op : AtomicOp) (q : PageId) (va operand : ℕ) (w : World) → IsPage q →
+      AfterOne c (atomic_granted c rd op q va operand w).answer
+  unfolding atomic_granted
+  granted_one rd Lr q va operand w page =
+      let old = (ask_read q (va % 4096) 4 w).answer in
+      marked rd old (Some (word_of_page q va)) (ran.Loaded va old) None (λ is. cc) (place_there q va page)
+  granted_one rd Sc q va operand w page =
+      conditional_one (is_reserved (word_of_page q va) c.mark) rd q va operand w
+  granted_one rd Swap q va operand w page = operation_one rd q va (ask_read q (va % 4096) 4 w).answer
+  granted_one rd Add q va operand w page = operation_one rd q va (ask_read q (va % 4096) 4 w).answer
+  granted_one rd Xor q va operand w page = operation_one rd q va (ask_read q (va % 4096) 4 w).answer
+  granted_one rd And q va operand w page = operation_one rd q va (ask_read q (va % 4096) 4 w).answer
+  granted_one rd Or q va operand w page = operation_one rd q va (ask_read q (va % 4096) 4 w).answer
+  granted_one rd Min q va operand w page = operation_one rd q va (ask_read q (va % 4096) 4 w).answer
+  granted_one rd Max q va operand w page = operation_one rd q va (ask_read q (va % 4096) 4 w).answer
+  granted_one rd Minu q va operand w page = operation_one rd q va (ask_read q (va % 4096) 4 w).answer
+  granted_one rd Maxu q va operand w page = operation_one rd q va (ask_read q (va % 4096) 4 w).answer
+
+  atomic_reached_one : (rd : ℕ) (op : AtomicOp) (q : PageId) (va operand : ℕ) (a : Answer) (w : World) → IsPage q →
+      AfterOne c (atomic_reached c rd op q va operand a w).answer
+  unfolding atomic_reached
+  atomic_reached_one rd op q va operand told.Ok w page = granted_one rd op q va operand w page
+  atomic_reached_one rd op q va operand (told.Absent cause) w page = same _
+  atomic_reached_one rd op q va operand (told.Word value) w page = same _
+  atomic_reached_one rd op q va operand told.Stopped w page = same _
+
+  atomic_placed_one : (rd : ℕ) (op : AtomicOp) (va operand : ℕ) (place : Option PageId) (w : World) →
+      IfSome place IsPage → AfterOne c (atomic_placed c rd op va operand place w).answer
+  unfolding atomic_placed
+  atomic_placed_one rd op va operand None w page = same _
+  atomic_placed_one rd op va operand (Some q) w page = atomic_reached_one rd op q va operand _ _ page
+
+  either_one : (t : Bool) (x y : Told AfterInstruction) → AfterOne c x.answer → AfterOne c y.answer →
+      AfterOne c (cond t x y).answer
+  either_one true x y here there = here
+  either_one false x y here there = there
+
+  atomic_one : (domain : ℕ) (r : Resources) (a : Option Atomic) (w : World) → AreInPages domain r c.space →
+      AfterOne c (atomic_inside domain r c a w).answer
+  unfolding atomic_inside
+  atomic_one domain r None w pages = same _
+  atomic_one domain r (Some a) w pages =
+      let va = register c.regs a.rs1 in
+      let operand = register c.regs a.rs2 in
+      either_one (va % 4 == 0) (atomic_placed c a.rd a.op va operand (page_at domain r c.space va) w)
+      (traps c (misaligned a.op) va w)
+      (atomic_placed_one a.rd a.op va operand (page_at domain r c.space va) w (pages va)) (same _)
 
   system_one : (i : Instr) (w : World) → AfterOne c (system_inside c i w).answer
   unfolding system_inside
@@ -166,13 +251,14 @@ module _ (c : Context) (plain : c.phase ≡ Plain) (s : IsSteady c) where
   unfolding done_inside
   done_one domain r i (does.Write rd value) w t = wrote rd value ran.Stay (λ is. cc)
   done_one domain r i (does.Jump rd link target) w t =
-      after (with_register c.regs rd link) target ran.Stay (with_register_length c.regs rd link s.registers)
-      (with_register_zero c.regs rd link s.zero_register) t (λ is. absurd cc)
-  done_one domain r i (does.Go target) w t = after c.regs target ran.Stay s.registers s.zero_register t (λ is. absurd cc)
+      after (with_register c.regs rd link) target c.mark ran.Stay None (with_register_length c.regs rd link s.registers)
+      (with_register_zero c.regs rd link s.zero_register) t s.mark (λ is. absurd cc)
+  done_one domain r i (does.Go target) w t =
+      after c.regs target c.mark ran.Stay None s.registers s.zero_register t s.mark (λ is. absurd cc)
   done_one domain r i (does.Load rd va width is_signed) w t = load_one rd va width is_signed _ w
   done_one domain r i (does.Store va width value) w t = store_one va width value _ w
   done_one domain r i does.System w t = system_one i w
-  done_one domain r i does.Nothing w t = on_stay
+  done_one domain r i does.Nothing w t = on_stay None
   done_one domain r i (does.Raise cause value) w t = same _
 
 -- Where an effect leads.
@@ -220,26 +306,27 @@ effect_targets _ r pc = tt
 -- One instruction.
 
 module _ (c : Context) (plain : c.phase ≡ Plain) (s : IsSteady c) where
-  decoded_one : (domain : ℕ) (r : Resources) (i : Option Instr) (w : World) →
-      AfterOne c (decoded_inside domain r c i w).answer
+  decoded_one : (domain : ℕ) (r : Resources) (word : ℕ) (i : Option Instr) (w : World) → AreInPages domain r c.space →
+      AfterOne c (decoded_inside domain r c word i w).answer
   unfolding decoded_inside
-  decoded_one domain r None w = same c plain s _
-  decoded_one domain r (Some i) w = done_one c plain s domain r i _ w (effect_targets i c.regs c.pc)
+  decoded_one domain r word None w pages = atomic_one c plain s domain r (atomic_instruction word) w pages
+  decoded_one domain r word (Some i) w pages = done_one c plain s domain r i _ w (effect_targets i c.regs c.pc)
 
-  fetched_one : (domain : ℕ) (r : Resources) (q : PageId) (a : Answer) (w : World) →
+  fetched_one : (domain : ℕ) (r : Resources) (q : PageId) (a : Answer) (w : World) → AreInPages domain r c.space →
       AfterOne c (fetched_inside domain r c q a w).answer
   unfolding fetched_inside executed_inside
-  fetched_one domain r q told.Ok w = decoded_one domain r _ _
-  fetched_one domain r q (told.Absent cause) w = same c plain s _
-  fetched_one domain r q (told.Word value) w = same c plain s _
-  fetched_one domain r q told.Stopped w = same c plain s _
+  fetched_one domain r q told.Ok w pages = decoded_one domain r _ _ _ pages
+  fetched_one domain r q (told.Absent cause) w pages = same c plain s _
+  fetched_one domain r q (told.Word value) w pages = same c plain s _
+  fetched_one domain r q told.Stopped w pages = same c plain s _
 
-  fetch_one : (domain : ℕ) (r : Resources) (place : Option PageId) (w : World) →
+  fetch_one : (domain : ℕ) (r : Resources) (place : Option PageId) (w : World) → AreInPages domain r c.space →
       AfterOne c (fetch domain r c place w).answer
   unfolding fetch
-  fetch_one domain r None w = same c plain s _
-  fetch_one domain r (Some q) w = fetched_one domain r q _ _
+  fetch_one domain r None w pages = same c plain s _
+  fetch_one domain r (Some q) w pages = fetched_one domain r q _ _ pages
 
-  pub instruction_one : (domain : ℕ) (r : Resources) (w : World) → AfterOne c (instruction_inside domain r c w).answer
+  pub instruction_one : (domain : ℕ) (r : Resources) (w : World) → AreInPages domain r c.space →
+      AfterOne c (instruction_inside domain r c w).answer
   unfolding instruction_inside
-  instruction_one domain r w = fetch_one domain r _ w
+  instruction_one domain r w pages = fetch_one domain r _ w pages

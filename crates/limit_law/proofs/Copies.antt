@@ -14,7 +14,7 @@ use Rattle.cloak_model.specs.declared.inside.Begun.TheVariants as begun
 use Rattle.cloak_model.specs.declared.inside.Copied.{Copied}
 use Rattle.cloak_model.specs.declared.inside.Copied.TheVariants as copied
 use Rattle.cloak_model.specs.declared.resource.MapFault.{MapFault}
-use Rattle.cloak_model.specs.Calls.{call_number, call_length, buffer, area, takes_bytes, gives_bytes, is_in_bounds, is_good, BeginsCall, waiting, copy_begin, call_begin, begin_call, Copy, copy_refused, in_put, in_reached, in_placed, in_step, copy_in_step, out_reached, out_got, out_placed, out_step, copy_out_step, finish_call}
+use Rattle.cloak_model.specs.Calls.{call_number, call_length, buffer, area, takes_bytes, gives_bytes, is_in_bounds, is_good, BeginsCall, waiting, copy_begin, call_begin, begin_call, Copy, copy, copy_refused, in_put, in_reached, in_placed, in_step, copy_in_step, out_reached, out_got, out_placed, out_step, copy_out_step, finish_call}
 use Rattle.cloak_model.specs.Contexts.{Context, set_word, in_phase, has_buffer}
 use Rattle.cloak_model.specs.Resources.{Resources}
 use Rattle.cloak_model.specs.World.{World}
@@ -25,7 +25,13 @@ use Rattle.limit_law.proofs.Contexts.{with_register_length, with_register_zero}
 
 phase_steady : (c : Context) (phase : Phase) → IsSteady c → IsPhase c.regs phase → IsSteady (in_phase phase c)
 phase_steady c phase s here =
-    record { registers = s.registers; zero_register = s.zero_register; aligned = s.aligned; phase = here }
+    record {
+      registers = s.registers;
+      zero_register = s.zero_register;
+      aligned = s.aligned;
+      phase = here;
+      mark = s.mark;
+    }
 
 answered_steady : (c : Context) (phase : Phase) (v : ℕ) → IsSteady c → IsPhase (with_register c.regs 10 v) phase →
     IsSteady (in_phase phase (set_word c 10 v))
@@ -34,6 +40,7 @@ answered_steady c phase v s here = record {
   zero_register = with_register_zero c.regs 10 v s.zero_register;
   aligned = s.aligned;
   phase = here;
+  mark = s.mark;
 }
 
 -- x10 is no register of a call's shape
@@ -69,10 +76,10 @@ pub record AfterCopy (c : Context) (k : Copy) : Type 0 where
   pub idle : StaysIdle k.ending k.context
 
 module _ (c : Context) (s : IsSteady c) where
-  absent : (cause address : ℕ) → AfterCopy c (record { context = c; ending = copied.Absent cause address })
+  absent : (cause address : ℕ) → AfterCopy c (copy c (copied.Absent cause address))
   absent cause address = record { steady = s; space = refl; on = refl; idle = tt }
 
-  stopped : AfterCopy c (record { context = c; ending = copied.Stopped })
+  stopped : AfterCopy c (copy c copied.Stopped)
   stopped = record { steady = s; space = refl; on = refl; idle = tt }
 
   refused : (w : World) → AfterCopy c (copy_refused c w).answer

@@ -6,6 +6,7 @@ use Rattle.cloak_base.specs.declared.names.CtxId.{CtxId}
 use Rattle.cloak_model.specs.declared.context.Phase.{Phase}
 use Rattle.cloak_model.specs.declared.context.Phase.TheVariants.{Plain, CopyIn, Waiting, CopyOut}
 use Rattle.cloak_model.specs.declared.context.ResumeFault.{ResumeFault}
+use Rattle.cloak_model.specs.declared.context.WordPlace.{WordPlace}
 use Rattle.cloak_model.specs.declared.inside.Begun.{Begun}
 use Rattle.cloak_model.specs.declared.inside.Begun.TheVariants as begun
 use Rattle.cloak_model.specs.declared.inside.Copied.{Copied}
@@ -16,10 +17,12 @@ use Rattle.cloak_model.specs.declared.inside.Ran.{Ran}
 use Rattle.cloak_model.specs.declared.inside.Ran.TheVariants as ran
 use Rattle.cloak_model.specs.declared.resource.MapFault.{MapFault}
 use Rattle.cloak_model.specs.declared.resource.MapFault.TheVariants as fault
+use Rattle.cloak_model.specs.Calls.{copy_out_step}
 use Rattle.cloak_model.specs.Contexts.{Context}
 use Rattle.cloak_model.specs.DomainState.{Control, Domain}
-use Rattle.cloak_model.specs.DomainStep.{instruction_ended, copy_ended, phase_step, step_if, domain_step, interrupt_if, interrupt, answer_taken, resume_told, resume_slot}
+use Rattle.cloak_model.specs.DomainStep.{DomainStepped, instruction_ended, copy_ended, after_write, phase_step, step_if, domain_step, interrupt_if, interrupt, answer_taken, resume_told, resume_slot}
 use Rattle.cloak_model.specs.Hypercalls.{Stepped, answers_word, fault_word, remapped, new_call, map_call, unmap_call, file_call, thread_at, thread_call, fork_told, fork_call, end_told, exit_call, call_begun, kernel_call, Hypercall, New, Map, Unmap, File, Thread, ForkSpace, Exit, Call, Unknown, hypercall}
+use Rattle.cloak_model.specs.InsideStep.{instruction_inside}
 use Rattle.cloak_model.specs.Resources.{first_free}
 use Rattle.cloak_model.specs.World.{World}
 
@@ -107,13 +110,23 @@ copy_flag slot d c copied.Stopped = record { ended = refl }
 copy_flag slot d c copied.Refused = record { ended = refl }
 copy_flag slot d c (copied.Loaded address byte) = record { ended = refl }
 
+written_flag : (d : Control) (wrote : Option WordPlace) (s : DomainStepped) → SameFlag d s.domain.control →
+    SameFlag d (after_write wrote s).domain.control
+written_flag d None s same = same
+written_flag d (Some place) s same = record { ended = same.ended }
+
 phase_flag : (phase : Phase) (slot : ℕ) (c : Context) (d : Domain) (w : World) →
     SameFlag d.control (phase_step phase slot c d w).answer.domain.control
 unfolding phase_step
-phase_flag Plain slot c d w = instruction_flag slot d _ _ _
+phase_flag Plain slot c d w =
+    let t = instruction_inside d.control.number d.control.resources c w in
+    written_flag d.control t.answer.wrote (instruction_ended slot d t.answer.context t.answer.ending t.world).answer
+    (instruction_flag slot d t.answer.context t.answer.ending t.world)
 phase_flag (CopyIn done) slot c d w = copy_flag slot d _ _
 phase_flag Waiting slot c d w = record { ended = refl }
-phase_flag (CopyOut done total) slot c d w = copy_flag slot d _ _
+phase_flag (CopyOut done total) slot c d w =
+    let k = (copy_out_step d.control.number d.control.resources c done total w).answer in
+    written_flag d.control k.wrote (copy_ended slot d k.context k.ending) (copy_flag slot d k.context k.ending)
 
 step_if_flag : (c : Option Context) (slot : ℕ) (d : Domain) (w : World) →
     SameFlag d.control (step_if c slot d w).answer.domain.control

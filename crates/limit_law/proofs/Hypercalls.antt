@@ -73,7 +73,8 @@ idle_off Waiting = refl
 idle_off (CopyOut done total) = tt
 
 off_steady : (c : Context) → IsSteady c → IsSteady (suspended c)
-off_steady c s = record { registers = s.registers; zero_register = s.zero_register; aligned = s.aligned; phase = s.phase }
+off_steady c s =
+    record { registers = s.registers; zero_register = s.zero_register; aligned = s.aligned; phase = s.phase; mark = tt }
 
 pub leaves_kept : (slot : ℕ) (c : Context) (d : Control) → KeepsLimits d → IsRunning d.resources c →
     KeepsLimits (with_slot slot (suspended c) d)
@@ -157,6 +158,7 @@ new_is_context r space pc sp argument used aligned = record {
     zero_register = started_none sp argument;
     aligned = aligned;
     phase = tt;
+    mark = tt;
   };
   waiting = tt;
   hart = tt;
@@ -204,7 +206,13 @@ child_is_context : (r : Resources) (new : ℕ) (c : Context) → c.phase ≡ Pla
 child_is_context r new c plain s used =
     let moved = word_steady (moved_on c) 10 0 plain (moved_steady c s) in
     record {
-      steady = record { registers = moved.registers; zero_register = moved.zero_register; aligned = moved.aligned; phase = moved.phase };
+      steady = record {
+        registers = moved.registers;
+        zero_register = moved.zero_register;
+        aligned = moved.aligned;
+        phase = moved.phase;
+        mark = tt;
+      };
       waiting = idle_off c.phase;
       hart = tt;
       space = used;

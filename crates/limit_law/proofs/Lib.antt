@@ -1,3 +1,4 @@
+pub mod Pages
 pub mod Contexts
 pub mod Copies
 pub mod Resources

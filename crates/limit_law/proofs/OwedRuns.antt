@@ -9,7 +9,7 @@ use Rattle.cloak_model.specs.declared.inside.Went.{Went}
 use Rattle.cloak_model.specs.declared.inside.Went.TheVariants as went
 use Rattle.cloak_model.specs.declared.item.Item.{Item}
 use Rattle.cloak_model.specs.declared.outcome.Kernel.{Kernel}
-use Rattle.cloak_model.specs.declared.outcome.Kernel.TheVariants.{Stay, Put, Halt, Resume}
+use Rattle.cloak_model.specs.declared.outcome.Kernel.TheVariants.{Stay, Put, Halt, Resume, Trapped}
 use Rattle.cloak_model.specs.Ahead.{settle_while, settle_found, settle_touched, settled_step, made_after, is_owed}
 use Rattle.cloak_model.specs.AskPages.{ask_copy, ask_forget}
 use Rattle.cloak_model.specs.Asking.{Told}
@@ -147,6 +147,7 @@ ended_once : (j : Joint) (number : ℕ) (items : List Item) (e : Kernel) → Joi
     JointOnce (outside_ended j number items e).joint
 unfolding outside_ended
 ended_once j number items Stay once = once
+ended_once j number items Trapped once = once
 ended_once j number items (Put b) once = once
 ended_once j number items (Halt value) once = once
 ended_once j number items (Resume ctx reply) once = resume_once j number _ ctx reply once

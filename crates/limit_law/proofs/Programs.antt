@@ -6,7 +6,7 @@ use Rattle.cloak_model.specs.declared.inside.Went.{Went}
 use Rattle.cloak_model.specs.declared.inside.Went.TheVariants as went
 use Rattle.cloak_model.specs.declared.item.Item.{Item}
 use Rattle.cloak_model.specs.declared.outcome.Kernel.{Kernel}
-use Rattle.cloak_model.specs.declared.outcome.Kernel.TheVariants.{Stay, Put, Halt, Resume}
+use Rattle.cloak_model.specs.declared.outcome.Kernel.TheVariants.{Stay, Put, Halt, Resume, Trapped}
 use Rattle.cloak_model.specs.Asking.{Told}
 use Rattle.cloak_model.specs.Contexts.{Admitted, domain_of, slot_of}
 use Rattle.cloak_model.specs.DomainState.{Control, Domain}
@@ -80,6 +80,7 @@ module _ (K Q : Domain → Type 0) (k : KeptInside K Q) where
       AllOf Q (outside_ended j number items e).joint.domains
   unfolding outside_ended
   ended_all j number items Stay low all = all
+  ended_all j number items Trapped low all = all
   ended_all j number items (Put b) low all = all
   ended_all j number items (Halt value) low all = all
   ended_all j number items (Resume ctx reply) low all = resume_all j number _ ctx reply low all

@@ -13,7 +13,7 @@ use Rattle.cloak_model.specs.declared.inside.Went.{Went}
 use Rattle.cloak_model.specs.declared.inside.Went.TheVariants as went
 use Rattle.cloak_model.specs.declared.item.Item.{Item}
 use Rattle.cloak_model.specs.declared.outcome.Kernel.{Kernel}
-use Rattle.cloak_model.specs.declared.outcome.Kernel.TheVariants.{Stay, Put, Halt, Resume}
+use Rattle.cloak_model.specs.declared.outcome.Kernel.TheVariants.{Stay, Put, Halt, Resume, Trapped}
 use Rattle.cloak_model.specs.Ahead.{settle_while, settle_found, settle_touched, settled_step, made_after, is_owed}
 use Rattle.cloak_model.specs.Asking.{Told}
 use Rattle.cloak_model.specs.Bundle.{IsInGrammar}
@@ -174,6 +174,7 @@ ended_rooted : (j : Joint) (number : ℕ) (items : List Item) (e : Kernel) → A
     JointRooted (outside_ended j number items e).joint
 unfolding outside_ended
 ended_rooted j number items Stay all rooted = rooted
+ended_rooted j number items Trapped all rooted = rooted
 ended_rooted j number items (Put b) all rooted = rooted
 ended_rooted j number items (Halt value) all rooted = rooted
 ended_rooted j number items (Resume ctx reply) all rooted = resume_rooted j number _ ctx reply all rooted

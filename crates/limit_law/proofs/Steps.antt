@@ -1,25 +1,26 @@
 -- A step of a program, an interrupt, a resuming and an end, whatever is answered.
-use Rattle.std.proofs.Common.{◌≡◌, ◌⊎◌, inl, inr, ℕ, zero, suc, ◌<◌, Bool, true, false, cond, List, [], ◌∷◌, slice_set, slice_index_or, Option, Some, None, Ok, Err, refl, sym, ap, subst, arith}
+use Rattle.std.proofs.Common.{◌≡◌, ◌⊎◌, inl, inr, ℕ, zero, suc, ◌<◌, Bool, true, false, cond, List, [], ◌∷◌, map, slice_set, slice_index_or, Option, Some, None, Ok, Err, refl, sym, ◌∙◌, ap, subst, arith}
 use Rattle.std.specs.Prelude.{All, IfSome, is_some, replicate, unwrap_or}
-use Rattle.std.proofs.lemmas.List.{set-set}
+use Rattle.std.proofs.lemmas.List.{length-map, set-set}
 use Rattle.std.proofs.lemmas.List.Elements.{All-nil}
 use Rattle.cloak_base.specs.declared.names.HartId.{HartId}
 use Rattle.cloak_model.specs.declared.context.Phase.{Phase}
 use Rattle.cloak_model.specs.declared.context.Phase.TheVariants.{Plain, CopyIn, Waiting, CopyOut}
 use Rattle.cloak_model.specs.declared.context.ResumeFault.{ResumeFault}
 use Rattle.cloak_model.specs.declared.context.ResumeFault.TheVariants as fault
+use Rattle.cloak_model.specs.declared.context.WordPlace.{WordPlace}
 use Rattle.cloak_model.specs.declared.inside.Copied.{Copied}
 use Rattle.cloak_model.specs.declared.inside.Copied.TheVariants as copied
 use Rattle.cloak_model.specs.declared.inside.Ran.{Ran}
 use Rattle.cloak_model.specs.declared.inside.Ran.TheVariants as ran
 use Rattle.cloak_model.specs.declared.resource.Region.{Region}
 use Rattle.cloak_model.specs.declared.resource.Resource.{Resource}
-use Rattle.cloak_model.specs.Calls.{Copy, finish_call}
-use Rattle.cloak_model.specs.Contexts.{Context, with_context, Resumed, resume_if, resume_at}
+use Rattle.cloak_model.specs.Calls.{Copy, copy_out_step, finish_call}
+use Rattle.cloak_model.specs.Contexts.{Context, context_at, with_context, is_reserved, unless_reserved, Resumed, resume_if, resume_at}
 use Rattle.cloak_model.specs.DomainState.{Control, Domain}
-use Rattle.cloak_model.specs.DomainStep.{instruction_ended, copy_ended, phase_step, step_if, domain_step, interrupt_if, interrupt, answer_in, answer_taken, resume_told, resume_slot}
+use Rattle.cloak_model.specs.DomainStep.{DomainStepped, instruction_ended, copy_ended, after_write, phase_step, step_if, domain_step, interrupt_if, interrupt, answer_in, answer_taken, resume_told, resume_slot}
 use Rattle.cloak_model.specs.Ending.{ended_domain}
-use Rattle.cloak_model.specs.InsideStep.{AfterInstruction}
+use Rattle.cloak_model.specs.InsideStep.{AfterInstruction, instruction_inside}
 use Rattle.cloak_model.specs.Resources.{Resources}
 use Rattle.cloak_model.specs.World.{World}
 use Rattle.resource_map.specs.Kept.{IsInUse, IsHeld, IsMapped, IsSound}
@@ -28,6 +29,7 @@ use Rattle.limit_law.specs.Limits.{IsPhase, WaitsOnNoHart, IsSteady, IsContext, 
 use Rattle.limit_law.proofs.Contexts.{AfterOne, instruction_one}
 use Rattle.limit_law.proofs.Copies.{StaysIdle, AfterCopy, copy_in_one, copy_out_one, finish_one}
 use Rattle.limit_law.proofs.Hypercalls.{IsRunning, runs, stays_kept, leaves_kept, idle_plain, slot_kept, hypercall_kept}
+use Rattle.limit_law.proofs.Pages.{pages_there}
 use Rattle.limit_law.proofs.Resources.{no_regions}
 
 moved : (r : Resources) (c k : Context) → IsRunning r c → IsSteady k → k.space ≡ c.space → k.on ≡ c.on → IsRunning r k
@@ -70,6 +72,46 @@ copy_kept : (slot : ℕ) (d : Domain) (c : Context) (k : Copy) → AfterCopy c k
 copy_kept slot d c k one keeps here =
     copied_kept slot d c k.context k.ending (moved _ c k.context here one.steady one.space one.on) one.idle keeps
 
+-- A word of a page was written in: a reservation of it ends.
+
+unreserved : (r : Resources) (t : Bool) (c : Context) → IsContext r c →
+    IsContext r (cond t (record c { mark = None }) c)
+unreserved r true c here = record {
+  steady = record {
+    registers = here.steady.registers;
+    zero_register = here.steady.zero_register;
+    aligned = here.steady.aligned;
+    phase = here.steady.phase;
+    mark = tt;
+  };
+  waiting = here.waiting;
+  hart = here.hart;
+  space = here.space;
+}
+unreserved r false c here = here
+
+slot_written : (r : Resources) (place : WordPlace) (o : Option Context) → IfSome o (IsContext r) →
+    IfSome (unless_reserved place o) (IsContext r)
+slot_written r place None here = tt
+slot_written r place (Some c) here = unreserved r (is_reserved place c.mark) c here
+
+slots_written : (r : Resources) (place : WordPlace) (contexts : List (Option Context)) →
+    ((slot : ℕ) → IfSome (context_at contexts slot) (IsContext r)) → (slot : ℕ) →
+    IfSome (context_at (map (unless_reserved place) contexts) slot) (IsContext r)
+slots_written r place [] each slot = tt
+slots_written r place (c ∷ contexts) each zero = slot_written r place c (each zero)
+slots_written r place (c ∷ contexts) each (suc slot) = slots_written r place contexts (λ k. each (suc k)) slot
+
+written_kept : (wrote : Option WordPlace) (s : DomainStepped) → KeepsLimits s.domain.control →
+    KeepsLimits (after_write wrote s).domain.control
+written_kept None s keeps = keeps
+written_kept (Some place) s keeps = record {
+  slots = length-map s.domain.control.contexts (unless_reserved place) ∙ keeps.slots;
+  contexts = slots_written s.domain.control.resources place s.domain.control.contexts keeps.contexts;
+  resources = keeps.resources;
+  regions = keeps.regions;
+}
+
 at_phase : (c : Context) (phase : Phase) → c.phase ≡ phase → IsSteady c → IsPhase c.regs phase
 at_phase c phase is s = subst (IsPhase c.regs) is s.phase
 
@@ -78,13 +120,23 @@ phase_kept : (phase : Phase) (slot : ℕ) (c : Context) (d : Domain) (w : World)
     KeepsLimits (phase_step phase slot c d w).answer.domain.control
 unfolding phase_step
 phase_kept Plain slot c d w is keeps here =
-    ended_kept slot d c _ _ _ refl (instruction_one c is here.steady _ _ w) keeps (runs _ c here)
+    let domain = d.control.number in
+    let r = d.control.resources in
+    let t = instruction_inside domain r c w in
+    written_kept t.answer.wrote (instruction_ended slot d t.answer.context t.answer.ending t.world).answer
+    (ended_kept slot d c t.answer t.answer.ending t.world refl
+    (instruction_one c is here.steady domain r w (pages_there domain r c.space keeps.resources)) keeps (runs _ c here))
 phase_kept (CopyIn done) slot c d w is keeps here =
     copy_kept slot d c _ (copy_in_one c here.steady done (at_phase c (CopyIn done) is here.steady) _ _ w) keeps (runs _ c here)
 phase_kept Waiting slot c d w is keeps here = stays_kept slot c d.control keeps (runs _ c here) here.waiting
 phase_kept (CopyOut done total) slot c d w is keeps here =
-    copy_kept slot d c _
-    (copy_out_one c here.steady done total (at_phase c (CopyOut done total) is here.steady) _ _ w) keeps (runs _ c here)
+    let domain = d.control.number in
+    let r = d.control.resources in
+    let k = (copy_out_step domain r c done total w).answer in
+    written_kept k.wrote (copy_ended slot d k.context k.ending)
+    (copy_kept slot d c k
+    (copy_out_one c here.steady done total (at_phase c (CopyOut done total) is here.steady) domain r w) keeps
+    (runs _ c here))
 
 step_if_kept : (o : Option Context) (slot : ℕ) (d : Domain) (w : World) → KeepsLimits d.control →
     IfSome o (IsContext d.control.resources) → KeepsLimits (step_if o slot d w).answer.domain.control
@@ -198,6 +250,7 @@ resume_if_kept slot hart answer (Some c) d low keeps here =
         zero_register = here.steady.zero_register;
         aligned = here.steady.aligned;
         phase = here.steady.phase;
+        mark = here.steady.mark;
       };
       hart = low;
       space = here.space;

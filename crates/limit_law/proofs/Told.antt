@@ -5,7 +5,7 @@ use Rattle.cloak_model.specs.declared.inside.Went.{Went}
 use Rattle.cloak_model.specs.declared.inside.Went.TheVariants as went
 use Rattle.cloak_model.specs.declared.item.Item.{Item}
 use Rattle.cloak_model.specs.declared.outcome.Kernel.{Kernel}
-use Rattle.cloak_model.specs.declared.outcome.Kernel.TheVariants.{Stay, Put, Halt, Resume}
+use Rattle.cloak_model.specs.declared.outcome.Kernel.TheVariants.{Stay, Put, Halt, Resume, Trapped}
 use Rattle.cloak_model.specs.Asking.{Told}
 use Rattle.cloak_model.specs.Contexts.{Admitted, domain_of, slot_of}
 use Rattle.cloak_model.specs.DomainState.{Control, Domain}
@@ -75,6 +75,7 @@ ended_leaves : (j : Joint) (number : ℕ) (items : List Item) (e : Kernel) →
     LeavesEnded j (outside_ended j number items e).joint
 unfolding outside_ended
 ended_leaves j number items Stay = none_left j
+ended_leaves j number items Trapped = none_left j
 ended_leaves j number items (Put b) = record { ended = refl; refused = refl; flags = refl }
 ended_leaves j number items (Halt value) = none_left j
 ended_leaves j number items (Resume ctx reply) = resume_leaves j number _ ctx reply

@@ -1,17 +1,19 @@
 //! Laws on the definitions alone: what holds at every moment of every run (`cloak_model`, `specs/Run`), also after its
 //! last step, whatever the kernel does. Each program keeps its limits: each of its contexts is of a space in use, at a
-//! word of the program and has the registers that its phase needs, and its resources and regions fit together. No page
-//! is owed by two frames. A page table is recorded only of a space in use, of a program that there is. Registers,
-//! program counters and the numbers of files are words. Nothing is left of a program that has ended, and its place tells
-//! that it has. Each step refuses one resuming at most. The laws are of images in the grammar, under every stream and
-//! budget; those on owed pages and on refusals are of all images, and those on words are of images and streams of bytes.
+//! word of the program and has the registers that its phase needs; what it has reserved is a word of a page that a
+//! program can have; and resources and regions fit together. No page is owed by two frames. A page table is recorded
+//! only of a space in use, of a program that there is. Registers, program counters and the numbers of files are words.
+//! Nothing is left of a program that has ended, and its place tells that it has. Each step refuses one resuming at
+//! most. The laws are of images in the grammar, under every stream and budget; those on owed pages and on refusals are
+//! of all images, and those on words are of images and streams of bytes.
 //!
 //! No body turns a law, so there is no wrong body to refuse here. These changes were tried on a copy, and with none of
 //! them did the proofs go through. Of the limits: 15 regions in a space; harts below 3; program counters that are
-//! multiples of 8; no context waits. Of the definitions: THREAD does not test its program counter; EXIT ends its space
-//! though another context is in it; an offer does not settle the frame that is owed the page; the page table of a space
-//! that ended stays recorded. Of the end of a domain: its contexts stay; its page tables stay recorded; what ended it is
-//! not kept; a refusal counts twice.
+//! multiples of 8; no context waits; reservations in 15 resources, in 1023 pages, or at multiples of 8. Of the
+//! definitions: THREAD does not test its program counter; EXIT ends its space though another context is in it; an offer
+//! does not settle the frame that is owed the page; the page table of a space that ended stays recorded; a reservation
+//! names its page by the address. Of the end of a domain: its contexts stay; its page tables stay recorded; what ended
+//! it is not kept; a refusal counts twice.
 #![tactic(auto)]
 
 ghost use Rattle.limit_law.specs.Endings.{EndedAreGone, EndedAreTold, RefusalsAreFew};

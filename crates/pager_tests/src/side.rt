@@ -1,4 +1,4 @@
-//! A step of a program of one domain without paging, through every question.
+//! A step of a program of one domain without paging, through every question, and reservations of harts.
 ghost use Rattle.std.specs.Prelude.{◌≡◌, ◌%◌, ℕ, IfOk};
 ghost use Rattle.cloak_pager.specs.State.{held_in};
 ghost use Rattle.cloaked_side.specs.Holding.{domains_in};
@@ -8,9 +8,10 @@ use cloak_base::{Frame, Kind, Mode, NoMemory, PageId, SpaceId};
 use cloak_model::{Access, Answer, Emit, Item, PageSide, View};
 use cloak_pager::Pager;
 use cloaked_side::{KeptItems, Memory, Side};
-use host_calls::Ram;
+use host_calls::{Ram, Reservations};
 use multi_shadow::Shadows;
 use outside_io::Stream;
+use rv_atomic::AtomicOp;
 use std::alloc::Global;
 use std::test::Fail;
 
@@ -35,6 +36,18 @@ const Q1: PageId = PageId {
     page: 3,
 };
 
+const VIEW: View = View {
+    satp: 0,
+    sum: false,
+    mxr: false,
+    domain: 0,
+};
+
+const SPACE: SpaceId = SpaceId {
+    domain: 0,
+    number: 0,
+};
+
 /// Counts the ciphers and the other items that it was given.
 #[derive(Drop)]
 struct Counts {
@@ -56,7 +69,7 @@ impl Emit for Counts {
     fn console(&mut self, _: u8) {}
 }
 
-/// Memory of 64 frames for one domain.
+/// Memory of 64 frames for one domain and two harts.
 fn fresh(alloc: Global) -> Result<Memory, NoMemory>
     ensures domain { IfOk result (λ m. domains_in m ≡ 1) }
     ensures outside { IfOk result (λ m. (k : ℕ) → held_in m.pager k ≡ None) }
@@ -66,6 +79,7 @@ fn fresh(alloc: Global) -> Result<Memory, NoMemory>
         stream: Stream::numbered(0),
         draws: 0,
         missed: false,
+        reservations: Reservations::none(2),
         shadows: Shadows::open(alloc, 64)?,
         counting: false,
     })
@@ -133,16 +147,8 @@ fn answers_each_question(rt: HostRuntime) -> Result<(), Fail> {
         emitter: &mut e,
         items: &mut items,
         violation: None,
-        view: View {
-            satp: 0,
-            sum: false,
-            mxr: false,
-            domain: 0,
-        },
-        space: Some(SpaceId {
-            domain: 0,
-            number: 0,
-        }),
+        view: VIEW,
+        space: Some(SPACE),
         reached: Frame(0),
     };
     same(
@@ -170,5 +176,181 @@ fn answers_each_question(rt: HostRuntime) -> Result<(), Fail> {
     );
     same(&rt, &(memory.draws, memory.missed), &(1, false), "draws");
     same(&rt, &(e.ciphers, e.others), &(1, 6), "items");
+    Ok(())
+}
+
+/// How the kernel reaches an address in S mode.
+fn access(va: u32, kind: Kind) -> Access
+    ensures { result.va ≡ va }
+{
+    Access {
+        mode: Mode::S,
+        sum: false,
+        mxr: false,
+        va,
+        kind,
+    }
+}
+
+/// LR of a hart, without paging. Whether it leads to a word.
+fn reserves<M: Ram>(m: &mut M, hart: u32, va: u32) -> bool
+    requires { va % 4 ≡ 0 }
+{
+    m.reserve(0, access(va, Kind::Load), hart).is_ok()
+}
+
+/// Whether SC of a hart stores a 5, without paging.
+fn stores_reserved<M: Ram>(m: &mut M, hart: u32, va: u32) -> Option<bool>
+    requires { va % 4 ≡ 0 }
+{
+    m.store_conditional(0, access(va, Kind::Store), hart, 5)
+        .ok()
+}
+
+/// The word that stood where an AMOADD of 3 is made, without paging.
+fn adds<M: Ram>(m: &mut M, va: u32) -> Option<u32>
+    requires { va % 4 ≡ 0 }
+{
+    m.combine(0, access(va, Kind::Store), AtomicOp::Add, 3).ok()
+}
+
+/// Both harts reserve a word; whether their SCs store, and that of a hart whose reservation was ended.
+fn reserve_in_turn<M: Ram>(m: &mut M) -> [Option<bool>; 3] {
+    let _ = reserves(m, 0, PLAIN);
+    let _ = reserves(m, 1, PLAIN);
+    let first = stores_reserved(m, 0, PLAIN);
+    let second = stores_reserved(m, 1, PLAIN);
+    let _ = reserves(m, 0, PLAIN);
+    m.unmark(0);
+    [first, second, stores_reserved(m, 0, PLAIN)]
+}
+
+/// Stores in page Q in its frame. Whether that was granted.
+fn store_cloaked<M: PageSide>(m: &mut M) -> bool
+    requires domain { M.serves m.old ≡ 0 }
+    ensures domain { M.serves m.new ≡ 0 }
+{
+    if m.reach(Q, CLOAKED, Kind::Store) != Answer::Ok {
+        return false;
+    }
+    m.write(Q, 8, 4, 77);
+    true
+}
+
+/// Shows all pages. Whether that was granted.
+fn show_all<M: PageSide>(m: &mut M) -> bool
+    requires domain { M.serves m.old ≡ 0 }
+    ensures domain { M.serves m.new ≡ 0 }
+{
+    m.clear(0, &[true; 16]) == Answer::Ok
+}
+
+/// Reaches page Q in its frame for a load. Whether that was granted.
+fn hold_unchanged<M: PageSide>(m: &mut M) -> bool
+    requires domain { M.serves m.old ≡ 0 }
+{
+    m.reach(Q, CLOAKED, Kind::Load) == Answer::Ok
+}
+
+#[test]
+fn reserves_what_is_not_cloaked(rt: HostRuntime) -> Result<(), Fail> {
+    let mut memory = fresh(rt.alloc())?;
+    let mut e = Counts {
+        ciphers: 0,
+        others: 0,
+    };
+    let mut items = KeptItems::new();
+    let mut side = Side {
+        memory: &mut memory,
+        emitter: &mut e,
+        items: &mut items,
+        violation: None,
+        view: VIEW,
+        space: None,
+        reached: Frame(0),
+    };
+    same(
+        &rt,
+        &reserve_in_turn(&mut side),
+        &[Some(true), Some(false), Some(false)],
+        "reservations",
+    );
+    same(
+        &rt,
+        &(adds(&mut side, PLAIN), load(&mut side, PLAIN)),
+        &(Some(5), Some(8)),
+        "an addition",
+    );
+    let _ = reserves(&mut side, 0, PLAIN);
+    let _ = fill_and_lend(&mut side, 7);
+    same(
+        &rt,
+        &stores_reserved(&mut side, 0, PLAIN),
+        &Some(true),
+        "another frame was filled",
+    );
+    Ok(())
+}
+
+/// SC settles the frame of a page before it looks at the reservation. A page that changed is sealed, and that writes the
+/// frame.
+#[test]
+fn ends_reservations_where_a_page_is_sealed(rt: HostRuntime) -> Result<(), Fail> {
+    let mut memory = fresh(rt.alloc())?;
+    memory.reservations.mark(0, CLOAKED);
+    let mut e = Counts {
+        ciphers: 0,
+        others: 0,
+    };
+    let mut items = KeptItems::new();
+    let mut side = Side {
+        memory: &mut memory,
+        emitter: &mut e,
+        items: &mut items,
+        violation: None,
+        view: VIEW,
+        space: Some(SPACE),
+        reached: Frame(0),
+    };
+    holds(&rt, store_cloaked(&mut side), "a store");
+    same(
+        &rt,
+        &stores_reserved(&mut side, 0, CLOAKED),
+        &Some(false),
+        "the frame of the page",
+    );
+    same(&rt, &e.ciphers, &1, "ciphers");
+    Ok(())
+}
+
+/// A frame that shows again what it showed, since its page was only read, was not written.
+#[test]
+fn keeps_reservations_where_a_page_is_shown_again(rt: HostRuntime) -> Result<(), Fail> {
+    let mut memory = fresh(rt.alloc())?;
+    let mut e = Counts {
+        ciphers: 0,
+        others: 0,
+    };
+    let mut items = KeptItems::new();
+    let mut side = Side {
+        memory: &mut memory,
+        emitter: &mut e,
+        items: &mut items,
+        violation: None,
+        view: VIEW,
+        space: Some(SPACE),
+        reached: Frame(0),
+    };
+    holds(&rt, store_cloaked(&mut side), "a store");
+    holds(&rt, show_all(&mut side), "the page is shown");
+    side.memory.reservations.mark(0, CLOAKED);
+    holds(&rt, hold_unchanged(&mut side), "a load");
+    same(
+        &rt,
+        &stores_reserved(&mut side, 0, CLOAKED),
+        &Some(true),
+        "the frame of the page",
+    );
+    same(&rt, &e.ciphers, &1, "ciphers");
     Ok(())
 }

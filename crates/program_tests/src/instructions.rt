@@ -1,4 +1,5 @@
-//! Loads and stores of every width, by the cases of the unprivileged manual, "Load and Store Instructions".
+//! Loads and stores of every width, by the cases of the unprivileged manual, "Load and Store Instructions", and atomic
+//! instructions, by its chapter 8.
 ghost use Rattle.std.specs.Prelude.{◌≡◌};
 
 use crate::checks::same;
@@ -87,7 +88,7 @@ fn context(address: u32, value: u32) -> Context {
 }
 
 fn run(c: &mut Context, m: &mut Fake) -> Ran {
-    instruction_step(c, &Resources::open(1, CLOAKED), 0, m)
+    instruction_step(c, &Resources::open(1, CLOAKED), 0, m, &mut None)
 }
 
 /// The word of `lb` (0), `lh` (1), `lw` (2), `lbu` (4) or `lhu` (5) of x6, 0(x5).
@@ -179,6 +180,82 @@ fn stores(rt: HostRuntime) -> Result<(), Fail> {
         }
         let words = (value_in(&m.page, 0x800, 4), value_in(&m.outside, 0x800, 4));
         same(&rt, &words, &(left, left), name);
+    }
+    Ok(())
+}
+
+const LR: u32 = 0b00010;
+
+const SC: u32 = 0b00011;
+
+const ADD: u32 = 0b00000;
+
+/// The atomic instruction of an operation: x7, x6, (x5), of LR x7, (x5).
+fn atomic(operation: u32) -> u32 {
+    let operand = if operation == LR { 0 } else { 6 };
+    (operation % 32) * 0x0800_0000 + operand * 0x0010_0000 + 0x0002_a3af
+}
+
+/// Instructions in a row at one word: the operation, how it ends, what x7 then has, and the word.
+static AT_A_WORD: [(u32, bool, u32, u32, &str); 6] = [
+    (SC, false, 1, 0x017f_ff80, "sc with no reservation"),
+    (LR, true, 0x017f_ff80, 0x017f_ff80, "lr"),
+    (SC, false, 0, 0x0000_0011, "sc"),
+    (SC, false, 1, 0x0000_0011, "sc once more"),
+    (ADD, true, 0x0000_0011, 0x0000_0022, "amoadd"),
+    (LR, true, 0x0000_0022, 0x0000_0022, "lr of the sum"),
+];
+
+/// Each that is a load is told of as one, and SC is none.
+#[test]
+fn atomics(rt: HostRuntime) -> Result<(), Fail> {
+    let address = CLOAKED + 0x800;
+    let mut m = side(0);
+    let mut c = context(address, 0x11);
+    for &(operation, is_load, value, left, name) in &AT_A_WORD {
+        c.pc = CLOAKED;
+        set_value_in(&mut m.page, 0, 4, atomic(operation));
+        let ran = if is_load {
+            Ran::Loaded { address, value }
+        } else {
+            Ran::Stay
+        };
+        same(&rt, &run(&mut c, &mut m), &ran, name);
+        same(
+            &rt,
+            &(c.regs.get(7), value_in(&m.page, 0x800, 4)),
+            &(value, left),
+            name,
+        );
+    }
+    Ok(())
+}
+
+/// An operation, an address where it faults, and the cause.
+static FAULTS: [(u32, u32, u32, &str); 4] = [
+    (
+        LR,
+        UNCLOAKED + 0x800,
+        5,
+        "lr at an address that is not cloaked",
+    ),
+    (SC, UNCLOAKED + 0x800, 7, "sc there"),
+    (LR, UNCLOAKED + 0x802, 4, "lr at no multiple of 4"),
+    (ADD, CLOAKED + 0x801, 6, "amoadd at an odd address"),
+];
+
+#[test]
+fn faults_of_atomics(rt: HostRuntime) -> Result<(), Fail> {
+    for &(operation, address, cause, name) in &FAULTS {
+        let mut m = side(atomic(operation));
+        let mut c = context(address, 0x11);
+        same(
+            &rt,
+            &run(&mut c, &mut m),
+            &Ran::Trap { cause, address },
+            name,
+        );
+        same(&rt, &(c.pc, c.regs.get(7)), &(CLOAKED, 0), name);
     }
     Ok(())
 }

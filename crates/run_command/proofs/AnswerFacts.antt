@@ -37,6 +37,9 @@ use Rattle.run_command.specs.Recording.{Records, GrowsSome}
 use Rattle.program_parts.specs.Refusing.{Refuses}
 use Rattle.program_parts.proofs.FaultFacts.{raised}
 use Rattle.latest_store.proofs.Histories.{runs_give_latest}
+use Rattle.latest_store.proofs.Sums.{runs_add_up}
+use Rattle.reservation_law.proofs.Runs.{conditionals_store_reserved}
+use Rattle.context_law.proofs.Runs.{contexts_store_reserved}
 use Rattle.store_law.proofs.Ciphers.{ciphers_show_pages, pages_keep_their_keys}
 use Rattle.store_law.proofs.OwnDraws.{ciphers_have_own_draws}
 use Rattle.cause_law.proofs.Closed.{closing_owes_nothing}
@@ -296,6 +299,9 @@ lawful_run {asked} {held} {record_name} {steps} {machine} prepared =
       reads_back = reads_back prepared.bundle prepared.stream steps r prepared.asks.file.in_grammar prepared.image_bytes
           prepared.stream_bytes prepared.few_steps runs;
       latest = runs_give_latest prepared.bundle prepared.stream steps r prepared.asks.file.in_grammar runs;
+      sums = runs_add_up prepared.bundle prepared.stream steps r prepared.asks.file.in_grammar runs;
+      conditionals = conditionals_store_reserved prepared.bundle prepared.stream steps r runs;
+      inside = contexts_store_reserved prepared.bundle prepared.stream steps r prepared.asks.file.in_grammar runs;
       ciphers = ciphers_show_pages prepared.bundle prepared.stream steps r prepared.asks.file.in_grammar runs;
       draws = ciphers_have_own_draws prepared.bundle prepared.stream steps r runs;
       keys = pages_keep_their_keys prepared.bundle prepared.stream steps r prepared.asks.file.in_grammar runs;

@@ -7,6 +7,9 @@ use Rattle.cloak_model.specs.Cloaking.{owed_in}
 use Rattle.cloak_model.specs.Run.{Run, joint_run}
 use Rattle.cause_law.specs.Closing.{closed_memory}
 use Rattle.latest_store.specs.LatestStore.{GivesLatest}
+use Rattle.latest_store.specs.Sums.{AddsUp}
+use Rattle.reservation_law.specs.Reservations.{StoresOnlyReserved}
+use Rattle.context_law.specs.Inside.{StoresOnlyReservedInside}
 use Rattle.store_law.specs.Ciphers.{HaveOwnDraws, ShowsPages}
 use Rattle.store_law.specs.Keys.{HaveOwnKeys}
 use Rattle.kernel_isolation.specs.Isolation.{joint_until}
@@ -32,12 +35,16 @@ pub record AsksRun (asked : spec.Asked) (held : List ℕ → Option (List ℕ)) 
 -- The run.
 
 -- What is true of a run, whatever its kernel does: its record reads back; its programs' loads give what was stored last;
+-- additions to a word of a program by atomic instructions add up; SC stores only a word that was not written since its LR;
 -- the kernel is shown pages as ciphertexts alone, each under its program's key and a draw of its own, and at no moment is a
 -- page to be sealed under another key; a domain ended only if the kernel's side presented something other than what is
 -- recorded, and all that it presented so was refused; and as the run was closed, no frame was owed a page any more.
 pub record IsLawful (b : Bundle) (stream : Random) (r : Run) : Type 0 where
   pub reads_back : ReadsBack b r
   pub latest : GivesLatest b r
+  pub sums : AddsUp b r
+  pub conditionals : StoresOnlyReserved b r
+  pub inside : StoresOnlyReservedInside b r
   pub ciphers : ShowsPages b stream r
   pub draws : HaveOwnDraws b r
   pub keys : (n : ℕ) → HaveOwnKeys b.programs stream (joint_until n r).memory.ledger

@@ -19,9 +19,10 @@ struct Frames<'f> {
 
 #[tactic(auto, unfolding(cloak_model::specs::Ask::ask_word))]
 impl<'f> Words for Frames<'f> {
+    ghost use Rattle.std.specs.Prelude.{[]};
     ghost use Rattle.cloak_model.specs.World.{Flat};
 
-    ghost stands_for = { λ first side w. w ≡ Flat side.frames.now };
+    ghost stands_for = { λ first side w. w ≡ Flat (record { ram = side.frames.now; marks = [] }) };
 
     ghost kept = { λ first side. Unit {0} };
 

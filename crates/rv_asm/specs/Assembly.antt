@@ -11,8 +11,9 @@ use Rattle.std.specs.Ordering.{nat_cmp}
 use denote.Ref.{Bor}
 use Rattle.rv_isa.specs.Table.{instruction}
 use Rattle.rv_isa.specs.declared.instr.Instr.TheVariants as instr
+use Rattle.rv_atomic.specs.Table.{atomic_instruction}
 use Rattle.rv_asm.specs.declared.item.Item.{Item}
-use Rattle.rv_asm.specs.declared.item.Item.TheVariants.{Instruction, Data}
+use Rattle.rv_asm.specs.declared.item.Item.TheVariants.{Instruction, Atomic, Data}
 use Rattle.rv_asm.specs.declared.fault.FaultKind.{FaultKind}
 use Rattle.rv_asm.specs.declared.fault.FaultKind.TheVariants as kinds
 use Rattle.rv_asm.specs.declared.fault.AsmFault.{AsmFault}
@@ -122,9 +123,10 @@ assembled text = do
   items ← items_from (find_in (labels_of 0 0 (lines_of text))) 0 0 (lines_of text)
   if nat_lt 65536 (length items) then Err TooLong else Ok items
 
--- the word of an instruction is that which the instruction table gives it
+-- the word of an instruction is one to which its table gives the instruction
 abbrev pub SpellsItem : Item → ℕ → Type 0
 SpellsItem (Instruction i) w = (w < 2 ^ 32) × (instruction w ≡ Some i)
+SpellsItem (Atomic a) w = (w < 2 ^ 32) × (atomic_instruction w ≡ Some a)
 SpellsItem (Data n) w = w ≡ n
 
 abbrev pub AreWords : List Item → List ℕ → Type 0

@@ -1,4 +1,5 @@
 pub mod Assembly
+pub mod Atomics
 pub mod Listing
 pub mod Operations
 pub mod Statements

@@ -1,11 +1,13 @@
--- The mnemonics: the lower-case names of the instruction table (`rv_isa`), by the operands that they take, and the
--- further forms `j`, `li`, `la` and `.word`.
-use Rattle.std.specs.Prelude.{ℕ, ℤ, List, Option, Some, None, codes, if◌then◌else◌}
+-- The mnemonics: the lower-case names of the instruction table (`rv_isa`) and of atomic instructions (`rv_atomic`), by the
+-- operands that they take, and the further forms `j`, `li`, `la` and `.word`.
+use Rattle.std.specs.Prelude.{ℕ, ◌<◌, ℤ, List, Option, Some, None, codes, if◌then◌else◌}
 use Rattle.std.specs.Option.{option_map}
 use Rattle.std.specs.Str.{bytes_eq}
 use Rattle.rv_isa.specs.Range.{InRange}
 use Rattle.rv_isa.specs.declared.instr.Instr.{Instr}
 use Rattle.rv_isa.specs.declared.instr.Instr.TheVariants as instr
+use Rattle.rv_atomic.specs.declared.atomic.AtomicOp.{AtomicOp}
+use Rattle.rv_atomic.specs.declared.atomic.AtomicOp.TheVariants as amo
 use Rattle.rv_asm.specs.declared.operation.RegisterOp.{RegisterOp}
 use Rattle.rv_asm.specs.declared.operation.RegisterOp.TheVariants.{Add, Sub, Sll, Slt, Sltu, Xor, Srl, Sra, Or, And, Mul, Mulh, Mulhsu, Mulhu, Div, Divu, Rem, Remu}
 use Rattle.rv_asm.specs.declared.operation.ImmediateOp.{ImmediateOp}
@@ -25,7 +27,8 @@ use Rattle.rv_asm.specs.declared.operation.CsrOp.TheVariants.{Csrrw, Csrrs, Csrr
 use Rattle.rv_asm.specs.declared.operation.CsrImmediateOp.{CsrImmediateOp}
 use Rattle.rv_asm.specs.declared.operation.CsrImmediateOp.TheVariants.{Csrrwi, Csrrsi, Csrrci}
 use Rattle.rv_asm.specs.declared.operation.Operation.{Operation}
-use Rattle.rv_asm.specs.declared.operation.Operation.TheVariants.{Register, Immediate, Shift, Upper, Load, Store, Branch, Csr, CsrImmediate, Bare, Fence, Jal, J, Li, La, Word}
+use Rattle.rv_asm.specs.declared.operation.Operation.TheVariants.{Register, Immediate, Shift, Upper, Load, Store, Branch, Csr, CsrImmediate, Atomic, Bare, Fence, Jal, J, Li, La, Word}
+use Rattle.rv_asm.specs.Words.{◌>>=◌, cut}
 
 -- three registers
 unfoldable pub register_op : List ℕ → Option RegisterOp
@@ -122,6 +125,38 @@ csr_immediate_op word =
     if bytes_eq word (codes "csrrci") then Some Csrrci else
     None
 
+-- an atomic instruction, by what stands before the first point
+unfoldable pub atomic_name : List ℕ → Option AtomicOp
+atomic_name word =
+    if bytes_eq word (codes "lr") then Some amo.Lr else
+    if bytes_eq word (codes "sc") then Some amo.Sc else
+    if bytes_eq word (codes "amoswap") then Some amo.Swap else
+    if bytes_eq word (codes "amoadd") then Some amo.Add else
+    if bytes_eq word (codes "amoxor") then Some amo.Xor else
+    if bytes_eq word (codes "amoand") then Some amo.And else
+    if bytes_eq word (codes "amoor") then Some amo.Or else
+    if bytes_eq word (codes "amomin") then Some amo.Min else
+    if bytes_eq word (codes "amomax") then Some amo.Max else
+    if bytes_eq word (codes "amominu") then Some amo.Minu else
+    if bytes_eq word (codes "amomaxu") then Some amo.Maxu else
+    None
+
+-- the bits aq and rl, by what stands behind it
+unfoldable pub atomic_order : List ℕ → Option ℕ
+atomic_order word =
+    if bytes_eq word (codes "w") then Some 0b00 else
+    if bytes_eq word (codes "w.rl") then Some 0b01 else
+    if bytes_eq word (codes "w.aq") then Some 0b10 else
+    if bytes_eq word (codes "w.aqrl") then Some 0b11 else
+    None
+
+unfoldable pub atomic : List ℕ → Option Operation
+atomic word = do
+  parts ← cut 46 word
+  op ← atomic_name parts.0
+  order ← atomic_order parts.1
+  Some (Atomic op order)
+
 -- no operand; the hint bits of FENCE and FENCE.I are 0
 unfoldable pub bare : List ℕ → Option Instr
 bare word =
@@ -161,7 +196,8 @@ operation word =
     or_else (option_map Csr (csr_op word)) (
     or_else (option_map CsrImmediate (csr_immediate_op word)) (
     or_else (option_map Bare (bare word)) (
-    single word))))))))))
+    or_else (atomic word) (
+    single word)))))))))))
 
 -- ---- the instruction of an operation and its fields
 
@@ -233,7 +269,8 @@ csr_immediate_instruction Csrrwi rd uimm csr = instr.Csrrwi rd uimm csr
 csr_immediate_instruction Csrrsi rd uimm csr = instr.Csrrsi rd uimm csr
 csr_immediate_instruction Csrrci rd uimm csr = instr.Csrrci rd uimm csr
 
--- an instruction that stands for itself has fields that a word can hold
+-- an instruction that stands for itself has fields that a word can hold, and an atomic one an order
 abbrev pub IsInRange : Operation → Type 0
 IsInRange (Bare i) = InRange i
+IsInRange (Atomic op order) = order < 4
 IsInRange _ = Unit {0}

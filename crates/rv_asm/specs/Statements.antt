@@ -6,6 +6,10 @@ use Rattle.rv_isa.specs.Fields.{sign_extended}
 use Rattle.rv_isa.specs.Range.{InRange}
 use Rattle.rv_isa.specs.declared.instr.Instr.{Instr}
 use Rattle.rv_isa.specs.declared.instr.Instr.TheVariants as instr
+use Rattle.rv_atomic.specs.Table as atomic_table
+use Rattle.rv_atomic.specs.declared.atomic.Atomic as atomics
+use Rattle.rv_atomic.specs.declared.atomic.AtomicOp.{AtomicOp}
+use Rattle.rv_atomic.specs.declared.atomic.AtomicOp.TheVariants.{Lr}
 use Rattle.rv_asm.specs.declared.words.Numeral.{Numeral}
 use Rattle.rv_asm.specs.declared.operation.Operation.{Operation}
 use Rattle.rv_asm.specs.declared.operation.Operation.TheVariants as ops
@@ -19,7 +23,7 @@ use Rattle.rv_asm.specs.declared.operation.BranchOp.{BranchOp}
 use Rattle.rv_asm.specs.declared.operation.CsrOp.{CsrOp}
 use Rattle.rv_asm.specs.declared.operation.CsrImmediateOp.{CsrImmediateOp}
 use Rattle.rv_asm.specs.declared.item.Item.{Item}
-use Rattle.rv_asm.specs.declared.item.Item.TheVariants.{Instruction, Data}
+use Rattle.rv_asm.specs.declared.item.Item.TheVariants.{Instruction, Atomic, Data}
 use Rattle.rv_asm.specs.declared.fault.FaultKind.{FaultKind}
 use Rattle.rv_asm.specs.declared.fault.FaultKind.TheVariants.{UnknownWord, BadOperand}
 use Rattle.rv_asm.specs.declared.statement.Statement as code
@@ -76,6 +80,15 @@ memory_operand text = do
   imm ← immediate n
   rs1 ← register_named base.0
   if length base.1 == 0 then Some (imm, rs1) else None
+
+-- a register alone as an address, as (x5)
+unfoldable pub base_operand : List ℕ → Option ℕ
+base_operand text = do
+  word ← sole_word text
+  front ← cut 40 word
+  base ← cut 41 front.1
+  rs1 ← register_named base.0
+  if (length front.0 == 0) && (length base.1 == 0) then Some rs1 else None
 
 unfoldable pub name_operand : List ℕ → Option (List ℕ)
 name_operand text = do
@@ -154,6 +167,29 @@ fence_form text = do
   rs2 ← register_operand o.1
   Some (instr.SfenceVma rs1 rs2)
 
+-- ---- atomic instructions
+
+-- LR has no second operand
+unfoldable pub reserve_form : ℕ → List ℕ → Option atomics.Atomic
+reserve_form order text = do
+  o ← cut 44 text
+  rd ← register_operand o.0
+  rs1 ← base_operand o.1
+  Some (record { op = Lr; rd = rd; rs1 = rs1; rs2 = 0; order = order })
+
+-- the second register is the operand
+unfoldable pub combine_form : AtomicOp → ℕ → List ℕ → Option atomics.Atomic
+combine_form op order text = do
+  o ← three text
+  rd ← register_operand o.0
+  rs2 ← register_operand o.1
+  rs1 ← base_operand o.2
+  Some (record { op = op; rd = rd; rs1 = rs1; rs2 = rs2; order = order })
+
+unfoldable pub atomic_form : AtomicOp → ℕ → List ℕ → Option atomics.Atomic
+atomic_form Lr order text = reserve_form order text
+atomic_form op order text = combine_form op order text
+
 -- ---- 32 bits in two instructions
 
 -- rounded so that the signed low 12 bits complete it
@@ -181,6 +217,9 @@ pub data Meaning : Type 0 where
 
 abbrev pub one : Instr → Option Meaning
 one i = Some (Fixed (Instruction i ∷ []))
+
+abbrev pub one_atomic : atomics.Atomic → Option Meaning
+one_atomic a = Some (Fixed (Atomic a ∷ []))
 
 unfoldable pub bare_statement : Instr → List ℕ → Option Meaning
 bare_statement i text = if list_all is_blank text then one i else None
@@ -235,6 +274,7 @@ statement_of (ops.Store op) text = store_form op text >>= one
 statement_of (ops.Branch op) text = branch_statement op text
 statement_of (ops.Csr op) text = csr_form op text >>= one
 statement_of (ops.CsrImmediate op) text = csr_immediate_form op text >>= one
+statement_of (ops.Atomic op order) text = atomic_form op order text >>= one_atomic
 statement_of (ops.Bare i) text = bare_statement i text
 statement_of ops.Fence text = fence_form text >>= one
 statement_of ops.Jal text = jal_statement text
@@ -275,9 +315,15 @@ read (shape.Branch op rs1 rs2 to) = Branch op rs1 rs2 to.now
 read (shape.Jump rd to) = Jump rd to.now
 read (shape.Address rd to) = Address rd to.now
 
+-- a word can hold the fields; LR has no second operand
+pub record IsAtomicInRange (a : atomics.Atomic) : Type 0 where
+  pub fields : atomic_table.InRange a
+  pub without : a.op ≡ Lr → a.rs2 ≡ 0
+
 -- a word can hold the fields
 abbrev pub IsItemInRange : Item → Type 0
 IsItemInRange (Instruction i) = InRange i
+IsItemInRange (Atomic a) = IsAtomicInRange a
 IsItemInRange (Data n) = n < 2 ^ 32
 
 abbrev pub IsLineReady : code.Statement → Type 0

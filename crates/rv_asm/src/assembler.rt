@@ -10,6 +10,7 @@ ghost use Rattle.rv_asm.specs.Assembly.{lines_of, offset_between, relative, item
 ghost use Rattle.rv_asm.specs.Assembly.{assembled, SpellsItem, AreWords, FailsAs, AnswersAs, table};
 ghost use Rattle.rv_asm.specs.Listing.{listed, AreItems};
 
+use crate::atomic::encode_atomic;
 use crate::fault::{AsmFault, FaultKind, fault_at};
 use crate::item::Item;
 use crate::labels::{Mark, find, labels};
@@ -180,6 +181,7 @@ fn word_of(item: &Item) -> u32
 {
     match item {
         Item::Instruction(i) => encode(i),
+        Item::Atomic(a) => encode_atomic(a),
         Item::Data(n) => *n,
     }
 }

@@ -5,7 +5,7 @@ ghost use Rattle.rv_isa.specs.Range.{FitsSigned};
 ghost use Rattle.rv_asm.specs.Words.{FindsAs};
 ghost use Rattle.rv_asm.specs.Statements.{three, register_operand, number_operand, unsigned, immediate, modular};
 ghost use Rattle.rv_asm.specs.Statements.{unsigned_operand, immediate_operand, modular_operand, memory_operand};
-ghost use Rattle.rv_asm.specs.Statements.{name_operand};
+ghost use Rattle.rv_asm.specs.Statements.{base_operand, name_operand};
 
 use crate::words::{Numeral, cut, is_name, number, register, sole_word};
 
@@ -118,6 +118,22 @@ pub fn memory_operand(text: &[u8]) -> Option<(i32, u32)>
     let rs1 = register(base)?;
     if rest.is_empty() {
         Some((imm, rs1))
+    } else {
+        None
+    }
+}
+
+/// A register alone as an address, as `(x5)`.
+#[tactic(auto, unfolding(crate::specs::Statements::base_operand))]
+pub fn base_operand(text: &[u8]) -> Option<u32>
+    ensures value { result ≡ base_operand text.now }
+    ensures range { IfSome result (λ r. r < 32) }
+{
+    let (front, base) = cut(sole_word(text)?, b'(')?;
+    let (base, rest) = cut(base, b')')?;
+    let rs1 = register(base)?;
+    if front.is_empty() && rest.is_empty() {
+        Some(rs1)
     } else {
         None
     }

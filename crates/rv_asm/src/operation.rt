@@ -8,6 +8,8 @@ ghost use Rattle.rv_asm.specs.Operations.{load_instruction, store_op, store_inst
 ghost use Rattle.rv_asm.specs.Operations.{branch_instruction, csr_op, csr_instruction, csr_immediate_op};
 ghost use Rattle.rv_asm.specs.Operations.{csr_immediate_instruction, bare, single, operation, IsInRange};
 
+use crate::atomic::atomic;
+use rv_atomic::AtomicOp;
 use rv_isa::Instr;
 
 /// Mnemonics of three registers.
@@ -117,6 +119,8 @@ pub enum Operation {
     Branch(BranchOp),
     Csr(CsrOp),
     CsrImmediate(CsrImmediateOp),
+    /// An atomic instruction, with its bits `aq` and `rl` as one number.
+    Atomic { op: AtomicOp, order: u32 },
     /// An instruction without operands.
     Bare(Instr),
     /// `sfence.vma`
@@ -360,6 +364,9 @@ pub fn find_operation(word: &[u8]) -> Option<Operation>
     }
     if let Some(op) = bare(word) {
         return Some(Operation::Bare(op));
+    }
+    if let Some(op) = atomic(word) {
+        return Some(op);
     }
     single(word)
 }

@@ -9,6 +9,7 @@ ghost use Rattle.rv_asm.specs.Statements.{upper_part, lower_part, wrapped, bare_
 ghost use Rattle.rv_asm.specs.Statements.{jal_statement, j_statement, li_statement, la_statement, word_statement};
 ghost use Rattle.rv_asm.specs.Statements.{statement_of, label_word, statement, read, IsLineReady, Reads};
 
+use crate::atomic::atomic_form;
 use crate::fault::FaultKind;
 use crate::form::{
     csr_form, csr_immediate_form, fence_form, immediate_form, load_form, register_form, shift_form,
@@ -170,6 +171,10 @@ fn statement_of<'a>(op: Operation, text: &'a [u8]) -> Option<Statement<'a>>
         Operation::Csr(op) => csr_form(op, text)?,
         Operation::CsrImmediate(op) => csr_immediate_form(op, text)?,
         Operation::Fence => fence_form(text)?,
+        Operation::Atomic { op, order } => {
+            let a = atomic_form(op, order, text)?;
+            return Some(Statement::Single(Item::Atomic(a)));
+        }
         Operation::Bare(i) => return bare_statement(i, text),
         Operation::Branch(op) => return branch_statement(op, text),
         Operation::Jal => return jal_statement(text),

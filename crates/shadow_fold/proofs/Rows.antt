@@ -36,7 +36,8 @@ unfolding
     hart_step.csr_written hart_step.csr_found hart_step.csr_step hart_step.returned hart_step.idle hart_step.system
     host_calls.put_call host_calls.timer_call host_calls.halt_call host_calls.read_block host_calls.write_block
     host_calls.read_call host_calls.write_call host_calls.host_call host_calls.resumed host_calls.ecall_in
-    host_calls.ecall kernel_step.carried_out kernel_step.instruction_step kernel_step.ticked kernel_step.kernel_step
+    host_calls.ecall kernel_step.carried_out kernel_step.instruction_step kernel_step.ticked kernel_step.released
+    kernel_step.kernel_step
     cloaking.settle_owed cloaking.settle_if cloaking.settle
     touched.access_frames touched.transfer_frames touched.effect_frames touched.touched_after touched.touched
     ahead.settle_while ahead.settle_touched ahead.made_after ahead.settled_step

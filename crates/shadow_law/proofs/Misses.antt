@@ -1,5 +1,5 @@
 -- What a miss makes live agrees: its walk stays as it was, behind what the access does then.
-use Rattle.std.proofs.Common.{◌≡◌, ◌∙◌, ℕ, ◌/◌, inl, inr, Bool, true, false, List, length, Option, Some, None, Ok, refl, sym, ap, subst}
+use Rattle.std.proofs.Common.{◌≡◌, ◌∙◌, ℕ, ◌/◌, inl, inr, Bool, true, false, List, [], length, Option, Some, None, Ok, refl, sym, ap, subst}
 use Rattle.std.specs.Prelude.{IfSome}
 use Rattle.std.specs.List.{All}
 use Rattle.std.proofs.lemmas.Bool.{cases_eq}
@@ -16,7 +16,7 @@ use Rattle.cloak_model.specs.AskPages.{is_store}
 use Rattle.cloak_model.specs.Asking.{Told}
 use Rattle.cloak_model.specs.Cloaking.{CloakedMemory, AfterSettling, owed_in, settle, offer}
 use Rattle.cloak_base.specs.Constants.{frame_of, is_in_frames}
-use Rattle.cloak_model.specs.Memory.{is_in_ram}
+use Rattle.cloak_model.specs.Memory.{Seen, is_in_ram}
 use Rattle.cloak_model.specs.Walk.{Walk, walk}
 use Rattle.cloak_model.specs.World.{World, Cloak, Flat, Cloaked, Alone, unnoted}
 use Rattle.cloak_model.proofs.FlatWalk.{ask_walk-flat}
@@ -44,9 +44,10 @@ use Rattle.shadow_law.proofs.Born.{born_agrees}
 walk_answer : (ram : List (List ℕ)) (satp : ℕ) (a : Access) → answer_in (plan_walk (length ram) satp a) ram ≡ walk ram satp a
 walk_answer ram satp a =
     let p = plan_walk (length ram) satp a in
-    ap (λ (told : Told Walk). told.answer) (sym (follow-flat p ram))
-    ∙ ap (λ (told : Told Walk). told.answer) (sym (walk_planned (length ram) satp a (Flat ram) refl))
-    ∙ ap (λ (told : Told Walk). told.answer) (ask_walk-flat satp a ram)
+    let seen : Seen = record { ram = ram; marks = [] } in
+    ap (λ (told : Told Walk). told.answer) (sym (follow-flat p seen))
+    ∙ ap (λ (told : Told Walk). told.answer) (sym (walk_planned (length ram) satp a (Flat seen) refl))
+    ∙ ap (λ (told : Told Walk). told.answer) (ask_walk-flat satp a seen)
 
 -- a world that is this memory but for its events
 quiet_memory : (w : World) (d : Cloak) → unnoted w ≡ unnoted (Cloaked d) → (c' : Cloak) × (w ≡ Cloaked c') × (c'.memory ≡ d.memory)

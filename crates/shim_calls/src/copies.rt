@@ -8,11 +8,33 @@ ghost use Rattle.cloak_model.specs.Resources as resources;
 ghost use Rattle.cloak_model.specs.Contexts as context;
 ghost use Rattle.cloak_model.specs.Calls as spec;
 ghost use Rattle.shim_calls.specs.Copying.{IsMisplaced, NoLongerFits, next_copy};
+ghost use Rattle.shim_calls.specs.Stepping.{after_copy};
 
 use cloak_base::{Kind, PageId};
-use cloak_model::{Answer, Copied, PageSide, Phase};
+use cloak_model::{Answer, Copied, PageSide, Phase, WordPlace};
 use resource_map::{Resources, page_at};
-use thread_context::Context;
+use thread_context::{Context, word_of_page};
+
+/// How one step of a copy ended.
+#[derive(Clone, Copy, Debug, PartialEq, Eq)]
+pub struct CopyStep {
+    pub ending: Copied,
+    /// The word of a cloaked page that it wrote in.
+    pub wrote: Option<WordPlace>,
+}
+
+impl CopyStep {
+    /// It wrote in no cloaked page.
+    #[inline]
+    fn without_write(ending: Copied) -> CopyStep
+        ensures { result ≡ record { ending = ending; wrote = None } }
+    {
+        CopyStep {
+            ending,
+            wrote: None,
+        }
+    }
+}
 
 /// The space's regions do not fit the call any more: it is over.
 fn refuse(c: &mut Context) -> Copied
@@ -91,15 +113,16 @@ fn store_byte<M: PageSide>(
     total: u32,
     byte: u32,
     m: &mut M,
-) -> Copied
+) -> CopyStep
     requires done { done < 2 ^ 32 - 1 }
     requires domain { q.domain ≡ M.serves m.old }
     requires resource { q.resource < 16 }
     requires page { q.page < 1024 }
     ensures follows { FollowsWhere (HasPage (spec.byte_address (spec.buffer c.old) done) q) M.stands_for m.old m.new
-        (spec.copy c.new result) (spec.out_got c.old q done total (Answer.Word byte)) }
-    ensures not_refused { result ≢ Copied.Refused }
-    ensures stopped_unchanged { result ≡ Copied.Stopped → c.new ≡ c.old }
+        (after_copy c.new result) (spec.out_got c.old q done total (Answer.Word byte)) }
+    ensures not_refused { result.ending ≢ Copied.Refused }
+    ensures stopped_unchanged { result.ending ≡ Copied.Stopped → c.new ≡ c.old }
+    ensures stopped_unwritten { result.ending ≡ Copied.Stopped → result.wrote ≡ None }
     ensures same_space { c.new.space ≡ c.old.space }
     ensures same_hart { c.new.on ≡ c.old.on }
     ensures unused { (n : ℕ) → n ≢ q.resource → M.is_unused m.old n → M.is_unused m.new n }
@@ -114,10 +137,13 @@ fn store_byte<M: PageSide>(
                 done: done + 1,
                 total,
             };
-            Copied::Going
+            CopyStep {
+                ending: Copied::Going,
+                wrote: Some(word_of_page(q, to)),
+            }
         }
-        Answer::Absent(cause) => Copied::Absent { cause, address: to },
-        Answer::Word(_) | Answer::Stopped => Copied::Stopped,
+        Answer::Absent(cause) => CopyStep::without_write(Copied::Absent { cause, address: to }),
+        Answer::Word(_) | Answer::Stopped => CopyStep::without_write(Copied::Stopped),
     }
 }
 
@@ -130,16 +156,17 @@ fn copy_out_byte<M: PageSide>(
     done: u32,
     total: u32,
     m: &mut M,
-) -> Copied
+) -> CopyStep
     requires from { from ≡ spec.byte_address (spec.area c.old) done }
     requires done { done < 2 ^ 32 - 1 }
     requires domain { q.domain ≡ M.serves m.old }
     requires resource { q.resource < 16 }
     requires page { q.page < 1024 }
     ensures follows { FollowsWhere (HasPage (spec.byte_address (spec.buffer c.old) done) q) M.stands_for m.old m.new
-        (spec.copy c.new result) (spec.out_placed c.old done total (Some q) false) }
-    ensures not_refused { result ≢ Copied.Refused }
-    ensures stopped_unchanged { result ≡ Copied.Stopped → c.new ≡ c.old }
+        (after_copy c.new result) (spec.out_placed c.old done total (Some q) false) }
+    ensures not_refused { result.ending ≢ Copied.Refused }
+    ensures stopped_unchanged { result.ending ≡ Copied.Stopped → c.new ≡ c.old }
+    ensures stopped_unwritten { result.ending ≡ Copied.Stopped → result.wrote ≡ None }
     ensures same_space { c.new.space ≡ c.old.space }
     ensures same_hart { c.new.on ≡ c.old.on }
     ensures unused { (n : ℕ) → n ≢ q.resource → M.is_unused m.old n → M.is_unused m.new n }
@@ -148,11 +175,11 @@ fn copy_out_byte<M: PageSide>(
 {
     match m.get(from, 1) {
         Answer::Word(byte) => store_byte(c, q, done, total, byte, m),
-        Answer::Absent(cause) => Copied::Absent {
+        Answer::Absent(cause) => CopyStep::without_write(Copied::Absent {
             cause,
             address: from,
-        },
-        Answer::Ok | Answer::Stopped => Copied::Stopped,
+        }),
+        Answer::Ok | Answer::Stopped => CopyStep::without_write(Copied::Stopped),
     }
 }
 
@@ -165,13 +192,14 @@ fn copy_out_step<M: PageSide>(
     done: u32,
     total: u32,
     m: &mut M,
-) -> Copied
+) -> CopyStep
     requires { domain ≡ M.serves m.old }
     ensures follows { FollowsWhere (HasPages domain r.now c.old.space) M.stands_for m.old m.new
-        (spec.copy c.new result) (spec.copy_out_step domain r.now c.old done total) }
-    ensures refused { (result ≡ Copied.Refused) ↔ ((done < total) × IsMisplaced r.now c.old done) }
-    ensures refused_asks_nothing { result ≡ Copied.Refused → m.new ≡ m.old }
-    ensures stopped_unchanged { result ≡ Copied.Stopped → c.new ≡ c.old }
+        (after_copy c.new result) (spec.copy_out_step domain r.now c.old done total) }
+    ensures refused { (result.ending ≡ Copied.Refused) ↔ ((done < total) × IsMisplaced r.now c.old done) }
+    ensures refused_asks_nothing { result.ending ≡ Copied.Refused → m.new ≡ m.old }
+    ensures stopped_unchanged { result.ending ≡ Copied.Stopped → c.new ≡ c.old }
+    ensures stopped_unwritten { result.ending ≡ Copied.Stopped → result.wrote ≡ None }
     ensures same_space { c.new.space ≡ c.old.space }
     ensures same_hart { c.new.on ≡ c.old.on }
     ensures unused { (n : ℕ) → resources.resource_at r.now n ≡ None → M.is_unused m.old n → M.is_unused m.new n }
@@ -180,15 +208,15 @@ fn copy_out_step<M: PageSide>(
 {
     if total <= done {
         c.phase = Phase::Plain;
-        return Copied::Done;
+        return CopyStep::without_write(Copied::Done);
     }
     let to = c.regs.get(11).wrapping_add(done);
     let from = c.regs.get(13).wrapping_add(done);
     let Some(q) = page_at(r, domain, c.space, to) else {
-        return refuse(c);
+        return CopyStep::without_write(refuse(c));
     };
     if r.lookup(c.space, from).is_some() {
-        return refuse(c);
+        return CopyStep::without_write(refuse(c));
     }
     copy_out_byte(c, q, from, done, total, m)
 }
@@ -197,15 +225,16 @@ fn copy_out_step<M: PageSide>(
 /// where a byte is left that is no longer where the call needs it: nothing was asked then. `Absent` and `Stopped` only
 /// where a question was so answered.
 #[tactic(auto, using(crate::proofs::CopyLater::copy_laters), unfolding(crate::specs::Copying::next_copy))]
-pub fn copy_step<M: PageSide>(c: &mut Context, domain: u32, r: &Resources, m: &mut M) -> Copied
+pub fn copy_step<M: PageSide>(c: &mut Context, domain: u32, r: &Resources, m: &mut M) -> CopyStep
     requires { domain ≡ M.serves m.old }
 
     ensures copies { FollowsWhere (HasPages domain r.now c.old.space) M.stands_for m.old m.new
-        (spec.copy c.new result) (next_copy c.old.phase domain r.now c.old) }
+        (after_copy c.new result) (next_copy c.old.phase domain r.now c.old) }
 
-    ensures refused { (result ≡ Copied.Refused) ↔ NoLongerFits c.old.phase r.now c.old }
-    ensures refused_asks_nothing { result ≡ Copied.Refused → m.new ≡ m.old }
-    ensures stopped_unchanged { result ≡ Copied.Stopped → c.new ≡ c.old }
+    ensures refused { (result.ending ≡ Copied.Refused) ↔ NoLongerFits c.old.phase r.now c.old }
+    ensures refused_asks_nothing { result.ending ≡ Copied.Refused → m.new ≡ m.old }
+    ensures stopped_unchanged { result.ending ≡ Copied.Stopped → c.new ≡ c.old }
+    ensures stopped_unwritten { result.ending ≡ Copied.Stopped → result.wrote ≡ None }
 
     ensures same_space { c.new.space ≡ c.old.space }
     ensures same_hart { c.new.on ≡ c.old.on }
@@ -215,8 +244,8 @@ pub fn copy_step<M: PageSide>(c: &mut Context, domain: u32, r: &Resources, m: &m
     ensures same_domain { M.serves m.new ≡ M.serves m.old }
 {
     match c.phase {
-        Phase::CopyIn { done } => copy_in_step(c, r, domain, done, m),
+        Phase::CopyIn { done } => CopyStep::without_write(copy_in_step(c, r, domain, done, m)),
         Phase::CopyOut { done, total } => copy_out_step(c, r, domain, done, total, m),
-        Phase::Plain | Phase::Waiting => Copied::Done,
+        Phase::Plain | Phase::Waiting => CopyStep::without_write(Copied::Done),
     }
 }

@@ -8,6 +8,7 @@ use Rattle.cloak_model.specs.declared.answer.Answer.TheVariants as told
 use Rattle.cloak_model.specs.declared.context.Phase.{Phase}
 use Rattle.cloak_model.specs.declared.context.Phase.TheVariants.{Plain, CopyIn, Waiting, CopyOut}
 use Rattle.cloak_model.specs.declared.context.ResumeFault.{ResumeFault}
+use Rattle.cloak_model.specs.declared.context.WordPlace.{WordPlace}
 use Rattle.cloak_model.specs.declared.inside.Begun.{Begun}
 use Rattle.cloak_model.specs.declared.inside.Begun.TheVariants as begun
 use Rattle.cloak_model.specs.declared.inside.Copied.{Copied}
@@ -21,7 +22,7 @@ use Rattle.cloak_model.specs.declared.inside.Went.TheVariants as went
 use Rattle.cloak_model.specs.declared.resource.MapFault.{MapFault}
 use Rattle.cloak_model.specs.Contexts.{Context}
 use Rattle.cloak_model.specs.DomainState.{Control, Domain}
-use Rattle.cloak_model.specs.DomainStep.{DomainStepped, instruction_ended, copy_ended, phase_step, step_if, domain_step, interrupt_if, interrupt, answer_taken, resume_told, resume_slot}
+use Rattle.cloak_model.specs.DomainStep.{DomainStepped, instruction_ended, copy_ended, after_write, phase_step, step_if, domain_step, interrupt_if, interrupt, answer_taken, resume_told, resume_slot}
 use Rattle.cloak_model.specs.Fork.{Fork, End, Spaces, forked_resources, forked, fork_cleared, fork_if, fork, end_cleared, end_if, end_context}
 use Rattle.cloak_model.specs.Hypercalls.{Stepped, with_spaces, remapped, new_call, map_call, unmap_call, file_call, thread_at, thread_call, fork_told, fork_call, end_told, exit_call, call_begun, kernel_call, Hypercall, New, Map, Unmap, File, Thread, ForkSpace, Exit, Call, Unknown, hypercall}
 use Rattle.cloak_model.specs.Resources.{Resources, regions_in, page_at, first_free, drop_space}
@@ -224,13 +225,19 @@ copy_keeps slot d c copied.Stopped = plain _ _ _ refl refl
 copy_keeps slot d c copied.Refused = plain _ _ _ refl refl
 copy_keeps slot d c (copied.Loaded address byte) = plain _ _ _ refl refl
 
+-- a write ends reservations alone
+pub after_write_keeps : (d : Domain) (wrote : Option WordPlace) (s : DomainStepped) → DomainKeeps d s →
+    DomainKeeps d (after_write wrote s)
+after_write_keeps d None s keeps = keeps
+after_write_keeps d (Some place) s keeps = record { number = keeps.number; regions = keeps.regions }
+
 pub phase_keeps : (phase : Phase) (slot : ℕ) (c : Context) (d : Domain) (w : World) →
     DomainKeeps d (phase_step phase slot c d w).answer
 unfolding phase_step
-phase_keeps Plain slot c d w = instruction_keeps slot d _ _ _
+phase_keeps Plain slot c d w = after_write_keeps d _ _ (instruction_keeps slot d _ _ _)
 phase_keeps (CopyIn done) slot c d w = copy_keeps slot d _ _
 phase_keeps Waiting slot c d w = plain _ _ _ refl refl
-phase_keeps (CopyOut done total) slot c d w = copy_keeps slot d _ _
+phase_keeps (CopyOut done total) slot c d w = after_write_keeps d _ _ (copy_keeps slot d _ _)
 
 pub step_if_keeps : (c : Option Context) (slot : ℕ) (d : Domain) (w : World) → DomainKeeps d (step_if c slot d w).answer
 unfolding step_if

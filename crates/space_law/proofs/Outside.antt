@@ -1,5 +1,7 @@
 -- The entries that a step of a hart outside makes are of no page.
-use Rattle.std.proofs.Common.{ℕ, Bool, true, false, cond, List, Option, Some, None, Result, Ok, Err}
+use Rattle.std.proofs.Common.{ℕ, ◌%◌, Bool, true, false, cond, List, Option, Some, None, Result, Ok, Err}
+use Rattle.std.specs.Prelude.{◌==◌, not}
+use Rattle.cloak_base.specs.Registers.{register}
 use Rattle.cloak_base.specs.declared.names.Kind.TheVariants.{Fetch, Load, Store}
 use Rattle.cloak_base.specs.declared.names.Mode.{Mode}
 use Rattle.cloak_base.specs.declared.names.Mode.TheVariants.{U, S}
@@ -7,19 +9,23 @@ use Rattle.cloak_base.specs.declared.names.PageId.{PageId}
 use Rattle.cloak_base.specs.declared.names.SpaceId.{SpaceId}
 use Rattle.rv_isa.specs.declared.instr.Instr.{Instr}
 use Rattle.rv_isa.specs.Table.{instruction}
+use Rattle.rv_atomic.specs.Table.{atomic_instruction}
+use Rattle.rv_atomic.specs.declared.atomic.Atomic.{Atomic}
+use Rattle.rv_atomic.specs.declared.atomic.AtomicOp.{AtomicOp}
+use Rattle.rv_atomic.specs.declared.atomic.AtomicOp.TheVariants.{Lr, Sc, Swap, Add, Xor, And, Or, Min, Max, Minu, Maxu}
 use Rattle.cloak_model.specs.declared.outcome.Effect.{Effect}
 use Rattle.cloak_model.specs.declared.outcome.Effect.TheVariants as does
-use Rattle.cloak_model.specs.Ask.{ask_count, ask_load, ask_store_at}
-use Rattle.cloak_model.specs.Asking.{Asking}
+use Rattle.cloak_model.specs.Ask.{ask_count, ask_load, ask_store_at, ask_reserve, ask_store_conditional, ask_combine}
+use Rattle.cloak_model.specs.Asking.{Asking, then_ask}
 use Rattle.cloak_model.specs.Csr.{satp_of, interrupt_due}
-use Rattle.cloak_model.specs.Effect.{effect}
+use Rattle.cloak_model.specs.Effect.{effect, flag}
 use Rattle.cloak_model.specs.Hart.{Hart}
 use Rattle.cloak_model.specs.HartStep.{with_word, gone_on, stays, raised, system}
 use Rattle.cloak_model.specs.HostCalls.{SteppedKernel, ends, read_block, write_block, read_call, write_call, host_call, ecall_in, ecall}
-use Rattle.cloak_model.specs.KernelStep.{access, extended, is_ecall, or_trap, carried_out, executed, instruction_step, ticked, kernel_step}
+use Rattle.cloak_model.specs.KernelStep.{access, extended, is_ecall, or_trap, carried_out, misaligned, atomic_access, atomic_executed, executed, instruction_step, ends_reservation, released, ticked, kernel_step}
 use Rattle.cloak_model.specs.World.{World, Cloaked}
 use Rattle.space_law.specs.Mapping.{MakesOutside}
-use Rattle.space_law.proofs.Questions.{Maps, maps_refl, maps_trans, maps_either, asks_load, asks_store, asks_frame, asks_fill}
+use Rattle.space_law.proofs.Questions.{Maps, maps_refl, maps_trans, maps_either, asks_load, asks_store, asks_frame, asks_fill, asks_unmark, asks_reserve, asks_store_conditional, asks_combine}
 
 module _ (mapped : SpaceId → ℕ → Option PageId) (s : Option SpaceId) where
   -- one of two steps
@@ -90,9 +96,55 @@ module _ (mapped : SpaceId → ℕ → Option PageId) (s : Option SpaceId) where
   maps_carried h disk word i does.Nothing w = maps_refl mapped s w
   maps_carried h disk word i (does.Raise cause value) w = maps_refl mapped s w
 
+  -- an operation
+  pub maps_operation : (h : Hart) (disk : List ℕ) (a : Atomic) (op : AtomicOp) (va operand : ℕ) (w : World) →
+      Maps mapped s w
+      (then_ask (ask_combine (satp_of h.csrs) (access h Store va) op operand)
+      (λ found. or_trap h disk va found (λ old. ends disk (stays (gone_on (with_word h a.rd old))))) w).world
+  maps_operation h disk a op va operand w =
+      let told = ask_combine (satp_of h.csrs) (access h Store va) op operand w in
+      maps_trans mapped s w told.world _ (asks_combine mapped s (satp_of h.csrs) (access h Store va) op operand w)
+      (maps_or_trap h disk va told.answer (λ old. ends disk (stays (gone_on (with_word h a.rd old)))) told.world
+      (λ old. maps_refl mapped s told.world))
+
+  pub maps_atomic_access : (h : Hart) (disk : List ℕ) (a : Atomic) (op : AtomicOp) (va operand : ℕ) (w : World) →
+      Maps mapped s w (atomic_access h disk a op va operand w).world
+  unfolding atomic_access
+  maps_atomic_access h disk a Lr va operand w =
+      let told = ask_reserve (satp_of h.csrs) (access h Load va) h.id w in
+      maps_trans mapped s w told.world _ (asks_reserve mapped s (satp_of h.csrs) (access h Load va) h.id w)
+      (maps_or_trap h disk va told.answer (λ value. ends disk (stays (gone_on (with_word h a.rd value)))) told.world
+      (λ value. maps_refl mapped s told.world))
+  maps_atomic_access h disk a Sc va operand w =
+      let told = ask_store_conditional (satp_of h.csrs) (access h Store va) h.id operand w in
+      maps_trans mapped s w told.world _
+      (asks_store_conditional mapped s (satp_of h.csrs) (access h Store va) h.id operand w)
+      (maps_or_trap h disk va told.answer
+      (λ is_stored. ends disk (stays (gone_on (with_word h a.rd (flag (not is_stored)))))) told.world
+      (λ is_stored. maps_refl mapped s told.world))
+  maps_atomic_access h disk a Swap va operand w = maps_operation h disk a Swap va operand w
+  maps_atomic_access h disk a Add va operand w = maps_operation h disk a Add va operand w
+  maps_atomic_access h disk a Xor va operand w = maps_operation h disk a Xor va operand w
+  maps_atomic_access h disk a And va operand w = maps_operation h disk a And va operand w
+  maps_atomic_access h disk a Or va operand w = maps_operation h disk a Or va operand w
+  maps_atomic_access h disk a Min va operand w = maps_operation h disk a Min va operand w
+  maps_atomic_access h disk a Max va operand w = maps_operation h disk a Max va operand w
+  maps_atomic_access h disk a Minu va operand w = maps_operation h disk a Minu va operand w
+  maps_atomic_access h disk a Maxu va operand w = maps_operation h disk a Maxu va operand w
+
+  pub maps_atomic : (h : Hart) (disk : List ℕ) (word : ℕ) (a : Option Atomic) (w : World) →
+      Maps mapped s w (atomic_executed h disk word a w).world
+  unfolding atomic_executed
+  maps_atomic h disk word None w = maps_refl mapped s w
+  maps_atomic h disk word (Some a) w =
+      let va = register h.regs a.rs1 in
+      let operand = register h.regs a.rs2 in
+      maps_one (va % 4 == 0) (atomic_access h disk a a.op va operand) (ends disk (raised h (misaligned a.op) va)) w
+      (maps_atomic_access h disk a a.op va operand w) (maps_refl mapped s w)
+
   pub maps_executed : (h : Hart) (disk : List ℕ) (word : ℕ) (i : Option Instr) (w : World) →
       Maps mapped s w (executed h disk word i w).world
-  maps_executed h disk word None w = maps_refl mapped s w
+  maps_executed h disk word None w = maps_atomic h disk word (atomic_instruction word) w
   maps_executed h disk word (Some i) w = maps_carried h disk word i (effect i h.regs h.pc) w
 
   pub maps_instruction : (h : Hart) (disk : List ℕ) (w : World) → Maps mapped s w (instruction_step h disk w).world
@@ -103,12 +155,21 @@ module _ (mapped : SpaceId → ℕ → Option PageId) (s : Option SpaceId) where
       (maps_or_trap h disk h.pc told.answer (λ word. executed h disk word (instruction word)) told.world
       (λ word. maps_executed h disk word (instruction word) told.world))
 
+  pub maps_released : (made : SteppedKernel) (w : World) → Maps mapped s w (released made w).world
+  unfolding released
+  maps_released made w =
+      maps_either mapped s (ends_reservation made.ending) _ _ w (asks_unmark mapped s made.hart.id w)
+      (maps_refl mapped s w)
+
   pub maps_step : (h : Hart) (disk : List ℕ) (w : World) → Maps mapped s w (kernel_step h disk w).world
   unfolding kernel_step
   maps_step h disk w =
       let h' = ticked h in
-      maps_one (interrupt_due h'.mode h'.csrs) (ends disk (raised h' 0x80000005 0)) (instruction_step h' disk) w
-      (maps_refl mapped s w) (maps_instruction h' disk w)
+      let due = interrupt_due h'.mode h'.csrs in
+      let told = cond due (ends disk (raised h' 0x80000005 0)) (instruction_step h' disk) w in
+      maps_trans mapped s w told.world _
+      (maps_one due (ends disk (raised h' 0x80000005 0)) (instruction_step h' disk) w (maps_refl mapped s w)
+      (maps_instruction h' disk w)) (maps_released told.answer told.world)
 
 pub makes_outside : MakesOutside
 makes_outside mapped h disk k all = (maps_step mapped None h disk (Cloaked k)).by all

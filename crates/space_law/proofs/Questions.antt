@@ -9,7 +9,8 @@ use Rattle.cloak_model.specs.declared.access.Access.{Access}
 use Rattle.cloak_model.specs.declared.answer.Answer.{Answer}
 use Rattle.cloak_model.specs.declared.answer.Answer.TheVariants as told
 use Rattle.cloak_model.specs.declared.item.Item.{Item}
-use Rattle.cloak_model.specs.Ask.{ask_word, ask_second, ask_after, ask_first, ask_walk, ask_inside, ask_translate, ask_led, opened, ask_value, ask_store, loaded_at, ask_load, stored_to, ask_store_at, ask_frame, ask_fill}
+use Rattle.rv_atomic.specs.declared.atomic.AtomicOp.{AtomicOp}
+use Rattle.cloak_model.specs.Ask.{ask_word, ask_second, ask_after, ask_first, ask_walk, ask_inside, ask_translate, ask_led, opened, ask_value, ask_store, loaded_at, ask_load, stored_to, ask_store_at, ask_frame, ask_fill, ask_mark, ask_unmark, ask_marked, stored_if, reserved_at, ask_reserve, conditional_at, ask_store_conditional, combined_at, ask_combine}
 use Rattle.cloak_model.specs.AskPages.{answer_item, replies, if_drawn, is_store, offer_events, inside_access, ask_inside_address, offered_by, ask_offer, reached, reach_by_table, get_at, got, get_by_table, put_at, stored_inside, put_by_table, settled_if_marked, clear_from, next_answer, ask_reach, ask_write, ask_get, ask_put, ask_clear, ask_copy, ask_forget}
 use Rattle.cloak_model.specs.Asking.{Told, Asking}
 use Rattle.cloak_model.specs.Cloaking.{CloakedMemory, Offer, Ready, Mismatch, Missed, settle, offer}
@@ -18,7 +19,7 @@ use Rattle.cloak_model.specs.Events.{Offer as offers}
 use Rattle.cloak_model.specs.Fork.{ask_copies, ask_forgets}
 use Rattle.cloak_base.specs.Constants.{frame_of}
 use Rattle.cloak_model.specs.Walk.{Walk, FirstWord, Ends, GoesOn, first_entry, walk}
-use Rattle.cloak_model.specs.World.{World, Handed, Flat, Cloaked, Alone, ram_of, view_of, events_of, noted, settled, stored_at, filled_frame, written, with_plain, cipher_items}
+use Rattle.cloak_model.specs.World.{World, Handed, Flat, Cloaked, Alone, ram_of, view_of, events_of, noted, settled, stored_at, filled_frame, written, with_plain, with_marks, cipher_items}
 use Rattle.shadow_fold.specs.Agreement.{IsMapped}
 use Rattle.shadow_fold.specs.Births.{MakeAll}
 
@@ -92,6 +93,11 @@ module _ (mapped : SpaceId → ℕ → Option PageId) (s : Option SpaceId) where
   maps_plain domain plain (Flat ram) = record { by = λ all. all }
   maps_plain domain plain (Cloaked c) = record { by = λ all. all }
   maps_plain domain plain (Alone h) = record { by = λ all. all }
+
+  pub maps_marks : (marks : List (Option ℕ)) (w : World) → Maps mapped s w (with_marks marks w)
+  maps_marks marks (Flat seen) = record { by = λ all. all }
+  maps_marks marks (Cloaked c) = record { by = λ all. all }
+  maps_marks marks (Alone h) = record { by = λ all. all }
 
   -- an entry without a page
   pub births_open : (satp : ℕ) (a : Access) (walk : Walk) → AreMapped mapped s (births_by satp a None walk)
@@ -361,3 +367,53 @@ module _ (mapped : SpaceId → ℕ → Option PageId) (s : Option SpaceId) where
   pub asks_fill : (f : ℕ) (bytes : List ℕ) (w : World) → Maps mapped s w (ask_fill f bytes w).world
   unfolding ask_fill
   asks_fill f bytes w = maps_trans _ _ _ (maps_settled f w) (maps_filled f bytes _)
+
+  -- Atomic instructions.
+
+  pub asks_mark : (hart pa : ℕ) (w : World) → Maps mapped s w (ask_mark hart pa w).world
+  unfolding ask_mark
+  asks_mark hart pa w = maps_marks _ w
+
+  pub asks_unmark : (hart : ℕ) (w : World) → Maps mapped s w (ask_unmark hart w).world
+  unfolding ask_unmark
+  asks_unmark hart w = maps_marks _ w
+
+  pub maps_reserved : (satp : ℕ) (a : Access) (hart : ℕ) (to : Result ℕ ℕ) (w : World) →
+      Maps mapped s w (reserved_at satp a hart to w).world
+  unfolding reserved_at
+  maps_reserved satp a hart (Err cause) w = maps_refl w
+  maps_reserved satp a hart (Ok pa) w = maps_trans _ _ _ (maps_value satp a pa 4 w) (asks_mark hart pa _)
+
+  pub asks_reserve : (satp : ℕ) (a : Access) (hart : ℕ) (w : World) → Maps mapped s w (ask_reserve satp a hart w).world
+  unfolding ask_reserve
+  asks_reserve satp a hart w = maps_trans _ _ _ (maps_led satp a w) (maps_reserved satp a hart _ _)
+
+  pub maps_stored_if : (is_reserved : Bool) (hart pa value : ℕ) (w : World) →
+      Maps mapped s w (stored_if is_reserved hart pa value w).world
+  unfolding stored_if
+  maps_stored_if true hart pa value w = maps_trans _ _ _ (maps_stored pa 4 value w) (asks_unmark hart _)
+  maps_stored_if false hart pa value w = asks_unmark hart w
+
+  pub maps_conditional : (satp : ℕ) (a : Access) (hart value : ℕ) (to : Result ℕ ℕ) (w : World) →
+      Maps mapped s w (conditional_at satp a hart value to w).world
+  unfolding conditional_at ask_marked
+  maps_conditional satp a hart value (Err cause) w = maps_refl w
+  maps_conditional satp a hart value (Ok pa) w =
+      maps_trans _ _ _ (maps_value satp a pa 4 w) (maps_stored_if _ hart pa value _)
+
+  pub asks_store_conditional : (satp : ℕ) (a : Access) (hart value : ℕ) (w : World) →
+      Maps mapped s w (ask_store_conditional satp a hart value w).world
+  unfolding ask_store_conditional
+  asks_store_conditional satp a hart value w =
+      maps_trans _ _ _ (maps_led satp a w) (maps_conditional satp a hart value _ _)
+
+  pub maps_combined : (satp : ℕ) (a : Access) (op : AtomicOp) (operand : ℕ) (to : Result ℕ ℕ) (w : World) →
+      Maps mapped s w (combined_at satp a op operand to w).world
+  unfolding combined_at
+  maps_combined satp a op operand (Err cause) w = maps_refl w
+  maps_combined satp a op operand (Ok pa) w = maps_trans _ _ _ (maps_value satp a pa 4 w) (maps_stored pa 4 _ _)
+
+  pub asks_combine : (satp : ℕ) (a : Access) (op : AtomicOp) (operand : ℕ) (w : World) →
+      Maps mapped s w (ask_combine satp a op operand w).world
+  unfolding ask_combine
+  asks_combine satp a op operand w = maps_trans _ _ _ (maps_led satp a w) (maps_combined satp a op operand _ _)

@@ -96,6 +96,7 @@ module _ (s : SpaceId) (va : ℕ) (q : PageId) where
       Has (outside_ended j number items e).joint
   unfolding outside_ended
   ended_has j number items kernel.Stay has = has
+  ended_has j number items kernel.Trapped has = has
   ended_has j number items (kernel.Put b) has = has
   ended_has j number items (kernel.Halt value) has = has
   ended_has j number items (kernel.Resume ctx answer) has = resume_has j number _ ctx answer has

@@ -10,11 +10,12 @@
 //!
 //! No body turns a law, so there is no wrong body to refuse here. These changed definitions were tried on a copy, and
 //! with none of them did the proof of its law go through. Of births: a reach makes known the next page of the resource;
-//! a load reaches its page at the offset of the address alone; a copied byte reaches its page at the address of the
-//! area; an access that is not cloaked makes known a page, or only a load outside does, or only a store outside; what a
-//! program's step asked is told of as of space 0, as of domain 0, or as of a hart outside. Of spaces: MAP and UNMAP say
-//! nothing of the space; that its regions changed is not told of, or as of domain 0; the end of a space is not told of;
-//! it takes the regions of space 0; a fork makes space 0.
+//! a load, or an atomic instruction, reaches its page at the offset of the address alone; a copied byte reaches its
+//! page at the address of the area; an access that is not cloaked makes known a page, or only a load outside does, or
+//! only a store outside; what a program's step asked is told of as of space 0, as of domain 0, or as of a hart outside.
+//! Of spaces: MAP and UNMAP say nothing of the space; that its regions changed is not told of, or as of domain 0; the
+//! end of a space is not told of; it takes the regions of space 0; a fork makes space 0; a write changes the number of
+//! its domain.
 #![tactic(auto)]
 
 ghost use Rattle.space_law.specs.Mapping.{MakesMapped, MakesOutside, StepKeepsPages, StepMakesMapped, TurnKeepsPages, TurnMakesMapped};

@@ -4,7 +4,9 @@
 //!
 //! No body turns a law, so there is no wrong body to refuse here. These changed definitions were tried on a copy, and
 //! with none of them did the proof go through. Of the step: a load is never signed; a store asks for its address as a
-//! load does; the interrupt is tested before the timer falls; the timer stands. Of its parts: a store does not go on.
+//! load does; the interrupt is tested before the timer falls; the timer stands. Of its parts: a store does not go on; SC
+//! gives 1 where it stored; an operation asks for its address as a load does; every even address is aligned; no step ends
+//! a reservation.
 #![tactic(auto)]
 
 ghost use Rattle.step_parts.specs.SameStep.{IsTheStep};

@@ -182,8 +182,8 @@ static ASSEMBLED: [(u32, &str, [i64; 3]); 173] = [
     (0x1200_0073, "sfence.vma", [0, 0, 0]),
 ];
 
-/// Words that are no instruction here: other words of RISC-V (RV64, machine mode, the hypervisor, atomics,
-/// floats, compressed words) and neighbours of words that are one.
+/// Words that are no instruction here: other words of RISC-V (RV64, machine mode, the hypervisor,
+/// atomics, which have a table of their own, floats, compressed words) and neighbours of words that are one.
 static ILLEGAL: [u32; 40] = [
     0x0000_0000, // the all-zeros word
     0xffff_ffff, // the all-ones word

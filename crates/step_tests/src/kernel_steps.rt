@@ -4,7 +4,7 @@
 use crate::checks::same;
 use alone_views::FlatRam;
 use cloak_base::{Mode, Shown};
-use host_calls::{Disk, Hart, Kernel, kernel_step, leave};
+use host_calls::{Disk, Hart, Kernel, Reservations, kernel_step, leave};
 use rv_traps::Csrs;
 use std::alloc::Global;
 use std::process::Abort;
@@ -37,7 +37,10 @@ fn frames_with(alloc: Global, word: u32) -> Result<FlatRam, Fail> {
     let mut page = [0; 4096];
     page[..4].copy_from_slice(&word.to_le_bytes());
     let frames = Vec::from_array(alloc, [page, [0; 4096], [0; 4096]])?;
-    Ok(FlatRam { frames })
+    Ok(FlatRam {
+        frames,
+        reservations: Reservations::none(1),
+    })
 }
 
 const ADDI: u32 = 0x0010_0093; // addi x1, x0, 1
@@ -70,7 +73,8 @@ type Interrupt = (
 );
 
 /// Interrupts and the instructions of the supervisor: mode, sstatus, sie, whether the timer's interrupt is
-/// pending, and the timer before the step; its word; mode, program counter, scause and stval after it.
+/// pending, and the timer before the step; its word; mode, program counter, scause and stval after it. A step that has a
+/// cause then has trapped.
 static INTERRUPTS: [Interrupt; 15] = [
     (
         "not in S mode with SIE clear",
@@ -235,7 +239,12 @@ fn interrupted(rt: &impl Abort, alloc: Global, row: &Interrupt) -> Result<(), Fa
     let ending = kernel_step(&mut h, &mut d, &mut m);
     let cause = h.csrs.read(0x142).unwrap_or(1);
     let value = h.csrs.read(0x143).unwrap_or(1);
-    same(rt, &ending, &Kernel::Stay, name);
+    let ended = if want.2 == 0 {
+        Kernel::Stay
+    } else {
+        Kernel::Trapped
+    };
+    same(rt, &ending, &ended, name);
     same(rt, &(h.mode, h.pc, cause, value), &want, name);
     Ok(())
 }

@@ -3,6 +3,7 @@
 use crate::checks::same;
 use alone_views::FlatRam;
 use cloak_base::{Frame, Kind, Mode};
+use host_calls::Reservations;
 use std::test::Fail;
 use sv32_walk::{Walked, walk};
 
@@ -13,7 +14,10 @@ fn tables(rt: &HostRuntime, first: u32, second: u32) -> Result<FlatRam, Fail> {
     let mut level_0 = [0; 4096];
     level_0[4..8].copy_from_slice(&second.to_le_bytes());
     let frames = Vec::from_array(rt.alloc(), [[0; 4096], level_1, level_0])?;
-    Ok(FlatRam { frames })
+    Ok(FlatRam {
+        frames,
+        reservations: Reservations::none(1),
+    })
 }
 
 /// The table of level 1 in frame 1.

@@ -7,7 +7,7 @@ use Rattle.cloak_model.specs.declared.inside.Went.{Went}
 use Rattle.cloak_model.specs.declared.inside.Went.TheVariants as went
 use Rattle.cloak_model.specs.declared.item.Item.{Item}
 use Rattle.cloak_model.specs.declared.outcome.Kernel.{Kernel}
-use Rattle.cloak_model.specs.declared.outcome.Kernel.TheVariants.{Stay, Put, Halt, Resume}
+use Rattle.cloak_model.specs.declared.outcome.Kernel.TheVariants.{Stay, Put, Halt, Resume, Trapped}
 use Rattle.cloak_model.specs.Ahead.{settled_step, made_after}
 use Rattle.cloak_model.specs.Asking.{Told}
 use Rattle.cloak_model.specs.Contexts.{Admitted, domain_of, slot_of}
@@ -65,6 +65,7 @@ ended_keeps : (j : Joint) (number : ℕ) (items : List Item) (k : Kernel) →
     (outside_ended j number items k).joint.memory.plain ≡ j.memory.plain
 unfolding outside_ended
 ended_keeps j number items Stay = refl
+ended_keeps j number items Trapped = refl
 ended_keeps j number items (Put b) = refl
 ended_keeps j number items (Halt value) = refl
 ended_keeps j number items (Resume ctx answer) = resume_keeps j number _ ctx answer

@@ -7,7 +7,7 @@ use Rattle.cloak_model.specs.declared.inside.Went.{Went}
 use Rattle.cloak_model.specs.declared.inside.Went.TheVariants as went
 use Rattle.cloak_model.specs.declared.item.Item.{Item}
 use Rattle.cloak_model.specs.declared.outcome.Kernel.{Kernel}
-use Rattle.cloak_model.specs.declared.outcome.Kernel.TheVariants.{Stay, Put, Halt, Resume}
+use Rattle.cloak_model.specs.declared.outcome.Kernel.TheVariants.{Stay, Put, Halt, Resume, Trapped}
 use Rattle.cloak_model.specs.Asking.{Told}
 use Rattle.cloak_model.specs.Contexts.{Admitted, domain_of, slot_of}
 use Rattle.cloak_model.specs.DomainState.{Control, Domain}
@@ -50,6 +50,7 @@ ended_counts : (j : Joint) (number : ℕ) (items : List Item) (k : Kernel) →
     KeepsCount j (outside_ended j number items k).joint
 unfolding outside_ended
 ended_counts j number items Stay = refl
+ended_counts j number items Trapped = refl
 ended_counts j number items (Put b) = refl
 ended_counts j number items (Halt value) = refl
 ended_counts j number items (Resume ctx answer) = resume_counts j number _ ctx answer

@@ -1,10 +1,15 @@
 -- What one instruction of a program shows, before it changes a page.
-use Rattle.std.proofs.Common.{◌≡◌, ◌<◌, ℕ, Bool, Option, Some, None, IfSome}
-use Rattle.std.specs.Prelude.{option_map}
+use Rattle.std.proofs.Common.{◌≡◌, ◌<◌, ℕ, ◌%◌, Bool, true, false, cond, Option, Some, None, IfSome}
+use Rattle.std.specs.Prelude.{option_map, ◌==◌}
+use Rattle.cloak_base.specs.Registers.{register}
 use Rattle.cloak_base.specs.declared.names.PageId.{PageId}
 use Rattle.rv_isa.specs.declared.instr.Instr.{Instr}
 use Rattle.rv_isa.specs.declared.instr.Instr.TheVariants as instr
 use Rattle.rv_isa.specs.Table.{instruction}
+use Rattle.rv_atomic.specs.Table.{atomic_instruction}
+use Rattle.rv_atomic.specs.declared.atomic.Atomic.{Atomic}
+use Rattle.rv_atomic.specs.declared.atomic.AtomicOp.{AtomicOp}
+use Rattle.rv_atomic.specs.declared.atomic.AtomicOp.TheVariants.{Lr, Sc}
 use Rattle.cloak_model.specs.declared.answer.Answer.{Answer}
 use Rattle.cloak_model.specs.declared.answer.Answer.TheVariants as told
 use Rattle.cloak_model.specs.declared.inside.Ran.TheVariants as ran
@@ -13,7 +18,7 @@ use Rattle.cloak_model.specs.declared.outcome.Effect.TheVariants as does
 use Rattle.cloak_model.specs.Asking.{Told}
 use Rattle.cloak_model.specs.Contexts.{Context}
 use Rattle.cloak_model.specs.Effect.{effect}
-use Rattle.cloak_model.specs.InsideStep.{AfterInstruction, loaded_inside, load_reached, load_got, load_inside, store_reached, store_put, store_inside, system_inside, done_inside, decoded_inside, executed_inside, fetched_inside, fetch, instruction_inside}
+use Rattle.cloak_model.specs.InsideStep.{AfterInstruction, loaded_inside, load_reached, load_got, load_inside, store_reached, store_put, store_inside, conditional_inside, atomic_granted, atomic_reached, atomic_placed, atomic_inside, system_inside, done_inside, decoded_inside, executed_inside, fetched_inside, fetch, instruction_inside}
 use Rattle.cloak_model.specs.Resources.{Resources, lookup, page_id, page_at}
 use Rattle.cloak_model.specs.World.{World}
 use Rattle.store_law.proofs.Worlds.{OnlyShows, ShowsFirst, OnlyShows-trans, OnlyShows-refl, OnlyShows-ends, ShowsFirst-behind, OnlyChanges-ends}
@@ -128,17 +133,71 @@ instructs_done domain r c i does.System w low = instructs_system c i w
 instructs_done domain r c i does.Nothing w low = Instructs-refl w
 instructs_done domain r c i (does.Raise cause value) w low = Instructs-refl w
 
-instructs_decoded : {count : ℕ} (domain : ℕ) (r : Resources) (c : Context) (i : Option Instr) (w : World) →
-    domain < count → Instructs count w (decoded_inside domain r c i w)
+-- Atomic instructions.
+
+instructs_conditional : {count : ℕ} (reserved : Bool) (c : Context) (rd : ℕ) (q : PageId) (va operand : ℕ) (w : World) →
+    Instructs count w (conditional_inside reserved c rd q va operand w)
+unfolding conditional_inside
+instructs_conditional true c rd q va operand w = record {
+  ends = OnlyChanges-ends w _ (changes_write _ _ _ _ w);
+  calls = λ is. absurd cc;
+  stops = λ is. absurd cc;
+}
+instructs_conditional false c rd q va operand w = Instructs-refl w
+
+instructs_granted : {count : ℕ} (c : Context) (rd : ℕ) (op : AtomicOp) (q : PageId) (va operand : ℕ) (w : World) →
+    Instructs count w (atomic_granted c rd op q va operand w)
+unfolding atomic_granted
+instructs_granted c rd Lr q va operand w = Instructs-behind _ _ _ (shows_read _ _ _ w) (Instructs-refl _)
+instructs_granted c rd Sc q va operand w = instructs_conditional _ c rd q va operand w
+instructs_granted c rd op q va operand w =
+    Instructs-behind _ _ _ (shows_read q (va % 4096) 4 w) (record {
+      ends = OnlyChanges-ends _ _ (changes_write _ _ _ _ _);
+      calls = λ is. absurd cc;
+      stops = λ is. absurd cc;
+    })
+
+instructs_atomic_reached : {count : ℕ} (c : Context) (rd : ℕ) (op : AtomicOp) (q : PageId) (va operand : ℕ) (a : Answer)
+    (w : World) → Instructs count w (atomic_reached c rd op q va operand a w)
+unfolding atomic_reached
+instructs_atomic_reached c rd op q va operand told.Ok w = instructs_granted c rd op q va operand w
+instructs_atomic_reached c rd op q va operand (told.Absent cause) w = Instructs-refl w
+instructs_atomic_reached c rd op q va operand (told.Word value) w = Instructs-refl w
+instructs_atomic_reached c rd op q va operand told.Stopped w = Instructs-refl w
+
+instructs_placed : {count : ℕ} (c : Context) (rd : ℕ) (op : AtomicOp) (va operand : ℕ) (place : Option PageId)
+    (w : World) → IsLow count place → Instructs count w (atomic_placed c rd op va operand place w)
+unfolding atomic_placed
+instructs_placed c rd op va operand None w low = Instructs-refl w
+instructs_placed c rd op va operand (Some q) w low =
+    Instructs-behind _ _ _ (shows_reach q va _ w low) (instructs_atomic_reached c rd op q va operand _ _)
+
+instructs_either : {count : ℕ} (test : Bool) (w : World) (t u : Told AfterInstruction) → Instructs count w t →
+    Instructs count w u → Instructs count w (cond test t u)
+instructs_either true w t u p q = p
+instructs_either false w t u p q = q
+
+instructs_atomic : {count : ℕ} (domain : ℕ) (r : Resources) (c : Context) (a : Option Atomic) (w : World) →
+    domain < count → Instructs count w (atomic_inside domain r c a w)
+unfolding atomic_inside
+instructs_atomic domain r c None w low = Instructs-refl w
+instructs_atomic domain r c (Some a) w low =
+    let va = register c.regs a.rs1 in
+    instructs_either (va % 4 == 0) w _ _
+    (instructs_placed c a.rd a.op va _ (page_at domain r c.space va) w (low_page domain r c.space va low))
+    (Instructs-refl w)
+
+instructs_decoded : {count : ℕ} (domain : ℕ) (r : Resources) (c : Context) (word : ℕ) (i : Option Instr) (w : World) →
+    domain < count → Instructs count w (decoded_inside domain r c word i w)
 unfolding decoded_inside
-instructs_decoded domain r c None w low = Instructs-refl w
-instructs_decoded domain r c (Some i) w low =
+instructs_decoded domain r c word None w low = instructs_atomic domain r c (atomic_instruction word) w low
+instructs_decoded domain r c word (Some i) w low =
     instructs_done domain r c i (effect i c.regs c.pc) w low
 
 instructs_executed : {count : ℕ} (domain : ℕ) (r : Resources) (c : Context) (word : ℕ) (w : World) → domain < count →
     Instructs count w (executed_inside domain r c word w)
 unfolding executed_inside
-instructs_executed domain r c word w low = instructs_decoded domain r c (instruction word) w low
+instructs_executed domain r c word w low = instructs_decoded domain r c word (instruction word) w low
 
 instructs_fetched : {count : ℕ} (domain : ℕ) (r : Resources) (c : Context) (q : PageId) (a : Answer) (w : World) →
     domain < count → Instructs count w (fetched_inside domain r c q a w)

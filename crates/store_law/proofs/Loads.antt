@@ -4,6 +4,7 @@ use Rattle.cloak_base.specs.declared.names.PageId.{PageId}
 use Rattle.cloak_model.specs.declared.context.Phase.{Phase}
 use Rattle.cloak_model.specs.declared.context.Phase.TheVariants.{Plain, CopyIn, Waiting, CopyOut}
 use Rattle.cloak_model.specs.declared.context.ResumeFault.{ResumeFault}
+use Rattle.cloak_model.specs.declared.context.WordPlace.{WordPlace}
 use Rattle.cloak_model.specs.declared.image.Bundle.{Bundle}
 use Rattle.cloak_model.specs.declared.inside.Copied.{Copied}
 use Rattle.cloak_model.specs.declared.inside.Copied.TheVariants as copied
@@ -13,14 +14,14 @@ use Rattle.cloak_model.specs.declared.inside.Went.{Went}
 use Rattle.cloak_model.specs.declared.inside.Went.TheVariants as went
 use Rattle.cloak_model.specs.declared.item.Item.{Item}
 use Rattle.cloak_model.specs.declared.outcome.Kernel.{Kernel}
-use Rattle.cloak_model.specs.declared.outcome.Kernel.TheVariants.{Stay, Put, Halt, Resume}
+use Rattle.cloak_model.specs.declared.outcome.Kernel.TheVariants.{Stay, Put, Halt, Resume, Trapped}
 use Rattle.cloak_model.specs.Asking.{Told}
 use Rattle.cloak_model.specs.Calls.{Copy, copy_in_step, copy_out_step}
 use Rattle.cloak_model.specs.Contexts.{Context, Admitted, context_at, domain_of, slot_of}
 use Rattle.cloak_model.specs.DomainState.{Control, Domain}
-use Rattle.cloak_model.specs.DomainStep.{instruction_ended, copy_ended, phase_step, step_if, domain_step}
+use Rattle.cloak_model.specs.DomainStep.{DomainStepped, instruction_ended, copy_ended, after_write, phase_step, step_if, domain_step}
 use Rattle.cloak_model.specs.Hart.{Hart}
-use Rattle.cloak_model.specs.InsideStep.{AfterInstruction}
+use Rattle.cloak_model.specs.InsideStep.{AfterInstruction, instruction_inside}
 use Rattle.cloak_base.specs.declared.causes.Violation.{Violation}
 use Rattle.cloak_model.specs.Ending.{ended_domain}
 use Rattle.cloak_model.specs.Joint.{next_hart, hart_in, end_domain, ends_once, ends_resumed, ends_asked, answers_violation}
@@ -65,19 +66,35 @@ copy_loads plain slot d c t copied.Stopped is at loads = NoLoad refl
 copy_loads plain slot d c t copied.Refused is at loads = NoLoad refl
 copy_loads plain slot d c t (copied.Loaded va value) is at loads = OneLoad slot c at va value refl (loads va value is)
 
+-- with the same loads, what is told of them is the same
+loads_stay : (was : Domain) (plain : PageId → List ℕ) (found made : Domain) → made.loads ≡ found.loads →
+    LoadsNewest was plain found → LoadsNewest was plain made
+loads_stay was plain found made same (NoLoad is) = NoLoad (same ∙ is)
+loads_stay was plain found made same (OneLoad slot c there va value is of) = OneLoad slot c there va value (same ∙ is) of
+
+-- a word that was written in changes no load
+written_loads : (wrote : Option WordPlace) (s : DomainStepped) → (after_write wrote s).domain.loads ≡ s.domain.loads
+written_loads None s = refl
+written_loads (Some place) s = refl
+
 phase_loads : (plain : PageId → List ℕ) (phase : Phase) (slot : ℕ) (c : Context) (d : Domain) (w : World) →
     context_at d.control.contexts slot ≡ Some c → HasPlain plain w →
     LoadsNewest d plain (phase_step phase slot c d w).answer.domain
 unfolding phase_step
 phase_loads plain Plain slot c d w at has =
-    instruction_loads plain slot d c _ _ refl at (loads_instruction d.control.number d.control.resources plain c w has)
+    let n = d.control.number in
+    let r = d.control.resources in
+    let t = instruction_inside n r c w in
+    loads_stay d plain _ _ (written_loads t.answer.wrote _)
+    (instruction_loads plain slot d c t _ refl at (loads_instruction n r plain c w has))
 phase_loads plain (CopyIn done) slot c d w at has =
     copy_loads plain slot d c (copy_in_step d.control.number d.control.resources c done w) _ refl at
     (copies_in d.control.number d.control.resources plain c done w has)
 phase_loads plain Waiting slot c d w at has = NoLoad refl
 phase_loads plain (CopyOut done total) slot c d w at has =
-    copy_loads plain slot d c (copy_out_step d.control.number d.control.resources c done total w) _ refl at
-    (copies_out d.control.number d.control.resources plain c done total w)
+    let t = copy_out_step d.control.number d.control.resources c done total w in
+    loads_stay d plain _ _ (written_loads t.answer.wrote _)
+    (copy_loads plain slot d c t _ refl at (copies_out d.control.number d.control.resources plain c done total w))
 
 step_if_loads : (plain : PageId → List ℕ) (o : Option Context) (slot : ℕ) (d : Domain) (w : World) →
     context_at d.control.contexts slot ≡ o → HasPlain plain w → LoadsNewest d plain (step_if o slot d w).answer.domain
@@ -149,6 +166,7 @@ ended_load : (j : Joint) (plain : PageId → List ℕ) (number : ℕ) (items : L
     DomainsLoad j.domains plain (outside_ended j number items k).joint.domains
 unfolding outside_ended
 ended_load j plain number items Stay = same_load j.domains plain
+ended_load j plain number items Trapped = same_load j.domains plain
 ended_load j plain number items (Put b) = same_load j.domains plain
 ended_load j plain number items (Halt value) = same_load j.domains plain
 ended_load j plain number items (Resume ctx answer) = resume_load j plain number _ ctx answer
@@ -210,11 +228,6 @@ turn_load j number h None = outside_load j j.memory.plain number h
 turn_load j number h (Some ctx) = inside_load j number (ticked h) ctx _ refl
 
 -- The end of a domain leaves its loads.
-
-loads_stay : (was : Domain) (plain : PageId → List ℕ) (found made : Domain) → made.loads ≡ found.loads →
-    LoadsNewest was plain found → LoadsNewest was plain made
-loads_stay was plain found made same (NoLoad is) = NoLoad (same ∙ is)
-loads_stay was plain found made same (OneLoad slot c there va value is of) = OneLoad slot c there va value (same ∙ is) of
 
 behind_set : (P : Domain → Type 0) (now : List Domain) (e d : ℕ) (found made new : Domain) →
     slice_get now e ≡ Some found → slice_get (slice_set now e made) d ≡ Some new →

@@ -67,7 +67,7 @@ interrupt_ended_keeps d j number h items (went.Leave s) = refl
 interrupt_ended_keeps d j number h items (went.SpaceGone space s) = refl
 
 memory_plain : (w : World) (m : CloakedMemory) → is_cloaked w ≡ true → plain_of w ≡ (memory_of w m).plain
-memory_plain (Flat ram) m form = absurd cc
+memory_plain (Flat seen) m form = absurd cc
 memory_plain (Cloaked c) m form = refl
 memory_plain (Alone h) m form = absurd cc
 

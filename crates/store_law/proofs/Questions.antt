@@ -24,13 +24,13 @@ use Rattle.store_law.proofs.Worlds.{OnlyShows, OnlyChanges, no_flat, no_alone, u
 -- Memory.
 
 pub shows_settled : {count : ℕ} (f : ℕ) (w : World) → OnlyShows count w (settled f w)
-shows_settled f (Flat ram) = no_flat ram _
+shows_settled f (Flat seen) = no_flat seen _
 shows_settled f (Cloaked c) = shows_by c _ (cipher_items (settle f c.memory).ciphers) refl (settle_draws f c.memory)
 shows_settled f (Alone h) = no_alone h _
 
 -- events show nothing
 shows_noted : {count : ℕ} (events : List Event) (w : World) → OnlyShows count w (noted events w)
-shows_noted events (Flat ram) = no_flat ram _
+shows_noted events (Flat seen) = no_flat seen _
 shows_noted events (Cloaked c) =
     shows_by c _ [] (sym (append-nil c.items)) (draws_same c.memory _ refl refl)
 shows_noted events (Alone h) = no_alone h _
@@ -84,7 +84,7 @@ inward_shows c d answer.Stopped = shows_item c (item.Stopped d) (λ n. refl) (λ
 
 shows_replies : {count : ℕ} (a : Answer) (w : World) → OnlyShows count w (replies a w).world
 unfolding replies
-shows_replies a (Flat ram) = no_flat ram _
+shows_replies a (Flat seen) = no_flat seen _
 shows_replies a (Cloaked c) = inward_shows c c.view.domain a
 shows_replies a (Alone h) = no_alone h _
 
@@ -103,7 +103,7 @@ shows_offered : {count : ℕ} (q : PageId) (va : ℕ) (kind : Kind) (g : ℕ) (o
 unfolding offered_by
 shows_offered q va kind g Ready w = OnlyShows-trans _ _ _ (shows_noted _ w) (shows_replies _ _)
 shows_offered q va kind g Missed w = shows_replies _ w
-shows_offered q va kind g Mismatch (Flat ram) = no_flat ram _
+shows_offered q va kind g Mismatch (Flat seen) = no_flat seen _
 shows_offered q va kind g Mismatch (Cloaked c) =
     OnlyShows-trans _ (Cloaked _) _ (shows_by c _ [] (sym (append-nil c.items)) (draws_same c.memory _ refl refl))
     (shows_replies _ _)
@@ -124,7 +124,7 @@ offer_shows q g write c low =
 shows_offer : {count : ℕ} (q : PageId) (va : ℕ) (kind : Kind) (g : ℕ) (w : World) → q.domain < count →
     OnlyShows count w (ask_offer q va kind g w).world
 unfolding ask_offer
-shows_offer q va kind g (Flat ram) low = no_flat ram _
+shows_offer q va kind g (Flat seen) low = no_flat seen _
 shows_offer q va kind g (Cloaked c) low =
     OnlyShows-trans _ (Cloaked _) _ (offer_shows q g (is_store kind) c low) (shows_offered q va kind g _ _)
 shows_offer q va kind g (Alone h) low = no_alone h _
@@ -159,13 +159,13 @@ shows_get_by_table va width w =
 -- Stores.
 
 shows_stored : {count : ℕ} (pa width value : ℕ) (w : World) → OnlyShows count w (stored_at pa width value w)
-shows_stored pa width value (Flat ram) = no_flat ram _
+shows_stored pa width value (Flat seen) = no_flat seen _
 shows_stored pa width value (Cloaked c) =
     shows_by c _ [] (sym (append-nil c.items)) (draws_same c.memory _ refl refl)
 shows_stored pa width value (Alone h) = no_alone h _
 
 shows_put_item : {count : ℕ} (pa width value : ℕ) (w : World) → OnlyShows count w (written (item.Put pa width value) w)
-shows_put_item pa width value (Flat ram) = no_flat ram _
+shows_put_item pa width value (Flat seen) = no_flat seen _
 shows_put_item pa width value (Cloaked c) =
     shows_item c (item.Put pa width value) (λ n. refl) (λ p s plain n. tt)
 shows_put_item pa width value (Alone h) = no_alone h _
@@ -214,7 +214,7 @@ shows_clear_from domain marked f (suc n) w =
 pub shows_reach : {count : ℕ} (q : PageId) (va : ℕ) (kind : Kind) (w : World) → q.domain < count →
     OnlyShows count w (ask_reach q va kind w).world
 unfolding ask_reach
-shows_reach q va kind (Flat ram) low = no_flat ram _
+shows_reach q va kind (Flat seen) low = no_flat seen _
 shows_reach q va kind (Cloaked c) low = shows_reach_by_table q va kind (Cloaked c) low
 shows_reach q va kind (Alone h) low = no_alone h _
 
@@ -224,20 +224,20 @@ shows_read q at width w = OnlyShows-refl w
 
 pub shows_get : {count : ℕ} (va width : ℕ) (w : World) → OnlyShows count w (ask_get va width w).world
 unfolding ask_get
-shows_get va width (Flat ram) = no_flat ram _
+shows_get va width (Flat seen) = no_flat seen _
 shows_get va width (Cloaked c) = shows_get_by_table va width (Cloaked c)
 shows_get va width (Alone h) = no_alone h _
 
 pub shows_put : {count : ℕ} (va width value : ℕ) (w : World) → OnlyShows count w (ask_put va width value w).world
 unfolding ask_put
-shows_put va width value (Flat ram) = no_flat ram _
+shows_put va width value (Flat seen) = no_flat seen _
 shows_put va width value (Cloaked c) = shows_put_by_table va width value (Cloaked c)
 shows_put va width value (Alone h) = no_alone h _
 
 pub shows_clear : {count : ℕ} (domain : ℕ) (marked : List Bool) (w : World) →
     OnlyShows count w (ask_clear domain marked w).world
 unfolding ask_clear
-shows_clear domain marked (Flat ram) = no_flat ram _
+shows_clear domain marked (Flat seen) = no_flat seen _
 shows_clear domain marked (Cloaked c) = shows_clear_from domain marked 0 (length c.memory.ram) (Cloaked c)
 shows_clear domain marked (Alone h) = no_alone h _
 
@@ -252,18 +252,18 @@ quiet c c' items keys owed stream =
 
 pub changes_write : (q : PageId) (at width value : ℕ) (w : World) → OnlyChanges w (ask_write q at width value w).world
 unfolding ask_write
-changes_write q at width value (Flat ram) = unchanged_flat ram _
+changes_write q at width value (Flat seen) = unchanged_flat seen _
 changes_write q at width value (Cloaked c) = quiet c _ refl refl refl refl
 changes_write q at width value (Alone h) = unchanged_alone h _
 
 pub changes_copy : (domain from to : ℕ) (w : World) → OnlyChanges w (ask_copy domain from to w).world
 unfolding ask_copy copy_pages
-changes_copy domain from to (Flat ram) = unchanged_flat ram _
+changes_copy domain from to (Flat seen) = unchanged_flat seen _
 changes_copy domain from to (Cloaked c) = quiet c _ refl refl refl refl
 changes_copy domain from to (Alone h) = unchanged_alone h _
 
 pub changes_forget : (domain resource : ℕ) (w : World) → OnlyChanges w (ask_forget domain resource w).world
 unfolding ask_forget drop_pages
-changes_forget domain resource (Flat ram) = unchanged_flat ram _
+changes_forget domain resource (Flat seen) = unchanged_flat seen _
 changes_forget domain resource (Cloaked c) = quiet c _ refl refl refl refl
 changes_forget domain resource (Alone h) = unchanged_alone h _

@@ -4,9 +4,14 @@ use Rattle.std.specs.Prelude.{◌==◌}
 use Rattle.cloak_base.specs.declared.names.Kind.{Kind}
 use Rattle.cloak_base.specs.declared.names.Kind.TheVariants.{Fetch, Load}
 use Rattle.cloak_base.specs.declared.names.PageId.{PageId}
+use Rattle.cloak_base.specs.Registers.{register}
 use Rattle.rv_isa.specs.declared.instr.Instr.{Instr}
 use Rattle.rv_isa.specs.declared.instr.Instr.TheVariants as instr
 use Rattle.rv_isa.specs.Table.{instruction}
+use Rattle.rv_atomic.specs.Table.{atomic_instruction}
+use Rattle.rv_atomic.specs.declared.atomic.Atomic.{Atomic}
+use Rattle.rv_atomic.specs.declared.atomic.AtomicOp.{AtomicOp}
+use Rattle.rv_atomic.specs.declared.atomic.AtomicOp.TheVariants.{Lr, Sc}
 use Rattle.cloak_model.specs.declared.answer.Answer.{Answer}
 use Rattle.cloak_model.specs.declared.answer.Answer.TheVariants as told
 use Rattle.cloak_model.specs.declared.inside.Ran.TheVariants as ran
@@ -18,7 +23,8 @@ use Rattle.cloak_model.specs.AskPages.{ask_reach, ask_read}
 use Rattle.cloak_model.specs.Calls.{Copy, in_put, in_reached, in_placed, in_step, copy_in_step, out_reached, out_got, out_placed, out_step, copy_out_step, byte_address, buffer}
 use Rattle.cloak_model.specs.Contexts.{Context}
 use Rattle.cloak_model.specs.Effect.{IsWidth, offset, effect, jump, go, branch, load_effect, store_effect}
-use Rattle.cloak_model.specs.InsideStep.{AfterInstruction, loaded_inside, load_reached, load_got, load_inside, store_reached, store_put, store_inside, system_inside, done_inside, decoded_inside, executed_inside, fetched_inside, fetch, instruction_inside}
+use Rattle.cloak_model.specs.InsideStep.{AfterInstruction, loaded_inside, load_reached, load_got, load_inside, store_reached, store_put, store_inside, conditional_inside, atomic_granted, atomic_reached, atomic_placed, atomic_inside, system_inside, done_inside, decoded_inside, executed_inside, fetched_inside, fetch, instruction_inside}
+use Rattle.cloak_model.specs.Memory.{value_in}
 use Rattle.cloak_model.specs.Resources.{Resources, page_at}
 use Rattle.cloak_model.specs.World.{World, Cloak, Cloaked, plain_of}
 use Rattle.store_law.specs.Loads.{IsLoadOf}
@@ -185,17 +191,77 @@ loads_done n r plain c i does.System w widths has = loads_system n r plain c i w
 loads_done n r plain c i does.Nothing w widths has = λ va' value' same. absurd cc
 loads_done n r plain c i (does.Raise cause value) w widths has = λ va' value' same. absurd cc
 
-loads_decoded : (n : ℕ) (r : Resources) (plain : PageId → List ℕ) (c : Context) (i : Option Instr) (w : World) →
-    HasPlain plain w → LoadsIn n r c.space plain (decoded_inside n r c i w)
+-- An atomic instruction that loads gives the word that stood.
+
+-- the word of a page that is reached
+loads_word : (n : ℕ) (r : Resources) (plain : PageId → List ℕ) (space : ℕ) (q : PageId) (va : ℕ) (w : World) →
+    page_at n r space va ≡ Some q → HasPlain plain w → (va' value' : ℕ) →
+    ran.Loaded va (value_in (plain_of w q) (va % 4096) 4) ≡ ran.Loaded va' value' → IsLoadOf n r space plain va' value'
+loads_word n r plain space q va w lies has va' value' same =
+    let address : va ≡ va' = cc in
+    let value = plain_here plain w q has in
+    subst (λ (x : ℕ). IsLoadOf n r space plain x value') address (record {
+      page = q;
+      lies = lies;
+      width = 4;
+      is_width = inr (inr refl);
+      same = cc;
+    })
+
+nothing_conditional : (reserved : Bool) (n : ℕ) (r : Resources) (plain : PageId → List ℕ) (c : Context) (rd : ℕ)
+    (q : PageId) (va operand : ℕ) (w : World) →
+    LoadsIn n r c.space plain (conditional_inside reserved c rd q va operand w)
+unfolding conditional_inside
+nothing_conditional true n r plain c rd q va operand w = λ va' value' same. absurd cc
+nothing_conditional false n r plain c rd q va operand w = λ va' value' same. absurd cc
+
+loads_granted : (n : ℕ) (r : Resources) (plain : PageId → List ℕ) (c : Context) (rd : ℕ) (op : AtomicOp) (q : PageId)
+    (va operand : ℕ) (w : World) → page_at n r c.space va ≡ Some q → HasPlain plain w →
+    LoadsIn n r c.space plain (atomic_granted c rd op q va operand w)
+unfolding atomic_granted ask_read
+loads_granted n r plain c rd Lr q va operand w lies has = loads_word n r plain c.space q va w lies has
+loads_granted n r plain c rd Sc q va operand w lies has = nothing_conditional _ n r plain c rd q va operand w
+loads_granted n r plain c rd op q va operand w lies has = loads_word n r plain c.space q va w lies has
+
+loads_atomic_reached : (n : ℕ) (r : Resources) (plain : PageId → List ℕ) (c : Context) (rd : ℕ) (op : AtomicOp)
+    (q : PageId) (va operand : ℕ) (a : Answer) (w : World) → page_at n r c.space va ≡ Some q → HasPlain plain w →
+    LoadsIn n r c.space plain (atomic_reached c rd op q va operand a w)
+unfolding atomic_reached
+loads_atomic_reached n r plain c rd op q va operand told.Ok w lies has =
+    loads_granted n r plain c rd op q va operand w lies has
+loads_atomic_reached n r plain c rd op q va operand (told.Absent cause) w lies has = λ va' value' same. absurd cc
+loads_atomic_reached n r plain c rd op q va operand (told.Word x) w lies has = λ va' value' same. absurd cc
+loads_atomic_reached n r plain c rd op q va operand told.Stopped w lies has = λ va' value' same. absurd cc
+
+loads_atomic_placed : (n : ℕ) (r : Resources) (plain : PageId → List ℕ) (c : Context) (rd : ℕ) (op : AtomicOp)
+    (va operand : ℕ) (place : Option PageId) (w : World) → page_at n r c.space va ≡ place → HasPlain plain w →
+    LoadsIn n r c.space plain (atomic_placed c rd op va operand place w)
+unfolding atomic_placed
+loads_atomic_placed n r plain c rd op va operand None w lies has = λ va' value' same. absurd cc
+loads_atomic_placed n r plain c rd op va operand (Some q) w lies has =
+    loads_atomic_reached n r plain c rd op q va operand _ _ lies (has_reached plain q va _ w has)
+
+loads_atomic : (n : ℕ) (r : Resources) (plain : PageId → List ℕ) (c : Context) (a : Option Atomic) (w : World) →
+    HasPlain plain w → LoadsIn n r c.space plain (atomic_inside n r c a w)
+unfolding atomic_inside
+loads_atomic n r plain c None w has = λ va' value' same. absurd cc
+loads_atomic n r plain c (Some a) w has =
+    let va = register c.regs a.rs1 in
+    either (LoadsIn n r c.space plain) (va % 4 == 0) _ _
+    (loads_atomic_placed n r plain c a.rd a.op va _ (page_at n r c.space va) w refl has)
+    (λ va' value' same. absurd cc)
+
+loads_decoded : (n : ℕ) (r : Resources) (plain : PageId → List ℕ) (c : Context) (word : ℕ) (i : Option Instr)
+    (w : World) → HasPlain plain w → LoadsIn n r c.space plain (decoded_inside n r c word i w)
 unfolding decoded_inside
-loads_decoded n r plain c None w has = λ va' value' same. absurd cc
-loads_decoded n r plain c (Some i) w has =
+loads_decoded n r plain c word None w has = loads_atomic n r plain c (atomic_instruction word) w has
+loads_decoded n r plain c word (Some i) w has =
     loads_done n r plain c i (effect i c.regs c.pc) w (effect_width i c.regs c.pc) has
 
 loads_executed : (n : ℕ) (r : Resources) (plain : PageId → List ℕ) (c : Context) (word : ℕ) (w : World) →
     HasPlain plain w → LoadsIn n r c.space plain (executed_inside n r c word w)
 unfolding executed_inside
-loads_executed n r plain c word w has = loads_decoded n r plain c (instruction word) w has
+loads_executed n r plain c word w has = loads_decoded n r plain c word (instruction word) w has
 
 loads_fetched : (n : ℕ) (r : Resources) (plain : PageId → List ℕ) (c : Context) (q : PageId) (a : Answer) (w : World) →
     HasPlain plain w → LoadsIn n r c.space plain (fetched_inside n r c q a w)

@@ -13,11 +13,12 @@ use Rattle.cloak_model.specs.declared.inside.Went.TheVariants as went
 use Rattle.cloak_model.specs.declared.inside.Ran.{Ran}
 use Rattle.cloak_model.specs.declared.inside.Ran.TheVariants as ran
 use Rattle.cloak_model.specs.declared.resource.MapFault.{MapFault}
+use Rattle.cloak_model.specs.declared.context.WordPlace.{WordPlace}
 use Rattle.cloak_model.specs.Asking.{Told}
 use Rattle.cloak_model.specs.Contexts.{Context}
 use Rattle.cloak_model.specs.InsideStep.{AfterInstruction}
 use Rattle.cloak_model.specs.DomainState.{Control, Domain}
-use Rattle.cloak_model.specs.DomainStep.{DomainStepped, copy_ended, instruction_ended, phase_step, step_if, domain_step}
+use Rattle.cloak_model.specs.DomainStep.{DomainStepped, copy_ended, instruction_ended, after_write, phase_step, step_if, domain_step}
 use Rattle.cloak_model.specs.Fork.{Fork, End, ask_copies, ask_forgets, fork_cleared, fork_if, fork, end_cleared, end_if, end_context}
 use Rattle.cloak_model.specs.Hypercalls.{Hypercall, New, Map, Unmap, File, Thread, ForkSpace, Exit, Call, Unknown, hypercall, fork_told, fork_call, end_told, exit_call}
 use Rattle.cloak_model.specs.Resources.{Resources}
@@ -143,16 +144,22 @@ instruction_ends slot d u t ran.Ecall is i =
     Shows-behind u t.world _ (i.calls is) (ends_hypercall _ slot _ _ t.world)
 instruction_ends slot d u t ran.Stopped is i = record { ends = i.ends; stops = λ stopped. i.stops is }
 
+-- a word that was written in changes reservations alone
+written_stop : (wrote : Option WordPlace) (s : DomainStepped) → (after_write wrote s).went ≡ went.Stopped →
+    s.went ≡ went.Stopped
+written_stop None s is = is
+written_stop (Some place) s is = is
+
 ends_phase_step : {count : ℕ} (phase : Phase) (slot : ℕ) (c : Context) (d : Domain) (w : World) →
     d.control.number < count → Stepping count w (phase_step phase slot c d w)
 unfolding phase_step
 ends_phase_step Plain slot c d w low =
-    instruction_ends slot d w _ _ refl (instructs_instruction _ _ c w low)
+    Shows-so w _ (λ is. written_stop _ _ is) (instruction_ends slot d w _ _ refl (instructs_instruction _ _ c w low))
 ends_phase_step (CopyIn done) slot c d w low =
     Shows-so w _ (λ is. copy_stop slot d _ _ is) (ends_copy_in_step _ _ c done w low)
 ends_phase_step Waiting slot c d w low = Shows-refl w
 ends_phase_step (CopyOut done total) slot c d w low =
-    Shows-so w _ (λ is. copy_stop slot d _ _ is) (ends_copy_out_step _ _ c done total w low)
+    Shows-so w _ (λ is. copy_stop slot d _ _ (written_stop _ _ is)) (ends_copy_out_step _ _ c done total w low)
 
 ends_step_if : {count : ℕ} (c : Option Context) (slot : ℕ) (d : Domain) (w : World) → d.control.number < count →
     Stepping count w (step_if c slot d w)

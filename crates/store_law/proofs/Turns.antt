@@ -11,7 +11,7 @@ use Rattle.cloak_model.specs.declared.inside.Went.TheVariants as went
 use Rattle.cloak_model.specs.declared.item.Item.{Item}
 use Rattle.cloak_model.specs.declared.item.Item.TheVariants as item
 use Rattle.cloak_model.specs.declared.outcome.Kernel.{Kernel}
-use Rattle.cloak_model.specs.declared.outcome.Kernel.TheVariants.{Stay, Put, Halt, Resume}
+use Rattle.cloak_model.specs.declared.outcome.Kernel.TheVariants.{Stay, Put, Halt, Resume, Trapped}
 use Rattle.cloak_model.specs.Ahead.{settled_step, made_after}
 use Rattle.cloak_model.specs.Asking.{Told}
 use Rattle.cloak_model.specs.Cloaking.{CloakedMemory}
@@ -137,6 +137,7 @@ outside_ends : {count : ℕ} (m : CloakedMemory) (j : Joint) (number : ℕ) (ite
     let t = outside_ended j number items k in Uses count m t.items t.joint.memory
 unfolding outside_ended
 outside_ends m j number items Stay u = u
+outside_ends m j number items Trapped u = u
 outside_ends m j number items (Put b) u = u
 outside_ends m j number items (Halt value) u = u
 outside_ends m j number items (Resume ctx answer) u =

@@ -6,6 +6,7 @@ use Rattle.cloak_base.specs.declared.names.PageId.{PageId}
 use Rattle.cloak_model.specs.declared.image.Program.{Program}
 use Rattle.cloak_model.specs.declared.item.Item.{Item}
 use Rattle.cloak_model.specs.Asking.{Told}
+use Rattle.cloak_model.specs.Memory.{Seen}
 use Rattle.cloak_model.specs.World.{World, Cloak, Flat, Cloaked, Alone, Handed}
 use Rattle.store_law.proofs.Draws.{OwesPagesOf, HasDrawn, draws_stay, draw_behind, draw_behind-append, draw_behind_one, IsShown, AreShown, shown-append, Draws}
 
@@ -44,20 +45,20 @@ pub record OnlyChanges (w v : World) : Type 0 where
   pub by : (c : Cloak) → w ≡ Cloaked c → OnlyChangesFrom c v
 
 -- of another world nothing has to be said
-flat_not : (ram : List (List ℕ)) (c : Cloak) → Flat ram ≡ Cloaked c → ⊥
-flat_not ram c is = cc
+flat_not : (seen : Seen) (c : Cloak) → Flat seen ≡ Cloaked c → ⊥
+flat_not seen c is = cc
 
 alone_not : (h : Handed) (c : Cloak) → Alone h ≡ Cloaked c → ⊥
 alone_not h c is = cc
 
-pub no_flat : {count : ℕ} (ram : List (List ℕ)) (v : World) → OnlyShows count (Flat ram) v
-no_flat ram v = record { by = λ c is. absurd (flat_not ram c is) }
+pub no_flat : {count : ℕ} (seen : Seen) (v : World) → OnlyShows count (Flat seen) v
+no_flat seen v = record { by = λ c is. absurd (flat_not seen c is) }
 
 pub no_alone : {count : ℕ} (h : Handed) (v : World) → OnlyShows count (Alone h) v
 no_alone h v = record { by = λ c is. absurd (alone_not h c is) }
 
-pub unchanged_flat : (ram : List (List ℕ)) (v : World) → OnlyChanges (Flat ram) v
-unchanged_flat ram v = record { by = λ c is. absurd (flat_not ram c is) }
+pub unchanged_flat : (seen : Seen) (v : World) → OnlyChanges (Flat seen) v
+unchanged_flat seen v = record { by = λ c is. absurd (flat_not seen c is) }
 
 pub unchanged_alone : (h : Handed) (v : World) → OnlyChanges (Alone h) v
 unchanged_alone h v = record { by = λ c is. absurd (alone_not h c is) }

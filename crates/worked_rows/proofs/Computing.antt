@@ -3,6 +3,8 @@
 use Rattle.std.specs.Fmt as fmt
 use Rattle.hex.specs.Hex as hex
 use Rattle.rv_isa.specs.Table as table
+use Rattle.rv_atomic.specs.Table as atomic_table
+use Rattle.rv_atomic.specs.Combine as combine
 use Rattle.cloak_base.specs.Registers as registers
 use Rattle.cloak_base.specs.Pages as pages
 use Rattle.cloak_base.specs.Random as random
@@ -39,11 +41,12 @@ use Rattle.cloak_model.specs.KernelAlone as kernel_alone
 use Rattle.cloak_model.specs.DomainAlone as domain_alone
 use Rattle.worked_rows.specs.Runs as runs
 
--- which instruction a word is
+-- which instruction a word is, and what an atomic memory operation stores
 unfoldable pub instructions : Unit {0}
 unfolding
     table.jalr_line table.branch_line table.load_line table.store_line table.op_imm_line table.op_line
-    table.misc_mem_line table.privileged_line table.system_line table.instruction
+    table.misc_mem_line table.privileged_line table.system_line table.instruction atomic_table.operation
+    atomic_table.atomic_instruction combine.combined
 instructions = tt
 
 -- the plain step of a hart
@@ -54,10 +57,13 @@ unfolding
     hart.started walk.first_leaf walk.second_leaf walk.first_word walk.second_word walk.walk walk.walk_tables
     ask.ask_word ask.ask_second ask.ask_after ask.ask_first ask.ask_walk ask.ask_inside ask.ask_translate
     ask.ask_led ask.ask_count ask.ask_value ask.ask_store ask.loaded_at ask.ask_load ask.stored_to
-    ask.ask_store_at ask.ask_frame ask.ask_fill ask.ask_settled hart_step.raised hart_step.csr_written hart_step.csr_found hart_step.csr_step hart_step.returned hart_step.idle hart_step.system
+    ask.ask_store_at ask.ask_mark ask.ask_unmark ask.ask_marked ask.reserved_at ask.ask_reserve ask.stored_if
+    ask.conditional_at ask.ask_store_conditional ask.combined_at ask.ask_combine ask.ask_frame ask.ask_fill
+    ask.ask_settled hart_step.raised hart_step.csr_written hart_step.csr_found hart_step.csr_step hart_step.returned hart_step.idle hart_step.system
     host_calls.put_call host_calls.timer_call host_calls.halt_call host_calls.read_block host_calls.write_block
     host_calls.read_call host_calls.write_call host_calls.host_call host_calls.resumed host_calls.ecall_in
-    host_calls.ecall kernel_step.carried_out kernel_step.instruction_step kernel_step.ticked kernel_step.kernel_step
+    host_calls.ecall kernel_step.carried_out kernel_step.atomic_access kernel_step.atomic_executed
+    kernel_step.instruction_step kernel_step.ticked kernel_step.released kernel_step.kernel_step
 plain_steps = tt
 
 -- the step of a cloaked program but for its reaching of pages
@@ -78,7 +84,8 @@ unfolding
     ask_pages.ask_put ask_pages.ask_clear ask_pages.ask_copy ask_pages.ask_forget inside_step.loaded_inside
     inside_step.load_reached inside_step.load_got inside_step.load_inside inside_step.store_reached
     inside_step.store_put
-    inside_step.store_inside inside_step.system_inside inside_step.done_inside inside_step.decoded_inside
+    inside_step.store_inside inside_step.conditional_inside inside_step.atomic_granted inside_step.atomic_reached
+    inside_step.atomic_placed inside_step.atomic_inside inside_step.system_inside inside_step.done_inside inside_step.decoded_inside
     inside_step.executed_inside inside_step.fetched_inside
     inside_step.fetch inside_step.instruction_inside hypercalls.remapped hypercalls.new_call hypercalls.map_call
     hypercalls.unmap_call hypercalls.file_call hypercalls.thread_at hypercalls.thread_call hypercalls.fork_told

@@ -172,6 +172,7 @@ looked_memory rest shown = record {
     missed = false;
     clashed = false;
   };
+  marks = None ∷ [];
 }
 
 -- behind step 18

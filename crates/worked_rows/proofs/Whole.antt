@@ -20,10 +20,10 @@ use Rattle.cloak_model.specs.Hart.{Hart}
 use Rattle.cloak_model.specs.Ledger.{Keys, key_in}
 use Rattle.cloak_model.specs.Contexts.{Context, with_space}
 use Rattle.cloak_model.specs.DomainState.{Domain}
-use Rattle.cloak_model.specs.DomainStep.{instruction_ended}
+use Rattle.cloak_model.specs.DomainStep.{after_write, instruction_ended}
 use Rattle.cloak_model.specs.InsideStep.{fetched_inside, store_reached}
 use Rattle.cloak_model.specs.World.{Cloak, Cloaked}
-use Rattle.cloak_model.specs.Asking.{Told, then_ask}
+use Rattle.cloak_model.specs.Asking.{Told, answered, then_ask}
 use Rattle.cloak_model.specs.AskPages.{ask_reach}
 use Rattle.cloak_model.specs.Parts.{Joint}
 use Rattle.cloak_model.specs.Joint.{answers_violation, Moment, Turn, joint_step, quiet, after_domain_step, cloak_of, pages_for}
@@ -78,6 +78,7 @@ memory_of bytes rest begun root plain owed = record {
     missed = false;
     clashed = false;
   };
+  marks = None ∷ [];
 }
 
 -- every page but the program's is zeros
@@ -160,7 +161,7 @@ unfolding told_steps
 fetched_step h d c m told =
     let t = after_domain_step (machine h d m) 0 h 0
     (then_ask (fetched_inside 0 program_resources c page told.answer)
-    (λ made. instruction_ended 0 d made.context made.ending) told.world) in
+    (λ made. then_ask (instruction_ended 0 d made.context made.ending) (λ s. answered (after_write made.wrote s))) told.world) in
     answers_violation h.inside t.violation t
 
 -- the memory as the context asks
@@ -233,7 +234,7 @@ store_step rest begun told =
     let d = program_with (with_seven 0x80008004) [] in
     let t = after_domain_step (machine program_hart d (resumed_memory words_page rest begun)) 0 program_hart 0
     (then_ask (store_reached (with_seven 0x80008004) page 0x80008100 4 7 told.answer)
-    (λ made. instruction_ended 0 d made.context made.ending) told.world) in
+    (λ made. then_ask (instruction_ended 0 d made.context made.ending) (λ s. answered (after_write made.wrote s))) told.world) in
     answers_violation program_hart.inside t.violation t
 
 -- the memory as it asks for that, and as it was granted

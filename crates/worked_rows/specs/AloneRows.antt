@@ -53,6 +53,7 @@ pub record WholeHalves : Type 0 where
       ram = page_with (boot ++ halt) ∷ (replicate 7 zero_page ++ (closing_cipher ∷ replicate 55 zero_page));
       disk = [];
       console = [];
+      marks = None ∷ [];
     };
     steps = 14;
     place = Between;
@@ -106,6 +107,7 @@ pub record LetterAlone : Type 0 where
       ram = page_with letter_words ∷ replicate 63 zero_page;
       disk = [];
       console = 65 ∷ [];
+      marks = None ∷ [];
     };
     steps = 4;
     place = Between;

@@ -3,7 +3,7 @@
 -- Of a READ of 4096 bytes the first byte, the one at the end of a page and the last are computed, and not all in a
 -- row: so many steps take too long. What is settled and drawn in a fork is a row of memory, since a program by itself
 -- sees none of it.
-use Rattle.std.specs.Prelude.{◌≡◌, ℕ, zero, suc, ◌-◌, List, [], ◌∷◌, ◌++◌, length, replicate, slice_set, Some, None, Ok, Err}
+use Rattle.std.specs.Prelude.{◌≡◌, ℕ, zero, suc, ◌+◌, ◌-◌, List, [], ◌∷◌, ◌++◌, length, replicate, slice_set, Some, None, Ok, Err}
 use Rattle.std.specs.List.{concat}
 use Rattle.cloak_base.specs.declared.names.PageId.{PageId}
 use Rattle.cloak_base.specs.declared.names.SpaceId.{SpaceId}
@@ -96,6 +96,7 @@ pub record LoadFault : Type 0 where
         phase = phase.Plain;
         space = 0;
         on = None;
+        mark = None;
       }) ∷ replicate 7 None
   pub loads : faulted.domain.loads ≡ []
 
@@ -290,7 +291,7 @@ abbrev pub thread_registers : List ℕ
 thread_registers = registers_from 2 (5 ∷ []) (registers_from 10 (6 ∷ []) (replicate 32 0))
 
 abbrev pub thread : Context
-thread = record { pc = 0x00400000; regs = thread_registers; phase = phase.Plain; space = 0; on = None }
+thread = record { pc = 0x00400000; regs = thread_registers; phase = phase.Plain; space = 0; on = None; mark = None }
 
 -- THREAD at the program's first word, with stack pointer 5 and argument 6
 abbrev pub new_thread : List ℕ
@@ -412,8 +413,13 @@ pub record SharedFile : Type 0 where
 
 -- a program of one page with n more resources of one page
 abbrev pub with_news : ℕ → Domain
-with_news zero = one_page_domain
-with_news (suc n) = program_behind 0x4F560001 (1 ∷ []) (with_news n)
+with_news n = record one_page_domain {
+  control = record one_page_domain.control {
+    resources = record one_page_domain.control.resources {
+      held = replicate (n + 1) (Some (record { owner = owner.Space 0; pages = 1 })) ++ replicate (15 - n) None;
+    };
+  };
+}
 
 -- a program of one page with a resource of n pages
 abbrev pub with_pages : ℕ → Domain
@@ -423,9 +429,10 @@ with_pages n = program_behind 0x4F560001 (n ∷ []) one_page_domain
 abbrev pub behind_fork : Domain → Domain
 behind_fork d = (made_hypercall 0x4F560006 [] (told.Ok ∷ told.Ok ∷ []) d).answer.domain
 
--- FORK with nine resources, whose copies have too few numbers, and with 513 pages, whose copies are too many; with one
--- less it is granted. Where the clearing of frames is stopped, the domain is as it was.
+-- FORK with nine resources, the last of which NEW gave, whose copies have too few numbers, and with 513 pages, whose
+-- copies are too many; with one less it is granted. Where the clearing of frames is stopped, the domain is as it was.
 pub record ForkRefused : Type 0 where
+  pub made : (program_behind 0x4F560001 (1 ∷ []) (with_news 7)).control.resources ≡ (with_news 8).control.resources
   pub numbers : HypercallRefuses 0x4F560006 [] 0xFFFFFFFF (with_news 8)
   pub enough_numbers : answer_and_pc 0 (behind_fork (with_news 7)) ≡ (1, 0x00400004)
   pub pages : HypercallRefuses 0x4F560006 [] 0xFFFFFFFF (with_pages 512)

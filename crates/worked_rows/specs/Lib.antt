@@ -8,3 +8,4 @@ pub mod DomainRows
 pub mod JointRows
 pub mod MemoryRows
 pub mod AloneRows
+pub mod AtomicRows

@@ -31,7 +31,8 @@ use Rattle.worked_rows.specs.JointRuns.{one_key, key, draw_1, draw_2}
 
 -- Memory.
 
--- 64 frames, of which some are owed pages, with these pages and what was last shown of them; a key was drawn
+-- 64 frames, of which some are owed pages, with these pages and what was last shown of them; a key was drawn, and one
+-- hart reserves nothing
 abbrev pub memory : List (List ℕ) → (PageId → List ℕ) → (PageId → Option (List ℕ)) → List (Option PageId) →
     CloakedMemory
 memory ram plain recorded owed = record {
@@ -47,6 +48,7 @@ memory ram plain recorded owed = record {
     missed = false;
     clashed = false;
   };
+  marks = None ∷ [];
 }
 
 -- a step for domain 0 begins in this memory, with this page table

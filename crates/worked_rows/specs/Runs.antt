@@ -1,5 +1,5 @@
 -- Steps of a cloaked program by itself, and what is told of them.
-use Rattle.std.specs.Prelude.{◌≡◌, ℕ, zero, suc, ◌+◌, ◌==◌, ◌&&◌, Bool, false, List, [], ◌∷◌, ◌++◌, slice_set, replicate, Some, unwrap_or, if◌then◌else◌}
+use Rattle.std.specs.Prelude.{◌≡◌, ℕ, zero, suc, ◌+◌, ◌==◌, ◌&&◌, Bool, false, List, [], ◌∷◌, ◌++◌, slice_set, replicate, Some, None, unwrap_or, if◌then◌else◌}
 use Rattle.cloak_base.specs.declared.names.Start.{Start}
 use Rattle.cloak_model.specs.declared.answer.Answer.{Answer}
 use Rattle.cloak_model.specs.declared.inside.Went.{Went}
@@ -25,7 +25,7 @@ one_page resource page bytes r p = if (r == resource) && (p == page) then bytes 
 
 -- the answers that are left, and whether one was missing or did not fit its question
 abbrev pub left_in : World → List Answer × Bool
-left_in (Flat ram) = ([], false)
+left_in (Flat seen) = ([], false)
 left_in (Cloaked c) = ([], false)
 left_in (Alone h) = (h.answers, h.unfit)
 
@@ -53,9 +53,9 @@ run (suc n) slot d w = let before = run n slot d w in
 
 -- Contexts.
 
--- in space 0 and on hart 0, with these registers
+-- in space 0 and on hart 0, with these registers and no reservation
 abbrev pub running : ℕ → List ℕ → Context
-running pc regs = record { pc = pc; regs = regs; phase = Plain; space = 0; on = Some (record { 0 = 0 }) }
+running pc regs = record { pc = pc; regs = regs; phase = Plain; space = 0; on = Some (record { 0 = 0 }); mark = None }
 
 -- registers with these words from register i on
 abbrev pub registers_from : ℕ → List ℕ → List ℕ → List ℕ

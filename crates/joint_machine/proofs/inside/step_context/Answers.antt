@@ -7,45 +7,48 @@ use Rattle.cloak_base.specs.declared.names.SpaceId.{SpaceId}
 use Rattle.space_law.specs.Mapping.{AreWhole}
 use Rattle.joint_machine.proofs.Mapped.{makes_due, makes_stepped, whole_of}
 use Rattle.joint_machine.proofs.Running.{is_taken, taken_slot}
-use Rattle.joint_machine.proofs.Tracked.{goes_due, goes_stepped}
+use Rattle.joint_machine.proofs.Tracked.{goes_due, goes_same, goes_stepped}
 use Rattle.joint_machine.proofs.inside.step_context.Goals as goal
 
 pub returns-then-due-clause-turns : goal.returns-then-due-clause-turns
-returns-then-due-clause-turns g c j number was stands holds are unclashed =
+returns-then-due-clause-turns g c j was stands holds are unclashed =
     let due = sym (ap (λ (h : Hart). interrupt_due h.mode h.csrs) c.h.view_is) ∙ sym c.due.ensures ∙ c.if-due.true in
-    turns_now g.E.Emit.gave _ _ c.args.h.now _ _ _ _ _ j number c.args.d c.args.slot was _ true due
-    (λ none. turns_interrupted g.E.Emit.gave _ _ c.args.h.now _ _ _ _ _ j number c.args.d c.args.slot was refl holds are (c.take_interrupt.ensures.interrupts j number was stands)) unclashed
+    turns_now g.E.Emit.gave _ _ c.args.h.now _ _ _ _ _ j c.args.number c.args.d c.args.slot was _ true due
+    (λ none. turns_interrupted g.E.Emit.gave _ _ c.args.h.now _ _ _ c.args.memory.now c.take_interrupt.new.memory _ j c.args.number c.args.d c.args.slot was refl holds
+    c.take_interrupt.ensures.unmarks are (c.take_interrupt.ensures.interrupts j was stands)) unclashed
 
 pub returns-clause-emits_some : goal.returns-clause-emits_some
 returns-clause-emits_some g c = some_then g.E.Emit.gave _ c.step_domain.new.e _ c.step_domain.ensures.emits_some c.go_on.ensures.emits_some
 
 pub returns-clause-turns : goal.returns-clause-turns
-returns-clause-turns g c j number was stands holds are unclashed =
+returns-clause-turns g c j was stands holds are unclashed =
     let due = sym (ap (λ (h : Hart). interrupt_due h.mode h.csrs) c.h.view_is) ∙ sym c.due.ensures ∙ c.if-due.false in
     let v = c.view_of-view.ensures in
     let view = c.view_of-view.result in
     let begins = begun_is j.memory view c.args.slot was c.args.h.now c.args.d v.satp v.sum v.mxr v.domain in
-    turns_now g.E.Emit.gave _ _ c.args.h.now _ _ _ _ _ j number c.args.d c.args.slot was _ false due
-    (turns_stepping g.E.Emit.gave _ _ _ c.args.h.now _ _ c.args.roots.now _ c.end_space.new.memory c.step_domain.new.stepped _ j number c.args.d c.args.slot was view begins are
+    turns_now g.E.Emit.gave _ _ c.args.h.now _ _ _ _ _ j c.args.number c.args.d c.args.slot was _ false due
+    (turns_stepping g.E.Emit.gave _ _ _ c.args.h.now _ _ c.args.roots.now _ c.end_space.new.memory c.go_on.new.memory c.step_domain.new.stepped _ j c.args.number c.args.d c.args.slot was view begins are
     (λ u. steps_on g.E.Emit.gave _ _ c.step_domain.new.memory c.end_space.new.memory _ _ _ c.end_space.ensures.holds
-    (c.step_domain.ensures.steps j.memory was holds stands u)) (λ after w met same. c.go_on.ensures.goes_on after number w met same)) unclashed
+    (c.step_domain.ensures.steps j.memory was holds stands u)) (λ after w met same. c.go_on.ensures.goes_on after w met same)) unclashed
 
 pub returns-then-due-clause-goes : goal.returns-then-due-clause-goes
-returns-then-due-clause-goes g c j number was stands holds unclashed =
+returns-then-due-clause-goes g c j was stands holds unclashed =
     let due = sym (ap (λ (h : Hart). interrupt_due h.mode h.csrs) c.h.view_is) ∙ sym c.due.ensures ∙ c.if-due.true in
-    goes_due c.args.memory.now _ j c.args.h.now c.args.d c.args.slot was _ due
+    goes_same c.args.memory.now c.args.memory.now c.take_interrupt.new.memory _ c.take_interrupt.ensures.unmarks.same
+    (goes_due c.args.memory.now _ j c.args.h.now c.args.d c.args.slot was _ due)
 
 pub returns-clause-goes : goal.returns-clause-goes
-returns-clause-goes g c j number was stands holds unclashed =
+returns-clause-goes g c j was stands holds unclashed =
     let due = sym (ap (λ (h : Hart). interrupt_due h.mode h.csrs) c.h.view_is) ∙ sym c.due.ensures ∙ c.if-due.false in
     let v = c.view_of-view.ensures in
     let view = c.view_of-view.result in
     let begins = begun_is j.memory view c.args.slot was c.args.h.now c.args.d v.satp v.sum v.mxr v.domain in
     let there = taken_slot c.args.domain.now was c.args.slot c.args.space stands c.requires.runs in
-    goes_stepped c.args.memory.now c.step_domain.new.memory c.end_space.new.memory _ j number c.args.h.now c.args.d c.args.slot was there.0 _ view c.step_domain.new.stepped.went
+    goes_same c.args.memory.now c.end_space.new.memory c.go_on.new.memory _ c.go_on.ensures.same
+    (goes_stepped c.args.memory.now c.step_domain.new.memory c.end_space.new.memory _ j c.args.number c.args.h.now c.args.d c.args.slot was there.0 _ view c.step_domain.new.stepped.went
     due there.1.0 (ap (λ (n : ℕ). let s : SpaceId = record { domain = c.args.d; number = n } in s) there.1.1) begins
     (λ u. ((c.step_domain.ensures.steps j.memory was holds stands u).went, c.step_domain.ensures.goes j.memory was holds stands u))
-    c.end_space.ensures.goes unclashed
+    c.end_space.ensures.goes unclashed)
 
 pub returns-then-due-clause-makes : goal.returns-then-due-clause-makes
 returns-then-due-clause-makes g c j was mapped stands same =

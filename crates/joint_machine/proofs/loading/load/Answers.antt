@@ -42,10 +42,10 @@ pub returns-clause-holds : goal.returns-clause-holds
 returns-clause-holds c =
     let none : length c.loop-segment.segments.items ≡ 0 =
     omega (arith, c.in_default.ensures.cases.0, c.loop-segment.segments.ok) in
-    loaded_holds c.in_ok-pager.pager c.loop-segment.pager c.args.k c.args.domains (keys_given c.args.keys c.args.group) c.args.stream _
+    loaded_holds c.in_ok-pager.pager c.loop-segment.pager c.args.k c.args.domains (keys_given c.args.keys c.args.group) c.args.stream _ _
     (loaded c.in_ok-pager.pager c.loop-segment.pager c.args.k c.args.domains (keys_given c.args.keys c.args.group) c.loop-segment.segments.items
     c.in_ok-pager.ensures.state c.in_ok-pager.ensures.model c.loop-segment.invariant none c.whole.ensures)
-    c.in_ok-shadows.ensures
+    c.in_ok-shadows.ensures c.none.ensures
 
 pub returns-clause-ready : goal.returns-clause-ready
 returns-clause-ready c =

@@ -10,7 +10,7 @@ pub returns-then-not-place-clause-places : goal.returns-then-not-place-clause-pl
 returns-then-not-place-clause-places c m holds =
     page_placed c.args.memory.now (record c.args.memory.now { pager = c.place.new.self; stream = c.place.new.s }) false
     (first_page c.args.domain c.args.page) _ c.args.bytes.now c.if-not-place.ensures.model refl refl c.place.ensures.rights
-    c.place.ensures.stays.count (λ (is : false ≡ true). cc) m holds
+    c.place.ensures.stays.count (λ (is : false ≡ true). cc) (λ (is : false ≡ true). cc) m holds
 
 pub returns-clause-ready : goal.returns-clause-ready
 returns-clause-ready c =
@@ -21,7 +21,7 @@ pub returns-clause-places : goal.returns-clause-places
 returns-clause-places c m holds =
     page_placed c.args.memory.now _ true (first_page c.args.domain c.args.page) _ c.args.bytes.now
     c.if-not-place.ensures.model refl c.saturating_add-memory.ensures c.place.ensures.rights
-    c.place.ensures.stays.count (λ is. c.kill_dependents.ensures) m holds
+    c.place.ensures.stays.count (λ is. c.kill_dependents.ensures) (λ is. c.frame_written.ensures) m holds
 
 pub returns-clause-empty : goal.returns-clause-empty
 returns-clause-empty c none = ended_empty _ c.args.memory.now.shadows _ c.kill_dependents.ensures none

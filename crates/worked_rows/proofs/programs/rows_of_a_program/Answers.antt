@@ -121,7 +121,7 @@ returns-clause-shared_file c = record { stored = refl; loaded = refl; word = ref
 pub returns-clause-fork_refused : goal.returns-clause-fork_refused
 unfolding program_runs
 returns-clause-fork_refused c =
-    record { numbers = refl; enough_numbers = refl; pages = refl; enough_pages = refl; stopped = refl }
+    record { made = refl; numbers = refl; enough_numbers = refl; pages = refl; enough_pages = refl; stopped = refl }
 
 pub returns-clause-forked_child : goal.returns-clause-forked_child
 unfolding program_runs

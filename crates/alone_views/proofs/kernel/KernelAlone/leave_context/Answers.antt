@@ -9,7 +9,8 @@ returns-then-shown-ctx c =
     let is = hart_there old.harts.items c.args.hart c.index_mut.result.now c.requires c.index_mut.ensures.value in
     record {
       state = λ console. sym (left_context (state_with old console) c.args.hart c.args.ctx c.index_mut.result.now
-          c.leave.new.h c.args.shown.now is c.leave.ensures (eq-eqb _ _ c.if-shown-ctx.true));
+          c.leave.new.h c.unmark.new.self c.args.shown.now is c.leave.ensures c.unmark.ensures
+          (eq-eqb _ _ c.if-shown-ctx.true));
       console = refl;
       schedule = refl;
     }

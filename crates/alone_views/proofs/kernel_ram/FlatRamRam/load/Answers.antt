@@ -20,5 +20,5 @@ returns-in-Ok-clause-follows c =
     then_follows IsWorld c.args.self.now c.led.new.self _ (Ok c.in-Ok.pa) _ (ask_led c.args.satp c.args.access)
     (loaded_at c.args.satp c.args.access c.args.width) (later_loaded_at c.args.satp c.args.access c.args.width)
     (follows_led c.args.self.now c.led.new.self _ _ _ c.in-Ok.ensures.follows)
-    (λ first w stands unclashed. let f = c.read_at.ensures c.args.satp c.args.access first w stands unclashed in
+    (λ first w stands unclashed. let f = c.read_at.ensures.follows c.args.satp c.args.access first w stands unclashed in
     record { answer = ap Ok f.answer; stands = f.stands })

@@ -24,4 +24,5 @@ returns-clause-holds c m h = record {
   missed = h.missed;
   agrees = subst (λ (t : Table). Agrees (present (held_in c.args.self.now.pager) m) t) (sym c.restart.ensures) (All-nil _);
   room = ap (λ (t : Table). t.frames) c.restart.ensures ∙ h.room;
+  marks = h.marks;
 }

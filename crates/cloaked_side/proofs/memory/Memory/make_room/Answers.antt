@@ -45,6 +45,7 @@ returns-in_default-clause-rooms g c m h =
         missed = st.holds.missed;
         agrees = st.holds.agrees;
         room = st.holds.room;
+        marks = st.holds.marks;
       };
       emits = st.emits;
       offers = λ write. rooms_alone _ _ h.wiped st.holds.wiped m f c.args.q write h.pager n missed st.holds.pager

@@ -19,7 +19,7 @@ returns-then-is_ready-clause-offers g c m h clash =
     record { count = refl; domains = refl; keys = refl; rights = λ k n. refl; bytes = λ k n. refl } in
     offers_so g.E.Emit.gave _ _ old _ ended.Ready Ready c.args.q c.args.g.0 c.args.write m
     (rooms_self g.E.Emit.gave c.args.e.now old c.args.q c.args.g.0 m h) (λ (e : Ready ≡ Missed). cc) refl
-    (c.if-is_ready.ensures.model refl) refl refl refl
+    (c.if-is_ready.ensures.model refl) refl refl refl refl
     (λ ends. offered_again old.pager old.pager h.wiped m c.args.q c.args.g.0 c.args.write old.shadows h.pager
     stays was was h.agrees)
     refl refl clash

@@ -20,7 +20,7 @@ returns-in-Ready-clause-offers g c m h clash =
     let old = c.args.self.now in
     offers_so g.E.Emit.gave _ _ old _ ended.Ready Ready c.args.q c.args.g.0 c.args.write m
     (rooms_self g.E.Emit.gave c.args.e.now old c.args.q c.args.g.0 m h) (λ (e : Ready ≡ Missed). cc) refl
-    c.in-Ready.ensures.model refl refl refl
+    c.in-Ready.ensures.model refl refl refl refl
     (λ ends. offered_again old.pager c.offer.new.self h.wiped m c.args.q c.args.g.0 c.args.write old.shadows h.pager
     c.offer.ensures.stays (c.if-is_held.ensures.held refl) (c.in-Ready.ensures.held refl) h.agrees)
     refl c.offer.ensures.stays.count clash
@@ -36,7 +36,7 @@ returns-in-Ready-offer-clause-offers g c m h clash =
     let room = c.make_room.new.self in
     offers_so g.E.Emit.gave _ _ room _ ended.Ready Ready c.args.q c.args.g.0
     c.args.write m r (λ (e : Ready ≡ Missed). cc) refl
-    c.in-Ready-offer.ensures.model refl refl refl
+    c.in-Ready-offer.ensures.model refl refl refl refl
     (λ ends. subst (λ t. Agrees (present (held_in c.offer-2.new.self) (offer c.args.q c.args.g.0 c.args.write r.memory).memory) t)
     (sym c.end_entries.ensures)
     (offered_new room.pager c.offer-2.new.self r.holds.wiped r.memory c.args.q c.args.g.0 c.args.write
@@ -49,7 +49,7 @@ returns-in-Mismatch-offer-clause-offers g c m h clash =
     let room = c.make_room.new.self in
     offers_so g.E.Emit.gave _ _ room _ ended.Mismatch Mismatch c.args.q c.args.g.0
     c.args.write m r (λ (e : Mismatch ≡ Missed). cc) refl
-    c.in-Mismatch-offer.ensures.model refl refl refl
+    c.in-Mismatch-offer.ensures.model refl refl refl refl
     (λ ends. offered_vain room.pager c.offer-2.new.self r.holds.wiped r.memory c.args.q c.args.g.0 c.args.write
     room.shadows r.holds.pager c.in-Mismatch-offer.ensures.state (c.if-not-make_room.ensures.alone refl)
     (c.if-not-make_room.ensures.room refl) ends r.holds.agrees)

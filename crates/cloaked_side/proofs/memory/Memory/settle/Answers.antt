@@ -13,7 +13,7 @@ use Rattle.cloaked_side.proofs.memory.Memory.settle.Goals as goal
 pub returns-in-Quiet-clause-settles : goal.returns-in-Quiet-clause-settles
 returns-in-Quiet-clause-settles g c =
     settled_so _ _ _ c.args.self.now _ c.touch.new.self c.touch.new.s c.args.f.0 [] false c.in-Quiet.ensures.model
-    (λ w m s. s) refl refl refl (emits_none _ _)
+    (λ w m s. s) refl refl refl refl (emits_none _ _)
     (λ m h. quiet_agrees c.args.self.now.pager c.touch.new.self h.wiped m c.args.f.0 _ c.args.self.now.shadows h.pager
     c.in-Quiet.ensures.exact_cause c.touch.ensures.stays (ap page_of c.touch.ensures.outside) h.agrees)
     refl c.touch.ensures.stays.count
@@ -22,7 +22,7 @@ pub returns-in-Resealed-clause-settles : goal.returns-in-Resealed-clause-settles
 returns-in-Resealed-clause-settles g c =
     let old = c.args.self.now in
     settled_so _ _ _ old _ c.touch.new.self c.touch.new.s c.args.f.0 [] false c.in-Resealed.ensures.model
-    (λ w m s. s) refl refl refl (emits_none _ _)
+    (λ w m s. s) refl refl refl refl (emits_none _ _)
     (λ m h. settled_agrees old.pager c.touch.new.self m c.args.f old.shadows c.end_entries.new.shadows
     c.touch.ensures.stays c.end_entries.ensures h.agrees)
     (ended_frames c.args.f old.shadows c.end_entries.new.shadows c.end_entries.ensures) c.touch.ensures.stays.count
@@ -35,7 +35,7 @@ returns-in-Sealed-clause-settles g c =
     ((f, bytes_in c.touch.new.self f) ∷ []) false c.in-Sealed.ensures.model
     (λ w m s. stands_read _ _ c.emit_frame.ensures.read w m s) c.emit_frame.ensures.stream
     (c.emit_frame.ensures.draws ∙ c.saturating_add-self.ensures) c.emit_frame.ensures.missed
-    c.emit_frame.ensures.emits
+    c.emit_frame.ensures.reservations c.emit_frame.ensures.emits
     (λ m h. read_agrees c.touch.new.self c.emit_frame.new.self.pager (settle f m).memory c.end_entries-in-Sealed.new.shadows
     c.emit_frame.new.self.shadows c.emit_frame.ensures.read c.emit_frame.ensures.shadows
     (settled_agrees old.pager c.touch.new.self m c.args.f old.shadows c.end_entries-in-Sealed.new.shadows
@@ -51,7 +51,8 @@ returns-in-Wiped-clause-settles g c =
     settled_so _ _ _ old c.emit_frame-in-Wiped.new.self c.touch.new.self c.touch.new.s f
     ((f, bytes_in c.touch.new.self f) ∷ []) true c.in-Wiped.ensures.model
     (λ w m s. stands_read _ _ c.emit_frame-in-Wiped.ensures.read w m s) c.emit_frame-in-Wiped.ensures.stream
-    c.emit_frame-in-Wiped.ensures.draws c.emit_frame-in-Wiped.ensures.missed c.emit_frame-in-Wiped.ensures.emits
+    c.emit_frame-in-Wiped.ensures.draws c.emit_frame-in-Wiped.ensures.missed
+    c.emit_frame-in-Wiped.ensures.reservations c.emit_frame-in-Wiped.ensures.emits
     (λ m h. read_agrees c.touch.new.self c.emit_frame-in-Wiped.new.self.pager (settle f m).memory
     c.end_entries-in-Wiped.new.shadows c.emit_frame-in-Wiped.new.self.shadows c.emit_frame-in-Wiped.ensures.read
     c.emit_frame-in-Wiped.ensures.shadows

@@ -16,7 +16,7 @@ returns-clause-follows g c first w sees unclashed =
     let state = c.write_plain.ensures.state in
     wrap_inside g.E.Emit.gave first c.args.self.now _ _ _ refl sees.1
     (plain_stored g.E.Emit.gave first c.args.self.now _ c.args.q c.args.at c.args.width c.args.v w
-    (record { stream = refl; draws = refl; missed = refl; emitter = refl; violation = refl; view = refl; space = refl }) refl
+    (record { stream = refl; draws = refl; missed = refl; marks = refl; emitter = refl; violation = refl; view = refl; space = refl }) refl
     state.rights_are (written_count _ _ _ _ state)
     c.write_plain.ensures.model
     (same_tracks _ _ _ _ (held_in c.args.self.now.memory.now.pager) (held_in c.write_plain.new.self) refl refl

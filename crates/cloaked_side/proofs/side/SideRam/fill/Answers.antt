@@ -17,6 +17,7 @@ returns-clause-follows g c first w sees unclashed =
     wrap_outside g.E.Emit.gave first c.args.self.now _ _ _ kept.stays.space sees.1
     (filled_after g.E.Emit.gave first c.settle.new.self _ c.args.f.0 c.args.b.now (settled c.args.f.0 w)
     (record { stream = refl; draws = refl; missed = refl; emitter = refl; violation = refl; view = refl; space = refl })
+    c.frame_written.ensures
     (λ m. still_written c.settle.new.self.memory.now _ m c.args.f c.args.f.0 _ c.args.b.now refl
     c.fill_outside.ensures.state c.kill_dependents.ensures)
     (λ wiped m stands. (c.fill_outside.ensures.model wiped m stands).stands)

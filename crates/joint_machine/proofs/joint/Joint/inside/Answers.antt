@@ -3,6 +3,9 @@ use Rattle.std.proofs.lemmas.List.{length-set}
 use Rattle.std.proofs.lemmas.Option.{slice_get_read}
 use Rattle.cloak_model.specs.Hart.{Hart}
 use Rattle.cloak_model.specs.KernelStep.{ticked}
+use Rattle.protect_meta.specs.Table.{domains_of}
+use Rattle.cloak_pager.specs.State.{PagerState}
+use Rattle.joint_machine.specs.Programs.{AreFreeUnused}
 use Rattle.joint_machine.proofs.Places.{free_here, free_stepped, numbered_set}
 use Rattle.joint_machine.proofs.Running.{found_in, found_lent, inside_lent, not_run, run_there, unrun_asks}
 use Rattle.joint_machine.proofs.Turns.{ends_stopped, ends_turned, hart_is}
@@ -20,12 +23,12 @@ returns-in_default-clause-turns g c j s unclashed =
     in
     ends_stopped g.E.Emit.gave _ _ c.args.self.now _ _ j c.args.number c.tick.new.h _ c.args.ctx h s
     (found_lent _ _ c.args.number c.args.ctx _ _ c.deref.ensures.value c.running_space.ensures.value c.in_default.is)
-    (ap (λ (x : Hart). slice_set harts c.args.number x) c.leave_stopped.ensures.hart) refl refl refl refl refl refl
-    c.met.ensures c.leave_stopped.ensures.emits
+    (ap (λ (x : Hart). slice_set harts c.args.number x) c.leave_stopped.ensures.hart) refl c.leave_stopped.ensures.unmarks
+    refl refl refl refl c.met.ensures c.leave_stopped.ensures.emits
 
 pub returns-in_default-clause-goes : goal.returns-in_default-clause-goes
 returns-in_default-clause-goes g c j s unclashed =
-    goes_stopped c.args.self.now.memory _
+    goes_stopped c.args.self.now.memory c.leave_stopped.new.memory _ c.leave_stopped.ensures.unmarks.same
     (unrun_asks j c.args.number (ticked (hart_in j c.args.number)) (c.args.ctx / 8) c.args.ctx _
     (not_run c.args.self.now.domains.items j.domains c.args.number c.args.ctx s.domains
     (found_lent _ _ c.args.number c.args.ctx _ _ c.deref.ensures.value c.running_space.ensures.value
@@ -38,6 +41,19 @@ returns-in_default-clause-makes g c j s =
     (not_run c.args.self.now.domains.items j.domains c.args.number c.args.ctx s.domains
     (found_lent _ _ c.args.number c.args.ctx _ _ c.deref.ensures.value c.running_space.ensures.value
     c.in_default.is)))
+
+pub invariant_of-self : goal.invariant_of-self
+invariant_of-self g c =
+    let domains = c.args.self.now.domains.items in
+    let same = c.leave_stopped.ensures.unmarks.same.pager in
+    record {
+      few_harts = subst (λ n. n ≤ 4) (sym
+          (length-set c.args.self.now.harts.items c.args.number c.leave_stopped.new.h)) c.args.self.now.few_harts;
+      few = c.args.self.now.few;
+      served = c.args.self.now.served ∙ sym (ap (λ (p : PagerState). domains_of p.table) same);
+      numbered = c.args.self.now.numbered;
+      unused = subst (λ (p : PagerState). AreFreeUnused domains p) (sym same) c.args.self.now.unused;
+    }
 
 pub step_context-requires-clause-number : goal.step_context-requires-clause-number
 step_context-requires-clause-number g c =
@@ -98,7 +114,7 @@ returns-clause-turns g c j s unclashed =
     c.args.ctx c.in-Some.space x c.step_context.new.domain h s
     here (found_lent _ _ c.args.number c.args.ctx _ _ c.deref.ensures.value c.running_space.ensures.value
     c.in-Some.is) refl refl refl refl refl c.met-2.ensures
-    (λ was stands none. c.step_context.ensures.turns j c.args.number was stands s.memory s.roots none) unclashed
+    (λ was stands none. c.step_context.ensures.turns j was stands s.memory s.roots none) unclashed
 
 pub returns-clause-goes : goal.returns-clause-goes
 returns-clause-goes g c j s unclashed =
@@ -117,7 +133,7 @@ returns-clause-goes g c j s unclashed =
     c.in-Some.is) in
     goes_turned c.args.self.now.memory c.step_context.new.memory j c.args.number c.tick.new.h _ c.args.ctx runs.was h
     runs.there runs.runs
-    (λ none. c.step_context.ensures.goes j c.args.number runs.was runs.stands s.memory none) unclashed
+    (λ none. c.step_context.ensures.goes j runs.was runs.stands s.memory none) unclashed
 
 pub returns-clause-makes : goal.returns-clause-makes
 returns-clause-makes g c j s =

@@ -1,7 +1,7 @@
 use Rattle.std.proofs.Common.{refl, subst, sym}
 use Rattle.cloak_model.specs.Joint.{outside_step}
 use Rattle.cloaked_side.proofs.Emitting.{some_then}
-use Rattle.joint_machine.proofs.Turns.{ends_stay, ends_put, ends_halt, ends_resumed}
+use Rattle.joint_machine.proofs.Turns.{ends_stay, ends_trapped, ends_put, ends_halt, ends_resumed}
 use Rattle.cloak_model.specs.Joint.{hart_in}
 use Rattle.cloaked_side.specs.Tracking.{GoesBy}
 use Rattle.cloaked_side.specs.declared.memory.Memory.{Memory}
@@ -12,6 +12,11 @@ pub returns-in-Stay-clause-turns : goal.returns-in-Stay-clause-turns
 unfolding outside_step
 returns-in-Stay-clause-turns g c j s unclashed =
     ends_stay g.E.Emit.gave _ _ c.step_plainly.new.self _ _ j c.args.number _ (c.step_plainly.ensures.steps j s unclashed) c.in-Stay.is c.met.ensures
+
+pub returns-in-Trapped-clause-turns : goal.returns-in-Trapped-clause-turns
+unfolding outside_step
+returns-in-Trapped-clause-turns g c j s unclashed =
+    ends_trapped g.E.Emit.gave _ _ c.step_plainly.new.self _ _ j c.args.number _ (c.step_plainly.ensures.steps j s unclashed) c.in-Trapped.is c.met-in-Trapped.ensures
 
 pub returns-in-Put-clause-turns : goal.returns-in-Put-clause-turns
 unfolding outside_step

@@ -1,0 +1,9 @@
+pub mod Marks
+pub mod Stores
+pub mod Others
+pub mod InstructionMarks
+pub mod CopyMarks
+pub mod HypercallMarks
+pub mod StepMarks
+pub mod TurnMarks
+pub mod Runs

@@ -1,0 +1,359 @@
+-- A run from its opening on, and the laws.
+use Rattle.std.proofs.Common.{◌≡◌, ◌∙◌, inl, inr, ℕ, zero, suc, ◌+◌, ◌/◌, ◌%◌, ◌<◌, ◌≤◌, Bool, true, false, cond, List, [], ◌∷◌, length, take, slice_get, slice_index, Option, Some, None, IfSome, Ok, refl, sym, ap, subst, arith}
+use Rattle.std.specs.Prelude.{nat_eq, ◌&&◌, replicate}
+use Rattle.std.proofs.lemmas.Bool.{and_parts, eqb-true, cases_lt}
+use Rattle.cloak_base.specs.Random.{Random}
+use Rattle.cloak_base.specs.Registers.{register}
+use Rattle.cloak_base.specs.declared.names.PageId.{PageId}
+use Rattle.rv_atomic.specs.Table.{atomic_instruction}
+use Rattle.rv_atomic.specs.declared.atomic.Atomic.{Atomic}
+use Rattle.rv_atomic.specs.declared.atomic.AtomicOp.{AtomicOp}
+use Rattle.rv_atomic.specs.declared.atomic.AtomicOp.TheVariants.{Sc}
+use Rattle.cloak_model.specs.declared.context.Phase.{Phase}
+use Rattle.cloak_model.specs.declared.context.Phase.TheVariants.{Plain, CopyIn, Waiting, CopyOut}
+use Rattle.cloak_model.specs.declared.context.WordPlace.{WordPlace}
+use Rattle.cloak_model.specs.declared.image.Bundle.{Bundle}
+use Rattle.cloak_model.specs.declared.image.Program.{Program}
+use Rattle.cloak_model.specs.declared.item.Item.{Item}
+use Rattle.cloak_model.specs.Bundle.{IsInGrammar}
+use Rattle.cloak_model.specs.Cloaking.{CloakedMemory}
+use Rattle.cloak_model.specs.Contexts.{Context, context_at, context_number, domain_of, slot_of, word_of_page, same_word, is_reserved, started_contexts}
+use Rattle.cloak_model.specs.DomainState.{Control, Domain, started_control, started_domain}
+use Rattle.cloak_model.specs.Halves.{inward_half}
+use Rattle.cloak_model.specs.Joint.{Moment, Turn, hart_in}
+use Rattle.cloak_model.specs.Opening.{Opened, opening, started_joint, started_domains}
+use Rattle.cloak_model.specs.Parts.{Joint}
+use Rattle.cloak_model.specs.Run.{Run, turns_from, joint_run, joint_after, first_moment, run_of}
+use Rattle.kernel_isolation.specs.Isolation.{joint_until}
+use Rattle.kernel_isolation.proofs.Isolated.{until_read}
+use Rattle.resource_map.proofs.Lists.{get_or-replicate_none}
+use Rattle.limit_law.specs.Limits.{IsWordPlace, IsContext, KeepsLimits}
+use Rattle.limit_law.proofs.Runs.{runs_keep_limits}
+use Rattle.limit_law.proofs.Openings.{begins}
+use Rattle.store_law.specs.Ciphers.{items_of_turn}
+use Rattle.store_law.specs.OwnPages.{context_of_step}
+use Rattle.store_law.proofs.Ciphers.{of_opened}
+use Rattle.store_law.proofs.OwnPages.{moment_behind, step_is}
+use Rattle.latest_store.specs.Moves.{Move, latest_value}
+use Rattle.latest_store.specs.Deeds.{both_granted, page_for, step_moves}
+use Rattle.latest_store.specs.LatestStore.{history_until}
+use Rattle.latest_store.proofs.Moved.{Agrees}
+use Rattle.latest_store.proofs.Histories.{runs_give_latest}
+use Rattle.context_law.specs.Inside.{Reached, atomic_reached, fetched_reached, phase_reached, context_reached, program_reached, step_reached, moves_of_step, reserved_by, stored_with, stored_by, WasReservedInside, ContextsKeepReservations, ContextsStoreReserved}
+use Rattle.context_law.proofs.Marks.{mark_of, mark_at}
+use Rattle.context_law.proofs.Others.{Misses}
+use Rattle.context_law.proofs.InstructionMarks.{placed_reached}
+use Rattle.context_law.proofs.TurnMarks.{mark_in, marks_in, MarksAfter, step_marks}
+
+-- The opening: no context has a reservation.
+
+none_started : (pc sp k : ℕ) (word : WordPlace) → mark_at (started_contexts pc sp) k ≡ Some word → ⊥
+unfolding started_contexts
+none_started pc sp zero word is = cc
+none_started pc sp (suc k) word is =
+    let none : context_at (replicate 7 None) k ≡ None = get_or-replicate_none 7 k in
+    let gone : mark_at (replicate 7 None) k ≡ None = ap mark_of none in
+    cc
+
+none_begun : (e : ℕ) (programs : List Program) (d k : ℕ) (word : WordPlace) →
+    marks_in (started_domains e programs) d k ≡ Some word → ⊥
+unfolding started_domain started_control
+none_begun e [] zero k word is = cc
+none_begun e [] (suc d) k word is = cc
+none_begun e (p ∷ programs) zero k word is = none_started p.start.entry p.start.sp k word is
+none_begun e (p ∷ programs) (suc d) k word is = none_begun (e + 1) programs d k word is
+
+abbrev HasNone : Joint → Type 0
+HasNone j = (d k : ℕ) (word : WordPlace) → marks_in j.domains d k ≡ Some word → ⊥
+
+none_joint : (b : Bundle) (m : CloakedMemory) → HasNone (started_joint b m)
+unfolding started_joint
+none_joint b m d k word is = none_begun 0 b.programs d k word is
+
+-- The steps.
+
+same_some : {A : Type 0} (x y : A) → Some x ≡ Some y → x ≡ y
+same_some x y is = cc
+
+record HasStep (turns : List Turn) (n : ℕ) : Type 0 where
+  pub turn : Turn
+  pub is : slice_get turns n ≡ Some turn
+
+has_step : (turns : List Turn) (n : ℕ) → n < length turns → HasStep turns n
+has_step [] n less = absurd (omega (arith, less))
+has_step (t ∷ turns) zero less = record { turn = t; is = refl }
+has_step (t ∷ turns) (suc n) less =
+    let rest = has_step turns n (omega (arith, less)) in record { turn = rest.turn; is = rest.is }
+
+after_step : (j : Joint) (turns : List Turn) (n : ℕ) (t : Turn) → slice_get turns n ≡ Some t →
+    joint_after j (take (suc n) turns) ≡ t.joint
+unfolding joint_after
+after_step j [] zero t is = absurd cc
+after_step j [] (suc n) t is = absurd cc
+after_step j (x ∷ turns) zero t is = ap (λ (y : Turn). y.joint) (same_some x t is)
+after_step j (x ∷ turns) (suc n) t is = after_step x.joint turns n t is
+
+-- what is known of the step after n steps
+abbrev StepMarks : Bundle → Run → ℕ → Type 0
+StepMarks b r n =
+    MarksAfter (history_until b n r) (joint_until n r).domains (context_of_step b r n)
+    (items_of_turn (slice_get r.turns n)) (joint_until (suc n) r).domains
+
+run_step : (b : Bundle) (stream : Random) (budget : ℕ) (o : Opened) → opening b stream ≡ Ok o →
+    let r = run_of b budget o in
+    (n : ℕ) → suc n ≤ length r.turns → Agrees (history_until b n r) (joint_until n r).memory.plain → StepMarks b r n
+unfolding run_of
+run_step b stream budget o opens n low agrees =
+    let r : Run = run_of b budget o in
+    let turns : List Turn = turns_from budget (first_moment b o.joint) in
+    let step = has_step turns n (omega (arith, low)) in
+    let t = step.turn in
+    let m : Moment = moment_behind (first_moment b o.joint) n turns in
+    let steady = (until_read b stream budget o opens n (omega (arith, low))).steady in
+    let earlier : List Move = history_until b n r in
+    let inside : ℕ → Option ℕ = λ k.
+    (hart_in m.joint (slice_index b.kernel.schedule (k % length b.kernel.schedule))).inside in
+    let after : MarksAfter earlier m.joint.domains (inside m.steps) t.items t.joint.domains =
+    subst (λ (x : Turn). MarksAfter earlier m.joint.domains (inside m.steps) x.items x.joint.domains)
+    (step_is budget n (first_moment b o.joint) t step.is) (step_marks earlier m steady.programs agrees) in
+    let number : m.steps ≡ n = omega arith in
+    let after' : MarksAfter earlier m.joint.domains (inside n) t.items t.joint.domains =
+    subst (λ (k : ℕ). MarksAfter earlier m.joint.domains (inside k) t.items t.joint.domains) number after in
+    let after'' : MarksAfter earlier m.joint.domains (context_of_step b r n) (items_of_turn (slice_get r.turns n))
+    t.joint.domains =
+    subst (λ (found : Option Turn).
+    MarksAfter earlier m.joint.domains (context_of_step b r n) (items_of_turn found) t.joint.domains)
+    (sym step.is) after' in
+    subst (λ (j : Joint).
+    MarksAfter earlier m.joint.domains (context_of_step b r n) (items_of_turn (slice_get r.turns n)) j.domains)
+    (sym (after_step o.joint turns n t step.is)) after''
+
+-- The law, of a run of which these are known.
+
+-- each reservation is of such a word
+abbrev AreAligned : Run → Type 0
+AreAligned r = (n d k : ℕ) (word : WordPlace) → marks_in (joint_until n r).domains d k ≡ Some word → word.at % 4 ≡ 0
+
+abbrev AreKept : Bundle → Run → ℕ → Type 0
+AreKept b r n =
+    (d k : ℕ) (word : WordPlace) → marks_in (joint_until n r).domains d k ≡ Some word →
+    (k < 8) × WasReservedInside b r n (context_number d k) word
+
+own_domain : (d k : ℕ) → k < 8 → domain_of (context_number d k) ≡ d
+own_domain d k less = omega (arith, less)
+
+-- a context by its domain and its slot
+whole_number : (ctx : ℕ) → context_number (domain_of ctx) (slot_of ctx) ≡ ctx
+whole_number ctx = omega arith
+
+-- one more step, in which the word was not stored
+still_reserved : (b : Bundle) (r : Run) (n ctx : ℕ) (word : WordPlace) → WasReservedInside b r n ctx word →
+    Misses (domain_of ctx) word (moves_of_step b r n) → WasReservedInside b r (suc n) ctx word
+still_reserved b r n ctx word was misses =
+    let before = was.before in
+    record {
+      step = was.step;
+      before = omega (arith, before);
+      own = was.own;
+      reserved = was.reserved;
+      unstored = λ k from to. elim (cases_lt k n) [
+        | inl less ↦ was.unstored k from (omega (arith, less))
+        | inr past ↦
+            let same : n ≡ k = omega (arith, past, to) in
+            subst (λ (x : ℕ). Misses (domain_of ctx) word (moves_of_step b r x)) same misses
+      ];
+    }
+
+no_moves : (history : List Move) (domains : List Domain) (items : List Item) (d : ℕ) (word : WordPlace) →
+    Misses d word (step_moves history domains None items)
+unfolding step_moves
+no_moves history domains items d word = refl
+
+module _ (b : Bundle) (r : Run) (n : ℕ) (kept : AreKept b r n) (aligned : AreAligned r) where
+  -- the reservation stood before, and no move of the step stores in its word
+  stands : (inside : Option ℕ) → context_of_step b r n ≡ inside → (d k : ℕ) (word : WordPlace) →
+      marks_in (joint_until n r).domains d k ≡ Some word →
+      Misses d word
+      (step_moves (history_until b n r) (joint_until n r).domains inside (items_of_turn (slice_get r.turns n))) →
+      (k < 8) × WasReservedInside b r (suc n) (context_number d k) word
+  stands inside own d k word was misses =
+      let before = kept d k word was in
+      let here : Misses d word (moves_of_step b r n) =
+      subst (λ (o : Option ℕ). Misses d word
+      (step_moves (history_until b n r) (joint_until n r).domains o (items_of_turn (slice_get r.turns n)))) (sym own)
+      misses in (
+        before.0,
+        still_reserved b r n (context_number d k) word before.1
+            (subst (λ (e : ℕ). Misses e word (moves_of_step b r n)) (sym (own_domain d k before.0)) here),
+      )
+
+  kept_by : (inside : Option ℕ) → context_of_step b r n ≡ inside →
+      MarksAfter (history_until b n r) (joint_until n r).domains inside (items_of_turn (slice_get r.turns n))
+      (joint_until (suc n) r).domains → AreKept b r (suc n)
+  kept_by None own marks d k word is = stands None own d k word (marks d k word is) (no_moves _ _ _ d word)
+  kept_by (Some ctx) own marks d k word is = elim (marks d k word (aligned (suc n) d k word is) is) [
+    | inl makes ↦
+        let e : ctx / 8 ≡ d = makes.domain in
+        let s : ctx % 8 ≡ k = makes.slot in
+        let number : ctx ≡ context_number d k = omega (arith, e, s) in
+        let low : k < 8 = omega (arith, s) in (
+          low,
+          record {
+            step = n;
+            before = omega arith;
+            own = own ∙ ap (λ (x : ℕ). Some x) number;
+            reserved = ap (λ (o : Option ℕ). reserved_by
+                (step_reached (history_until b n r) (joint_until n r).domains o (items_of_turn (slice_get r.turns n))))
+                own ∙ makes.by;
+            unstored = λ later from to. absurd (omega (arith, from, to));
+          },
+        )
+    | inr stood ↦ stands (Some ctx) own d k word stood.was stood.unstored
+  ]
+
+-- as it begins, and over each step
+record IsKnown (b : Bundle) (r : Run) : Type 0 where
+  pub begins : HasNone (joint_until 0 r)
+  pub steps : (n : ℕ) → suc n ≤ length r.turns → Agrees (history_until b n r) (joint_until n r).memory.plain →
+      StepMarks b r n
+
+run_known : (b : Bundle) (stream : Random) (budget : ℕ) (o : Opened) → opening b stream ≡ Ok o →
+    IsKnown b (run_of b budget o)
+unfolding run_of joint_after
+run_known b stream budget o opens = record {
+  begins = begins HasNone b stream (λ m. none_joint b m) o opens;
+  steps = run_step b stream budget o opens;
+}
+
+all_kept : (b : Bundle) (r : Run) → IsKnown b r → AreAligned r →
+    ((n : ℕ) → n ≤ length r.turns → Agrees (history_until b n r) (joint_until n r).memory.plain) →
+    (n : ℕ) → n ≤ length r.turns → AreKept b r n
+all_kept b r known aligned agrees zero low d k word is = absurd (known.begins d k word is)
+all_kept b r known aligned agrees (suc n) low d k word is =
+    let low' : n ≤ length r.turns = omega (arith, low) in
+    kept_by b r n (all_kept b r known aligned agrees n low') aligned (context_of_step b r n) refl
+    (known.steps n low (agrees n low')) d k word is
+
+-- Places of words.
+
+place_aligned : (o : Option WordPlace) (word : WordPlace) → IfSome o IsWordPlace → o ≡ Some word → word.at % 4 ≡ 0
+place_aligned None word here is = absurd cc
+place_aligned (Some place) word here is =
+    let same : place ≡ word = cc in subst (λ (x : WordPlace). x.at % 4 ≡ 0) same here.aligned
+
+context_aligned : (r : _) (o : Option Context) (word : WordPlace) → IfSome o (IsContext r) → mark_of o ≡ Some word →
+    word.at % 4 ≡ 0
+context_aligned r None word here is = absurd cc
+context_aligned r (Some c) word here is = place_aligned c.mark word here.steady.mark is
+
+program_aligned : (o : Option Domain) (k : ℕ) (word : WordPlace) →
+    ((program : Domain) → o ≡ Some program → KeepsLimits program.control) → mark_in o k ≡ Some word → word.at % 4 ≡ 0
+program_aligned None k word limits is = absurd cc
+program_aligned (Some program) k word limits is =
+    context_aligned program.control.resources (context_at program.control.contexts k) word
+    ((limits program refl).contexts k) is
+
+are_aligned : (b : Bundle) (stream : Random) (budget : ℕ) (r : Run) → IsInGrammar b → joint_run b stream budget ≡ Ok r →
+    AreAligned r
+are_aligned b stream budget r grammar runs n d k word is =
+    program_aligned (slice_get (joint_until n r).domains d) k word
+    (λ program there. runs_keep_limits b stream budget r grammar runs n d program there) is
+
+run_kept : (b : Bundle) (stream : Random) (budget : ℕ) (r : Run) → IsInGrammar b → joint_run b stream budget ≡ Ok r →
+    (n : ℕ) → n ≤ length r.turns → AreKept b r n
+run_kept b stream budget r grammar runs =
+    let gives = runs_give_latest b stream budget r grammar runs in
+    all_kept b r
+    (of_opened b budget (IsKnown b) (opening b stream) r runs (λ o opens. run_known b stream budget o opens))
+    (are_aligned b stream budget r grammar runs) (λ n low. gives.pages n low)
+
+-- The laws.
+
+pub contexts_keep_reservations : ContextsKeepReservations
+contexts_keep_reservations b stream budget r grammar runs n low d slot program c word there context mark =
+    (run_kept b stream budget r grammar runs n low d slot word
+    (ap (λ (o : Option Domain). mark_in o slot) there ∙ ap mark_of context ∙ mark)).1
+
+-- SC stores the word that its context had reserved.
+
+same_place : (x y : WordPlace) → x.resource ≡ y.resource → x.page ≡ y.page → x.at ≡ y.at → x ≡ y
+same_place x y a b c = λ i. record { resource = a i; page = b i; at = c i }
+
+one_word : (x y : WordPlace) → same_word x y ≡ true → x ≡ y
+one_word x y is =
+    let parts = and_parts (nat_eq x.resource y.resource) (nat_eq x.page y.page && nat_eq x.at y.at) is in
+    let rest = and_parts (nat_eq x.page y.page) (nat_eq x.at y.at) parts.1 in
+    same_place x y (eqb-true x.resource y.resource parts.0) (eqb-true x.page y.page rest.0)
+    (eqb-true x.at y.at rest.1)
+
+reserved_place : (place : WordPlace) (mark : Option WordPlace) → is_reserved place mark ≡ true → mark ≡ Some place
+reserved_place place None is = absurd cc
+reserved_place place (Some x) is = ap (λ (y : WordPlace). Some y) (one_word x place is)
+
+conditional_mark : (test : Bool) (place : WordPlace) (mark : Option WordPlace) (word : WordPlace) →
+    is_reserved place mark ≡ test → cond test (Some place) None ≡ Some word → mark ≡ Some word
+conditional_mark true place mark word test is = reserved_place place mark test ∙ is
+conditional_mark false place mark word test is = absurd cc
+
+stored_mark : (op : AtomicOp) (place : WordPlace) (mark : Option WordPlace) (word : WordPlace) →
+    stored_with op place mark ≡ Some word → mark ≡ Some word
+stored_mark Sc place mark word is = conditional_mark (is_reserved place mark) place mark word refl is
+stored_mark _ place mark word is = absurd cc
+
+-- an atomic instruction that stores so is of a context with this reservation
+abbrev StoresOwn : Option WordPlace → Option Reached → Type 0
+StoresOwn mark reached = (word : WordPlace) → stored_by reached ≡ Some word → mark ≡ Some word
+
+own_if : (test : Bool) (mark : Option WordPlace) (reached : Option Reached) → StoresOwn mark reached →
+    StoresOwn mark (cond test reached None)
+own_if true mark reached own word is = own word is
+own_if false mark reached own word is = absurd cc
+
+placed_own : (op : AtomicOp) (va : ℕ) (c : Context) (place : Option PageId) →
+    StoresOwn c.mark (placed_reached c op va place)
+placed_own op va c None word is = absurd cc
+placed_own op va c (Some q) word is = stored_mark op (word_of_page q va) c.mark word is
+
+atomic_own : (d : Control) (c : Context) (a : Option Atomic) → StoresOwn c.mark (atomic_reached d c a)
+atomic_own d c None word is = absurd cc
+atomic_own d c (Some a) word is =
+    placed_own a.op (register c.regs a.rs1) c (page_for d c (register c.regs a.rs1)) word is
+
+fetched_own : (history : List Move) (d : Control) (c : Context) (place : Option PageId) →
+    StoresOwn c.mark (fetched_reached history d c place)
+fetched_own history d c None word is = absurd cc
+fetched_own history d c (Some q) word is =
+    atomic_own d c (atomic_instruction (latest_value history q (c.pc % 4096) 4)) word is
+
+phase_own : (p : Phase) (history : List Move) (d : Control) (c : Context) (told : List Item) →
+    StoresOwn c.mark (phase_reached p history d c told)
+phase_own Plain history d c told word is =
+    own_if (both_granted told) c.mark (fetched_reached history d c (page_for d c c.pc))
+    (fetched_own history d c (page_for d c c.pc)) word is
+phase_own (CopyIn done) history d c told word is = absurd cc
+phase_own Waiting history d c told word is = absurd cc
+phase_own (CopyOut done total) history d c told word is = absurd cc
+
+context_own : (o : Option Context) (history : List Move) (d : Control) (told : List Item) →
+    StoresOwn (mark_of o) (context_reached o history d told)
+context_own None history d told word is = absurd cc
+context_own (Some c) history d told word is = phase_own c.phase history d c told word is
+
+program_own : (o : Option Domain) (history : List Move) (slot : ℕ) (told : List Item) →
+    StoresOwn (mark_in o slot) (program_reached o history slot told)
+program_own None history slot told word is = absurd cc
+program_own (Some d) history slot told word is =
+    context_own (context_at d.control.contexts slot) history d.control told word is
+
+pub contexts_store_reserved : ContextsStoreReserved
+contexts_store_reserved b stream budget r grammar runs n ctx word low own stores =
+    let j : Joint = joint_until n r in
+    let history : List Move = history_until b n r in
+    let items : List Item = items_of_turn (slice_get r.turns n) in
+    let here : stored_by (step_reached history j.domains (Some ctx) items) ≡ Some word =
+    ap (λ (o : Option ℕ). stored_by (step_reached history j.domains o items)) (sym own) ∙ stores in
+    let mark : marks_in j.domains (domain_of ctx) (slot_of ctx) ≡ Some word =
+    program_own (slice_get j.domains (domain_of ctx)) history (slot_of ctx) (inward_half (domain_of ctx) items) word
+    here in
+    subst (λ (x : ℕ). WasReservedInside b r n x word) (whole_number ctx)
+    (run_kept b stream budget r grammar runs n (omega (arith, low)) (domain_of ctx) (slot_of ctx) word mark).1

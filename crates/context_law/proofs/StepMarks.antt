@@ -1,0 +1,283 @@
+-- The reservations of a program's contexts over a step of one of them, and over an interrupt and a resuming.
+use Rattle.std.proofs.Common.{◌≡◌, ◌∙◌, ◌⊎◌, inl, inr, ℕ, ◌%◌, Bool, true, false, cond, List, [], Option, Some, None, Result, Ok, Err, refl, sym, ap}
+use Rattle.std.specs.Prelude.{is_some}
+use Rattle.cloak_base.specs.declared.names.PageId.{PageId}
+use Rattle.cloak_model.specs.declared.context.Phase.{Phase}
+use Rattle.cloak_model.specs.declared.context.Phase.TheVariants.{Plain, CopyIn, Waiting, CopyOut}
+use Rattle.cloak_model.specs.declared.context.ResumeFault.{ResumeFault}
+use Rattle.cloak_model.specs.declared.context.WordPlace.{WordPlace}
+use Rattle.cloak_model.specs.declared.inside.Copied.{Copied}
+use Rattle.cloak_model.specs.declared.inside.Copied.TheVariants as copied
+use Rattle.cloak_model.specs.declared.inside.Ran.{Ran}
+use Rattle.cloak_model.specs.declared.inside.Ran.TheVariants as ran
+use Rattle.cloak_model.specs.declared.item.Item.{Item}
+use Rattle.cloak_model.specs.Asking.{Told, answered, then_ask}
+use Rattle.cloak_model.specs.Calls.{Copy, buffer, byte_address, copy_in_step, copy_out_step, finish_call}
+use Rattle.cloak_model.specs.Contexts.{Context, context_at, set_word, in_phase, suspended, Resumed, resume_if, resume_at}
+use Rattle.cloak_model.specs.DomainState.{Control, Domain}
+use Rattle.cloak_model.specs.DomainStep.{DomainStepped, instruction_ended, copy_ended, after_write, phase_step, step_if, domain_step, interrupt_if, interrupt, answer_in, answer_taken, resume_told, resume_slot}
+use Rattle.cloak_model.specs.Halves.{inward_half}
+use Rattle.cloak_model.specs.Hypercalls.{hypercall_of}
+use Rattle.cloak_model.specs.InsideStep.{AfterInstruction, instruction_inside}
+use Rattle.cloak_model.specs.World.{World, items_of}
+use Rattle.latest_store.specs.Moves.{Move}
+use Rattle.latest_store.specs.Deeds.{both_granted, phase_moves, context_moves}
+use Rattle.latest_store.proofs.Moved.{Agrees}
+use Rattle.latest_store.proofs.Heard.{Heard, if_fetched}
+use Rattle.context_law.specs.Inside.{Reached, reserved_by, phase_reached, context_reached}
+use Rattle.context_law.proofs.Marks.{mark_of, mark_at, NoMore, OneMore, set_one, set_none, set_same, none_one, left_unwritten}
+use Rattle.context_law.proofs.Others.{Misses, misses_if, load_misses}
+use Rattle.context_law.proofs.InstructionMarks.{writes_word, if_reached, Deed, instruction_deed}
+use Rattle.context_law.proofs.CopyMarks.{CopyDeed, copy_in_deed, copy_out_deed}
+use Rattle.context_law.proofs.HypercallMarks.{hypercall_one}
+
+-- A reservation that a context of this slot makes, or that stood before in a word in which no move stores.
+abbrev pub Origin : ℕ → ℕ → List (Option Context) → Option Reached → List Move → ℕ → WordPlace → Type 0
+Origin n slot contexts reached moves k word =
+    ((k ≡ slot) × (reserved_by reached ≡ Some word))
+    ⊎ ((mark_at contexts k ≡ Some word) × Misses n word moves)
+
+-- a step of a program, by what it was told
+pub record Stepping (slot : ℕ) (d : Domain) (moves : List Item → List Move) (reached : List Item → Option Reached)
+    (t : Told DomainStepped) : Type 0 where
+  pub answers : List Item
+  pub told : inward_half d.control.number (items_of t.world) ≡ answers
+  pub marks : (k : ℕ) (word : WordPlace) → word.at % 4 ≡ 0 →
+      mark_at t.answer.domain.control.contexts k ≡ Some word →
+      Origin d.control.number slot d.control.contexts (reached answers) (moves answers) k word
+
+same_one : (slot : ℕ) (mark : Option WordPlace) (contexts : List (Option Context)) → OneMore slot mark contexts contexts
+same_one slot mark contexts k word is = inr is
+
+-- what was written in
+record LeftBy (wrote : Option WordPlace) (s : DomainStepped) (k : ℕ) (word : WordPlace) : Type 0 where
+  pub was : mark_at s.domain.control.contexts k ≡ Some word
+  pub free : writes_word word wrote ≡ false
+
+left_by : (wrote : Option WordPlace) (s : DomainStepped) (k : ℕ) (word : WordPlace) →
+    mark_at (after_write wrote s).domain.control.contexts k ≡ Some word → LeftBy wrote s k word
+left_by None s k word is = record { was = is; free = refl }
+left_by (Some place) s k word is =
+    let left = left_unwritten place word s.domain.control.contexts k is in
+    record { was = left.was; free = left.other }
+
+-- An instruction.
+
+ended_one : (slot : ℕ) (d : Domain) (k : Context) (e : Ran) (w : World) →
+    OneMore slot k.mark d.control.contexts (instruction_ended slot d k e w).answer.domain.control.contexts
+unfolding instruction_ended
+ended_one slot d k ran.Stay w = set_one d.control.contexts slot (Some k)
+ended_one slot d k (ran.Loaded address value) w = set_one d.control.contexts slot (Some k)
+ended_one slot d k (ran.Trap cause address) w =
+    none_one slot k.mark d.control.contexts _ (set_none d.control.contexts slot (Some (suspended k)) refl)
+ended_one slot d k ran.Ecall w = hypercall_one (hypercall_of k) slot k d.control w
+ended_one slot d k ran.Stopped w = same_one slot k.mark d.control.contexts
+
+ended_world : (slot : ℕ) (d : Domain) (k : Context) (e : Ran) (w : World) → (e ≡ ran.Ecall → ⊥) →
+    (instruction_ended slot d k e w).world ≡ w
+unfolding instruction_ended
+ended_world slot d k ran.Stay w other = refl
+ended_world slot d k (ran.Loaded address value) w other = refl
+ended_world slot d k (ran.Trap cause address) w other = refl
+ended_world slot d k ran.Ecall w other = absurd (other refl)
+ended_world slot d k ran.Stopped w other = refl
+
+is_ecall : (e : Ran) → (e ≡ ran.Ecall) ⊎ (e ≡ ran.Ecall → ⊥)
+is_ecall ran.Stay = inr (λ is. cc)
+is_ecall (ran.Loaded address value) = inr (λ is. cc)
+is_ecall (ran.Trap cause address) = inr (λ is. cc)
+is_ecall ran.Ecall = inl refl
+is_ecall ran.Stopped = inr (λ is. cc)
+
+module _ (slot : ℕ) (d : Domain) (c : Context) (there : context_at d.control.contexts slot ≡ Some c) where
+  -- the reservation of the context before
+  own_mark : (k : ℕ) (word : WordPlace) → k ≡ slot → c.mark ≡ Some word →
+      mark_at d.control.contexts k ≡ Some word
+  own_mark k word at is = ap (mark_at d.control.contexts) at ∙ ap mark_of there ∙ is
+
+  ended_stepping : (moves : List Item → List Move) (reached : Option Reached) (t : Told AfterInstruction) →
+      Deed d.control.number c moves reached t →
+      Stepping slot d (if_fetched moves) (if_reached reached)
+      (then_ask (instruction_ended slot d t.answer.context t.answer.ending)
+      (λ s. answered (after_write t.answer.wrote s)) t.world)
+  ended_stepping moves reached t deed =
+      let n = d.control.number in
+      let u = instruction_ended slot d t.answer.context t.answer.ending t.world in
+      let one = ended_one slot d t.answer.context t.answer.ending t.world in
+      elim (is_ecall t.answer.ending) [
+        | inl call ↦ record {
+          answers = inward_half n (items_of u.world);
+          told = refl;
+          marks = λ k word aligned is.
+              let left = left_by t.answer.wrote u.answer k word is in
+              elim (one k word left.was) [
+                | inl here ↦ inr (own_mark k word here.0 (sym (deed.same call) ∙ here.1), deed.none call _ word)
+                | inr before ↦ inr (before, deed.none call _ word)
+              ];
+        }
+        | inr other ↦ record {
+          answers = deed.answers;
+          told = ap (λ (w : World). inward_half n (items_of w))
+              (ended_world slot d t.answer.context t.answer.ending t.world other) ∙ deed.told;
+          marks = λ k word aligned is.
+              let left = left_by t.answer.wrote u.answer k word is in
+              let unstored = deed.stores word aligned left.free in
+              elim (one k word left.was) [
+                | inl here ↦
+                    elim (deed.mark word here.1) [
+                      | inl before ↦ inr (own_mark k word here.0 before, unstored)
+                      | inr made ↦ inl (here.0, made)
+                    ]
+                | inr before ↦ inr (before, unstored)
+              ];
+        }
+      ]
+
+  -- A byte that is copied.
+
+  copied_one : (k : Context) (e : Copied) →
+      OneMore slot k.mark d.control.contexts (copy_ended slot d k e).domain.control.contexts
+  unfolding copy_ended
+  copied_one k copied.Going = set_one d.control.contexts slot (Some k)
+  copied_one k copied.CallReady =
+      none_one slot k.mark d.control.contexts _ (set_none d.control.contexts slot (Some (suspended k)) refl)
+  copied_one k copied.Done = set_one d.control.contexts slot (Some k)
+  copied_one k (copied.Absent cause address) =
+      none_one slot k.mark d.control.contexts _ (set_none d.control.contexts slot (Some (suspended k)) refl)
+  copied_one k copied.Stopped = same_one slot k.mark d.control.contexts
+  copied_one k copied.Refused = set_one d.control.contexts slot (Some k)
+  copied_one k (copied.Loaded address byte) = set_one d.control.contexts slot (Some k)
+
+  copied_marks : (moves : List Item → List Move) (reached : List Item → Option Reached) (t : Told Copy)
+      (deed : CopyDeed d.control.number c moves t) (wrote : Option WordPlace) →
+      ((word : WordPlace) → word.at % 4 ≡ 0 → writes_word word wrote ≡ false →
+      Misses d.control.number word (moves deed.answers)) → (k : ℕ) (word : WordPlace) → word.at % 4 ≡ 0 →
+      mark_at (after_write wrote (copy_ended slot d t.answer.context t.answer.ending)).domain.control.contexts k
+      ≡ Some word →
+      Origin d.control.number slot d.control.contexts (reached deed.answers) (moves deed.answers) k word
+  copied_marks moves reached t deed wrote stores k word aligned is =
+      let left = left_by wrote (copy_ended slot d t.answer.context t.answer.ending) k word is in
+      elim (copied_one t.answer.context t.answer.ending k word left.was) [
+        | inl here ↦ inr (own_mark k word here.0 (sym deed.mark ∙ here.1), stores word aligned left.free)
+        | inr before ↦ inr (before, stores word aligned left.free)
+      ]
+
+  -- Each step.
+
+  phase_stepping : (p : Phase) (history : List Move) (plain : PageId → List ℕ) (w : World) → Agrees history plain →
+      Heard d.control.number plain [] w →
+      Stepping slot d (phase_moves p history d.control c) (phase_reached p history d.control c)
+      (phase_step p slot c d w)
+  unfolding phase_step phase_moves
+  phase_stepping Plain history plain w agrees heard =
+      ended_stepping _ _ (instruction_inside d.control.number d.control.resources c w)
+      (instruction_deed d.control plain c history w agrees heard)
+  phase_stepping (CopyIn done) history plain w agrees heard =
+      let t = copy_in_step d.control.number d.control.resources c done w in
+      let deed = copy_in_deed d.control plain c done w heard in
+      record {
+        answers = deed.answers;
+        told = deed.told;
+        marks = λ k word aligned is. copied_marks _ (λ answers. None) t deed None
+            (λ word' aligned' free.
+            misses_if d.control.number word' (both_granted deed.answers) _
+            (load_misses d.control.number word' (byte_address (buffer c) done) 1 _)) k word aligned is;
+      }
+  phase_stepping Waiting history plain w agrees heard = record {
+    answers = [];
+    told = heard.told;
+    marks = λ k word aligned is. inr (set_same d.control.contexts slot c c there refl k word is, refl);
+  }
+  phase_stepping (CopyOut done total) history plain w agrees heard =
+      let t = copy_out_step d.control.number d.control.resources c done total w in
+      let deed = copy_out_deed d.control plain c done total w heard in
+      record {
+        answers = deed.answers;
+        told = deed.told;
+        marks = λ k word aligned is.
+            copied_marks _ (λ answers. None) t deed t.answer.wrote deed.stores k word aligned is;
+      }
+
+step_if_stepping : (o : Option Context) (slot : ℕ) (d : Domain) (history : List Move) (plain : PageId → List ℕ)
+    (w : World) → context_at d.control.contexts slot ≡ o → Agrees history plain → Heard d.control.number plain [] w →
+    Stepping slot d (context_moves o history d.control) (context_reached o history d.control) (step_if o slot d w)
+unfolding step_if context_moves
+step_if_stepping None slot d history plain w there agrees heard = record {
+  answers = [];
+  told = heard.told;
+  marks = λ k word aligned is. inr (is, refl);
+}
+step_if_stepping (Some c) slot d history plain w there agrees heard =
+    phase_stepping slot d c there c.phase history plain w agrees heard
+
+pub step_stepping : (slot : ℕ) (d : Domain) (history : List Move) (plain : PageId → List ℕ) (w : World) →
+    Agrees history plain → Heard d.control.number plain [] w →
+    Stepping slot d (context_moves (context_at d.control.contexts slot) history d.control)
+    (context_reached (context_at d.control.contexts slot) history d.control) (domain_step slot d w)
+unfolding domain_step
+step_stepping slot d history plain w agrees heard = step_if_stepping _ slot d history plain w refl agrees heard
+
+-- An interrupt.
+
+interrupt_if_none : (o : Option Context) (slot : ℕ) (d : Control) →
+    NoMore d.contexts (interrupt_if o slot d).control.contexts
+unfolding interrupt_if
+interrupt_if_none None slot d k word is = is
+interrupt_if_none (Some c) slot d k word is = set_none d.contexts slot (Some (suspended c)) refl k word is
+
+pub interrupt_none : (slot : ℕ) (d : Control) → NoMore d.contexts (interrupt slot d).control.contexts
+unfolding interrupt
+interrupt_none slot d = interrupt_if_none (context_at d.contexts slot) slot d
+
+-- A resuming.
+
+either_mark : (t : Bool) (x y c : Context) → x.mark ≡ c.mark → y.mark ≡ c.mark → (cond t x y).mark ≡ c.mark
+either_mark true x y c here there = here
+either_mark false x y c here there = there
+
+finish_mark : (answer : ℕ) (c : Context) → (finish_call answer c).mark ≡ c.mark
+unfolding finish_call
+finish_mark answer c =
+    either_mark _ (in_phase (CopyOut 0 answer) (set_word c 10 answer)) (in_phase Plain (set_word c 10 answer)) c refl
+    refl
+
+answer_mark : (p : Phase) (answer : ℕ) (c : Context) → (answer_in p answer c).mark ≡ c.mark
+unfolding answer_in
+answer_mark Plain answer c = refl
+answer_mark (CopyIn done) answer c = refl
+answer_mark Waiting answer c = finish_mark answer c
+answer_mark (CopyOut done total) answer c = refl
+
+taken_none : (slot answer : ℕ) (o : Option Context) (d : Control) → context_at d.contexts slot ≡ o →
+    NoMore d.contexts (answer_taken slot answer o d).contexts
+unfolding answer_taken
+taken_none slot answer None d there k word is = is
+taken_none slot answer (Some c) d there k word is =
+    set_same d.contexts slot c (answer_in c.phase answer c) there (answer_mark c.phase answer c) k word is
+
+told_none : (slot answer : ℕ) (a : Result (Unit {0}) ResumeFault) (d : Control) →
+    NoMore d.contexts (resume_told slot answer a d).control.contexts
+unfolding resume_told
+told_none slot answer (Err f) d k word is = is
+told_none slot answer (Ok done) d k word is = taken_none slot answer _ d refl k word is
+
+busy_none : (busy : Bool) (contexts : List (Option Context)) (x y : Resumed) → NoMore contexts x.contexts →
+    NoMore contexts y.contexts → NoMore contexts (cond busy x y).contexts
+busy_none true contexts x y here there = here
+busy_none false contexts x y here there = there
+
+resume_if_none : (slot hart : ℕ) (o : Option Context) (contexts : List (Option Context)) →
+    context_at contexts slot ≡ o → NoMore contexts (resume_if slot hart o contexts).contexts
+unfolding resume_if
+resume_if_none slot hart None contexts there k word is = is
+resume_if_none slot hart (Some c) contexts there k word is =
+    busy_none (is_some c.on) contexts _ _ (λ k' word' is'. is')
+    (set_same contexts slot c (record c { on = Some (record { 0 = hart }) }) there refl) k word is
+
+pub resume_none : (slot hart answer : ℕ) (d : Control) →
+    NoMore d.contexts (resume_slot slot hart answer d).control.contexts
+unfolding resume_slot resume_at
+resume_none slot hart answer d k word is =
+    let made = resume_if slot hart (context_at d.contexts slot) d.contexts in
+    resume_if_none slot hart (context_at d.contexts slot) d.contexts refl k word
+    (told_none slot answer made.answer (record d { contexts = made.contexts }) k word is)

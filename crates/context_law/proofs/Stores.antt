@@ -1,0 +1,129 @@
+-- Which words a move stores in: the one that was written in, and pages of its own domain.
+use Rattle.std.proofs.Common.{◌≡◌, ◌≢◌, ◌∙◌, ◌⊎◌, inl, inr, ℕ, ◌+◌, ◌/◌, ◌*◌, ◌%◌, ◌<◌, Bool, true, false, ◌&&◌, ◌||◌, cond, List, ℤ, refl, sym, ap, subst, arith, eq-eqb, ne_eqb}
+use Rattle.std.specs.Prelude.{◌==◌, nat_eq, nat_lt}
+use Rattle.std.proofs.lemmas.Bool.{false≢true, and_parts, ltb-true, eqb-true}
+use Rattle.cloak_base.specs.declared.names.PageId.{PageId}
+use Rattle.rv_isa.specs.declared.instr.Instr.{Instr}
+use Rattle.rv_isa.specs.declared.instr.Instr.TheVariants as instr
+use Rattle.cloak_model.specs.declared.context.WordPlace.{WordPlace}
+use Rattle.cloak_model.specs.declared.outcome.Effect.{Effect}
+use Rattle.cloak_model.specs.declared.outcome.Effect.TheVariants as does
+use Rattle.cloak_model.specs.Contexts.{word_of_page, same_word}
+use Rattle.cloak_model.specs.Effect.{offset, effect, jump, go, branch, load_effect}
+use Rattle.latest_store.specs.Sums.{reaches}
+use Rattle.context_law.specs.Inside.{meets_place}
+
+pub or_none : (b : Bool) → b ≡ false → (b || false) ≡ false
+or_none true is = absurd (false≢true (sym is))
+or_none false is = refl
+
+pub false_if : (b : Bool) → (b ≡ true → ⊥) → b ≡ false
+false_if true never = absurd (never refl)
+false_if false never = refl
+
+-- A store of 1, 2 or 4 bytes at a multiple of its width: it lies in one word.
+
+abbrev pub IsOnWord : ℕ → ℕ → Type 0
+IsOnWord va width = (width ≡ 1) ⊎ (((width ≡ 2) × (va % 2 ≡ 0)) ⊎ ((width ≡ 4) × (va % 4 ≡ 0)))
+
+in_word : (va at width : ℕ) → at % 4 ≡ 0 → IsOnWord va width → va % 4096 < at + 4 → at < va % 4096 + width →
+    at ≡ va % 4096 / 4 * 4
+in_word va at width aligned (inl one) low high = omega (arith, aligned, one, low, high)
+in_word va at width aligned (inr (inl two)) low high =
+    let w = two.0 in let even = two.1 in omega (arith, aligned, w, even, low, high)
+in_word va at width aligned (inr (inr four)) low high =
+    let w = four.0 in let even = four.1 in omega (arith, aligned, w, even, low, high)
+
+same_word_is : (word : WordPlace) (q : PageId) (va : ℕ) → q.resource ≡ word.resource → q.page ≡ word.page →
+    word.at ≡ va % 4096 / 4 * 4 → same_word word (word_of_page q va) ≡ true
+same_word_is word q va resource page at =
+    all (nat_eq word.resource q.resource) (nat_eq word.page q.page) (nat_eq word.at (va % 4096 / 4 * 4))
+    (eq-eqb word.resource q.resource (sym resource)) (eq-eqb word.page q.page (sym page))
+    (eq-eqb word.at (va % 4096 / 4 * 4) at)
+  where
+    all : (a b c : Bool) → a ≡ true → b ≡ true → c ≡ true → (a && (b && c)) ≡ true
+    all true true true p q r = refl
+    all true true false p q r = absurd (false≢true r)
+    all true false c p q r = absurd (false≢true q)
+    all false b c p q r = absurd (false≢true p)
+
+-- it does not meet another word
+pub misses_word : (n : ℕ) (word : WordPlace) (q : PageId) (va width : ℕ) → word.at % 4 ≡ 0 → IsOnWord va width →
+    same_word word (word_of_page q va) ≡ false → meets_place n word q (va % 4096) width ≡ false
+misses_word n word q va width aligned on other = false_if (meets_place n word q (va % 4096) width) (λ meets.
+    let parts = and_parts (nat_eq q.domain n && (nat_eq q.resource word.resource && nat_eq q.page word.page))
+    (reaches (va % 4096) width word.at) meets in
+    let page = and_parts (nat_eq q.domain n) (nat_eq q.resource word.resource && nat_eq q.page word.page) parts.0 in
+    let names = and_parts (nat_eq q.resource word.resource) (nat_eq q.page word.page) page.1 in
+    let reach = and_parts (nat_lt (va % 4096) (word.at + 4)) (nat_lt word.at (va % 4096 + width)) parts.1 in
+    let at = in_word va word.at width aligned on (ltb-true (va % 4096) (word.at + 4) reach.0)
+    (ltb-true word.at (va % 4096 + width) reach.1) in
+    false≢true (sym other ∙ same_word_is word q va (eqb-true q.resource word.resource names.0)
+    (eqb-true q.page word.page names.1) at))
+
+-- nor one of another domain
+pub misses_domain : (d : ℕ) (word : WordPlace) (q : PageId) (from width : ℕ) → q.domain ≢ d →
+    meets_place d word q from width ≡ false
+misses_domain d word q from width other =
+    ap (λ (b : Bool). (b && (nat_eq q.resource word.resource && nat_eq q.page word.page)) && reaches from width word.at)
+    (ne_eqb q.domain d other)
+
+-- An instruction that stores does so.
+
+pub record StoresOnWord (e : Effect) : Type 0 where
+  pub is : (va width value : ℕ) → e ≡ does.Store va width value → IsOnWord va width
+
+no_store : (e : Effect) → ((va width value : ℕ) → e ≡ does.Store va width value → ⊥) → StoresOnWord e
+no_store e none = record { is = λ va width value same. absurd (none va width value same) }
+
+either_stores : (test : Bool) (e f : Effect) → StoresOnWord e → StoresOnWord f → StoresOnWord (cond test e f)
+either_stores true e f p q = p
+either_stores false e f p q = q
+
+raise_stores : (cause value : ℕ) → StoresOnWord (does.Raise cause value)
+raise_stores cause value = no_store _ (λ va width value' x. cc)
+
+jump_stores : (rd pc target : ℕ) → StoresOnWord (jump rd pc target)
+jump_stores rd pc target =
+    either_stores (target % 4 == 0) _ _ (no_store _ (λ va width value x. cc)) (raise_stores 0 target)
+
+go_stores : (target : ℕ) → StoresOnWord (go target)
+go_stores target = either_stores (target % 4 == 0) _ _ (no_store _ (λ va width value x. cc)) (raise_stores 0 target)
+
+branch_stores : (taken : Bool) (pc : ℕ) (imm : ℤ) → StoresOnWord (branch taken pc imm)
+branch_stores taken pc imm =
+    either_stores taken _ _ (go_stores (offset pc imm)) (no_store _ (λ va width value x. cc))
+
+load_stores : (rd va width : ℕ) (signed : Bool) → StoresOnWord (load_effect rd va width signed)
+load_stores rd va width signed =
+    either_stores (va % width == 0) _ _ (no_store _ (λ va width value x. cc)) (raise_stores 4 va)
+
+store_if : (test : Bool) (va width value : ℕ) → (test ≡ true → IsOnWord va width) →
+    StoresOnWord (cond test (does.Store va width value) (does.Raise 6 va))
+store_if true va width value on = record {
+  is = λ va' width' value' same.
+      let a : va ≡ va' = cc in
+      let b : width ≡ width' = cc in
+      subst (λ (x : ℕ). IsOnWord x width') a (subst (λ (x : ℕ). IsOnWord va x) b (on refl));
+}
+store_if false va width value on = raise_stores 6 va
+
+pub effect_stores : (i : Instr) (r : List ℕ) (pc : ℕ) → StoresOnWord (effect i r pc)
+unfolding effect
+effect_stores (instr.Jal rd imm) r pc = jump_stores rd pc _
+effect_stores (instr.Jalr rd rs1 imm) r pc = jump_stores rd pc _
+effect_stores (instr.Beq rs1 rs2 imm) r pc = branch_stores _ pc imm
+effect_stores (instr.Bne rs1 rs2 imm) r pc = branch_stores _ pc imm
+effect_stores (instr.Blt rs1 rs2 imm) r pc = branch_stores _ pc imm
+effect_stores (instr.Bge rs1 rs2 imm) r pc = branch_stores _ pc imm
+effect_stores (instr.Bltu rs1 rs2 imm) r pc = branch_stores _ pc imm
+effect_stores (instr.Bgeu rs1 rs2 imm) r pc = branch_stores _ pc imm
+effect_stores (instr.Lb rd rs1 imm) r pc = load_stores rd _ 1 true
+effect_stores (instr.Lh rd rs1 imm) r pc = load_stores rd _ 2 true
+effect_stores (instr.Lw rd rs1 imm) r pc = load_stores rd _ 4 true
+effect_stores (instr.Lbu rd rs1 imm) r pc = load_stores rd _ 1 false
+effect_stores (instr.Lhu rd rs1 imm) r pc = load_stores rd _ 2 false
+effect_stores (instr.Sb rs1 rs2 imm) r pc = store_if _ _ 1 _ (λ test. inl refl)
+effect_stores (instr.Sh rs1 rs2 imm) r pc = store_if _ _ 2 _ (λ test. inr (inl (refl, eqb-true _ 0 test)))
+effect_stores (instr.Sw rs1 rs2 imm) r pc = store_if _ _ 4 _ (λ test. inr (inr (refl, eqb-true _ 0 test)))
+effect_stores _ r pc = no_store _ (λ va width value x. cc)

@@ -1,0 +1,243 @@
+//! Atomic instructions of a context (RISC-V unprivileged manual 20191213, chapter 8), at cloaked addresses alone. What
+//! is reserved is a word of a cloaked page, and no word of RAM: the kernel may move the page as it likes.
+ghost use Rattle.std.specs.Prelude.{◌≡◌, ◌≢◌, ◌<◌, ◌%◌, ℕ, IfSome, None};
+ghost use Rattle.rv_atomic.specs.Table.{InRange};
+ghost use Rattle.cloak_model.specs.Asking.{Follows, FollowsWhere, Keeps};
+ghost use Rattle.cloak_model.specs.AskPages.{HasPages};
+ghost use Rattle.cloak_model.specs.Resources.{page_at, resource_at};
+ghost use Rattle.cloak_model.specs.KernelStep as kernel;
+ghost use Rattle.cloak_model.specs.Contexts.{word_of_page, is_reserved};
+ghost use Rattle.cloak_model.specs.InsideStep as spec;
+ghost use Rattle.inside_step.specs.Completion.{IsLeftOpen};
+ghost use Rattle.inside_step.specs.Making.{after_instruction};
+
+use crate::instruction::{go_on_with, loaded};
+use cloak_base::{Kind, PageId};
+use cloak_model::{Answer, PageSide, Ran, WordPlace};
+use resource_map::{Resources, page_at};
+use rv_atomic::{Atomic, AtomicOp, combine};
+use thread_context::{Context, is_reserved, word_of_page};
+
+/// LR is a load; SC and the operations are stores.
+fn atomic_kind(op: AtomicOp) -> Kind
+    ensures kind { result ≡ kernel.atomic_kind op }
+    ensures store { op ≢ AtomicOp.Lr → result ≡ Kind.Store }
+{
+    match op {
+        AtomicOp::Lr => Kind::Load,
+        _ => Kind::Store,
+    }
+}
+
+/// The cause of an address that is no multiple of 4.
+fn misaligned(op: AtomicOp) -> u32
+    ensures { result ≡ kernel.misaligned op }
+{
+    match op {
+        AtomicOp::Lr => 4,
+        _ => 6,
+    }
+}
+
+/// The access fault of an address that is not cloaked.
+fn uncloaked(op: AtomicOp) -> u32
+    ensures { result ≡ spec.uncloaked op }
+{
+    match op {
+        AtomicOp::Lr => 5,
+        _ => 7,
+    }
+}
+
+/// SC at a word that is reached: it is stored where the context has it reserved. The reservation ends either way.
+#[tactic(auto, using(crate::proofs::InstructionLater::laters, cloak_model::proofs::PagesLater::stay_pages), unfolding(cloak_model::specs::InsideStep::conditional_inside))]
+fn store_conditional<M: PageSide>(
+    c: &mut Context,
+    rd: u32,
+    q: PageId,
+    va: u32,
+    operand: u32,
+    m: &mut M,
+    wrote: &mut Option<WordPlace>,
+) -> Ran
+    requires nothing_yet { wrote.old ≡ None }
+    requires register { rd < 32 }
+    requires aligned { va % 4 ≡ 0 }
+    requires writable { M.is_writable m.old q }
+    ensures follows { Follows M.stands_for m.old m.new (after_instruction c.new result wrote.new)
+        (spec.conditional_inside (is_reserved (word_of_page q va) c.old.mark) c.old rd q va operand) }
+    ensures unchanged { IsLeftOpen result → c.new ≡ c.old }
+    ensures unwritten { IsLeftOpen result → wrote.new ≡ None }
+    ensures same_space { c.new.space ≡ c.old.space }
+    ensures same_hart { c.new.on ≡ c.old.on }
+    ensures unused { (n : ℕ) → M.is_unused m.old n → M.is_unused m.new n }
+    ensures keeps { Keeps M.kept m.old m.new }
+    ensures same_domain { M.serves m.new ≡ M.serves m.old }
+{
+    let place = word_of_page(q, va);
+    let reserved = is_reserved(place, c.mark);
+    c.mark = None;
+    if reserved {
+        m.write(q, va % 4096, 4, operand);
+        *wrote = Some(place);
+        go_on_with(c, rd, 0)
+    } else {
+        go_on_with(c, rd, 1)
+    }
+}
+
+/// An operation at a word that is reached: a load of the word that stood is completed, and what the operation makes of
+/// it and the operand is stored.
+#[tactic(auto, using(crate::proofs::InstructionLater::laters, cloak_model::proofs::PagesLater::stay_pages), unfolding(cloak_model::specs::InsideStep::atomic_granted))]
+fn operate<M: PageSide>(
+    c: &mut Context,
+    rd: u32,
+    op: AtomicOp,
+    q: PageId,
+    va: u32,
+    operand: u32,
+    m: &mut M,
+    wrote: &mut Option<WordPlace>,
+) -> Ran
+    requires nothing_yet { wrote.old ≡ None }
+    requires register { rd < 32 }
+    requires aligned { va % 4 ≡ 0 }
+    requires not_reserve { op ≢ AtomicOp.Lr }
+    requires not_conditional { op ≢ AtomicOp.Sc }
+    requires reached { M.is_reached m.old q }
+    requires writable { M.is_writable m.old q }
+    ensures follows { Follows M.stands_for m.old m.new (after_instruction c.new result wrote.new)
+        (spec.atomic_granted c.old rd op q va operand) }
+    ensures unchanged { IsLeftOpen result → c.new ≡ c.old }
+    ensures unwritten { IsLeftOpen result → wrote.new ≡ None }
+    ensures same_space { c.new.space ≡ c.old.space }
+    ensures same_hart { c.new.on ≡ c.old.on }
+    ensures unused { (n : ℕ) → M.is_unused m.old n → M.is_unused m.new n }
+    ensures keeps { Keeps M.kept m.old m.new }
+    ensures same_domain { M.serves m.new ≡ M.serves m.old }
+{
+    let stood = m.read(q, va % 4096, 4);
+    m.write(q, va % 4096, 4, combine(op, stood, operand));
+    *wrote = Some(word_of_page(q, va));
+    loaded(c, rd, va, 4, false, stood)
+}
+
+/// An atomic instruction at a word that is reached. LR reads it, and reserves it.
+#[tactic(auto, using(crate::proofs::InstructionLater::laters, cloak_model::proofs::PagesLater::stay_pages), unfolding(cloak_model::specs::InsideStep::atomic_granted))]
+fn granted<M: PageSide>(
+    c: &mut Context,
+    rd: u32,
+    op: AtomicOp,
+    q: PageId,
+    va: u32,
+    operand: u32,
+    m: &mut M,
+    wrote: &mut Option<WordPlace>,
+) -> Ran
+    requires nothing_yet { wrote.old ≡ None }
+    requires register { rd < 32 }
+    requires aligned { va % 4 ≡ 0 }
+    requires reached { M.is_reached m.old q }
+    requires writable { op ≢ AtomicOp.Lr → M.is_writable m.old q }
+    ensures follows { Follows M.stands_for m.old m.new (after_instruction c.new result wrote.new)
+        (spec.atomic_granted c.old rd op q va operand) }
+    ensures unchanged { IsLeftOpen result → c.new ≡ c.old }
+    ensures unwritten { IsLeftOpen result → wrote.new ≡ None }
+    ensures same_space { c.new.space ≡ c.old.space }
+    ensures same_hart { c.new.on ≡ c.old.on }
+    ensures unused { (n : ℕ) → M.is_unused m.old n → M.is_unused m.new n }
+    ensures keeps { Keeps M.kept m.old m.new }
+    ensures same_domain { M.serves m.new ≡ M.serves m.old }
+{
+    match op {
+        AtomicOp::Lr => {
+            let old = m.read(q, va % 4096, 4);
+            c.mark = Some(word_of_page(q, va));
+            loaded(c, rd, va, 4, false, old)
+        }
+        AtomicOp::Sc => store_conditional(c, rd, q, va, operand, m, wrote),
+        _ => operate(c, rd, op, q, va, operand, m, wrote),
+    }
+}
+
+/// An atomic instruction at an address that is a multiple of 4. At one that is not cloaked it asks nothing.
+#[tactic(auto, using(crate::proofs::InstructionLater::laters, cloak_model::proofs::PagesLater::stay_pages), unfolding(cloak_model::specs::InsideStep::atomic_placed, cloak_model::specs::InsideStep::atomic_reached))]
+fn placed<M: PageSide>(
+    c: &mut Context,
+    r: &Resources,
+    domain: u32,
+    rd: u32,
+    op: AtomicOp,
+    va: u32,
+    operand: u32,
+    m: &mut M,
+    wrote: &mut Option<WordPlace>,
+) -> Ran
+    requires nothing_yet { wrote.old ≡ None }
+    requires domain { domain ≡ M.serves m.old }
+    requires register { rd < 32 }
+    requires aligned { va % 4 ≡ 0 }
+    ensures follows { FollowsWhere (HasPages domain r.now c.old.space) M.stands_for m.old m.new
+        (after_instruction c.new result wrote.new)
+        (spec.atomic_placed c.old rd op va operand (page_at domain r.now c.old.space va)) }
+    ensures unchanged { IsLeftOpen result → c.new ≡ c.old }
+    ensures unwritten { IsLeftOpen result → wrote.new ≡ None }
+    ensures same_space { c.new.space ≡ c.old.space }
+    ensures same_hart { c.new.on ≡ c.old.on }
+    ensures unused { (n : ℕ) → resource_at r.now n ≡ None → M.is_unused m.old n → M.is_unused m.new n }
+    ensures keeps { Keeps M.kept m.old m.new }
+    ensures same_domain { M.serves m.new ≡ M.serves m.old }
+{
+    let Some(q) = page_at(r, domain, c.space, va) else {
+        return Ran::Trap {
+            cause: uncloaked(op),
+            address: va,
+        };
+    };
+    match m.reach(q, va, atomic_kind(op)) {
+        Answer::Ok => granted(c, rd, op, q, va, operand, m, wrote),
+        Answer::Absent(cause) => Ran::Trap { cause, address: va },
+        Answer::Word(_) | Answer::Stopped => Ran::Stopped,
+    }
+}
+
+/// Makes an atomic instruction, or none, which is illegal. Apart, so that other instructions make no room for it.
+#[inline(never)]
+#[tactic(auto, using(crate::proofs::InstructionLater::laters, cloak_model::proofs::PagesLater::stay_pages), unfolding(cloak_model::specs::InsideStep::atomic_inside))]
+pub(crate) fn atomic_step<M: PageSide>(
+    c: &mut Context,
+    r: &Resources,
+    domain: u32,
+    a: &Option<Atomic>,
+    m: &mut M,
+    wrote: &mut Option<WordPlace>,
+) -> Ran
+    requires nothing_yet { wrote.old ≡ None }
+    requires domain { domain ≡ M.serves m.old }
+    requires range { IfSome a.now InRange }
+    ensures follows { FollowsWhere (HasPages domain r.now c.old.space) M.stands_for m.old m.new
+        (after_instruction c.new result wrote.new) (spec.atomic_inside domain r.now c.old a.now) }
+    ensures unchanged { IsLeftOpen result → c.new ≡ c.old }
+    ensures unwritten { IsLeftOpen result → wrote.new ≡ None }
+    ensures same_space { c.new.space ≡ c.old.space }
+    ensures same_hart { c.new.on ≡ c.old.on }
+    ensures unused { (n : ℕ) → resource_at r.now n ≡ None → M.is_unused m.old n → M.is_unused m.new n }
+    ensures keeps { Keeps M.kept m.old m.new }
+    ensures same_domain { M.serves m.new ≡ M.serves m.old }
+{
+    let Some(a) = a else {
+        return Ran::Trap {
+            cause: 2,
+            address: 0,
+        };
+    };
+    let va = c.regs.get(a.rs1);
+    let operand = c.regs.get(a.rs2);
+    if va % 4 != 0 {
+        return Ran::Trap {
+            cause: misaligned(a.op),
+            address: va,
+        };
+    }
+    placed(c, r, domain, a.rd, a.op, va, operand, m, wrote)
+}

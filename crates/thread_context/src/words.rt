@@ -1,0 +1,31 @@
+//! Words of cloaked pages, which contexts reserve.
+ghost use Rattle.std.specs.Prelude.{◌≡◌};
+ghost use Rattle.cloak_model.specs.Contexts as spec;
+
+use cloak_base::PageId;
+use cloak_model::WordPlace;
+
+/// The word in which an address of a page lies.
+#[inline]
+pub fn word_of_page(q: PageId, va: u32) -> WordPlace
+    ensures { result ≡ spec.word_of_page q va }
+{
+    WordPlace {
+        resource: q.resource,
+        page: q.page,
+        at: va % 4096 / 4 * 4,
+    }
+}
+
+/// This word is the reserved one.
+#[inline]
+pub fn is_reserved(place: WordPlace, mark: Option<WordPlace>) -> bool
+    ensures { result ≡ spec.is_reserved place mark }
+{
+    match mark {
+        None => false,
+        Some(mark) => {
+            mark.resource == place.resource && mark.page == place.page && mark.at == place.at
+        }
+    }
+}
