@@ -5,14 +5,14 @@ use Rattle.std.proofs.lemmas.Bool.{cases_lt}
 use Rattle.std.proofs.lemmas.List.{get_or_past, append-nil, map-append}
 use Rattle.std.proofs.lemmas.List.Elements.{filter-append}
 use Rattle.cloak_base.specs.declared.names.PageId.{PageId}
-use Rattle.cloak_base.specs.Random.{Random}
 use Rattle.cloak_model.specs.declared.image.Bundle.{Bundle}
 use Rattle.cloak_model.specs.declared.item.Item.{Item}
 use Rattle.cloak_model.specs.declared.item.Item.TheVariants as item
 use Rattle.cloak_model.specs.Ahead.{is_owed}
+use Rattle.cloak_model.specs.Beginning.{Beginning, opening_from}
 use Rattle.cloak_model.specs.Cloaking.{CloakedMemory, owed_in, settle}
 use Rattle.cloak_model.specs.Joint.{Turn, cloak_outside, hart_in}
-use Rattle.cloak_model.specs.Opening.{Opened, opening, numbers_below}
+use Rattle.cloak_model.specs.Opening.{Opened, numbers_below}
 use Rattle.cloak_model.specs.Parts.{Joint}
 use Rattle.cloak_model.specs.Run.{Run, joint_after, closing, settled_below, turns_from, first_moment, run_of}
 use Rattle.cloak_model.specs.World.{Cloak, cipher_items}
@@ -124,30 +124,30 @@ closes_so j places =
 
 -- The run.
 
-opened_closes : (b : Bundle) (stream : Random) (budget : ℕ) (o : Opened) → opening b stream ≡ Ok o →
+opened_closes : (b : Bundle) (from : Beginning) (budget : ℕ) (o : Opened) → opening_from b from ≡ Ok o →
     let r = run_of b budget o in ClosesSo (joint_after r.opened.joint r.turns) r.closed
 unfolding run_of
-opened_closes b stream budget o opens =
+opened_closes b from budget o opens =
     let turns : List Turn = turns_from budget (first_moment b o.joint) in
     let all : take (length turns) turns ≡ turns = take_all (length turns) turns (omega arith) in
-    let read = until_read b stream budget o opens (length turns) (omega arith) in
+    let read = until_read b from budget o opens (length turns) (omega arith) in
     closes_so (joint_after o.joint turns)
     (subst (λ (ts : List Turn). HasPlaces (joint_after o.joint ts).memory) all read.steady.places)
 
 pub closing_owes_nothing : ClosingOwesNothing
-closing_owes_nothing b stream budget r is =
-    of_opened b budget (λ (r : Run). (f : ℕ) → owed_in (closed_memory r) f ≡ None) (opening b stream) r is
-    (λ o opens. (opened_closes b stream budget o opens).clean)
+closing_owes_nothing b from budget r is =
+    of_opened b budget (λ (r : Run). (f : ℕ) → owed_in (closed_memory r) f ≡ None) (opening_from b from) r is
+    (λ o opens. (opened_closes b from budget o opens).clean)
 
 pub closing_shows_owed : ClosingShowsOwed
-closing_shows_owed b stream budget r is =
+closing_shows_owed b from budget r is =
     of_opened b budget
     (λ (r : Run). r.closed.items ≡ map (shows (closed_memory r).ram) (owed_frames (memory_at_end r)))
-    (opening b stream) r is (λ o opens. (opened_closes b stream budget o opens).written)
+    (opening_from b from) r is (λ o opens. (opened_closes b from budget o opens).written)
 
 pub closing_spares_others : ClosingSparesOthers
-closing_spares_others b stream budget r is =
+closing_spares_others b from budget r is =
     of_opened b budget
     (λ (r : Run). (f : ℕ) → is_owed (memory_at_end r) f ≡ false →
     slice_index_or (closed_memory r).ram f [] ≡ slice_index_or (memory_at_end r).ram f [])
-    (opening b stream) r is (λ o opens. (opened_closes b stream budget o opens).spared)
+    (opening_from b from) r is (λ o opens. (opened_closes b from budget o opens).spared)

@@ -9,11 +9,14 @@ use Rattle.cloak_base.specs.Random.{Random}
 use Rattle.cloak_model.specs.declared.image.Bundle.{Bundle}
 use Rattle.cloak_model.specs.declared.image.KernelImage.{KernelImage}
 use Rattle.cloak_model.specs.declared.image.Program.{Program}
+use Rattle.cloak_model.specs.Beginning.{Beginning, opening_from}
 use Rattle.cloak_model.specs.Cloaking.{CloakedMemory, owed_in}
+use Rattle.cloak_model.specs.Contexts.{Context, context_at}
 use Rattle.cloak_model.specs.Ledger.{Keys, vector_of}
-use Rattle.cloak_model.specs.Opening.{key_count, drawn_keys, keys_for, Opened, started_ledger, started_memory, started_joint, opening_items, place_pages, place_programs, opened_with, opened_by, opening}
+use Rattle.cloak_model.specs.Opening.{Opened, started_ledger, started_memory, started_joint, place_pages, place_programs}
 use Rattle.cloak_model.specs.PageMoves.{place_with, place}
 use Rattle.cloak_model.specs.Parts.{Joint}
+use Rattle.kernel_isolation.proofs.FilesAdded.{KeepsMachine, added_keep, was_there, files_of, opens_over}
 use Rattle.kernel_isolation.proofs.Opened.{is_opened}
 use Rattle.cause_law.proofs.Ends.{IsSound}
 use Rattle.cause_law.proofs.Over.{AreEmpty, AreListed, started_empty, started_listed}
@@ -66,55 +69,60 @@ started_owes k keys stream f = none_owed k.frames f None
 abbrev OwesNothing : Opened → Type 0
 OwesNothing o = (f : ℕ) → owed_in o.joint.memory f ≡ None
 
-with_owes : (b : Bundle) (keys : Keys) (stream : Random) (placed : Option CloakedMemory) (o : Opened) →
-    HasOwed (started_memory b.kernel keys stream).ledger.owed placed → opened_with b placed ≡ Ok o → OwesNothing o
-unfolding opened_with started_joint
-with_owes b keys stream None o has is = absurd cc
-with_owes b keys stream (Some m) o has is =
-    let same : record { joint = started_joint b m; items = opening_items b.programs m.ram } ≡ o = cc in
-    subst OwesNothing same (λ f. ap (λ (l : List (Option PageId)). slice_index_or l f None) has
-    ∙ started_owes b.kernel keys stream f)
-
-by_owes : (b : Bundle) (draw : Option (List (List ℕ) × Random)) (o : Opened) → opened_by b draw ≡ Ok o → OwesNothing o
-unfolding opened_by
-by_owes b None o is = absurd cc
-by_owes b (Some draw) o is =
-    let keys = keys_for b.programs draw.0 in
-    with_owes b keys draw.1 _ o (programs_owed 0 b.programs (started_memory b.kernel keys draw.1)) is
+opened_owes : (b : Bundle) (from : Beginning) (o : Opened) → opening_from b from ≡ Ok o → OwesNothing o
+unfolding started_joint
+opened_owes b from o opens f =
+    let over = opens_over b from o opens in
+    let keeps = added_keep (files_of from) (started_joint b over.memory) o.joint over.added in
+    let start : CloakedMemory = started_memory b.kernel over.keys over.stream in
+    let placed = subst (HasOwed start.ledger.owed) over.placed (programs_owed 0 b.programs start) in
+    ap (λ (l : List (Option PageId)). slice_index_or l f None) (keeps.memory.owed ∙ placed)
+    ∙ started_owes b.kernel over.keys over.stream f
 
 -- no program has ended
 abbrev IsStarted : Joint → Type 0
 IsStarted j = AreEmpty j.domains × AreListed j.domains (replicate 4 None)
 
 -- what has ended of a machine as a run begins: nothing
-abbrev AtStart : Opened → Type 0
-AtStart o = (o.joint.ended ≡ replicate 4 None) × (o.joint.refused ≡ 0) × IsStarted o.joint
+abbrev AtStart : Joint → Type 0
+AtStart j = (j.ended ≡ replicate 4 None) × (j.refused ≡ 0) × IsStarted j
 
-with_start : (b : Bundle) (placed : Option CloakedMemory) (o : Opened) → opened_with b placed ≡ Ok o → AtStart o
-unfolding opened_with started_joint
-with_start b None o is = absurd cc
-with_start b (Some m) o is =
-    let same : record { joint = started_joint b m; items = opening_items b.programs m.ram } ≡ o = cc in
-    subst AtStart same (refl, refl, (started_empty 0 b.programs, started_listed b.programs))
+bare_start : (b : Bundle) (m : CloakedMemory) → AtStart (started_joint b m)
+unfolding started_joint
+bare_start b m = (refl, refl, (started_empty 0 b.programs, started_listed b.programs))
 
-by_start : (b : Bundle) (draw : Option (List (List ℕ) × Random)) (o : Opened) → opened_by b draw ≡ Ok o → AtStart o
-unfolding opened_by
-by_start b None o is = absurd cc
-by_start b (Some draw) o is = with_start b _ o is
+-- files leave it so
+kept_start : (j j' : Joint) → KeepsMachine j j' → AtStart j → AtStart j'
+kept_start j j' keeps start = (
+  keeps.ended ∙ start.0,
+  keeps.refused ∙ start.1,
+  (
+    λ d domain there over slot.
+        let was = was_there j j' d domain keeps there in
+        ap (λ (contexts : List (Option Context)). context_at contexts slot) was.keeps.contexts
+        ∙ start.2.0 d was.domain was.there (sym was.keeps.ended ∙ over) slot,
+    λ d domain low there.
+        let was = was_there j j' d domain keeps there in
+        was.keeps.ended ∙ start.2.1 d was.domain low was.there,
+  ),
+)
 
-pub opened_start : (b : Bundle) (stream : Random) (o : Opened) → opening b stream ≡ Ok o → AtStart o
-opened_start b stream o opens = by_start b (drawn_keys (key_count b.programs) stream) o opens
+pub opened_start : (b : Bundle) (from : Beginning) (o : Opened) → opening_from b from ≡ Ok o → AtStart o.joint
+opened_start b from o opens =
+    let over = opens_over b from o opens in
+    kept_start (started_joint b over.memory) o.joint
+    (added_keep (files_of from) (started_joint b over.memory) o.joint over.added) (bare_start b over.memory)
 
-pub opened_sound : (b : Bundle) (stream : Random) (o : Opened) → opening b stream ≡ Ok o → IsSound o.joint
-opened_sound b stream o opens =
-    let start = opened_start b stream o opens in
+pub opened_sound : (b : Bundle) (from : Beginning) (o : Opened) → opening_from b from ≡ Ok o → IsSound o.joint
+opened_sound b from o opens =
+    let start = opened_start b from o opens in
     record {
       places = ap (λ (l : List (Option Violation)). length l) start.0;
       listed = subst (AreListed o.joint.domains) (sym start.0) start.2.1;
       kept = record {
-        places = (is_opened b stream o opens).steady.places;
+        places = (is_opened b from o opens).steady.places;
         once = λ f g q one two.
-            let none = by_owes b (drawn_keys (key_count b.programs) stream) o opens f in
+            let none = opened_owes b from o opens f in
             let clash : None ≡ Some q = sym none ∙ one in absurd cc;
       };
       empty = start.2.0;

@@ -7,14 +7,14 @@ use Rattle.cloak_base.specs.declared.causes.Violation.{Violation}
 use Rattle.cloak_base.specs.declared.causes.Violation.TheVariants as violation
 use Rattle.cloak_base.specs.declared.names.HartId.{HartId}
 use Rattle.cloak_base.specs.declared.names.PageId.{PageId}
-use Rattle.cloak_base.specs.Random.{Random}
 use Rattle.cloak_model.specs.declared.image.Bundle.{Bundle}
+use Rattle.cloak_model.specs.Beginning.{Beginning, opening_from}
 use Rattle.cloak_model.specs.Contexts.{Context, is_root, domain_of, slot_of}
 use Rattle.cloak_model.specs.DomainState.{Domain}
 use Rattle.cloak_model.specs.Joint.{Moment, Turn, next_hart, domain_met, answers_violation, step_before_end, joint_step, after_turn, stop_of}
-use Rattle.cloak_model.specs.Opening.{Opened, opening}
+use Rattle.cloak_model.specs.Opening.{Opened}
 use Rattle.cloak_model.specs.Parts.{Joint}
-use Rattle.cloak_model.specs.Run.{Run, joint_run, unless_stopped, turns_from, joint_after, closing, first_moment, run_of}
+use Rattle.cloak_model.specs.Run.{Run, run_from, unless_stopped, turns_from, joint_after, closing, first_moment, run_of}
 use Rattle.domain_isolation.proofs.InOrder.{same_some}
 use Rattle.kernel_isolation.proofs.Isolated.{of_opened}
 use Rattle.kernel_isolation.proofs.Numbers.{number_at}
@@ -262,13 +262,13 @@ record RunSo (b : Bundle) (r : Run) : Type 0 where
   pub counted : r.opened.joint.refused ≡ 0
   pub closed : IsSame (moment_at b r (length r.turns)).joint r.closed.joint
 
-opened_so : (b : Bundle) (stream : Random) (budget : ℕ) (o : Opened) → opening b stream ≡ Ok o →
+opened_so : (b : Bundle) (from : Beginning) (budget : ℕ) (o : Opened) → opening_from b from ≡ Ok o →
     RunSo b (run_of b budget o)
 unfolding run_of closing
-opened_so b stream budget o opens =
+opened_so b from budget o opens =
     let m : Moment = first_moment b o.joint in
     let turns : List Turn = turns_from budget m in
-    let start = opened_start b stream o opens in
+    let start = opened_start b from o opens in
     let all : take (length turns) turns ≡ turns = take_all (length turns) turns (omega arith) in
     let at : (n : ℕ) → n ≤ length turns →
     moment_from m n turns
@@ -279,7 +279,7 @@ opened_so b stream budget o opens =
     (omega arith) in
     record {
       reaches = λ n low.
-          let r = steps_reach budget n m (is_opened b stream o opens).steady (opened_sound b stream o opens) low in
+          let r = steps_reach budget n m (is_opened b from o opens).steady (opened_sound b from o opens) low in
           let here = at n (omega (arith, low)) in
           record {
             steady = subst (λ (x : Moment). IsSteady x.joint) here r.steady;
@@ -287,7 +287,7 @@ opened_so b stream budget o opens =
             next = ap (λ (x : Moment). x.joint) (sym (at (suc n) (omega (arith, low))))
                 ∙ (r.next ∙ ap (λ (x : Moment). (joint_step x).joint) here);
           };
-      sound = opened_sound b stream o opens;
+      sound = opened_sound b from o opens;
       listed = start.0;
       counted = start.1;
       closed = record {
@@ -297,8 +297,8 @@ opened_so b stream budget o opens =
       };
     }
 
-run_so : (b : Bundle) (stream : Random) (budget : ℕ) (r : Run) → joint_run b stream budget ≡ Ok r → RunSo b r
-run_so b stream budget r is = of_opened b budget (RunSo b) (opening b stream) r is (opened_so b stream budget)
+run_so : (b : Bundle) (from : Beginning) (budget : ℕ) (r : Run) → run_from b from budget ≡ Ok r → RunSo b r
+run_so b from budget r is = of_opened b budget (RunSo b) (opening_from b from) r is (opened_so b from budget)
 
 sound_at : (b : Bundle) (r : Run) → RunSo b r → (n : ℕ) → n ≤ length r.turns → IsSound (moment_at b r n).joint
 unfolding joint_after
@@ -314,19 +314,19 @@ presents_at : (b : Bundle) (r : Run) (n : ℕ) (v : Violation) → n < length r.
 presents_at b r n v low cause = record { within = low; presents = cause.presents; left = cause.left }
 
 pub violation_has_cause : ViolationHasCause
-violation_has_cause b stream budget r is n low v met =
-    let at = (run_so b stream budget r is).reaches n low in
+violation_has_cause b from budget r is n low v met =
+    let at = (run_so b from budget r is).reaches n low in
     presents_at b r n v low
     ((turn_presents (moment_at b r n) at.steady at.sound.kept).presents v (sym (step_met (moment_at b r n)) ∙ met))
 
 pub presented_is_refused : PresentedIsRefused
-presented_is_refused b stream budget r is n low v presents =
-    let at = (run_so b stream budget r is).reaches n low in
+presented_is_refused b from budget r is n low v presents =
+    let at = (run_so b from budget r is).reaches n low in
     presented_refused (moment_at b r n) v at.steady at.sound presents
 
 pub stopped_ends : StoppedEnds
-stopped_ends b stream budget r is n low d before after told =
-    told_ends (moment_at b r n) d before after ((run_so b stream budget r is).reaches n low).steady told
+stopped_ends b from budget r is n low d before after told =
+    told_ends (moment_at b r n) d before after ((run_so b from budget r is).reaches n low).steady told
 
 -- What is listed and counted as a run is closed.
 
@@ -397,8 +397,8 @@ listed_by b r so (suc n) d v le is =
     ]
 
 pub end_has_cause : EndHasCause
-end_has_cause b stream budget r is d v listed =
-    let so = run_so b stream budget r is in
+end_has_cause b from budget r is d v listed =
+    let so = run_so b from budget r is in
     listed_by b r so (length r.turns) d v (omega arith)
     (ap (λ (l : List (Option Violation)). slice_get l d) (sym so.closed.listed) ∙ listed)
 
@@ -431,13 +431,13 @@ counted_by b r so (suc n) le some =
     ]
 
 pub count_has_cause : CountHasCause
-count_has_cause b stream budget r is some =
-    let so = run_so b stream budget r is in
+count_has_cause b from budget r is some =
+    let so = run_so b from budget r is in
     counted_by b r so (length r.turns) (omega arith) (subst (λ (k : ℕ). 0 < k) so.closed.refused some)
 
 pub listed_have_ended : ListedHaveEnded
-listed_have_ended b stream budget r is d domain low there =
-    let so = run_so b stream budget r is in
+listed_have_ended b from budget r is d domain low there =
+    let so = run_so b from budget r is in
     (sound_at b r so (length r.turns) (omega arith)).listed d domain low
     (ap (λ (l : List Domain). slice_get l d) (sym so.closed.domains) ∙ there)
     ∙ ap (λ (l : List (Option Violation)). is_some (slice_index_or l d None)) (sym so.closed.listed)

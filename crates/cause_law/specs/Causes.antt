@@ -2,7 +2,6 @@
 -- the step ends the domain; if there is none left to end, one more is counted.
 use Rattle.std.specs.List.{Contains}
 use Rattle.std.specs.Prelude.{ℕ, ◌≡◌, ◌≢◌, ◌<◌, ◌⊎◌, ◌+◌, ◌-◌, ◌^◌, min, Bool, true, false, List, ◌∷◌, ◌++◌, length, take, Option, Some, None, Ok, slice_get, slice_set, option_and_then, is_none, is_some, slice_index_or}
-use Rattle.cloak_base.specs.Random.{Random}
 use Rattle.cloak_base.specs.declared.causes.Stop.TheVariants as stop
 use Rattle.cloak_base.specs.declared.causes.Violation.{Violation}
 use Rattle.cloak_base.specs.declared.causes.Violation.TheVariants as violation
@@ -20,6 +19,7 @@ use Rattle.cloak_model.specs.declared.outcome.Kernel.TheVariants as kernel
 use Rattle.cloak_model.specs.Ahead.{settled_step}
 use Rattle.cloak_model.specs.Asking.{Told}
 use Rattle.cloak_model.specs.AskPages.{ask_reach}
+use Rattle.cloak_model.specs.Beginning.{Beginning}
 use Rattle.cloak_model.specs.Contexts.{Context, context_at, domain_of, slot_of}
 use Rattle.cloak_model.specs.Csr.{satp_of, sum_of, mxr_of}
 use Rattle.cloak_model.specs.Hart.{Hart}
@@ -29,7 +29,7 @@ use Rattle.cloak_model.specs.Joint.{Moment, Turn, stop_of, next_hart, hart_in, c
 use Rattle.cloak_model.specs.KernelStep.{ticked}
 use Rattle.cloak_base.specs.Constants.{frame_of}
 use Rattle.cloak_model.specs.Parts.{Joint}
-use Rattle.cloak_model.specs.Run.{Run, joint_run, joint_after}
+use Rattle.cloak_model.specs.Run.{Run, run_from, joint_after}
 use Rattle.cloak_model.specs.Walk.{Walk, walk}
 use Rattle.cloak_model.specs.World.{Cloak, Cloaked, violation_of}
 use Rattle.cause_law.specs.Presented.{hart_of_step, Differs, FindsOther, PresentsPage}
@@ -102,7 +102,7 @@ table_leads h ram kind va =
     walk ram (satp_of h.csrs) (record { mode = U; sum = sum_of h.csrs; mxr = mxr_of h.csrs; va = va; kind = kind })
 
 -- A page was presented, which is of the context's program: in the memory that the step leaves, the page table still
--- leads to the frame, and this still differs from what was last shown of the page.
+-- leads to the frame, and this still differs from what is recorded of the page.
 pub record PageIsLeft (m : Moment) (q : PageId) (f : ℕ) (p : PresentsPage m q f) : Type 0 where
   pub own : q.domain ≡ domain_of p.step.ctx
   pub walked : Walked
@@ -124,7 +124,7 @@ pub record StepPresents (b : Bundle) (r : Run) (n : ℕ) (v : Violation) : Type 
 -- A step meets a violation only if it is presented in it.
 abbrev pub ViolationHasCause : Type 0
 ViolationHasCause =
-    (b : Bundle) (stream : Random) (budget : ℕ) (r : Run) → joint_run b stream budget ≡ Ok r → (n : ℕ) →
+    (b : Bundle) (from : Beginning) (budget : ℕ) (r : Run) → run_from b from budget ≡ Ok r → (n : ℕ) →
     n < length r.turns → (v : Violation) → (joint_step (moment_at b r n)).violation ≡ Some v → StepPresents b r n v
 
 -- What a step does that meets a violation, from machine j to j'.
@@ -159,7 +159,7 @@ RefusesPresented b r =
 
 abbrev pub PresentedIsRefused : Type 0
 PresentedIsRefused =
-    (b : Bundle) (stream : Random) (budget : ℕ) (r : Run) → joint_run b stream budget ≡ Ok r → RefusesPresented b r
+    (b : Bundle) (from : Beginning) (budget : ℕ) (r : Run) → run_from b from budget ≡ Ok r → RefusesPresented b r
 
 -- A domain that is listed as a run is closed ended in a step that presented what is listed, of which it is the domain.
 pub record EndIsPresented (b : Bundle) (r : Run) (d : ℕ) (v : Violation) : Type 0 where
@@ -174,12 +174,12 @@ EndsArePresented b r =
 
 abbrev pub EndHasCause : Type 0
 EndHasCause =
-    (b : Bundle) (stream : Random) (budget : ℕ) (r : Run) → joint_run b stream budget ≡ Ok r → EndsArePresented b r
+    (b : Bundle) (from : Beginning) (budget : ℕ) (r : Run) → run_from b from budget ≡ Ok r → EndsArePresented b r
 
 -- Listed are exactly those that have ended, of the four domains that an image may have.
 abbrev pub ListedHaveEnded : Type 0
 ListedHaveEnded =
-    (b : Bundle) (stream : Random) (budget : ℕ) (r : Run) → joint_run b stream budget ≡ Ok r → (d : ℕ)
+    (b : Bundle) (from : Beginning) (budget : ℕ) (r : Run) → run_from b from budget ≡ Ok r → (d : ℕ)
     (domain : Domain) → d < 4 → slice_get r.closed.joint.domains d ≡ Some domain →
     domain.control.ended ≡ is_some (slice_index_or r.closed.joint.ended d None)
 
@@ -192,7 +192,7 @@ pub record CountIsPresented (b : Bundle) (r : Run) : Type 0 where
 
 abbrev pub CountHasCause : Type 0
 CountHasCause =
-    (b : Bundle) (stream : Random) (budget : ℕ) (r : Run) → joint_run b stream budget ≡ Ok r →
+    (b : Bundle) (from : Beginning) (budget : ℕ) (r : Run) → run_from b from budget ≡ Ok r →
     0 < r.closed.joint.refused → CountIsPresented b r
 
 -- Pages are asked for in the middle of a step, at most twice, and in no other way than by this question.
@@ -216,7 +216,7 @@ EndsOrStops d t after = Contains after (item.Ended d) ⊎ (stop_of t ≡ Some st
 
 abbrev pub StoppedEnds : Type 0
 StoppedEnds =
-    (b : Bundle) (stream : Random) (budget : ℕ) (r : Run) → joint_run b stream budget ≡ Ok r → (n : ℕ) →
+    (b : Bundle) (from : Beginning) (budget : ℕ) (r : Run) → run_from b from budget ≡ Ok r → (n : ℕ) →
     n < length r.turns → (d : ℕ) (before after : List Item) →
     (joint_step (moment_at b r n)).items ≡ before ++ item.Stopped d ∷ after →
     EndsOrStops d (joint_step (moment_at b r n)) after

@@ -86,8 +86,9 @@ pub data AsksAt (d : Domain) (c : Context) (begun : World) (va : ℕ) (kind : Ki
 
 -- The frame in which a page is found.
 
--- A frame has other bytes than those that the kernel was last shown of a page. The kernel sees the frame's bytes, and
--- no frame hides newer ones of the page.
+-- A frame has other bytes than those that are recorded of a page: what the kernel was last shown of it in this run, or
+-- else the ciphertext of it with which the run began, as a file of an earlier run has it. The kernel sees the frame's
+-- bytes, and no frame hides newer ones of the page.
 pub record Differs (q : PageId) (f : ℕ) (m : CloakedMemory) : Type 0 where
   pub shown : List ℕ
   pub recorded : m.ledger.recorded q ≡ Some shown
@@ -95,13 +96,13 @@ pub record Differs (q : PageId) (f : ℕ) (m : CloakedMemory) : Type 0 where
   pub visible : owed_in m f ≡ None
   pub newest : (g : ℕ) → owed_in m g ≢ Some q
 
--- the memory in which a frame is compared with what was last shown of a page: the frame is settled, and then the one that
--- is owed the page
+-- the memory in which a frame is compared with what is recorded of a page: the frame is settled, and then the one that is
+-- owed the page
 abbrev pub at_comparison : PageId → ℕ → CloakedMemory → CloakedMemory
 at_comparison q f m = let m' = (settle f m).memory in (settle_frame_if (owing_frame m' q) m').memory
 
 -- The kernel's page table leads an access at an address to a frame of RAM. It is not the frame that is owed page q; and as
--- they are compared, with no draw missing, it differs from what was last shown of q.
+-- they are compared, with no draw missing, it differs from what is recorded of q.
 pub record FindsOther (q : PageId) (va : ℕ) (kind : Kind) (f : ℕ) (c : Cloak) : Type 0 where
   pub pa : ℕ
   pub found : Cloak

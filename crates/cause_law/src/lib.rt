@@ -12,6 +12,9 @@
 //! in the context's space, and is found there in memory as the access finds it: a load comes after its fetch, which may
 //! have shown frames.
 //!
+//! The laws hold from every beginning, also over the files of an earlier run, whatever they hold. What such a file has as
+//! the ciphertext of a page is recorded as the run begins: it counts as last shown until the page is shown again.
+//!
 //! No body turns a law, so there is no wrong body to refuse here. These changed definitions were tried on a copy, and
 //! with none of them did the proofs go through. Of the closing: the last frame is not settled. Of violations and
 //! refusals: a resume with another page table meets the violation of a context that cannot run; the violation of a

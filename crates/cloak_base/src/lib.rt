@@ -15,5 +15,5 @@ pub use causes::{Failed, NoMemory, Shown, Stop, Violation};
 pub use constants::{
     LARGEST_BUNDLE, RAM_START, TRAMPOLINE, frame_of, is_in_frames, place_of, ram_end,
 };
-pub use names::{CtxId, Frame, HartId, Kind, Mode, PageId, SpaceId, Start};
+pub use names::{CtxId, Frame, HartId, Kind, Meta, Mode, PageId, SpaceId, Start};
 pub use registers::Regs;

@@ -18,6 +18,15 @@ pub struct PageId {
     pub page: u32,
 }
 
+/// What is known of a cloaked page that was shown: the initialization vector under which it was sealed, and what tells
+/// whether bytes are its ciphertext.
+#[derive(Clone, Copy, Debug, PartialEq, Eq)]
+pub struct Meta {
+    pub iv: [u8; 16],
+    /// SHA-256 of the ciphertext.
+    pub digest: [u8; 32],
+}
+
 /// An address space of a domain.
 #[derive(Clone, Copy, Debug, PartialEq, Eq)]
 pub struct SpaceId {

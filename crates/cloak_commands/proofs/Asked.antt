@@ -15,6 +15,7 @@ use Rattle.image_commands.proofs.Upgraded.{upgrade_refuses}
 use Rattle.read_back.proofs.Answered.{view_refuses, solo_refuses}
 use Rattle.run_command.proofs.AnswerFacts.{answers_no_run, same_files}
 use Rattle.stats_command.proofs.AnswerFacts.{answers_no_run as counts_no_run}
+use Rattle.store_command.proofs.AnswerFacts.{answers_no_run as stored_no_run, same_files as stored_same}
 use Rattle.cloak_commands.specs.Answering.{Answers, KeepsOthers}
 
 pub answers_asked : {S O : Type 0} (asked same : spec.Asked) (before after : Outside S O) (given : Status) →
@@ -75,6 +76,9 @@ wants_memory (spec.Stats bundle steps randomness) before after given same low re
     counts_no_run {asked = spec.Stats bundle steps randomness} {r = refusal.NoMemory} (no_run _ _ _ same) low refuses
 wants_memory (spec.Upgrade old_name new_name) before after given same low refuses =
     upgrade_refuses {old_name = old_name} {new_name = new_name} {r = refusal.NoMemory} tt (no_run _ _ _ same) low refuses
+wants_memory (spec.Store names counter steps randomness) before after given same low refuses =
+    stored_no_run {asked = spec.Store names counter steps randomness} {r = refusal.NoMemory} (no_run _ _ _ same) low
+    refuses
 
 -- files that were not touched are kept, whatever the words ask for
 pub keeps_same : (asked : spec.Asked) (given : Status) (held : List ℕ → Option (List ℕ)) → KeepsOthers asked given held held
@@ -87,6 +91,7 @@ keeps_same (spec.Gen number bundle_name) given held = λ other apart. refl
 keeps_same (spec.Demo number steps) given held = λ name. refl
 keeps_same (spec.Stats bundle steps randomness) given held = λ name. refl
 keeps_same (spec.Upgrade old_name new_name) given held = λ other apart. refl
+keeps_same (spec.Store names counter steps randomness) given held = stored_same names given held held (λ name. refl)
 
 -- `gen` changes the file that it writes, and no other
 pub gen_keeps : {S O : Type 0} (number : ℕ) (name : List ℕ) (before after : Outside S O) (given : Status) →
@@ -104,3 +109,4 @@ gen_keeps number name before after status.BadBundle never = absurd never
 gen_keeps number name before after status.ReadFault never = absurd never
 gen_keeps number name before after status.NoRandom never = absurd never
 gen_keeps number name before after status.BadRecord never = absurd never
+gen_keeps number name before after status.BadStore never = absurd never

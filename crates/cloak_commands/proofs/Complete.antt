@@ -6,6 +6,7 @@ use Rattle.completeness.proofs.Faults.{never_rose}
 use Rattle.completeness.proofs.Images.{demos_are_complete, gens_are_complete}
 use Rattle.completeness.proofs.Runs.{runs_are_complete}
 use Rattle.completeness.proofs.Stats.{stats_are_complete}
+use Rattle.completeness.proofs.Stores.{stores_are_complete}
 use Rattle.completeness.proofs.Upgrades.{upgrades_are_complete}
 use Rattle.completeness.proofs.Views.{solos_are_complete, views_are_complete}
 use Rattle.program_parts.specs.declared.status.Status.{Status}
@@ -36,3 +37,5 @@ complete_by {S} {O} (spec.Stats bundle steps randomness) answer before after low
     stats_are_complete S O bundle steps randomness answer before after given
 complete_by {S} {O} (spec.Upgrade old_name new_name) answer before after low given =
     upgrades_are_complete S O old_name new_name answer before after given
+complete_by {S} {O} (spec.Store names counter steps randomness) answer before after low given =
+    stores_are_complete S O names counter steps randomness answer before after given

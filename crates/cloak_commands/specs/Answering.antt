@@ -11,6 +11,8 @@ use Rattle.program_parts.specs.Outside.{Outside}
 use Rattle.read_back.specs.Answering.{ViewAnswers, SoloAnswers}
 use Rattle.run_command.specs.Answering.{RunAnswers, KeepsFiles}
 use Rattle.stats_command.specs.Answering.{StatsAnswers}
+use Rattle.store_command.specs.Answering.{StoreAnswers}
+use Rattle.store_command.specs.Answering as stored
 
 -- the image of a number and its run, without files
 pub record Demonstrates {S O : Type 0} (number steps : ℕ) (before after : Outside S O) (answer : Status) : Type 0 where
@@ -29,9 +31,11 @@ Answers (spec.Demo number steps) before after answer = Demonstrates number steps
 Answers (spec.Stats bundle steps randomness) before after answer =
     StatsAnswers (spec.Stats bundle steps randomness) before after answer
 Answers (spec.Upgrade old_name new_name) before after answer = UpgradeAnswers old_name new_name before after answer
+Answers (spec.Store names counter steps randomness) before after answer =
+    StoreAnswers (spec.Store names counter steps randomness) before after answer
 
--- Every file keeps its bytes, save the record of a run that was begun, or might have been, and the bundle that `gen`
--- or `upgrade` writes.
+-- Every file keeps its bytes, save the record of a run that was begun, or might have been, the bundle that `gen` or
+-- `upgrade` writes, and the files that `store` writes.
 abbrev pub KeepsOthers : spec.Asked → Status → (List ℕ → Option (List ℕ)) → (List ℕ → Option (List ℕ)) → Type 0
 KeepsOthers (spec.Faulty fault) answer held held' = SameFiles held held'
 KeepsOthers (spec.Run bundle record_name steps randomness) answer held held' =
@@ -42,3 +46,4 @@ KeepsOthers (spec.Gen number bundle_name) answer held held' = OtherFiles bundle_
 KeepsOthers (spec.Demo number steps) answer held held' = SameFiles held held'
 KeepsOthers (spec.Stats bundle steps randomness) answer held held' = SameFiles held held'
 KeepsOthers (spec.Upgrade old_name new_name) answer held held' = OtherFiles new_name held held'
+KeepsOthers (spec.Store names counter steps randomness) answer held held' = stored.KeepsFiles names answer held held'

@@ -13,6 +13,7 @@ use read_back::{solo_command, view_command};
 use run_command::run_command;
 use stats_command::stats_command;
 use std::alloc::Global;
+use store_command::store_command;
 
 /// Reads the words, and hands what they ask for to its command.
 fn carry_out<S: Shelf, O: Sink>(
@@ -45,6 +46,7 @@ fn carry_out<S: Shelf, O: Sink>(
         Request::Upgrade(upgrade) => {
             upgrade_command(alloc, upgrade.old_name, upgrade.new_name, shelf, out)
         }
+        Request::Store(store) => store_command(alloc, &store, shelf, out),
     }
 }
 

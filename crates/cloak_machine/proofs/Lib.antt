@@ -3,3 +3,5 @@ pub mod Opening
 pub mod ShownFrames
 pub mod Stepping
 pub mod Turning
+pub mod Closed
+pub mod Keys

@@ -6,7 +6,6 @@ use Rattle.std.proofs.lemmas.List.Concat.{concat_is}
 use Rattle.std.proofs.lemmas.List.Folds.{flat_map-map}
 use Rattle.std.proofs.lemmas.Option.{slice_get-map}
 use Rattle.std.specs.List.{concat, flat_map}
-use Rattle.cloak_base.specs.Random.{Random}
 use Rattle.cloak_base.specs.declared.causes.Stop.{Stop}
 use Rattle.cloak_base.specs.declared.causes.Stop.TheVariants as cause
 use Rattle.cloak_model.specs.declared.image.Bundle.{Bundle}
@@ -14,7 +13,8 @@ use Rattle.cloak_model.specs.declared.item.Item.TheVariants as item
 use Rattle.cloak_model.specs.DomainState.{Domain, domain_line}
 use Rattle.cloak_model.specs.Exchange.{Piece, Emits, item_pieces, shown_each}
 use Rattle.cloak_model.specs.Joint.{Moment, Turn, joint_step, next_hart}
-use Rattle.cloak_model.specs.Opening.{Opened, opening}
+use Rattle.cloak_model.specs.Beginning.{Beginning, opening_from}
+use Rattle.cloak_model.specs.Opening.{Opened}
 use Rattle.cloak_model.specs.Parts.{Joint, kernel_part}
 use Rattle.cloak_model.specs.Report.{stop_line, number_line, refusal_lines, kernel_lines}
 use Rattle.cloak_model.specs.Run.{closing, first_moment}
@@ -35,7 +35,7 @@ use Rattle.space_law.specs.Mapping.{mapped_in}
 use Rattle.cloaked_side.specs.declared.memory.Memory.{Memory}
 use Rattle.cloak_machine.specs.Counting.{Counts}
 use Rattle.cloak_machine.specs.Lines.{lines_kept}
-use Rattle.cloak_machine.specs.Standing.{StandsForMoment, MakesTurn, FinishesAs, HaveFewLoads}
+use Rattle.cloak_machine.specs.Standing.{StandsForMoment, MakesTurn, EndsAs, FinishesAs, HaveFewLoads}
 use Rattle.cloak_machine.specs.Turns.{IsAt}
 use Rattle.kernel_report.specs.declared.console.Console.{Console}
 use Rattle.cloak_machine.specs.declared.end.End.{End}
@@ -47,12 +47,12 @@ use Rattle.cloak_machine.proofs.Turning.{goes}
 -- Opening.
 
 -- the machine of an opening, before its first step
-pub first_stands : (machine : Machine) (b : Bundle) (s : Random) (o : Opened) → opening b s ≡ Ok o →
+pub first_stands : (machine : Machine) (b : Bundle) (from : Beginning) (o : Opened) → opening_from b from ≡ Ok o →
     StandsForJoint machine.joint o.joint → machine.schedule.turns.items ≡ b.kernel.schedule →
     machine.schedule.place ≡ 0 → machine.steps ≡ 0 → ConsoleShows machine.console [] →
     machine.joint.memory.shadows.live ≡ [] → StandsForMoment machine (first_moment b o.joint)
-first_stands machine b s o opens joint schedule place steps console empty =
-    let is = begun b s o opens in record {
+first_stands machine b from o opens joint schedule place steps console empty =
+    let is = begun b from o opens in record {
       schedule = sym schedule;
       place = place ∙ sym (zero_mod (length machine.schedule.turns.items));
       steps = sym steps;
@@ -195,30 +195,18 @@ pub closed_console : (j : Joint) → (closing j).joint.console ≡ j.console
 unfolding closing
 closed_console j = refl
 
--- What is emitted and reported as a run closes.
-pub ends_as : {E : Type 0} {gave : E → E → List Piece → Type 0} {e f g h : E} {joint : Machines} {machine : Machine}
-    {end : End} {stopped : Stop} (m : Moment) (missed : Bool) → StandsForMoment machine m →
-    Emits gave e f (item_pieces (item.Close machine.steps ∷ [])) → ShowsAs gave f g joint (closing m.joint) →
-    Emits gave g h (item_pieces (item.End ∷ [])) → missed ≡ (closing m.joint).joint.memory.ledger.missed →
-    end.stop ≡ (if missed then cause.NoRandom else stopped) → end.steps ≡ machine.steps →
-    end.draws ≡ (closing m.joint).joint.memory.ledger.draws →
-    end.ended ≡ (closing m.joint).joint.ended → end.refused ≡ (closing m.joint).joint.refused →
-    IsSaid end.lines (kernel_part (closing m.joint).joint) →
-    lines_kept end.domains ≡ map domain_line (closing m.joint).joint.domains →
-    FinishesAs gave e h end stopped m (closing m.joint)
-ends_as {E} {gave} {e} {f} {g} {h} {joint} {machine} {end} {stopped} m missed stands close shows last miss stop steps
-    draws ended refused said lines =
-    let o = closing m.joint in
-    let first : Emits gave e f (item_pieces (item.Close m.steps ∷ [])) =
-    subst (λ n. Emits gave e f (item_pieces (item.Close n ∷ []))) (sym stands.steps) close in
-    let same : end.steps ≡ m.steps = steps ∙ sym stands.steps in
-    let kernel : kernel_text end.lines ≡ kernel_lines (kernel_part o.joint) = kernel_text-is end.lines _ said in
-    let texts : concat (lines_kept end.domains) ≡ flat_map domain_line o.joint.domains =
-    ap concat lines ∙ concat_is (map domain_line o.joint.domains)
-    ∙ flat_map-map (λ (l : List ℕ). l) domain_line o.joint.domains in
+-- What is reported as a run closes.
+pub ended_as : {end : End} {stopped : Stop} (steps : ℕ) (closed : Joint) (missed : Bool) →
+    missed ≡ closed.memory.ledger.missed → end.stop ≡ (if missed then cause.NoRandom else stopped) →
+    end.steps ≡ steps → end.draws ≡ closed.memory.ledger.draws → end.ended ≡ closed.ended →
+    end.refused ≡ closed.refused → IsSaid end.lines (kernel_part closed) →
+    lines_kept end.domains ≡ map domain_line closed.domains → EndsAs end stopped steps closed
+ended_as {end} {stopped} steps closed missed miss stop same draws ended refused said lines =
+    let kernel : kernel_text end.lines ≡ kernel_lines (kernel_part closed) = kernel_text-is end.lines _ said in
+    let texts : concat (lines_kept end.domains) ≡ flat_map domain_line closed.domains =
+    ap concat lines ∙ concat_is (map domain_line closed.domains)
+    ∙ flat_map-map (λ (l : List ℕ). l) domain_line closed.domains in
     record {
-      emits = emits_items (item.Close m.steps ∷ []) (o.items ++ item.End ∷ []) first
-          (emits_items o.items (item.End ∷ []) shows.emits last);
       steps = same;
       draws = draws;
       ended = ended;
@@ -232,5 +220,30 @@ ends_as {E} {gave} {e} {f} {g} {h} {joint} {machine} {end} {stopped} m missed st
           ++ (refusal_lines (ended i) (refused i) ++ texts i)));
       lines = λ d program there. ap (λ (l : List (List ℕ)). unwrap_or (slice_get l d) []) lines
           ∙ ap (λ (l : Option (List ℕ)). unwrap_or l [])
-          (slice_get-map domain_line o.joint.domains d ∙ ap (option_map domain_line) there);
+          (slice_get-map domain_line closed.domains d ∙ ap (option_map domain_line) there);
+    }
+
+-- What is emitted and reported.
+pub finishes_as : {E : Type 0} {gave : E → E → List Piece → Type 0} {e f g h : E} {joint : Machines} {machine : Machine}
+    {end : End} {stopped : Stop} (m : Moment) → StandsForMoment machine m →
+    Emits gave e f (item_pieces (item.Close machine.steps ∷ [])) → ShowsAs gave f g joint (closing m.joint) →
+    Emits gave g h (item_pieces (item.End ∷ [])) → EndsAs end stopped machine.steps (closing m.joint).joint →
+    FinishesAs gave e h end stopped m (closing m.joint)
+finishes_as {E} {gave} {e} {f} {g} {h} {joint} {machine} {end} {stopped} m stands close shows last ends =
+    let o = closing m.joint in
+    let first : Emits gave e f (item_pieces (item.Close m.steps ∷ [])) =
+    subst (λ n. Emits gave e f (item_pieces (item.Close n ∷ []))) (sym stands.steps) close in
+    let said : EndsAs end stopped m.steps o.joint =
+    subst (λ n. EndsAs end stopped n o.joint) (sym stands.steps) ends in
+    record {
+      emits = emits_items (item.Close m.steps ∷ []) (o.items ++ item.End ∷ []) first
+          (emits_items o.items (item.End ∷ []) shows.emits last);
+      steps = said.steps;
+      draws = said.draws;
+      ended = said.ended;
+      refused = said.refused;
+      stop = said.stop;
+      report = said.report;
+      short = said.short;
+      lines = said.lines;
     }

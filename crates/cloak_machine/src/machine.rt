@@ -1,26 +1,30 @@
-ghost use Rattle.std.specs.Prelude.{◌≡◌, ◌+◌, ◌<◌, ◌≤◌, ◌^◌, ◌++◌, ℕ, List, Ok, All, IfOk, false, if◌then◌else◌, length, map};
+ghost use Rattle.std.specs.Prelude.{◌≡◌, ◌≢◌, ◌+◌, ◌<◌, ◌≤◌, ◌^◌, ◌++◌, ℕ, List, [], Ok, All, IfOk, false, length, map};
 ghost use Rattle.cloak_base.specs.Random.{Random};
 ghost use Rattle.cloak_model.specs.declared.image.Bundle.{Bundle};
+ghost use Rattle.cloak_model.specs.Beginning.{Beginning, opening_from};
 ghost use Rattle.cloak_model.specs.Bundle.{IsInGrammar};
 ghost use Rattle.cloak_model.specs.Exchange.{Emits, EmitsSome, shown_each};
 ghost use Rattle.cloak_model.specs.Joint.{Moment, joint_step};
-ghost use Rattle.cloak_model.specs.Opening.{Opened, opening};
+ghost use Rattle.cloak_model.specs.Opening.{Opened};
 ghost use Rattle.cloak_model.specs.Run.{closing, first_moment, most_steps};
+ghost use Rattle.cloak_model.specs.StoredFiles.{IsTable, StandsForFiles};
+ghost use Rattle.cloak_model.specs.StoredRun.{contents_of};
 ghost use Rattle.joint_machine.specs.Placings.{placing};
 ghost use Rattle.joint_machine.specs.Standing.{AllOutside, LendsPager, harts_of, shown_byte};
 ghost use Rattle.kernel_report.specs.Console.{ConsoleShows};
 
-use crate::domains::DomainLines;
-use crate::end::{End, kernel_lines_of};
+use crate::closing::end_of;
+use crate::end::End;
 use crate::schedule::Schedule;
 use arrayvec::ArrayVec;
 use cloak_base::Stop;
 use cloak_model::{Emit, Item, KernelImage, Program, Sequence};
 use cloak_pager::Pager;
-use joint_machine::{Joint, JointParts, OpenFault, Placing, placings_of};
+use joint_machine::{Joint, OpenFault, Placing, StoredFault, placings_of};
 use kernel_report::Console;
 use multi_shadow::ShadowCounts;
 use outside_io::Stream;
+use protect_meta::FileTable;
 use std::alloc::Global;
 
 /// A machine as its run goes on.
@@ -63,16 +67,9 @@ fn show<E: Emit>(console: &mut Console, byte: Option<u8>, e: &mut E)
     }
 }
 
-/// Why a run stopped, where a draw may be missing as it closes.
-fn stop_of(missed: bool, stop: Stop) -> Stop
-    ensures { result ≡ (if missed then Stop.NoRandom else stop) }
-{
-    if missed { Stop::NoRandom } else { stop }
-}
-
 impl Machine {
-    ghost use Rattle.cloak_machine.specs.Standing.{FinishesAs, MakesTurn, Opens, ShowsOpening};
-    ghost use Rattle.cloak_machine.specs.Standing.{StandsForMoment, placings_of, steps_made};
+    ghost use Rattle.cloak_machine.specs.Standing.{FinishesAs, MakesTurn, Opens, OpensStored, ShowsOpening};
+    ghost use Rattle.cloak_machine.specs.Standing.{StandsForMoment, length_of_disk, placings_of, steps_made};
     ghost use Rattle.cloak_machine.specs.Counting.{Counts, spent_by};
     ghost use Rattle.shadow_fold.specs.Events.{after_step, asked_in};
     ghost use Rattle.shadow_fold.specs.Fold.{Fold, fresh_fold};
@@ -108,13 +105,46 @@ impl Machine {
         })
     }
 
+    /// The machine of a guest image over the files of an earlier run, of which the table tells, before its first step. The
+    /// keys are handed in, and each page of a program takes the next draw of the stream. The memory of the image is taken
+    /// over or given back. Want of room for a file is told before want of a draw.
+    pub fn open_stored(
+        alloc: Global,
+        kernel: KernelImage,
+        programs: Sequence<Program>,
+        s: Stream,
+        keys: [[u8; 16]; 4],
+        files: &FileTable,
+    ) -> Result<Machine, StoredFault>
+        requires image { IsInGrammar (record { kernel = kernel; programs = programs }) }
+        requires table { IsTable files.now }
+        ensures opens { OpensStored (record { kernel = kernel; programs = programs }) keys s files.now result }
+        ensures placings { IfOk result (λ machine. placings_of machine ≡ map placing programs) }
+        ensures no_step { IfOk result (λ machine. steps_made machine ≡ 0) }
+    {
+        let schedule = Schedule::open(alloc, kernel.schedule.as_slice())?;
+        let placings = placings_of(programs.as_slice());
+        let joint = match Joint::open_stored(alloc, kernel, programs, s, keys, files) {
+            Ok(joint) => joint,
+            Err(fault) => return Err(fault),
+        };
+        Ok(Machine {
+            joint,
+            schedule,
+            steps: 0,
+            console: Console::new(),
+            marker: Item::Step { number: 0 },
+            placings,
+        })
+    }
+
     /// Emits what the kernel is shown as the run begins: each frame that holds a page of a program. Nothing is shown once
     /// a step was made.
     pub fn opening<E: Emit>(&mut self, e: &mut E)
         ensures steps { steps_made self.new ≡ steps_made self.old }
         ensures placings { placings_of self.new ≡ placings_of self.old }
         ensures emits_some { EmitsSome E.gave e.old e.new }
-        ensures shows { (b : Bundle) (s : Random) (o : Opened) → opening b s ≡ Ok o →
+        ensures shows { (b : Bundle) (from : Beginning) (o : Opened) → opening_from b from ≡ Ok o →
             placings_of self.old ≡ map placing b.programs → StandsForMoment self.old (first_moment b o.joint) →
             ShowsOpening E.gave e.old e.new self.new b o }
     {
@@ -176,6 +206,46 @@ impl Machine {
         self.joint.pager()
     }
 
+    /// How many bytes the disk has.
+    pub fn disk_length(&self) -> usize
+        ensures { result ≡ length_of_disk self.now }
+    {
+        self.joint.disk().len()
+    }
+
+    /// Makes the closing of a run that this stopped, and tells what the files hold at the end, in an empty table, and the
+    /// bytes of the disk.
+    pub fn finish_stored<E: Emit>(
+        self,
+        stop: Stop,
+        e: &mut E,
+        files: &mut FileTable,
+        disk: &mut [u8],
+    ) -> End
+        requires empty { files.old ≡ [] }
+        requires disk { length disk.old ≡ length_of_disk self }
+        ensures emits_some { EmitsSome E.gave e.old e.new }
+        ensures ends { (m : Moment) → StandsForMoment self m →
+            FinishesAs E.gave e.old e.new result stop m (closing m.joint) }
+        ensures table { IsTable files.new }
+        ensures disk { (m : Moment) → StandsForMoment self m → disk.new ≡ (closing m.joint).joint.disk }
+        ensures stores { result.stop ≢ Stop.NoRandom → (m : Moment) → StandsForMoment self m →
+            StandsForFiles m.joint.memory.ledger.keys files.new (contents_of (closing m.joint).joint) }
+    {
+        let Machine {
+            joint: mut closed,
+            steps,
+            console,
+            ..
+        } = self;
+        disk.copy_from_slice(closed.disk());
+        e.item(&Item::Close { steps });
+        closed.close(e);
+        e.item(&Item::End);
+        closed.store_files(files);
+        end_of(closed.into_parts(), stop, steps, console)
+    }
+
     /// Makes the closing of a run that this stopped.
     pub fn finish<E: Emit>(self, stop: Stop, e: &mut E) -> End
         ensures emits_some { EmitsSome E.gave e.old e.new }
@@ -191,22 +261,6 @@ impl Machine {
         e.item(&Item::Close { steps });
         joint.close(e);
         e.item(&Item::End);
-        let JointParts {
-            harts,
-            mut memory,
-            domains,
-            disk,
-            ended,
-            refused,
-        } = joint.into_parts();
-        End {
-            stop: stop_of(memory.missed, stop),
-            steps,
-            draws: memory.draws,
-            ended,
-            refused,
-            lines: kernel_lines_of(console, &mut memory, disk.bytes(), harts),
-            domains: DomainLines::of(domains),
-        }
+        end_of(joint.into_parts(), stop, steps, console)
     }
 }

@@ -1,10 +1,9 @@
 -- The end of a domain (this project's rule). The kernel is shown what it has yet to see of the domain's pages, by rising
 -- frame; then the pages are dropped, and contexts, spaces and resources are free. The completed loads stay.
 use Rattle.std.specs.Prelude.{ℕ, ◌+◌, zero, suc, nat_eq, Bool, true, false, List, [], length, replicate, map, Option, None, if◌then◌else◌}
-use Rattle.cloak_base.specs.declared.names.PageId.{PageId}
 use Rattle.cloak_base.specs.declared.names.SpaceId.{SpaceId}
 use Rattle.cloak_model.specs.Cloaking.{CloakedMemory}
-use Rattle.cloak_model.specs.World.{World, Cloak, Alone, Handed, ram_of}
+use Rattle.cloak_model.specs.World.{World, Cloak, Handed, ram_of}
 use Rattle.cloak_model.specs.Asking.{Asking}
 use Rattle.cloak_model.specs.AskPages.{settled_if_marked}
 use Rattle.cloak_model.specs.Fork.{ask_forgets}

@@ -13,7 +13,8 @@ use Rattle.cloak_model.specs.declared.item.Item.TheVariants as item
 use Rattle.cloak_model.specs.World.{Cloak, settled_in}
 use Rattle.cloak_model.specs.Exchange.{Piece, recorded, shown, record_magic, record_of, items_in_order, item_pieces, shown_each}
 use Rattle.cloak_model.specs.Halves as half
-use Rattle.cloak_model.specs.Opening.{Lack, Opened, opening}
+use Rattle.cloak_model.specs.Opening.{Lack, Opened}
+use Rattle.cloak_model.specs.Beginning.{Beginning, Fresh, opening_from}
 use Rattle.cloak_model.specs.Report.{report}
 use Rattle.cloak_model.specs.Parts.{Joint}
 use Rattle.cloak_model.specs.Joint.{Moment, Turn, joint_step, after_turn, stop_of, cloak_outside, hart_in}
@@ -85,9 +86,13 @@ run_of_turns o turns =
 unfoldable pub run_of : Bundle → ℕ → Opened → Run
 run_of b budget o = run_of_turns o (turns_from budget (first_moment b o.joint))
 
--- The joint run of a bundle under a random stream, with at most so many steps.
+-- The joint run of a bundle from a beginning, with at most so many steps.
+abbrev pub run_from : Bundle → Beginning → ℕ → Result Run Lack
+run_from b from budget = result_map_both (run_of b budget) (λ lack. lack) (opening_from b from)
+
+-- under a random stream alone
 abbrev pub joint_run : Bundle → Random → ℕ → Result Run Lack
-joint_run b stream budget = result_map_both (run_of b budget) (λ lack. lack) (opening b stream)
+joint_run b stream budget = run_from b (Fresh stream) budget
 
 -- What is read off a run.
 

@@ -3,7 +3,7 @@ use Rattle.std.proofs.Common.{◌≡◌, ◌≢◌, ℕ, Bool, true, false, List
 use Rattle.std.proofs.Common.{ap, sym, ◌∙◌, inl, inr, subst}
 use Rattle.std.proofs.lemmas.List.{get_or-set_other, length-set}
 use Rattle.cloak_base.specs.declared.names.PageId.{PageId}
-use Rattle.protect_meta.specs.declared.meta.Meta.{Meta}
+use Rattle.cloak_base.specs.declared.names.Meta.{Meta}
 use Rattle.protect_meta.specs.Table.{domains_of}
 use Rattle.cloak_pager.specs.State.{PagerState, page_of, right_at, bytes_in, held_in}
 use Rattle.cloak_pager.specs.Turns.{Turns, MetasTurn, OfferTurns, OfferedTurns, HoldsNow, IsReadOnce, StaysBut}

@@ -8,13 +8,13 @@ use Rattle.cloak_base.specs.declared.names.PageId.{PageId}
 use Rattle.cloak_base.specs.Pages.{zero_page, is_of, page_in, with_resource, with_copied}
 use Rattle.cloak_model.specs.Cloaking.{CloakedMemory}
 use Rattle.cloak_model.specs.PageMoves.{copy_pages, drop_pages}
-use Rattle.protect_meta.specs.declared.meta.Meta.{Meta}
+use Rattle.cloak_base.specs.declared.names.Meta.{Meta}
 use Rattle.protect_meta.specs.Table.{meta_at}
 use Rattle.cloak_base.proofs.Pages.{is_of_tells, is_of-decides}
 use Rattle.protect_meta.proofs.Rows.{chosen_true, chosen_false}
 use Rattle.cloak_pager.specs.State.{PagerState, owed_under, right_at, held_in, owed_at, IsNoneOwed, IsNoneHeld}
 use Rattle.cloak_pager.specs.Turns.{MetasTurn, CopiesPages, DropsPages}
-use Rattle.cloak_pager.specs.Relation.{StandsForMemory, FrameStands, PageStands, IsUnowed}
+use Rattle.cloak_pager.specs.Relation.{StandsForMemory, FrameStands, PageStands, IsUnowed, vector_in}
 use Rattle.cloak_pager.specs.Asking.{FollowsCallStill, after_copy_pages, after_drop_pages, wiped_copies}
 use Rattle.cloak_pager.specs.declared.held.Held.{Held}
 use Rattle.cloak_pager.proofs.Pages.{IsBytes-zero_page}
@@ -32,6 +32,7 @@ pub record Moved (p p' : PagerState) (w w' : PageId → Bool) (m m' : CloakedMem
       (m'.plain o ≡ m.plain o) × (m'.ledger.recorded o ≡ m.ledger.recorded o) × (metas o ≡ meta_at p.table o)
       × (w' o ≡ w o)
   pub pages : (o : PageId) → PageStands (w' o) m' o (metas o)
+  pub vectors : (o : PageId) → m'.ledger.iv o ≡ vector_in (metas o)
   pub plain : (o : PageId) → w' o ≡ false → IsBytes 4096 (m'.plain o)
   pub drained : (o : PageId) → w' o ≡ true → next_draw m'.ledger.stream ≡ None
 
@@ -55,6 +56,7 @@ stands_moved p p' w w' m m' metas s v =
           (s.frames f there));
       owed = v.owed ∙ (s.owed ∙ ap (λ (x : List Held). map owed_under x) (sym t.rights_are));
       pages = λ o. subst (λ (x : Option Meta). PageStands (w' o) m' o x) (sym (t.metas_are o)) (v.pages o);
+      vectors = λ o. v.vectors o ∙ ap vector_in (sym (t.metas_are o));
       plain = v.plain;
       drained = v.drained;
     }
@@ -114,6 +116,18 @@ follows_copy p p' domain from to t shown away w m s =
                   subst stands (sym meta)
                   (page_as (w o) (w' o) m m' o o (meta_at p.table o) refl (chosen_false _ _ _ off)
                   (λ kept free. ((or_false (w o) _ kept).0, free, chosen_false _ _ _ off)) (s.pages o))
+            ];
+        vectors = λ o.
+            elim (of_tells domain to o) [
+              | inl is ↦
+                  let b : PageId = page_in from o in
+                  let meta : metas o ≡ meta_at p.table b = chosen_true _ _ _ is.0 in
+                  let vector : m'.ledger.iv o ≡ m.ledger.iv b = chosen_true _ _ _ is.0 in
+                  vector ∙ (s.vectors b ∙ ap vector_in (sym meta))
+              | inr off ↦
+                  let meta : metas o ≡ meta_at p.table o = chosen_false _ _ _ off in
+                  let vector : m'.ledger.iv o ≡ m.ledger.iv o = chosen_false _ _ _ off in
+                  vector ∙ (s.vectors o ∙ ap vector_in (sym meta))
             ];
         plain = λ o kept.
             elim (of_tells domain to o) [
@@ -179,6 +193,17 @@ follows_drop p p' domain resource t away w m s =
                   subst stands (sym meta)
                   (page_as (w o) (w o) m m' o o (meta_at p.table o) refl (chosen_false _ _ _ off)
                   (λ kept free. (kept, free, chosen_false _ _ _ off)) (s.pages o))
+            ];
+        vectors = λ o.
+            elim (of_tells domain resource o) [
+              | inl is ↦
+                  let meta : metas o ≡ None = chosen_true _ _ _ is.0 in
+                  let vector : m'.ledger.iv o ≡ None = chosen_true _ _ _ is.0 in
+                  vector ∙ ap vector_in (sym meta)
+              | inr off ↦
+                  let meta : metas o ≡ meta_at p.table o = chosen_false _ _ _ off in
+                  let vector : m'.ledger.iv o ≡ m.ledger.iv o = chosen_false _ _ _ off in
+                  vector ∙ (s.vectors o ∙ ap vector_in (sym meta))
             ];
         plain = λ o kept.
             elim (of_tells domain resource o) [

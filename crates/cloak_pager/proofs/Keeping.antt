@@ -5,7 +5,7 @@ use Rattle.std.proofs.lemmas.List.{get_or-set_same, get_or-set_other, length-set
 use Rattle.cloak_base.specs.declared.names.Frame.{Frame}
 use Rattle.cloak_base.specs.declared.names.PageId.{PageId}
 use Rattle.cloak_base.specs.Pages.{with_page}
-use Rattle.protect_meta.specs.declared.meta.Meta.{Meta}
+use Rattle.cloak_base.specs.declared.names.Meta.{Meta}
 use Rattle.protect_meta.specs.PageRow.{HasValues}
 use Rattle.protect_meta.specs.Table.{Table, meta_at, domains_of}
 use Rattle.cloak_pager.specs.Homes.{HomeTable, home_at}

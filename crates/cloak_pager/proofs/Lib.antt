@@ -8,6 +8,7 @@ pub mod Copies
 pub mod Calls
 pub mod Offers
 pub mod Placed
+pub mod Contents
 pub mod Behind
 pub mod Closing
 pub mod Opening

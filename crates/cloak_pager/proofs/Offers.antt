@@ -17,7 +17,7 @@ use Rattle.cloak_model.specs.Cloaking.{Mismatch as Refused, settle, settle_frame
 use Rattle.cloak_model.specs.Cloaking.{unless_missed, taken, is_clash, with_comparison, owed_in, with_owed}
 use Rattle.frame_store.specs.Rights.{Holding}
 use Rattle.page_states.specs.Opening.{IsPlain}
-use Rattle.protect_meta.specs.declared.meta.Meta.{Meta}
+use Rattle.cloak_base.specs.declared.names.Meta.{Meta}
 use Rattle.protect_meta.specs.Table.{meta_at, domains_of}
 use Rattle.protect_meta.specs.Pages.{IsIn}
 use Rattle.cloak_pager.specs.State.{PagerState, IsWholePager, Names, key_for}
@@ -33,14 +33,15 @@ use Rattle.cloak_pager.specs.declared.offering.Offered.{Offered}
 use Rattle.cloak_pager.specs.declared.offering.Offered.TheVariants.{Ready, Mismatch}
 use Rattle.cloak_base.proofs.Pages.{same_page-self, same_page-decides}
 use Rattle.cloak_pager.proofs.Keeping.{HasRight, named_as, whole_turned}
-use Rattle.cloak_pager.proofs.Stands.{stands_turned, owed_by_right, owed_held, page_stays}
+use Rattle.cloak_pager.proofs.Stands.{stands_turned, owed_by_right, owed_held, page_stays, vector_stays}
 use Rattle.cloak_pager.proofs.Touches.{page_is, owed_nothing, settle_none}
 
 -- The pager stands for a memory that differs in what the relation does not speak of.
 pub stands_same : (p : PagerState) (w : PageId → Bool) (m m' : CloakedMemory) → StandsForMemory p w m → m'.ram ≡ m.ram →
     m'.plain ≡ m.plain → m'.ledger.keys ≡ m.ledger.keys → m'.ledger.stream ≡ m.ledger.stream →
-    m'.ledger.recorded ≡ m.ledger.recorded → m'.ledger.owed ≡ m.ledger.owed → StandsForMemory p w m'
-stands_same p w m m' s ram plain keys stream recorded owed =
+    m'.ledger.recorded ≡ m.ledger.recorded → m'.ledger.iv ≡ m.ledger.iv → m'.ledger.owed ≡ m.ledger.owed →
+    StandsForMemory p w m'
+stands_same p w m m' s ram plain keys stream recorded vectors owed =
     let here : StandsForMemory p w mixed = record {
       whole = s.whole;
       keys = s.keys;
@@ -48,6 +49,7 @@ stands_same p w m m' s ram plain keys stream recorded owed =
       frames = λ f inside. frame_same f (right_at p f) (s.frames f inside);
       owed = s.owed;
       pages = λ q. page_same q (meta_at p.table q) (s.pages q);
+      vectors = s.vectors;
       plain = s.plain;
       drained = s.drained;
     } in
@@ -55,7 +57,13 @@ stands_same p w m m' s ram plain keys stream recorded owed =
       ram = sym ram i;
       plain = sym plain i;
       ledger =
-          record m'.ledger { keys = sym keys i; stream = sym stream i; recorded = sym recorded i; owed = sym owed i };
+          record m'.ledger {
+            keys = sym keys i;
+            stream = sym stream i;
+            recorded = sym recorded i;
+            iv = sym vectors i;
+            owed = sym owed i;
+          };
       marks = m'.marks;
     } in
     subst (λ (x : CloakedMemory). StandsForMemory p w x) same here
@@ -67,6 +75,7 @@ stands_same p w m m' s ram plain keys stream recorded owed =
         keys = m.ledger.keys;
         stream = m.ledger.stream;
         recorded = m.ledger.recorded;
+        iv = m.ledger.iv;
         owed = m.ledger.owed;
       };
       marks = m'.marks;
@@ -126,6 +135,7 @@ stands_changed p p' w m g q bytes s whole inside held alone unowed newest t =
       owed = refl;
       plain = λ o n. refl;
       recorded = λ o n. refl;
+      vectors = λ o n. refl;
       metas = λ o n. t.metas_are o;
       lost = λ o n. refl;
       held = held;
@@ -135,6 +145,7 @@ stands_changed p p' w m g q bytes s whole inside held alone unowed newest t =
           page_is p' w m' q (meta_at p.table q) (t.metas_are q)
           (page_stays (w q) (w q) m m' q (meta_at p.table q) (meta_at p.table q) refl refl refl refl refl
           (λ free. unowed) (s.pages q));
+      vector = λ o e. vector_stays p p' w m m' o s (t.metas_are o) refl;
       newest = λ o e kept. s.plain o kept;
       drained = s.drained;
     })
@@ -157,12 +168,14 @@ stands_clean p p' w m g q bytes s whole inside outside nowhere here t =
       owed = owed_nothing p w m s g none;
       plain = λ o n. refl;
       recorded = λ o n. refl;
+      vectors = λ o n. refl;
       metas = λ o n. t.metas_are o;
       lost = λ o n. refl;
       held = λ o e. absurd (let no : None ≡ Some o = sym outside ∙ e in cc);
       alone = λ k o n e there. nowhere k (there ∙ sym e);
       here = λ within. here;
       page = page_is p' w m q (meta_at p.table q) (t.metas_are q) (s.pages q);
+      vector = λ o e. vector_stays p p' w m m o s (t.metas_are o) refl;
       newest = λ o e kept. s.plain o kept;
       drained = s.drained;
     })
@@ -307,14 +320,14 @@ stands_opened p p' w m g q false t plain s whole inside outside nowhere shown se
 -- the marks of a comparison are nothing that the relation speaks of
 pub stands_compared : (p : PagerState) (w : PageId → Bool) (m : CloakedMemory) (a b : List ℕ) → StandsForMemory p w m →
     StandsForMemory p w (with_comparison a b m)
-stands_compared p w m a b s = stands_same p w m (with_comparison a b m) s refl refl refl refl refl refl
+stands_compared p w m a b s = stands_same p w m (with_comparison a b m) s refl refl refl refl refl refl refl
 
 pub stands_taken_compared : (p : PagerState) (w : PageId → Bool) (m : CloakedMemory) (a b : List ℕ) (q : PageId) (g : ℕ)
     (write : Bool) →
     StandsForMemory p w (taken q g write m) → StandsForMemory p w (taken q g write (with_comparison a b m))
 stands_taken_compared p w m a b q g true s =
     stands_same p w (with_owed g (Some q) m)
-    (with_owed g (Some q) (with_comparison a b m)) s refl refl refl refl refl refl
+    (with_owed g (Some q) (with_comparison a b m)) s refl refl refl refl refl refl refl
 stands_taken_compared p w m a b q g false s = stands_compared p w m a b s
 
 -- what taking leaves

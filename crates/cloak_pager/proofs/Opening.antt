@@ -6,12 +6,12 @@ use Rattle.std.proofs.lemmas.Option.{get_or_from_slice_get}
 use Rattle.std.proofs.lemmas.Bool.{cases_lt}
 use Rattle.cloak_base.specs.declared.names.Frame.{Frame}
 use Rattle.cloak_model.specs.Ledger.{Keys}
-use Rattle.protect_meta.specs.declared.meta.Meta.{Meta}
+use Rattle.cloak_base.specs.declared.names.Meta.{Meta}
 use Rattle.cloak_pager.specs.Homes.{HomeTable}
 use Rattle.cloak_pager.specs.State.{PagerState, IsWholePager, IsWholeWithHomes, Names, page_of, owed_under, right_at}
 use Rattle.cloak_pager.specs.State.{held_in, owed_at}
 use Rattle.cloak_pager.specs.Turns.{IsNewPager, frame_numbered}
-use Rattle.cloak_pager.specs.Relation.{FrameStands, PageStands}
+use Rattle.cloak_pager.specs.Relation.{FrameStands, PageStands, vector_in}
 use Rattle.cloak_pager.specs.Asking.{none_wiped, StandsBlank}
 use Rattle.cloak_pager.proofs.Pages.{IsBytes-zero_page}
 use Rattle.cloak_pager.specs.declared.held.Held.{Held}
@@ -90,6 +90,7 @@ opened_stands n domains keys p o few m b = record {
   pages = λ q.
       let P : Option Meta → Type 0 = λ x. PageStands false m q x in
       subst P (sym (o.no_metas q)) (b.recorded q, λ kept free. b.plain q);
+  vectors = λ q. b.vectors q ∙ ap vector_in (sym (o.no_metas q));
   plain = λ q kept. rw (b.plain q) IsBytes-zero_page;
   drained = λ q lost. absurd (let no : false ≡ true = lost in cc);
 }

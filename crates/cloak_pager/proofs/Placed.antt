@@ -13,26 +13,30 @@ use Rattle.cloak_model.specs.Chain.{cbc}
 use Rattle.cloak_model.specs.Ledger.{key_of}
 use Rattle.cloak_model.specs.Cloaking.{CloakedMemory, with_shown_frame, with_record}
 use Rattle.cloak_model.specs.PageMoves.{place, place_with, with_newest}
-use Rattle.protect_meta.specs.declared.meta.Meta.{Meta}
+use Rattle.cloak_model.specs.Beginning.{with_content}
+use Rattle.cloak_base.specs.declared.names.Meta.{Meta}
 use Rattle.protect_meta.specs.Table.{meta_at}
 use Rattle.cloak_pager.specs.State.{PagerState, IsWholePager, key_for, IsFresh, page_of, right_at, held_in}
 use Rattle.cloak_pager.specs.Turns.{metas_with, IsPlaced, IsRestored}
 use Rattle.cloak_pager.specs.Relation.{StandsForMemory, FrameStands}
-use Rattle.cloak_pager.specs.Asking.{ToldCall, FollowsCallFrom, FollowsCall, after_place, with_restored, StandsRestored}
+use Rattle.cloak_pager.specs.Asking.{ToldCall, FollowsCallFrom, FollowsCall, after_place, StandsRestored}
 use Rattle.cloak_pager.specs.declared.held.Held.{Held}
 use Rattle.cloak_pager.specs.declared.held.Held.TheVariants.{Outside, Spent}
 use Rattle.cloak_pager.proofs.Pages.{with_page-same, with_page-other}
 use Rattle.cloak_pager.proofs.Keeping.{HasRight, whole_still, outside_right}
 use Rattle.cloak_pager.proofs.Turned.{set_keeps}
 use Rattle.cloak_pager.proofs.Stands.{stands_turned, owed_by_right}
-use Rattle.cloak_pager.proofs.Touches.{page_is, other_page, kept_by_draw}
+use Rattle.cloak_pager.proofs.Touches.{page_is, vector_is, other_page, kept_by_draw}
 
 -- Restoring.
 
 pub restore_stands : (p p' : PagerState) (q : PageId) (t : Meta) → IsFresh p q → IsRestored p p' q t →
     StandsRestored p p' q t
-restore_stands p p' q t fresh turns w m c plain s bytes sealed digest =
-    let m' : CloakedMemory = with_restored q c plain m in
+restore_stands p p' q t fresh turns w m c s is_sealed is =
+    let m' : CloakedMemory = with_content q (Some c) m in
+    let vector : c.iv ≡ t.iv = ap (λ (x : Meta). x.iv) is in
+    let plain : c.plain ≡ m'.plain q = sym (with_page-same m.plain q c.plain) in
+    let meta_there : meta_at p'.table q ≡ Some t = turns.metas_are q ∙ with_page-same (meta_at p.table) q (Some t) in
     let past : ℕ = length p.frames in
     let end : length p.rights ≤ past = omega (arith, s.whole.count) in
     let spent : right_at p past ≡ Spent = get_or_past p.rights past Spent end in
@@ -49,24 +53,25 @@ restore_stands p p' q t fresh turns w m c plain s bytes sealed digest =
       ram = refl;
       ram_elsewhere = λ g n. refl;
       owed = sym (set_past m.ledger.owed past None beyond);
-      plain = λ o n. with_page-other m.plain q plain o (other_page q o n);
-      recorded = λ o n. with_page-other m.ledger.recorded q (Some c) o (other_page q o n);
+      plain = λ o n. with_page-other m.plain q c.plain o (other_page q o n);
+      recorded = λ o n. with_page-other m.ledger.recorded q (Some c.cipher) o (other_page q o n);
+      vectors = λ o n. with_page-other m.ledger.iv q (Some c.iv) o (other_page q o n);
       metas = λ o n. turns.metas_are o ∙ with_page-other (meta_at p.table) q (Some t) o (other_page q o n);
       lost = λ o n. refl;
       held = λ o e. absurd (let no : None ≡ Some o = sym (ap page_of spent) ∙ e in cc);
       alone = λ g o n e there. fresh.1 g (there ∙ sym e);
       here = λ within. absurd (let no : past < past = within in omega arith);
-      page = page_is p' w m' q (Some t) (turns.metas_are q ∙ with_page-same (meta_at p.table) q (Some t)) (record {
-        bytes = c;
-        is = with_page-same m.ledger.recorded q (Some c);
-        digest = digest;
-        sealed = λ kept free.
-            sealed ∙ ap (λ (x : List ℕ). cbc (key_of m.ledger q) t.iv x) (sym (with_page-same m.plain q plain));
+      page = page_is p' w m' q (Some t) meta_there (record {
+        bytes = c.cipher;
+        is = with_page-same m.ledger.recorded q (Some c.cipher);
+        digest = ap (λ (x : Meta). x.digest) is;
+        sealed = λ kept free. is_sealed.cipher ∙ λ i. cbc (key_of m.ledger q) (vector i) (plain i);
       });
+      vector = vector_is p' m' q (Some t) meta_there (with_page-same m.ledger.iv q (Some c.iv) ∙ ap (λ (x : List ℕ). Some x) vector);
       newest = λ o e kept.
           let same : q ≡ o = cc in
-          let B : PageId → Type 0 = λ x. IsBytes 4096 (with_page m.plain q plain x) in
-          subst B same (rw with_page-same bytes);
+          let B : PageId → Type 0 = λ x. IsBytes 4096 (with_page m.plain q c.plain x) in
+          subst B same (rw with_page-same is_sealed.plain);
       drained = s.drained;
     })
 
@@ -75,7 +80,7 @@ restore_stands p p' q t fresh turns w m c plain s bytes sealed digest =
 -- the memory after page q of these bytes was placed in frame f with this draw
 abbrev pub placed_memory : CloakedMemory → PageId → ℕ → List ℕ → List ℕ × Random → CloakedMemory
 placed_memory m q f bytes d =
-    let c = cbc (key_of m.ledger q) d.0 bytes in with_record q c d.1 (with_shown_frame f c (with_newest q bytes m))
+    let c = cbc (key_of m.ledger q) d.0 bytes in with_record q c d (with_shown_frame f c (with_newest q bytes m))
 
 pub stands_placed : (p p' : PagerState) (w : PageId → Bool) (m : CloakedMemory) (q : PageId) (f : ℕ) (r : Frame)
     (bytes : List ℕ) (d : List ℕ × Random) →
@@ -91,6 +96,7 @@ stands_placed p p' w m q f r bytes d s right fresh is_page drawn turns =
     let whole : IsWholePager p' =
     whole_still p p' (slice_set p.frames f c) (metas_with p q d.0 c) s.whole turns (length-set p.frames f c)
     (λ k o here. set_keeps (meta_at p.table) q meta o) in
+    let meta_there : meta_at p'.table q ≡ Some meta = turns.metas_are q ∙ with_page-same (meta_at p.table) q (Some meta) in
     let O : Option PageId → Type 0 = λ x. slice_set m.ledger.owed f x ≡ m.ledger.owed in
     let F : Held → Type 0 = λ h. FrameStands p' w m' f h in
     stands_turned p p' w w m m' f (right_at p f) c (Some q) s (record {
@@ -104,6 +110,7 @@ stands_placed p p' w m q f r bytes d s right fresh is_page drawn turns =
       owed = sym (subst O (owed_by_right p w m s f) (set-get_or m.ledger.owed f None));
       plain = λ o n. with_page-other m.plain q bytes o (other_page q o n);
       recorded = λ o n. with_page-other m.ledger.recorded q (Some c') o (other_page q o n);
+      vectors = λ o n. with_page-other m.ledger.iv q (Some d.0) o (other_page q o n);
       metas = λ o n. turns.metas_are o ∙ with_page-other (meta_at p.table) q (Some meta) o (other_page q o n);
       lost = λ o n. refl;
       held = λ o e. absurd (let no : None ≡ Some o = sym (ap page_of right.at) ∙ e in cc);
@@ -114,13 +121,14 @@ stands_placed p p' w m q f r bytes d s right fresh is_page drawn turns =
           (get_or-set_same p.frames f c [] right.inside
           ∙ (sealed ∙ sym (get_or-set_same m.ram f c' [] (rw s.count right.inside)))));
       page =
-          page_is p' w m' q (Some meta) (turns.metas_are q ∙ with_page-same (meta_at p.table) q (Some meta)) (record {
+          page_is p' w m' q (Some meta) meta_there (record {
             bytes = c';
             is = with_page-same m.ledger.recorded q (Some c');
             digest = ap sha256 (sym sealed);
             sealed = λ kept free.
                 ap (λ (x : List ℕ). cbc (key_of m.ledger q) d.0 x) (sym (with_page-same m.plain q bytes));
           });
+      vector = vector_is p' m' q (Some meta) meta_there (with_page-same m.ledger.iv q (Some d.0));
       newest = λ o e kept.
           let same : q ≡ o = cc in
           let B : PageId → Type 0 = λ x. IsBytes 4096 (with_page m.plain q bytes x) in

@@ -8,10 +8,10 @@ use Rattle.cloak_base.specs.declared.names.PageId.{PageId}
 use Rattle.cloak_base.specs.Random.{next_draw}
 use Rattle.cloak_model.specs.Ledger.{Keys, key_in, key_of}
 use Rattle.cloak_model.specs.Cloaking.{CloakedMemory, owed_in}
-use Rattle.protect_meta.specs.declared.meta.Meta.{Meta}
+use Rattle.cloak_base.specs.declared.names.Meta.{Meta}
 use Rattle.protect_meta.specs.Table.{meta_at}
 use Rattle.cloak_pager.specs.State.{PagerState, IsWholePager, page_of, owed_under, right_at, bytes_in, held_in, owed_at}
-use Rattle.cloak_pager.specs.Relation.{StandsForMemory, FrameStands, PageStands, IsUnowed}
+use Rattle.cloak_pager.specs.Relation.{StandsForMemory, FrameStands, PageStands, IsUnowed, vector_in}
 use Rattle.cloak_pager.specs.declared.held.Held.{Held}
 use Rattle.cloak_pager.specs.declared.held.Held.TheVariants.{Outside, Clean, Changed, Spent}
 use Rattle.cloak_pager.proofs.Pages.{same_or_not, is_or_not}
@@ -43,6 +43,7 @@ pub record Turned (p p' : PagerState) (w w' : PageId → Bool) (m m' : CloakedMe
   pub owed : m'.ledger.owed ≡ slice_set m.ledger.owed f (owed_under h)
   pub plain : (o : PageId) → q ≢ Some o → m'.plain o ≡ m.plain o
   pub recorded : (o : PageId) → q ≢ Some o → m'.ledger.recorded o ≡ m.ledger.recorded o
+  pub vectors : (o : PageId) → q ≢ Some o → m'.ledger.iv o ≡ m.ledger.iv o
   pub metas : (o : PageId) → q ≢ Some o → meta_at p'.table o ≡ meta_at p.table o
   pub lost : (o : PageId) → q ≢ Some o → w' o ≡ w o
   -- the frame held that page or none, and no other frame does
@@ -51,6 +52,7 @@ pub record Turned (p p' : PagerState) (w w' : PageId → Bool) (m m' : CloakedMe
   -- the frame and the page themselves
   pub here : f < length p.frames → FrameStands p' w' m' f h
   pub page : (o : PageId) → q ≡ Some o → PageStands (w' o) m' o (meta_at p'.table o)
+  pub vector : (o : PageId) → q ≡ Some o → m'.ledger.iv o ≡ vector_in (meta_at p'.table o)
   pub newest : (o : PageId) → q ≡ Some o → w' o ≡ false → IsBytes 4096 (m'.plain o)
   pub drained : (o : PageId) → w' o ≡ true → next_draw m'.ledger.stream ≡ None
 
@@ -77,6 +79,12 @@ page_stays lost lost' m m' o t t' l e k n r free s =
     subst (λ (x : Option Meta). PageStands lost' m' o x) (sym e)
     (page_as lost lost' m m' o o t (ap (λ (x : Keys). key_in x o) k) r
     (λ kept unowed. (sym l ∙ kept, free unowed, n)) s)
+
+-- nor of its vector
+pub vector_stays : (p p' : PagerState) (w : PageId → Bool) (m m' : CloakedMemory) (o : PageId) → StandsForMemory p w m →
+    meta_at p'.table o ≡ meta_at p.table o → m'.ledger.iv o ≡ m.ledger.iv o →
+    m'.ledger.iv o ≡ vector_in (meta_at p'.table o)
+vector_stays p p' w m m' o s e v = v ∙ (s.vectors o ∙ ap vector_in (sym e))
 
 -- a frame of which nothing changed
 pub frame_stays : (p p' : PagerState) (w w' : PageId → Bool) (m m' : CloakedMemory) (g : ℕ) (h : Held) →
@@ -132,6 +140,11 @@ stands_turned p p' w w' m m' f h bytes q s t = record {
         | inr n ↦
             page_stays (w o) (w' o) m m' o (meta_at p.table o) (meta_at p'.table o) (t.lost o n)
             (t.metas o n) t.keys_same (t.plain o n) (t.recorded o n) (unowed_before o n) (s.pages o)
+      ];
+  vectors = λ o.
+      elim (is_or_not q o) [
+        | inl e ↦ t.vector o e
+        | inr n ↦ vector_stays p p' w m m' o s (t.metas o n) (t.vectors o n)
       ];
   plain = λ o kept.
       elim (is_or_not q o) [

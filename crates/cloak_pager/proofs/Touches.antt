@@ -13,13 +13,13 @@ use Rattle.cloak_base.specs.Pages.{zero_page}
 use Rattle.cloak_model.specs.Cloaking.{CloakedMemory, AfterSettling, settle, settle_if, settle_owed, owed_in}
 use Rattle.cloak_model.specs.Cloaking.{with_shown_frame, with_owed, with_record, with_miss}
 use Rattle.frame_store.specs.Rights.{Holding}
-use Rattle.protect_meta.specs.declared.meta.Meta.{Meta}
+use Rattle.cloak_base.specs.declared.names.Meta.{Meta}
 use Rattle.protect_meta.specs.Table.{meta_at}
 use Rattle.cloak_pager.specs.State.{PagerState, IsWholePager, key_for, page_of, owed_under, right_at, bytes_in}
 use Rattle.cloak_pager.specs.State.{held_in, owed_at}
 use Rattle.cloak_pager.specs.Turns.{frame_numbered, ShowsNow, IsResealed, IsSealed, IsWiped, metas_with}
 use Rattle.cloak_pager.specs.Turns.{TouchTurns, touched_by, left_by}
-use Rattle.cloak_pager.specs.Relation.{StandsForMemory, FrameStands, PageStands, HoldsClean}
+use Rattle.cloak_pager.specs.Relation.{StandsForMemory, FrameStands, PageStands, HoldsClean, vector_in}
 use Rattle.cloak_pager.specs.Asking.{ToldCall, FollowsCallFrom, FollowsCall, after_touch, shown_by, wiped_with}
 use Rattle.cloak_pager.specs.declared.held.Held.{Held}
 use Rattle.cloak_pager.specs.declared.held.Held.TheVariants.{Outside, Clean, Changed, Spent}
@@ -28,7 +28,7 @@ use Rattle.cloak_pager.specs.declared.touching.Touched.TheVariants.{Quiet, Resea
 use Rattle.cloak_pager.proofs.Pages.{with_page-same, with_page-other}
 use Rattle.cloak_pager.proofs.Keeping.{HasRight, whole_turned}
 use Rattle.cloak_pager.proofs.Turned.{set_keeps}
-use Rattle.cloak_pager.proofs.Stands.{stands_turned, owed_by_right, page_as, page_stays}
+use Rattle.cloak_pager.proofs.Stands.{stands_turned, owed_by_right, page_as, page_stays, vector_stays}
 
 -- no other frame holds the page that a frame holds
 pub held_alone : (p : PagerState) → IsWholePager p → (f : ℕ) (q : PageId) → held_in p f ≡ Some q →
@@ -64,6 +64,7 @@ stands_resealed p p' w m f r s whole inside at turns =
       owed = owed_nothing p w m s f (ap owed_under at);
       plain = λ o n. refl;
       recorded = λ o n. refl;
+      vectors = λ o n. refl;
       metas = λ o n. t.metas_are o;
       lost = λ o n. refl;
       held = λ o e. sym held ∙ e;
@@ -72,6 +73,7 @@ stands_resealed p p' w m f r s whole inside at turns =
       page = λ o e.
           page_stays (w o) (w o) m m o (meta_at p.table o) (meta_at p'.table o) refl (t.metas_are o) refl refl refl
           (λ free. free) (s.pages o);
+      vector = λ o e. vector_stays p p' w m m o s (t.metas_are o) refl;
       newest = λ o e kept. s.plain o kept;
       drained = s.drained;
     })
@@ -94,6 +96,14 @@ page_is p' w' m' q t at here o e =
     let P : PageId → Type 0 = λ x. PageStands (w' x) m' x (meta_at p'.table x) in
     subst P same (let T : Option Meta → Type 0 = λ x. PageStands (w' q) m' q x in subst T (sym at) here)
 
+-- and of its vector
+pub vector_is : (p' : PagerState) (m' : CloakedMemory) (q : PageId) (t : Option Meta) → meta_at p'.table q ≡ t →
+    m'.ledger.iv q ≡ vector_in t → (o : PageId) → Some q ≡ Some o → m'.ledger.iv o ≡ vector_in (meta_at p'.table o)
+vector_is p' m' q t at here o e =
+    let same : q ≡ o = cc in
+    let P : PageId → Type 0 = λ x. m'.ledger.iv x ≡ vector_in (meta_at p'.table x) in
+    subst P same (here ∙ ap vector_in (sym at))
+
 -- another page than the one that was turned
 pub other_page : (q o : PageId) → Some q ≢ Some o → o ≢ q
 other_page q o n e = n (ap (λ (x : PageId). Some x) (sym e))
@@ -101,7 +111,7 @@ other_page q o n e = n (ap (λ (x : PageId). Some x) (sym e))
 -- the memory after frame f, owed page q, was settled with this draw
 abbrev pub sealed_memory : CloakedMemory → ℕ → PageId → List ℕ × Random → CloakedMemory
 sealed_memory m f q d =
-    let c = cbc (key_of m.ledger q) d.0 (m.plain q) in with_record q c d.1 (with_owed f None (with_shown_frame f c m))
+    let c = cbc (key_of m.ledger q) d.0 (m.plain q) in with_record q c d (with_owed f None (with_shown_frame f c m))
 
 -- and with none
 abbrev pub wiped_memory : CloakedMemory → ℕ → CloakedMemory
@@ -134,6 +144,7 @@ stands_sealed p p' w m f r d s whole inside at drawn t =
       owed = refl;
       plain = λ o n. refl;
       recorded = λ o n. with_page-other m.ledger.recorded q (Some c') o (other_page q o n);
+      vectors = λ o n. with_page-other m.ledger.iv q (Some d.0) o (other_page q o n);
       metas = λ o n. t.metas_are o ∙ with_page-other (meta_at p.table) q (Some meta) o (other_page q o n);
       lost = λ o n. refl;
       held = λ o e. sym held ∙ e;
@@ -147,6 +158,7 @@ stands_sealed p p' w m f r d s whole inside at drawn t =
         digest = ap sha256 (sym sealed);
         sealed = λ free unowed. refl;
       });
+      vector = vector_is p' m' q (Some meta) meta_there (with_page-same m.ledger.iv q (Some d.0));
       newest = λ o e free. s.plain o free;
       drained = λ o lost. absurd (let no : false ≡ true = sym (kept_by_draw p w m s o d drawn) ∙ lost in cc);
     })
@@ -171,6 +183,7 @@ stands_wiped p p' w m f r s whole inside at none t =
       owed = refl;
       plain = λ o n. refl;
       recorded = λ o n. refl;
+      vectors = λ o n. refl;
       metas = λ o n. t.metas_are o;
       lost = λ o n. with_page-other w q true o (other_page q o n);
       held = λ o e. sym held ∙ e;
@@ -183,6 +196,7 @@ stands_wiped p p' w m f r s whole inside at none t =
           page_is p' w' m' q (meta_at p.table q) (t.metas_are q)
           (page_as (w q) (w' q) m m' q q (meta_at p.table q) refl refl
           (λ kept free. absurd (let no : true ≡ false = sym lost ∙ kept in cc)) (s.pages q));
+      vector = λ o e. vector_stays p p' w m m' o s (t.metas_are o) refl;
       newest = λ o e free.
           absurd (let same : q ≡ o = cc in let no : true ≡ false = sym lost ∙ (ap w' same ∙ free) in cc);
       drained = λ o lost. none;

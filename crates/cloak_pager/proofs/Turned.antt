@@ -13,7 +13,7 @@ use Rattle.cloak_base.proofs.Pages.{same_page_tells}
 use Rattle.cloak_model.specs.Chain.{cbc}
 use Rattle.frame_store.specs.Rights.{Holding}
 use Rattle.page_states.specs.Opening.{OpensTo}
-use Rattle.protect_meta.specs.declared.meta.Meta.{Meta}
+use Rattle.cloak_base.specs.declared.names.Meta.{Meta}
 use Rattle.protect_meta.specs.PageRow.{HasValues}
 use Rattle.protect_meta.specs.Table.{Table, meta_at}
 use Rattle.protect_meta.specs.Pages.{IsIn}

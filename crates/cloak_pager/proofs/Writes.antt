@@ -16,7 +16,7 @@ use Rattle.cloak_model.specs.Memory.{value_in}
 use Rattle.cloak_model.specs.Cloaking.{CloakedMemory, owed_in, with_shown_frame}
 use Rattle.cloak_model.specs.PageMoves.{with_newest}
 use Rattle.frame_store.specs.Rights.{Holding}
-use Rattle.protect_meta.specs.declared.meta.Meta.{Meta}
+use Rattle.cloak_base.specs.declared.names.Meta.{Meta}
 use Rattle.protect_meta.specs.Table.{meta_at}
 use Rattle.cloak_pager.specs.State.{PagerState, IsWholePager, Names, page_of, owed_under, right_at}
 use Rattle.cloak_pager.specs.State.{bytes_in, held_in, owed_at}
@@ -28,7 +28,7 @@ use Rattle.cloak_pager.specs.declared.held.Held.{Held}
 use Rattle.cloak_pager.specs.declared.held.Held.TheVariants.{Outside, Clean, Changed, Spent}
 use Rattle.cloak_pager.proofs.Pages.{with_page-same, with_page-other}
 use Rattle.cloak_pager.proofs.Keeping.{HasRight, named_as, right_seen, outside_right, whole_still}
-use Rattle.cloak_pager.proofs.Stands.{stands_turned, owed_by_right, owed_held, page_as}
+use Rattle.cloak_pager.proofs.Stands.{stands_turned, owed_by_right, owed_held, page_as, vector_stays}
 
 -- a frame that holds a page is one of the frames
 pub held_within : (rights : List Held) (f : ℕ) (q : PageId) → page_of (get_or rights f Spent) ≡ Some q →
@@ -84,6 +84,7 @@ stands_filled p p' f bytes whole t inside none w m s =
       owed = sym (subst O owes (set-get_or m.ledger.owed f None));
       plain = λ o n. refl;
       recorded = λ o n. refl;
+      vectors = λ o n. refl;
       metas = λ o n. t.metas_are o;
       lost = λ o n. refl;
       held = λ o e. absurd (let both : None ≡ Some o = sym none ∙ e in cc);
@@ -91,6 +92,7 @@ stands_filled p p' f bytes whole t inside none w m s =
       here = λ within.
           rw t.frames_are (get_or-set_same p.frames f bytes [] inside ∙ sym (get_or-set_same m.ram f bytes [] in_ram));
       page = λ o e. absurd (cc);
+      vector = λ o e. absurd (cc);
       newest = λ o e kept. absurd (cc);
       drained = s.drained;
     })
@@ -279,6 +281,7 @@ stands_written p p' q f x whole t owes fits w m s =
       owed = sym (subst O (owed_by_right p w m s f ∙ ap owed_under o.has.at) (set-get_or m.ledger.owed f None));
       plain = λ o n. with_page-other m.plain q new o (λ e. n (ap (λ (x : PageId). Some x) (sym e)));
       recorded = λ o n. refl;
+      vectors = λ o n. refl;
       metas = λ o n. t.metas_are o;
       lost = λ o n. refl;
       held = λ o e. sym held ∙ e;
@@ -294,6 +297,7 @@ stands_written p p' q f x whole t owes fits w m s =
           let owing : owed_in m' f ≡ Some o = owes' ∙ e in
           subst P (sym (t.metas_are o))
           (page_as (w o) (w o) m m' o o (meta_at p.table o) refl refl (λ kept free. absurd (free f owing)) (s.pages o));
+      vector = λ o e. vector_stays p p' w m m' o s (t.metas_are o) refl;
       newest = λ o e kept.
           let one : q ≡ o = cc in
           let is : m'.plain o ≡ new = subst (λ (x : PageId). m'.plain x ≡ new) one new_here in

@@ -1,21 +1,21 @@
 -- What the rules of cloaking tell of each call, and when a call of the pager follows it: questions of a memory, in the
 -- words of those of a world (`cloak_model`, `specs/Asking`).
 use Rattle.std.specs.Prelude.{ℕ, ◌≡◌, Bool, true, false, ◌&&◌, ◌||◌, List, [], ◌∷◌, Option, Some, None, is_some}
-use Rattle.std.specs.Prelude.{replicate, slice_index_or, unwrap_or}
-use Rattle.sha2.specs.Sha256.{sha256}
-use Rattle.aes_block.specs.Bytes.{IsBytes}
+use Rattle.std.specs.Prelude.{option_map, replicate, slice_index_or, unwrap_or}
 use Rattle.cloak_base.specs.declared.names.PageId.{PageId}
 use Rattle.cloak_base.specs.Pages.{zero_page, with_page, is_of, page_in}
 use Rattle.cloak_base.specs.Random.{Random}
-use Rattle.cloak_model.specs.Chain.{cbc}
 use Rattle.cloak_model.specs.Ledger.{Keys, key_of}
 use Rattle.cloak_model.specs.Memory.{value_in, with_value_in}
 use Rattle.cloak_model.specs.Cloaking.{CloakedMemory, Offer, Ready as Accepted, Mismatch as Refused}
 use Rattle.cloak_model.specs.Cloaking.{settle, offer, owed_in, with_shown_frame}
 use Rattle.cloak_model.specs.PageMoves.{place, with_newest, copy_pages, drop_pages}
-use Rattle.protect_meta.specs.declared.meta.Meta.{Meta}
+use Rattle.cloak_model.specs.StoredFiles.{PageContent, IsSealed, IsSealedIfShown, meta_of}
+use Rattle.cloak_model.specs.Beginning.{with_content}
+use Rattle.cloak_model.specs.StoredRun.{content_of}
+use Rattle.cloak_base.specs.declared.names.Meta.{Meta}
 use Rattle.cloak_pager.specs.State.{PagerState, bytes_in}
-use Rattle.cloak_pager.specs.Relation.{StandsForMemory}
+use Rattle.cloak_pager.specs.Relation.{StandsForMemory, IsUnowed}
 use Rattle.cloak_pager.specs.declared.touching.Touched.{Touched}
 use Rattle.cloak_pager.specs.declared.touching.Touched.TheVariants.{Quiet, Resealed, Sealed, Wiped}
 use Rattle.cloak_pager.specs.declared.offering.Offered.{Offered}
@@ -95,19 +95,25 @@ abbrev pub after_place : PageId → ℕ → List ℕ → AskingCall Bool
 after_place q f bytes wiped m =
     let o = place q f bytes m in record { answer = is_some o; wiped = wiped; memory = unwrap_or o m }
 
--- page q was sealed elsewhere: these are its newest bytes, and what was last shown of it
-abbrev pub with_restored : PageId → List ℕ → List ℕ → CloakedMemory → CloakedMemory
-with_restored q sealed plain m = record m {
-  plain = with_page m.plain q plain;
-  ledger = record m.ledger { recorded = with_page m.ledger.recorded q (Some sealed) };
-}
-
--- the pager stands for every such memory, where the metadata tells of what was last shown
+-- the pager stands for every memory in which the page goes on with a content that is sealed under the page's key, and of
+-- which this is the metadata
 abbrev pub StandsRestored : PagerState → PagerState → PageId → Meta → Type 0
 StandsRestored old new q t =
-    (wiped : PageId → Bool) (m : CloakedMemory) (sealed plain : List ℕ) → StandsForMemory old wiped m →
-    IsBytes 4096 plain → sealed ≡ cbc (key_of m.ledger q) t.iv plain → sha256 sealed ≡ t.digest →
-    StandsForMemory new wiped (with_restored q sealed plain m)
+    (wiped : PageId → Bool) (m : CloakedMemory) (c : PageContent) → StandsForMemory old wiped m →
+    IsSealed (key_of m.ledger q) c → meta_of c ≡ t → StandsForMemory new wiped (with_content q (Some c) m)
+
+-- Metadata.
+
+-- This metadata tells of the content of page q: none exactly if the page has no content. The content is sealed under the
+-- page's key, unless its newest bytes are lost or a frame is owed them.
+pub record TellsContent (lost : Bool) (m : CloakedMemory) (q : PageId) (t : Option Meta) : Type 0 where
+  pub tells : option_map meta_of (content_of m q) ≡ t
+  pub sealed : lost ≡ false → IsUnowed m q → IsSealedIfShown (key_of m.ledger q) (content_of m q)
+
+-- it does in every memory that the pager stands for
+abbrev pub KnowsContent : PagerState → PageId → Option Meta → Type 0
+KnowsContent p q t =
+    (wiped : PageId → Bool) (m : CloakedMemory) → StandsForMemory p wiped m → TellsContent (wiped q) m q t
 
 -- Reading and writing. A call that answers nothing answers `tt`.
 
@@ -169,6 +175,7 @@ pub record IsBlank (frames : ℕ) (keys : Keys) (m : CloakedMemory) : Type 0 whe
   pub ram : m.ram ≡ replicate frames zero_page
   pub owed : m.ledger.owed ≡ replicate frames None
   pub recorded : (q : PageId) → m.ledger.recorded q ≡ None
+  pub vectors : (q : PageId) → m.ledger.iv q ≡ None
   pub plain : (q : PageId) → m.plain q ≡ zero_page
 
 -- no page is wiped

@@ -1,30 +1,30 @@
 -- Calls of a pager one after another, and the law that they keep.
-use Rattle.std.specs.Prelude.{ℕ, ◌≡◌, Bool, false, List, [], ◌∷◌, map, slice_index_or}
-use Rattle.sha2.specs.Sha256.{sha256}
-use Rattle.aes_block.specs.Bytes.{IsBytes}
+use Rattle.std.specs.Prelude.{ℕ, ◌≡◌, Bool, false, List, [], ◌∷◌, Option, Some, map, slice_index_or}
 use Rattle.cloak_base.specs.declared.names.PageId.{PageId}
 use Rattle.cloak_base.specs.Random.{Random}
-use Rattle.cloak_model.specs.Chain.{cbc}
 use Rattle.cloak_model.specs.Cloaking.{CloakedMemory}
 use Rattle.cloak_model.specs.Memory.{value_in}
-use Rattle.protect_meta.specs.declared.meta.Meta.{Meta}
+use Rattle.cloak_model.specs.StoredFiles.{PageContent, IsSealed, meta_of}
+use Rattle.cloak_model.specs.Beginning.{with_content}
+use Rattle.cloak_base.specs.declared.names.Meta.{Meta}
 use Rattle.cloak_pager.specs.State.{PagerState, key_for}
 use Rattle.cloak_pager.specs.Turns.{IsReadOnce}
 use Rattle.cloak_pager.specs.Relation.{StandsForMemory}
 use Rattle.cloak_pager.specs.Asking.{ToldCall, AskingCall, FollowsCall, FollowsCallStill, FollowsCallUnclashed, after_touch, shown_by}
-use Rattle.cloak_pager.specs.Asking.{after_offer, answer_of, after_place, with_restored, StandsRestored}
+use Rattle.cloak_pager.specs.Asking.{after_offer, answer_of, after_place, StandsRestored, TellsContent, KnowsContent}
 use Rattle.cloak_pager.specs.Asking.{ReadsNewest, SeesFrame, PageWrite, after_write_plain, after_write_outside}
 use Rattle.cloak_pager.specs.Asking.{after_fill_outside, after_copy_pages, after_drop_pages, after_close}
 use Rattle.cloak_pager.specs.declared.touching.Touched.{Touched}
 use Rattle.cloak_pager.specs.declared.offering.Offered.{Offered}
 
--- A call that changes the pager or shows bytes, with what it is handed: a frame or a page, a place and a width in it,
--- and so on, in the order of the call. For a restoring also what was sealed elsewhere, sealed and plain.
+-- A call that changes the pager, or shows bytes or metadata, with what it is handed: a frame or a page, a place and a
+-- width in it, and so on, in the order of the call. For a restoring also the content that the page goes on with.
 pub data Call : Type 0 where
   Touch : ℕ → Call
   Offer : PageId → ℕ → Bool → Call
   Place : PageId → ℕ → List ℕ → Call
-  Restore : PageId → Meta → List ℕ → List ℕ → Call
+  Restore : PageId → Meta → PageContent → Call
+  ReadMeta : PageId → Call
   ReadPlain : PageId → ℕ → ℕ → Call
   WritePlain : PageId → PageWrite → Call
   ReadOutside : ℕ → Call
@@ -39,7 +39,8 @@ abbrev pub AnswerTo : Call → Type 0
 AnswerTo (Touch f) = Touched
 AnswerTo (Offer q g write) = Offered
 AnswerTo (Place q f bytes) = Bool
-AnswerTo (Restore q t sealed plain) = Unit {0}
+AnswerTo (Restore q t c) = Unit {0}
+AnswerTo (ReadMeta q) = Option Meta
 AnswerTo (ReadPlain q at width) = ℕ
 AnswerTo (WritePlain q x) = Unit {0}
 AnswerTo (ReadOutside f) = List ℕ
@@ -61,15 +62,15 @@ abbrev pub KeepsRule : PagerState → Random → PagerState → Random → Askin
 KeepsRule old stream new left ask = FollowsCallStill old new tt ask × (left ≡ stream)
 
 -- The call did what its contract ensures of the rules of cloaking. The stream behind a call that takes none is the one
--- before it. Who restores a page owes what was sealed elsewhere: its bytes, sealed under the page's key.
+-- before it. Who restores a page owes its content, which is sealed under the page's key, and of which it has the metadata.
 abbrev pub KeptBy : PagerState → Random → PagerState → Random → (call : Call) → AnswerTo call → Type 0
 KeptBy old stream new left (Touch f) answer = FollowsCall old stream new left (shown_by answer f new) (after_touch f)
 KeptBy old stream new left (Offer q g write) answer =
     FollowsCallUnclashed old new (answer_of answer) (after_offer q g write) × (left ≡ stream)
 KeptBy old stream new left (Place q f bytes) answer = FollowsCall old stream new left answer (after_place q f bytes)
-KeptBy old stream new left (Restore q t sealed plain) answer =
-    StandsRestored old new q t × IsBytes 4096 plain × (sealed ≡ cbc (key_for old q) t.iv plain)
-    × (sha256 sealed ≡ t.digest) × (left ≡ stream)
+KeptBy old stream new left (Restore q t c) answer =
+    StandsRestored old new q t × IsSealed (key_for old q) c × (meta_of c ≡ t) × (left ≡ stream)
+KeptBy old stream new left (ReadMeta q) answer = KnowsContent old q answer × (new ≡ old) × (left ≡ stream)
 KeptBy old stream new left (ReadPlain q at width) answer =
     ReadsNewest old q at width answer × (new ≡ old) × (left ≡ stream)
 KeptBy old stream new left (WritePlain q x) answer = KeepsRule old stream new left (after_write_plain q x)
@@ -111,7 +112,8 @@ abbrev pub after_call : Call → (PageId → Bool) → CloakedMemory → AfterCa
 after_call (Touch f) wiped m = without_answer (after_touch f wiped m)
 after_call (Offer q g write) wiped m = without_answer (after_offer q g write wiped m)
 after_call (Place q f bytes) wiped m = without_answer (after_place q f bytes wiped m)
-after_call (Restore q t sealed plain) wiped m = record { wiped = wiped; memory = with_restored q sealed plain m }
+after_call (Restore q t c) wiped m = record { wiped = wiped; memory = with_content q (Some c) m }
+after_call (ReadMeta q) wiped m = record { wiped = wiped; memory = m }
 after_call (ReadPlain q at width) wiped m = record { wiped = wiped; memory = m }
 after_call (WritePlain q x) wiped m = without_answer (after_write_plain q x wiped m)
 after_call (ReadOutside f) wiped m = record { wiped = wiped; memory = m }
@@ -131,7 +133,8 @@ abbrev pub IsTold : (call : Call) → AnswerTo call → PagerState → (PageId �
 IsTold (Touch f) answer new wiped m = shown_by answer f new ≡ (after_touch f wiped m).answer
 IsTold (Offer q g write) answer new wiped m = answer_of answer ≡ (after_offer q g write wiped m).answer
 IsTold (Place q f bytes) answer new wiped m = answer ≡ (after_place q f bytes wiped m).answer
-IsTold (Restore q t sealed plain) answer new wiped m = Unit {0}
+IsTold (Restore q t c) answer new wiped m = Unit {0}
+IsTold (ReadMeta q) answer new wiped m = TellsContent (wiped q) m q answer
 IsTold (ReadPlain q at width) answer new wiped m = wiped q ≡ false → answer ≡ value_in (m.plain q) at width
 IsTold (WritePlain q x) answer new wiped m = Unit {0}
 IsTold (ReadOutside f) answer new wiped m = answer ≡ slice_index_or m.ram f []

@@ -1,5 +1,5 @@
 -- When a pager stands for what the rules of cloaking speak of.
-use Rattle.std.specs.Prelude.{ℕ, ◌≡◌, ◌≢◌, ◌<◌, Bool, true, false, List, [], Option, Some, None, length, map}
+use Rattle.std.specs.Prelude.{ℕ, ◌≡◌, ◌≢◌, ◌<◌, Bool, true, false, List, [], Option, Some, None, length, map, option_map}
 use Rattle.std.specs.Prelude.{slice_index_or}
 use Rattle.sha2.specs.Sha256.{sha256}
 use Rattle.aes_block.specs.Bytes.{IsBytes}
@@ -9,7 +9,7 @@ use Rattle.cloak_model.specs.Chain.{cbc}
 use Rattle.cloak_model.specs.Ledger.{key_of}
 use Rattle.cloak_base.specs.Pages.{zero_page}
 use Rattle.cloak_model.specs.Cloaking.{CloakedMemory, owed_in}
-use Rattle.protect_meta.specs.declared.meta.Meta.{Meta}
+use Rattle.cloak_base.specs.declared.names.Meta.{Meta}
 use Rattle.protect_meta.specs.Table.{meta_at}
 use Rattle.cloak_pager.specs.State.{PagerState, IsWholePager, owed_under, right_at, bytes_in}
 use Rattle.cloak_pager.specs.declared.held.Held.{Held}
@@ -47,6 +47,10 @@ abbrev pub PageStands : Bool → CloakedMemory → PageId → Option Meta → Ty
 PageStands lost m q None = (m.ledger.recorded q ≡ None) × (lost ≡ false → IsUnowed m q → m.plain q ≡ zero_page)
 PageStands lost m q (Some t) = IsRecorded lost m q t
 
+-- the vector that metadata has, if there is some
+abbrev pub vector_in : Option Meta → Option (List ℕ)
+vector_in t = option_map (λ (x : Meta). x.iv) t
+
 -- The pager stands for the memory. Of the wiped pages the newest bytes are lost: changed bytes of them were to be shown
 -- and no draw was left. Of these alone nothing is said that has to do with their newest bytes.
 pub record StandsForMemory (p : PagerState) (wiped : PageId → Bool) (m : CloakedMemory) : Type 0 where
@@ -58,6 +62,8 @@ pub record StandsForMemory (p : PagerState) (wiped : PageId → Bool) (m : Cloak
   pub owed : m.ledger.owed ≡ map owed_under p.rights
   -- metadata is there exactly where a record is
   pub pages : (q : PageId) → PageStands (wiped q) m q (meta_at p.table q)
+  -- and has the vector under which the record was sealed
+  pub vectors : (q : PageId) → m.ledger.iv q ≡ vector_in (meta_at p.table q)
   -- the newest bytes of a page are a page
   pub plain : (q : PageId) → wiped q ≡ false → IsBytes 4096 (m.plain q)
   -- a page is wiped only where no draw is left

@@ -9,7 +9,7 @@ use Rattle.cloak_base.specs.Pages.{zero_page, with_page, with_resource, with_cop
 use Rattle.cloak_base.specs.Random.{Random}
 use Rattle.cloak_model.specs.Chain.{cbc}
 use Rattle.cloak_model.specs.Ledger.{Keys}
-use Rattle.protect_meta.specs.declared.meta.Meta.{Meta}
+use Rattle.cloak_base.specs.declared.names.Meta.{Meta}
 use Rattle.protect_meta.specs.Table.{meta_at, domains_of}
 use Rattle.frame_store.specs.Rights.{Holding}
 use Rattle.page_states.specs.Opening.{OpensTo}

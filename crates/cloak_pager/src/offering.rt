@@ -4,9 +4,8 @@ ghost use Rattle.cloak_base.specs.Random.{next_draw};
 use crate::held::Held;
 use crate::pager::Pager;
 use aes_cbc::seal_page;
-use cloak_base::{Frame, PageId};
+use cloak_base::{Frame, Meta, PageId};
 use outside_io::Stream;
-use protect_meta::Meta;
 use sha2::{Digest, Sha256};
 
 /// How an offer ended.
@@ -154,7 +153,7 @@ impl Pager {
         }
     }
 
-    /// Takes the metadata of a page that was sealed elsewhere under its key.
+    /// Takes the metadata of a page that was sealed elsewhere under its key: the page goes on with that content.
     pub fn restore(&mut self, q: PageId, m: Meta)
         requires page { IsIn (domains_of self.old.table) q }
         requires fresh { IsFresh self.old q }

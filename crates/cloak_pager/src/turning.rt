@@ -5,9 +5,8 @@ ghost use Rattle.cloak_base.specs.Pages.{zero_page};
 
 use crate::held::Held;
 use crate::pager::Pager;
-use cloak_base::{Frame, PageId};
+use cloak_base::{Frame, Meta, PageId};
 use page_states::{change, first_page, open_page, reseal, seal, wipe};
-use protect_meta::Meta;
 use std::mem;
 
 // Each takes the right of one frame out, turns it, and puts the next one in its place.

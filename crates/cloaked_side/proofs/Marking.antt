@@ -19,7 +19,7 @@ use Rattle.cloaked_side.specs.declared.side.Side.{Side}
 pub stands_remarked : (p : PagerState) (wiped : PageId → Bool) (m : CloakedMemory) (marks : List (Option ℕ)) →
     StandsForMemory p wiped m → StandsForMemory p wiped (record m { marks = marks })
 stands_remarked p wiped m marks s =
-    stands_same p wiped m (record m { marks = marks }) s refl refl refl refl refl refl
+    stands_same p wiped m (record m { marks = marks }) s refl refl refl refl refl refl refl
 
 -- the memory's reservations changed as those of what it stands for did
 pub holds_remarked : (memory : Memory) (new marks : List (Option ℕ)) (m : CloakedMemory) → new ≡ marks → Holds memory m →

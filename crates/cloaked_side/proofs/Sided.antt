@@ -27,7 +27,7 @@ use Rattle.shadow_law.specs.Agreeing.{present}
 use Rattle.shadow_law.proofs.Tables.{write_agrees}
 use Rattle.cloaked_side.specs.Holding.{Holds, Settles, SameSize, HoldsNoMore, HoldsNoOther, frames_of}
 use Rattle.cloaked_side.specs.Seeing.{Sees, SeesCloak, SeesCounted, SeesWalking, Stays, StaysWithin, asked_by, paid, touched_since}
-use Rattle.protect_meta.specs.declared.meta.Meta.{Meta}
+use Rattle.cloak_base.specs.declared.names.Meta.{Meta}
 use Rattle.protect_meta.specs.Table.{domains_of}
 use Rattle.cloak_pager.specs.State.{PagerState, held_in}
 use Rattle.cloaked_side.proofs.Emitting.{emits_none, emits_items, some_then}

@@ -118,13 +118,10 @@ impl<'m, 'e, E: Emit> Side<'m, 'e, E> {
     fn space_asking(&self) -> SpaceId
         ensures { (s : AnySpace) → self.now.space ≡ Some s → result ≡ s }
     {
-        match self.space {
-            Some(s) => s,
-            None => SpaceId {
-                domain: self.view.domain as u32,
-                number: 0,
-            },
-        }
+        self.space.unwrap_or(SpaceId {
+            domain: self.view.domain as u32,
+            number: 0,
+        })
     }
 
     /// Who translates for the questions of the context that asks.

@@ -3,7 +3,8 @@
 use crate::checks::same;
 use cloak_base::NoMemory;
 use command_words::{
-    Randomness, Request, RunRequest, SoloRequest, StatsRequest, UsageFault, read_words,
+    Randomness, Request, RunRequest, SoloRequest, StatsRequest, StoreRequest, UsageFault,
+    read_words,
 };
 use std::alloc::{AllocError, Global};
 use std::test::*;
@@ -24,6 +25,7 @@ fn fault_text(fault: UsageFault) -> &'static str {
         UsageFault::WrongWords => "words",
         UsageFault::NoRandomness => "randomness",
         UsageFault::WrongNumber => "number",
+        UsageFault::SameName => "same name",
     }
 }
 
@@ -52,6 +54,24 @@ fn solo_text(alloc: Global, solo: &SoloRequest<'_>) -> Result<String, AllocError
     format!(in alloc; "solo {domain} {bundle} {record_name}")
 }
 
+fn store_text(alloc: Global, store: &StoreRequest<'_>) -> Result<String, AllocError> {
+    let files = &store.files;
+    let names = format!(in alloc; "{} {} {}", files.bundle, files.record_name, files.old_name)?;
+    let more = format!(in alloc;
+        "{} {} {}",
+        files.new_name, files.next_name, files.secret_name
+    )?;
+    let (counter, steps) = (store.counter, store.steps);
+    match &store.randomness {
+        Randomness::Numbered(number) => format!(in alloc;
+            "store {names} {more} {counter} {steps} number {number}"
+        ),
+        Randomness::FromFile(name) => format!(in alloc;
+            "store {names} {more} {counter} {steps} stream {name}"
+        ),
+    }
+}
+
 /// What is asked for, as a line of text.
 fn text_of(alloc: Global, request: &Request<'_>) -> Result<String, AllocError> {
     match request {
@@ -65,6 +85,7 @@ fn text_of(alloc: Global, request: &Request<'_>) -> Result<String, AllocError> {
         Request::Upgrade(upgrade) => {
             format!(in alloc; "upgrade {} {}", upgrade.old_name, upgrade.new_name)
         }
+        Request::Store(store) => store_text(alloc, store),
     }
 }
 
@@ -76,12 +97,57 @@ fn shown(alloc: Global, line: &[&str]) -> Result<String, NoMemory> {
 }
 
 /// Words, and what they ask for by the rules of the words.
-static LINES: [(&[&str], &str); 54] = [
+static LINES: [(&[&str], &str); 57] = [
     (&[], "no command"),
     (&["stats", "a.b"], "words"),
     (&["upgrade", "a.b"], "words"),
     (&["upgrade", "a.b", "b.b", "--steps=1"], "words"),
     (&["upgrade", "a.b", "--", "-b"], "upgrade a.b -b"),
+    (
+        &[
+            "store",
+            "a",
+            "b",
+            "c",
+            "d",
+            "--secret=k",
+            "e",
+            "--counter=3",
+            "--steps=5",
+            "--stream=s",
+        ],
+        "store a b c d e k 3 5 stream s",
+    ),
+    (
+        &[
+            "store",
+            "a",
+            "b",
+            "c",
+            "d",
+            "d",
+            "--secret=k",
+            "--counter=3",
+            "--steps=5",
+            "--number=0",
+        ],
+        "same name",
+    ),
+    (
+        &[
+            "store",
+            "a",
+            "b",
+            "c",
+            "d",
+            "d",
+            "--secret=k",
+            "--counter=3",
+            "--steps=x",
+            "--number=0",
+        ],
+        "number",
+    ),
     (&["walk"], "unknown command"),
     (&["Run", "a.b", "a.r"], "unknown command"),
     (&["--steps", "10"], "unknown command"),

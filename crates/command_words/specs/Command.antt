@@ -1,11 +1,11 @@
 -- The words of a command line, and what they ask for. The first word is the command's name, and the words are read
 -- by the simple command of `clap` that the command is.
-use Rattle.std.specs.Prelude.{ℕ, ◌+◌, ◌-◌, ◌*◌, nat_le, Bool, ◌&&◌, List, [], ◌∷◌, length, fold, codes}
-use Rattle.std.specs.Prelude.{Option, Some, None, option_map, unwrap_or, if◌then◌else◌}
+use Rattle.std.specs.Prelude.{ℕ, ◌+◌, ◌-◌, ◌*◌, nat_le, Bool, ◌&&◌, ◌||◌, List, [], ◌∷◌, length, fold, codes}
+use Rattle.std.specs.Prelude.{Option, Some, None, unwrap_or, Result, Ok, Err, if◌then◌else◌}
 use Rattle.clap.specs.Words.{App, Kinds, Row, fault_of, first_of, matches_of}
 use Rattle.cloak_model.specs.Run.{most_steps}
 use Rattle.command_words.specs.declared.usage_fault.UsageFault.{UsageFault}
-use Rattle.command_words.specs.declared.usage_fault.UsageFault.TheVariants.{NoCommand, UnknownCommand, WrongWords, NoRandomness, WrongNumber}
+use Rattle.command_words.specs.declared.usage_fault.UsageFault.TheVariants.{NoCommand, UnknownCommand, WrongWords, NoRandomness, WrongNumber, SameName}
 use Rattle.command_words.specs.declared.command_name.CommandName.{CommandName}
 use Rattle.command_words.specs.declared.command_name.CommandName.TheVariants as name
 use Rattle.command_words.specs.Forms.{form_of}
@@ -18,6 +18,7 @@ usage_line UnknownCommand = codes "usage: unknown command\n"
 usage_line WrongWords = codes "usage: words\n"
 usage_line NoRandomness = codes "usage: randomness\n"
 usage_line WrongNumber = codes "usage: number\n"
+usage_line SameName = codes "usage: same name\n"
 
 -- where a run takes its randomness: the stream of a number, or the bytes of a file
 pub data Randomness : Type 0 where
@@ -27,6 +28,16 @@ pub data Randomness : Type 0 where
 -- the most bytes of a file that a run takes for its randomness
 abbrev pub longest_stream : ℕ
 longest_stream = 16777216
+
+-- the files of a run over cloaked files: the bundle, the record, the store file that is read and the one that is written,
+-- the bundle with the disk of the end, and the secret file
+pub record StoreNames : Type 0 where
+  pub bundle : List ℕ
+  pub record_name : List ℕ
+  pub old_name : List ℕ
+  pub new_name : List ℕ
+  pub next_name : List ℕ
+  pub secret_name : List ℕ
 
 -- what is asked for
 pub data Asked : Type 0 where
@@ -45,6 +56,9 @@ pub data Asked : Type 0 where
   Stats : (bundle : List ℕ) → (steps : ℕ) → Randomness → Asked
   -- the bundle of a file, written in version 2 to a file, which may be the same
   Upgrade : (old_name new_name : List ℕ) → Asked
+  -- the joint run of a bundle over the cloaked files that a store file with this counter tells of, with its budget of steps
+  -- and its randomness
+  Store : StoreNames → (counter steps : ℕ) → Randomness → Asked
 
 -- the word is this text
 abbrev pub is : List ℕ → List ℕ → Bool
@@ -69,22 +83,45 @@ abbrev pub asked_run : (bundle : List ℕ) → (record_name : Option (List ℕ))
 asked_run bundle (Some record_name) steps randomness = Run bundle record_name steps randomness
 asked_run bundle None steps randomness = Stats bundle steps randomness
 
--- a run whose values are read
-abbrev pub run_of_values : List ℕ → Option (List ℕ) → Option ℕ → Option Randomness → Asked
-run_of_values bundle record_name (Some steps) (Some randomness) = asked_run bundle record_name steps randomness
-run_of_values bundle record_name (Some steps) None = Faulty WrongNumber
-run_of_values bundle record_name None randomness = Faulty WrongNumber
+abbrev pub randomness_of_number : Option ℕ → Result Randomness UsageFault
+randomness_of_number None = Err WrongNumber
+randomness_of_number (Some number) = Ok (Numbered number)
 
 -- Exactly one option is to name the randomness.
-unfoldable pub run_of_texts : (bundle : List ℕ) → (record_name : Option (List ℕ)) → (steps : List ℕ) →
+unfoldable pub given_randomness : (stream number : Option (List ℕ)) → Result Randomness UsageFault
+given_randomness None None = Err NoRandomness
+given_randomness (Some name) None = Ok (FromFile name)
+given_randomness None (Some text) = randomness_of_number (number_up_to last_stream text)
+given_randomness (Some name) (Some text) = Err NoRandomness
+
+-- a run whose values are read
+abbrev pub run_of_values : List ℕ → Option (List ℕ) → Option ℕ → Result Randomness UsageFault → Asked
+run_of_values bundle record_name steps (Err fault) = Faulty fault
+run_of_values bundle record_name None (Ok randomness) = Faulty WrongNumber
+run_of_values bundle record_name (Some steps) (Ok randomness) = asked_run bundle record_name steps randomness
+
+abbrev pub run_of_texts : (bundle : List ℕ) → (record_name : Option (List ℕ)) → (steps : List ℕ) →
     (stream number : Option (List ℕ)) → Asked
-run_of_texts bundle record_name steps None None = Faulty NoRandomness
-run_of_texts bundle record_name steps (Some name) None =
-    run_of_values bundle record_name (number_up_to most_steps steps) (Some (FromFile name))
-run_of_texts bundle record_name steps None (Some text) =
-    run_of_values bundle record_name (number_up_to most_steps steps)
-    (option_map Numbered (number_up_to last_stream text))
-run_of_texts bundle record_name steps (Some name) (Some text) = Faulty NoRandomness
+run_of_texts bundle record_name steps stream number =
+    run_of_values bundle record_name (number_up_to most_steps steps) (given_randomness stream number)
+
+-- the last counter of a store file over which a run may go on, as the next one has one more
+abbrev pub last_counter : ℕ
+last_counter = 18446744073709551614
+
+-- two of the files that are written have one name
+abbrev pub writes_one_twice : StoreNames → Bool
+writes_one_twice names =
+    bytes_eq names.record_name names.new_name
+    || (bytes_eq names.record_name names.next_name || bytes_eq names.new_name names.next_name)
+
+-- a run over cloaked files whose values are read; the names are compared last
+abbrev pub store_of_values : StoreNames → (counter steps : Option ℕ) → Result Randomness UsageFault → Asked
+store_of_values names counter steps (Err fault) = Faulty fault
+store_of_values names None steps (Ok randomness) = Faulty WrongNumber
+store_of_values names (Some counter) None (Ok randomness) = Faulty WrongNumber
+store_of_values names (Some counter) (Some steps) (Ok randomness) =
+    if writes_one_twice names then Faulty SameName else Store names counter steps randomness
 
 -- the last number of a program
 abbrev pub last_domain : ℕ
@@ -125,6 +162,17 @@ asked_with name.Stats rows =
     run_of_texts (needed_text (codes "BUNDLE") rows) None
     (needed_text (codes "steps") rows) (first_of (codes "stream") rows) (first_of (codes "number") rows)
 asked_with name.Upgrade rows = Upgrade (needed_text (codes "OLD") rows) (needed_text (codes "NEW") rows)
+asked_with name.Store rows =
+    store_of_values (record {
+      bundle = needed_text (codes "BUNDLE") rows;
+      record_name = needed_text (codes "RECORD") rows;
+      old_name = needed_text (codes "OLD") rows;
+      new_name = needed_text (codes "NEW") rows;
+      next_name = needed_text (codes "NEXT") rows;
+      secret_name = needed_text (codes "secret") rows;
+    })
+    (number_up_to last_counter (needed_text (codes "counter") rows)) (number_up_to most_steps (needed_text (codes "steps") rows))
+    (given_randomness (first_of (codes "stream") rows) (first_of (codes "number") rows))
 
 -- the command of this name
 abbrev pub command_named : List ℕ → Option CommandName
@@ -135,7 +183,8 @@ command_named w =
     if is (codes "gen") w then Some name.Gen else
     if is (codes "demo") w then Some name.Demo else
     if is (codes "stats") w then Some name.Stats else
-    if is (codes "upgrade") w then Some name.Upgrade else None
+    if is (codes "upgrade") w then Some name.Upgrade else
+    if is (codes "store") w then Some name.Store else None
 
 -- the texts that a command finds in the words, where it refuses nothing
 abbrev pub unless_refused : Kinds → List Row → Option (List Row)

@@ -1,7 +1,7 @@
 -- What a request stands for.
 use Rattle.command_words.specs.Command as spec
 use Rattle.command_words.specs.declared.request.Request.{Request}
-use Rattle.command_words.specs.declared.request.Request.TheVariants.{Faulty, Run, View, Solo, Gen, Demo, Stats, Upgrade}
+use Rattle.command_words.specs.declared.request.Request.TheVariants.{Faulty, Run, View, Solo, Gen, Demo, Stats, Upgrade, Store}
 use Rattle.command_words.specs.declared.run_request.Randomness.{Randomness}
 use Rattle.command_words.specs.declared.run_request.Randomness.TheVariants.{Numbered, FromFile}
 use Rattle.command_words.specs.declared.run_request.RunRequest.{RunRequest}
@@ -11,6 +11,8 @@ use Rattle.command_words.specs.declared.record_request.SoloRequest.{SoloRequest}
 use Rattle.command_words.specs.declared.generated_request.GenRequest.{GenRequest}
 use Rattle.command_words.specs.declared.generated_request.DemoRequest.{DemoRequest}
 use Rattle.command_words.specs.declared.upgrade_request.UpgradeRequest.{UpgradeRequest}
+use Rattle.command_words.specs.declared.store_request.StoreFiles.{StoreFiles}
+use Rattle.command_words.specs.declared.store_request.StoreRequest.{StoreRequest}
 
 abbrev pub randomness_of : Randomness → spec.Randomness
 randomness_of (Numbered number) = spec.Numbered number
@@ -37,6 +39,19 @@ asked_of_stats stats = spec.Stats stats.bundle.now stats.steps (randomness_of st
 abbrev pub asked_of_upgrade : UpgradeRequest → spec.Asked
 asked_of_upgrade upgrade = spec.Upgrade upgrade.old_name.now upgrade.new_name.now
 
+abbrev pub names_of : StoreFiles → spec.StoreNames
+names_of files = record {
+  bundle = files.bundle.now;
+  record_name = files.record_name.now;
+  old_name = files.old_name.now;
+  new_name = files.new_name.now;
+  next_name = files.next_name.now;
+  secret_name = files.secret_name.now;
+}
+
+abbrev pub asked_of_store : StoreRequest → spec.Asked
+asked_of_store store = spec.Store (names_of store.files) store.counter store.steps (randomness_of store.randomness)
+
 abbrev pub asked_of : Request → spec.Asked
 asked_of (Faulty fault) = spec.Faulty fault
 asked_of (Run run) = asked_of_run run
@@ -46,3 +61,4 @@ asked_of (Gen generated) = asked_of_gen generated
 asked_of (Demo demo) = asked_of_demo demo
 asked_of (Stats stats) = asked_of_stats stats
 asked_of (Upgrade upgrade) = asked_of_upgrade upgrade
+asked_of (Store store) = asked_of_store store

@@ -9,4 +9,5 @@ pub enum CommandName {
     Demo,
     Stats,
     Upgrade,
+    Store,
 }

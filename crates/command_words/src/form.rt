@@ -110,6 +110,23 @@ fn upgrade_form<'a>(alloc: Global) -> Result<Command<'a>, NoMemory>
     Ok(upgrade)
 }
 
+fn store_form<'a>(alloc: Global) -> Result<Command<'a>, NoMemory>
+    ensures { IfOk result (λ command. app_of command ≡ spec.form_of CommandName.Store) }
+{
+    let store = bare_form(alloc, "store")
+        .arg(position(alloc, "BUNDLE"))?
+        .arg(position(alloc, "RECORD"))?
+        .arg(position(alloc, "OLD"))?
+        .arg(position(alloc, "NEW"))?
+        .arg(position(alloc, "NEXT"))?
+        .arg(needed_option(alloc, "secret"))?
+        .arg(needed_option(alloc, "counter"))?
+        .arg(needed_option(alloc, "steps"))?
+        .arg(valued_option(alloc, "stream"))?
+        .arg(valued_option(alloc, "number"))?;
+    Ok(store)
+}
+
 /// What the command of this name takes.
 pub fn form_of<'a>(alloc: Global, name: CommandName) -> Result<Command<'a>, NoMemory>
     ensures { IfOk result (λ command. app_of command ≡ spec.form_of name) }
@@ -122,5 +139,6 @@ pub fn form_of<'a>(alloc: Global, name: CommandName) -> Result<Command<'a>, NoMe
         CommandName::Demo => demo_form(alloc),
         CommandName::Stats => stats_form(alloc),
         CommandName::Upgrade => upgrade_form(alloc),
+        CommandName::Store => store_form(alloc),
     }
 }

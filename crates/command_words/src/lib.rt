@@ -12,6 +12,7 @@ mod number;
 mod record_request;
 mod request;
 mod run_request;
+mod store_request;
 mod upgrade_request;
 mod usage_fault;
 
@@ -19,5 +20,6 @@ pub use generated_request::{DemoRequest, GenRequest};
 pub use record_request::{RecordRequest, SoloRequest};
 pub use request::{Request, read_words};
 pub use run_request::{Randomness, RunRequest, StatsRequest};
+pub use store_request::{StoreFiles, StoreRequest};
 pub use upgrade_request::UpgradeRequest;
 pub use usage_fault::UsageFault;

@@ -1,9 +1,10 @@
 //! What the words of a command line ask for.
-ghost use Rattle.std.specs.Prelude.{◌≡◌, ◌≤◌, IfOk, map, string_bytes, option_copied, option_map};
+ghost use Rattle.std.specs.Prelude.{◌≡◌, ◌≤◌, IfOk, map, string_bytes, option_copied};
+ghost use Rattle.std.specs.Result.{result_map_both};
 ghost use Rattle.cloak_model.specs.Run.{most_steps};
 ghost use Rattle.clap.specs.Words.{found_of, rows_of};
 ghost use Rattle.command_words.specs.Command as spec;
-ghost use Rattle.command_words.specs.Request.{asked_of, randomness_of};
+ghost use Rattle.command_words.specs.Request.{asked_of, names_of, randomness_of};
 
 use crate::command_name::CommandName;
 use crate::form::form_of;
@@ -12,6 +13,7 @@ use crate::generated_request::{DemoRequest, GenRequest};
 use crate::number::number_up_to;
 use crate::record_request::{RecordRequest, SoloRequest};
 use crate::run_request::{Randomness, RunRequest, StatsRequest};
+use crate::store_request::{StoreFiles, StoreRequest};
 use crate::upgrade_request::UpgradeRequest;
 use crate::usage_fault::UsageFault;
 use clap::ArgMatches;
@@ -20,6 +22,9 @@ use std::alloc::Global;
 
 /// The most steps of a run.
 pub const MOST_STEPS: u64 = 1_000_000_000;
+
+/// The last counter of a store file over which a run may go on.
+const LAST_COUNTER: u64 = u64::MAX - 1;
 
 /// The last number of a program.
 const LAST_DOMAIN: u64 = 3;
@@ -35,6 +40,7 @@ pub enum Request<'a> {
     Demo(DemoRequest),
     Stats(StatsRequest<'a>),
     Upgrade(UpgradeRequest<'a>),
+    Store(StoreRequest<'a>),
 }
 
 /// A run with its record, or with none.
@@ -63,26 +69,26 @@ fn asked_run<'a>(
     }
 }
 
-/// The run of these values, where they were numbers in their ranges.
-fn run_of_values<'a>(
-    bundle: &'a str,
-    record_name: Option<&'a str>,
-    steps: &str,
-    randomness: Option<Randomness<'a>>,
-) -> Request<'a>
-    ensures { asked_of result ≡ spec.run_of_values bundle.now (option_copied record_name.entry)
-        (spec.number_up_to most_steps steps.now) (option_map randomness_of randomness.entry) }
+/// Where a run takes its randomness. Exactly one of the two options is to be given.
+#[tactic(auto, unfolding(crate::specs::Command::given_randomness))]
+fn given_randomness<'a>(
+    stream: Option<&'a str>,
+    number: Option<&str>,
+) -> Result<Randomness<'a>, UsageFault>
+    ensures { result_map_both randomness_of (λ fault. fault) result ≡
+        spec.given_randomness (option_copied stream.entry) (option_copied number.entry) }
 {
-    match (number_up_to(steps, MOST_STEPS), randomness) {
-        (Some(steps), Some(randomness)) => {
-            asked_run(bundle, record_name, steps as u32, randomness)
-        }
-        _ => Request::Faulty(UsageFault::WrongNumber),
+    match (stream, number) {
+        (Some(name), None) => Ok(Randomness::FromFile(name)),
+        (None, Some(text)) => match number_up_to(text, u64::MAX) {
+            Some(number) => Ok(Randomness::Numbered(number)),
+            None => Err(UsageFault::WrongNumber),
+        },
+        _ => Err(UsageFault::NoRandomness),
     }
 }
 
 /// The run with these texts.
-#[tactic(auto, unfolding(crate::specs::Command::run_of_texts))]
 fn run_of_texts<'a>(
     bundle: &'a str,
     record_name: Option<&'a str>,
@@ -93,19 +99,56 @@ fn run_of_texts<'a>(
     ensures { asked_of result ≡ spec.run_of_texts bundle.now (option_copied record_name.entry) steps.now
         (option_copied stream.entry) (option_copied number.entry) }
 {
-    match (stream, number) {
-        (Some(name), None) => {
-            run_of_values(bundle, record_name, steps, Some(Randomness::FromFile(name)))
-        }
-        (None, Some(text)) => {
-            let randomness = match number_up_to(text, u64::MAX) {
-                Some(number) => Some(Randomness::Numbered(number)),
-                None => None,
-            };
-            run_of_values(bundle, record_name, steps, randomness)
-        }
-        _ => Request::Faulty(UsageFault::NoRandomness),
+    let randomness = match given_randomness(stream, number) {
+        Ok(randomness) => randomness,
+        Err(fault) => return Request::Faulty(fault),
+    };
+    match number_up_to(steps, MOST_STEPS) {
+        Some(steps) => asked_run(bundle, record_name, steps as u32, randomness),
+        None => Request::Faulty(UsageFault::WrongNumber),
     }
+}
+
+/// Whether two of the files that are written have one name.
+fn writes_one_twice(files: &StoreFiles<'_>) -> bool
+    ensures { result ≡ spec.writes_one_twice (names_of files.now) }
+{
+    files.record_name == files.new_name
+        || files.record_name == files.next_name
+        || files.new_name == files.next_name
+}
+
+/// The run over cloaked files with these texts. The names are compared last.
+fn store_of_texts<'a>(
+    files: StoreFiles<'a>,
+    counter: &str,
+    steps: &str,
+    stream: Option<&'a str>,
+    number: Option<&str>,
+) -> Request<'a>
+    ensures { asked_of result ≡ spec.store_of_values (names_of files.entry)
+        (spec.number_up_to spec.last_counter counter.now) (spec.number_up_to most_steps steps.now)
+        (spec.given_randomness (option_copied stream.entry) (option_copied number.entry)) }
+{
+    let randomness = match given_randomness(stream, number) {
+        Ok(randomness) => randomness,
+        Err(fault) => return Request::Faulty(fault),
+    };
+    let (Some(counter), Some(steps)) = (
+        number_up_to(counter, LAST_COUNTER),
+        number_up_to(steps, MOST_STEPS),
+    ) else {
+        return Request::Faulty(UsageFault::WrongNumber);
+    };
+    if writes_one_twice(&files) {
+        return Request::Faulty(UsageFault::SameName);
+    }
+    Request::Store(StoreRequest {
+        files,
+        counter,
+        steps: steps as u32,
+        randomness,
+    })
 }
 
 /// What the program of this number makes of a record, where it is one.
@@ -192,6 +235,23 @@ fn asked_with<'a>(command: CommandName, matches: &ArgMatches<'a>) -> Request<'a>
             old_name: needed_text(matches, "OLD"),
             new_name: needed_text(matches, "NEW"),
         }),
+        CommandName::Store => {
+            let files = StoreFiles {
+                bundle: needed_text(matches, "BUNDLE"),
+                record_name: needed_text(matches, "RECORD"),
+                old_name: needed_text(matches, "OLD"),
+                new_name: needed_text(matches, "NEW"),
+                next_name: needed_text(matches, "NEXT"),
+                secret_name: needed_text(matches, "secret"),
+            };
+            store_of_texts(
+                files,
+                needed_text(matches, "counter"),
+                needed_text(matches, "steps"),
+                given_text(matches, "stream"),
+                given_text(matches, "number"),
+            )
+        }
     }
 }
 
@@ -207,6 +267,7 @@ fn command_named(word: &str) -> Option<CommandName>
         "demo" => Some(CommandName::Demo),
         "stats" => Some(CommandName::Stats),
         "upgrade" => Some(CommandName::Upgrade),
+        "store" => Some(CommandName::Store),
         _ => None,
     }
 }

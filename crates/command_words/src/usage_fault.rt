@@ -8,4 +8,6 @@ pub enum UsageFault {
     /// Of the two options that name the random stream not exactly one is given.
     NoRandomness,
     WrongNumber,
+    /// Two of the files that are written have one name.
+    SameName,
 }

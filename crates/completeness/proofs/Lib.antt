@@ -4,5 +4,6 @@ pub mod Runs
 pub mod Views
 pub mod Images
 pub mod Stats
+pub mod Stores
 pub mod Upgrades
 pub mod ReadingBack

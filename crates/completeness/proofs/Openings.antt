@@ -12,7 +12,8 @@ use Rattle.program_parts.specs.declared.refusal.Refusal.{Refusal}
 use Rattle.program_parts.specs.declared.refusal.Refusal.TheVariants as refusal
 use Rattle.program_parts.specs.declared.status.Status.{Status}
 use Rattle.program_parts.specs.Bundles.{IsInFile}
-use Rattle.program_parts.specs.NoRun.{AsksBundle, HasCause, IsLack, IsRefused, IsStream}
+use Rattle.program_parts.specs.NoRun.{AsksBundle, HasCause, IsLack, IsRefused}
+use Rattle.program_parts.specs.Streams.{IsStream}
 use Rattle.program_parts.specs.Outside.{Outside, NothingRose}
 use Rattle.program_parts.specs.Refusal.{status_of_refusal, refusal_line}
 use Rattle.run_command.proofs.PrepareFacts.{run_named}
@@ -22,7 +23,7 @@ use Rattle.completeness.proofs.Faults.{never_rose, no_fault, same_bundle}
 
 -- What is asked for.
 
-same_stream : (held : List ℕ → Option (List ℕ)) (from : spec.Randomness) (s stream : Random) →
+pub same_stream : (held : List ℕ → Option (List ℕ)) (from : spec.Randomness) (s stream : Random) →
     IsToldStream held from s → IsStream held from stream → stream ≡ s
 same_stream held (spec.Numbered number) s stream told is = is ∙ sym told
 same_stream held (spec.FromFile name) s stream told is =
@@ -102,6 +103,13 @@ run_no_solo : (n : List ℕ) (r : Option (List ℕ)) (k : ℕ) (x : spec.Randomn
 run_no_solo n (Some r) k x d n' r' same = let clash : spec.Run n r k x ≡ spec.Solo d n' r' = same in cc
 run_no_solo n None k x d n' r' same = let clash : spec.Stats n k x ≡ spec.Solo d n' r' = same in cc
 
+run_no_store : (n : List ℕ) (r : Option (List ℕ)) (k : ℕ) (x : spec.Randomness) (names : spec.StoreNames)
+    (counter steps : ℕ) (x' : spec.Randomness) → spec.asked_run n r k x ≡ spec.Store names counter steps x' → ⊥
+run_no_store n (Some r) k x names counter steps x' same =
+    let clash : spec.Run n r k x ≡ spec.Store names counter steps x' = same in cc
+run_no_store n None k x names counter steps x' same =
+    let clash : spec.Stats n k x ≡ spec.Store names counter steps x' = same in cc
+
 refused : {S O : Type 0} (bundle_name : List ℕ) (record_name : Option (List ℕ)) (steps : ℕ) (from : spec.Randomness)
     (b : Bundle) (s : Random) (answer : Status) (before after : Outside S O) (r : Refusal) →
     IsBundleFile before.files.held bundle_name b → IsToldStream before.files.held from s → NothingRose before after →
@@ -124,11 +132,19 @@ refused {S} {O} n m steps from b s answer before after refusal.NoMemory file tol
     inl (record { status = is; line = line })
 refused {S} {O} n m steps from b s answer before after refusal.NoKey file told nothing cause is line =
     inr (opens_not n m steps from b s NoKey answer before after file told cause (record { status = is; line = line }))
-refused {S} {O} n m steps from b s answer before after refusal.NoPageDraw file told nothing cause is line =
+refused {S} {O} n m steps from b s answer before after refusal.NoPageDraw file told nothing (inl cause) is line =
     inr (opens_not n m steps from b s NoPageDraw answer before after file told cause
     (record { status = is; line = line }))
+refused {S} {O} n m steps from b s answer before after refusal.NoPageDraw file told nothing (inr cause) is line =
+    absurd (run_no_store n m steps from cause.names cause.counter cause.steps cause.randomness cause.store)
 refused {S} {O} n m steps from b s answer before after refusal.NoSuchDomain file told nothing cause is line =
     absurd (run_no_solo n m steps from cause.domain cause.bundle_name cause.record_name cause.solo)
+refused {S} {O} n m steps from b s answer before after refusal.ShortSecret file told nothing cause is line =
+    absurd (run_no_store n m steps from cause.names cause.counter cause.steps cause.randomness cause.store)
+refused {S} {O} n m steps from b s answer before after (refusal.BadStore fault) file told nothing cause is line =
+    absurd (run_no_store n m steps from cause.names cause.counter cause.steps cause.randomness cause.store)
+refused {S} {O} n m steps from b s answer before after (refusal.NoRoom domain) file told nothing cause is line =
+    absurd (run_no_store n m steps from cause.names cause.counter cause.steps cause.randomness cause.store)
 
 pub run_refused : {S O : Type 0} (bundle_name : List ℕ) (record_name : Option (List ℕ)) (steps : ℕ)
     (from : spec.Randomness) (b : Bundle) (s : Random) (answer : Status) (before after : Outside S O) →

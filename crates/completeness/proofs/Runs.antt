@@ -89,3 +89,5 @@ runs_are_complete S O n r k x status.NoRandom before after (inl given) b s file 
 runs_are_complete S O n r k x status.NoRandom before after (inr given) b s file told nothing =
     made n r k x b s status.NoRandom before after file told given
 runs_are_complete S O n r k x status.BadRecord before after given b s file told nothing = absurd given
+runs_are_complete S O n r k x status.BadStore before after given b s file told nothing =
+    by_refusal n r k x b s status.BadStore before after file told nothing given

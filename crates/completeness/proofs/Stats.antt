@@ -79,3 +79,5 @@ stats_are_complete S O n k x status.NoRandom before after (inl given) b s file t
 stats_are_complete S O n k x status.NoRandom before after (inr given) b s file told nothing =
     made n k x b s status.NoRandom before after file told given
 stats_are_complete S O n k x status.BadRecord before after given b s file told nothing = absurd given
+stats_are_complete S O n k x status.BadStore before after given b s file told nothing =
+    by_refusal n k x b s status.BadStore before after file told nothing given

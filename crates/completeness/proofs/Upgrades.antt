@@ -28,6 +28,7 @@ only_memory {S} {O} n m b answer before after file nothing given =
     (λ cause. let clash : spec.Upgrade n m ≡ spec.Solo cause.domain cause.bundle_name cause.record_name = cause.solo in
     absurd cc)
     (λ lack cause. no_run n m cause.asks.bundle_name cause.record_name cause.steps cause.asks.randomness cause.asks.run)
+    (λ names counter steps x is. let clash : spec.Upgrade n m ≡ spec.Store names counter steps x = is in absurd cc)
     file nothing given
 
 upgraded : {S O : Type 0} (n m : List ℕ) (b : Bundle) (before after : Outside S O) → IsBundleFile before.files.held n b →
@@ -68,3 +69,4 @@ upgrades_are_complete S O n m status.Violation before after given b file nothing
 upgrades_are_complete S O n m status.Usage before after given b file nothing = absurd given
 upgrades_are_complete S O n m status.NoRandom before after given b file nothing = absurd given
 upgrades_are_complete S O n m status.BadRecord before after given b file nothing = absurd given
+upgrades_are_complete S O n m status.BadStore before after given b file nothing = absurd given

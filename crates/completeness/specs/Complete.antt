@@ -7,6 +7,7 @@ use Rattle.completeness.specs.Images.{CompletesDemo, CompletesGen}
 use Rattle.completeness.specs.Runs.{CompletesRun}
 use Rattle.completeness.specs.Stats.{CompletesStats}
 use Rattle.completeness.specs.Upgrades.{CompletesUpgrade}
+use Rattle.completeness.specs.Stores.{CompletesStore}
 use Rattle.completeness.specs.Views.{CompletesSolo, CompletesView}
 
 -- By what the words ask for: faulty ones are refused with their line.
@@ -24,3 +25,5 @@ IsComplete (spec.Stats bundle steps randomness) answer before after =
     CompletesStats bundle steps randomness answer before after
 IsComplete (spec.Upgrade old_name new_name) answer before after =
     CompletesUpgrade old_name new_name answer before after
+IsComplete (spec.Store names counter steps randomness) answer before after =
+    CompletesStore names counter steps randomness answer before after

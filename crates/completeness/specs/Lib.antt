@@ -4,5 +4,6 @@ pub mod Views
 pub mod Images
 pub mod Stats
 pub mod Upgrades
+pub mod Stores
 pub mod Complete
 pub mod ReadingBack

@@ -2,16 +2,15 @@
 use Rattle.std.specs.Prelude.{ℕ, ◌≡◌, ◌⊎◌, List, take, Option, Some, Result, Ok, Err}
 use Rattle.cloak_base.specs.Random.{Random, handed, numbered}
 use Rattle.cloak_model.specs.declared.image.Bundle.{Bundle}
-use Rattle.cloak_model.specs.Opening.{Lack, NoKey, NoPageDraw}
+use Rattle.cloak_model.specs.Opening.{Lack, NoKey, NoPageDraw, NoRoom}
 use Rattle.cloak_model.specs.Run.{Run, joint_run}
 use Rattle.outside_io.specs.Told.{OtherFiles}
 use Rattle.command_words.specs.Command as spec
 use Rattle.program_parts.specs.declared.refusal.Refusal.{Refusal}
 use Rattle.program_parts.specs.declared.refusal.Refusal.TheVariants as refusal
 use Rattle.program_parts.specs.declared.status.Status.{Status}
-use Rattle.program_parts.specs.declared.status.Status.TheVariants as status
 use Rattle.program_parts.specs.Outside.{Outside, NothingRose}
-use Rattle.program_parts.specs.Refusal.{refusal_line}
+use Rattle.program_parts.specs.Refusal.{refusal_line, status_of_refusal}
 use Rattle.run_command.specs.Answering.{RunAnswers}
 use Rattle.run_command.specs.Recording.{IsWritten}
 use Rattle.run_command.specs.Running.{NoClash}
@@ -26,10 +25,11 @@ IsToldStream held (spec.FromFile name) stream =
 abbrev pub refusal_of_lack : Lack → Refusal
 refusal_of_lack NoKey = refusal.NoKey
 refusal_of_lack NoPageDraw = refusal.NoPageDraw
+refusal_of_lack (NoRoom domain) = refusal.NoRoom domain
 
--- the opening lacks a draw: the line says which
+-- the opening lacks a draw, or room for a file: the line says which
 pub record Lacks {S O : Type 0} (lack : Lack) (answer : Status) (before after : Outside S O) : Type 0 where
-  pub status : answer ≡ status.NoRandom
+  pub status : answer ≡ status_of_refusal (refusal_of_lack lack)
   pub line : OnlyLine (refusal_line (refusal_of_lack lack)) before after
 
 -- what the run comes to, or why there is none

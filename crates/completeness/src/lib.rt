@@ -1,6 +1,6 @@
 //! Completeness: what a command comes to where no call on files or output fails. The causes that each command's table of
-//! answers gives (`run_command`, `stats_command`, `read_back`, `image_commands`) leave one answer then, or want of memory
-//! before anything is begun: so no body can answer a fault that did not come.
+//! answers gives (`run_command`, `store_command`, `stats_command`, `read_back`, `image_commands`) leave one answer then, or
+//! want of memory before anything is begun: so no body can answer a fault that did not come.
 //!
 //! No body turns a law, so there is no wrong body to refuse here; `cloak_commands` has edits for its clause. These changed
 //! definitions were tried on a copy, and with none of them did the proof of its law go through. Of runs: the line for a
@@ -13,6 +13,7 @@ ghost use Rattle.completeness.specs.Stats.{StatsAreComplete};
 ghost use Rattle.completeness.specs.Views.{SolosAreComplete, ViewsAreComplete};
 ghost use Rattle.completeness.specs.ReadingBack.{RunsAreSoloed, RunsAreViewed};
 ghost use Rattle.completeness.specs.Images.{DemosAreComplete, GensAreComplete};
+ghost use Rattle.completeness.specs.Stores.{StoresAreComplete};
 ghost use Rattle.completeness.specs.Upgrades.{UpgradesAreComplete};
 
 use outside_io::{Shelf, Sink};
@@ -20,6 +21,12 @@ use outside_io::{Shelf, Sink};
 /// Where no call fails, `run` comes to what the opening and the joint run say. It does nothing: its contract is the law.
 pub fn law_of_complete_runs<S: Shelf, O: Sink>()
     ensures { RunsAreComplete S O }
+{}
+
+/// Where no call fails, `store` comes to what the opening and the joint run say over all contents that the store file stands
+/// for. It does nothing: its contract is the law.
+pub fn law_of_complete_stores<S: Shelf, O: Sink>()
+    ensures { StoresAreComplete S O }
 {}
 
 /// Where no call fails, `stats` comes to what the opening, the joint run and its counts say. It does nothing: its
@@ -42,7 +49,8 @@ pub fn law_of_complete_images<S: Shelf, O: Sink>()
     ensures upgrades { UpgradesAreComplete S O }
 {}
 
-/// `view` and `solo` of the record that a run wrote show the lines of that run. It does nothing: its contract is the law.
+/// `view` of the record that a run wrote shows the lines of that run, however it began, and so does `solo` for a program
+/// that began without files. It does nothing: its contract is the law.
 pub fn law_of_reading_back<S: Shelf, O: Sink>()
     ensures views { RunsAreViewed S O }
     ensures solos { RunsAreSoloed S O }

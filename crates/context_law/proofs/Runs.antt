@@ -2,7 +2,6 @@
 use Rattle.std.proofs.Common.{◌≡◌, ◌∙◌, inl, inr, ℕ, zero, suc, ◌+◌, ◌/◌, ◌%◌, ◌<◌, ◌≤◌, Bool, true, false, cond, List, [], ◌∷◌, length, take, slice_get, slice_index, Option, Some, None, IfSome, Ok, refl, sym, ap, subst, arith}
 use Rattle.std.specs.Prelude.{nat_eq, ◌&&◌, replicate}
 use Rattle.std.proofs.lemmas.Bool.{and_parts, eqb-true, cases_lt}
-use Rattle.cloak_base.specs.Random.{Random}
 use Rattle.cloak_base.specs.Registers.{register}
 use Rattle.cloak_base.specs.declared.names.PageId.{PageId}
 use Rattle.rv_atomic.specs.Table.{atomic_instruction}
@@ -15,16 +14,19 @@ use Rattle.cloak_model.specs.declared.context.WordPlace.{WordPlace}
 use Rattle.cloak_model.specs.declared.image.Bundle.{Bundle}
 use Rattle.cloak_model.specs.declared.image.Program.{Program}
 use Rattle.cloak_model.specs.declared.item.Item.{Item}
+use Rattle.cloak_model.specs.Beginning.{Beginning, IsBeginning, opening_from}
 use Rattle.cloak_model.specs.Bundle.{IsInGrammar}
 use Rattle.cloak_model.specs.Cloaking.{CloakedMemory}
 use Rattle.cloak_model.specs.Contexts.{Context, context_at, context_number, domain_of, slot_of, word_of_page, same_word, is_reserved, started_contexts}
 use Rattle.cloak_model.specs.DomainState.{Control, Domain, started_control, started_domain}
 use Rattle.cloak_model.specs.Halves.{inward_half}
 use Rattle.cloak_model.specs.Joint.{Moment, Turn, hart_in}
-use Rattle.cloak_model.specs.Opening.{Opened, opening, started_joint, started_domains}
+use Rattle.cloak_model.specs.Opening.{Opened, started_joint, started_domains}
 use Rattle.cloak_model.specs.Parts.{Joint}
-use Rattle.cloak_model.specs.Run.{Run, turns_from, joint_run, joint_after, first_moment, run_of}
+use Rattle.cloak_model.specs.Run.{Run, turns_from, run_from, joint_after, first_moment, run_of}
+use Rattle.cloak_model.specs.StoredFiles.{FileContents}
 use Rattle.kernel_isolation.specs.Isolation.{joint_until}
+use Rattle.kernel_isolation.proofs.FilesAdded.{IsGiven, KeepsDomainIf, given_keeps}
 use Rattle.kernel_isolation.proofs.Isolated.{until_read}
 use Rattle.resource_map.proofs.Lists.{get_or-replicate_none}
 use Rattle.limit_law.specs.Limits.{IsWordPlace, IsContext, KeepsLimits}
@@ -70,6 +72,19 @@ none_joint : (b : Bundle) (m : CloakedMemory) → HasNone (started_joint b m)
 unfolding started_joint
 none_joint b m d k word is = none_begun 0 b.programs d k word is
 
+-- a file leaves contexts as they are
+mark_stays : (was now : Option Domain) (k : ℕ) → KeepsDomainIf was now → mark_in now k ≡ mark_in was k
+mark_stays None None k keeps = refl
+mark_stays None (Some now) k keeps = absurd keeps
+mark_stays (Some was) None k keeps = absurd keeps
+mark_stays (Some was) (Some now) k keeps =
+    ap (λ (contexts : List (Option Context)). mark_at contexts k) keeps.contexts
+
+none_given : (f : FileContents) (j j' : Joint) → IsGiven f j j' → HasNone j → HasNone j'
+none_given f j j' given none d k word is =
+    none d k word
+    (sym (mark_stays (slice_get j.domains d) (slice_get j'.domains d) k ((given_keeps f j j' given).domains d)) ∙ is)
+
 -- The steps.
 
 same_some : {A : Type 0} (x y : A) → Some x ≡ Some y → x ≡ y
@@ -94,23 +109,24 @@ after_step j (x ∷ turns) zero t is = ap (λ (y : Turn). y.joint) (same_some x 
 after_step j (x ∷ turns) (suc n) t is = after_step x.joint turns n t is
 
 -- what is known of the step after n steps
-abbrev StepMarks : Bundle → Run → ℕ → Type 0
-StepMarks b r n =
-    MarksAfter (history_until b n r) (joint_until n r).domains (context_of_step b r n)
+abbrev StepMarks : Bundle → Beginning → Run → ℕ → Type 0
+StepMarks b from r n =
+    MarksAfter (history_until b from n r) (joint_until n r).domains (context_of_step b r n)
     (items_of_turn (slice_get r.turns n)) (joint_until (suc n) r).domains
 
-run_step : (b : Bundle) (stream : Random) (budget : ℕ) (o : Opened) → opening b stream ≡ Ok o →
+run_step : (b : Bundle) (from : Beginning) (budget : ℕ) (o : Opened) → opening_from b from ≡ Ok o →
     let r = run_of b budget o in
-    (n : ℕ) → suc n ≤ length r.turns → Agrees (history_until b n r) (joint_until n r).memory.plain → StepMarks b r n
+    (n : ℕ) → suc n ≤ length r.turns → Agrees (history_until b from n r) (joint_until n r).memory.plain →
+    StepMarks b from r n
 unfolding run_of
-run_step b stream budget o opens n low agrees =
+run_step b from budget o opens n low agrees =
     let r : Run = run_of b budget o in
     let turns : List Turn = turns_from budget (first_moment b o.joint) in
     let step = has_step turns n (omega (arith, low)) in
     let t = step.turn in
     let m : Moment = moment_behind (first_moment b o.joint) n turns in
-    let steady = (until_read b stream budget o opens n (omega (arith, low))).steady in
-    let earlier : List Move = history_until b n r in
+    let steady = (until_read b from budget o opens n (omega (arith, low))).steady in
+    let earlier : List Move = history_until b from n r in
     let inside : ℕ → Option ℕ = λ k.
     (hart_in m.joint (slice_index b.kernel.schedule (k % length b.kernel.schedule))).inside in
     let after : MarksAfter earlier m.joint.domains (inside m.steps) t.items t.joint.domains =
@@ -134,10 +150,10 @@ run_step b stream budget o opens n low agrees =
 abbrev AreAligned : Run → Type 0
 AreAligned r = (n d k : ℕ) (word : WordPlace) → marks_in (joint_until n r).domains d k ≡ Some word → word.at % 4 ≡ 0
 
-abbrev AreKept : Bundle → Run → ℕ → Type 0
-AreKept b r n =
+abbrev AreKept : Bundle → Beginning → Run → ℕ → Type 0
+AreKept b from r n =
     (d k : ℕ) (word : WordPlace) → marks_in (joint_until n r).domains d k ≡ Some word →
-    (k < 8) × WasReservedInside b r n (context_number d k) word
+    (k < 8) × WasReservedInside b from r n (context_number d k) word
 
 own_domain : (d k : ℕ) → k < 8 → domain_of (context_number d k) ≡ d
 own_domain d k less = omega (arith, less)
@@ -147,20 +163,21 @@ whole_number : (ctx : ℕ) → context_number (domain_of ctx) (slot_of ctx) ≡ 
 whole_number ctx = omega arith
 
 -- one more step, in which the word was not stored
-still_reserved : (b : Bundle) (r : Run) (n ctx : ℕ) (word : WordPlace) → WasReservedInside b r n ctx word →
-    Misses (domain_of ctx) word (moves_of_step b r n) → WasReservedInside b r (suc n) ctx word
-still_reserved b r n ctx word was misses =
+still_reserved : (b : Bundle) (from : Beginning) (r : Run) (n ctx : ℕ) (word : WordPlace) →
+    WasReservedInside b from r n ctx word →
+    Misses (domain_of ctx) word (moves_of_step b from r n) → WasReservedInside b from r (suc n) ctx word
+still_reserved b from r n ctx word was misses =
     let before = was.before in
     record {
       step = was.step;
       before = omega (arith, before);
       own = was.own;
       reserved = was.reserved;
-      unstored = λ k from to. elim (cases_lt k n) [
-        | inl less ↦ was.unstored k from (omega (arith, less))
+      unstored = λ k since to. elim (cases_lt k n) [
+        | inl less ↦ was.unstored k since (omega (arith, less))
         | inr past ↦
             let same : n ≡ k = omega (arith, past, to) in
-            subst (λ (x : ℕ). Misses (domain_of ctx) word (moves_of_step b r x)) same misses
+            subst (λ (x : ℕ). Misses (domain_of ctx) word (moves_of_step b from r x)) same misses
       ];
     }
 
@@ -169,27 +186,27 @@ no_moves : (history : List Move) (domains : List Domain) (items : List Item) (d 
 unfolding step_moves
 no_moves history domains items d word = refl
 
-module _ (b : Bundle) (r : Run) (n : ℕ) (kept : AreKept b r n) (aligned : AreAligned r) where
+module _ (b : Bundle) (from : Beginning) (r : Run) (n : ℕ) (kept : AreKept b from r n) (aligned : AreAligned r) where
   -- the reservation stood before, and no move of the step stores in its word
   stands : (inside : Option ℕ) → context_of_step b r n ≡ inside → (d k : ℕ) (word : WordPlace) →
       marks_in (joint_until n r).domains d k ≡ Some word →
       Misses d word
-      (step_moves (history_until b n r) (joint_until n r).domains inside (items_of_turn (slice_get r.turns n))) →
-      (k < 8) × WasReservedInside b r (suc n) (context_number d k) word
+      (step_moves (history_until b from n r) (joint_until n r).domains inside (items_of_turn (slice_get r.turns n))) →
+      (k < 8) × WasReservedInside b from r (suc n) (context_number d k) word
   stands inside own d k word was misses =
       let before = kept d k word was in
-      let here : Misses d word (moves_of_step b r n) =
+      let here : Misses d word (moves_of_step b from r n) =
       subst (λ (o : Option ℕ). Misses d word
-      (step_moves (history_until b n r) (joint_until n r).domains o (items_of_turn (slice_get r.turns n)))) (sym own)
-      misses in (
+      (step_moves (history_until b from n r) (joint_until n r).domains o (items_of_turn (slice_get r.turns n))))
+      (sym own) misses in (
         before.0,
-        still_reserved b r n (context_number d k) word before.1
-            (subst (λ (e : ℕ). Misses e word (moves_of_step b r n)) (sym (own_domain d k before.0)) here),
+        still_reserved b from r n (context_number d k) word before.1
+            (subst (λ (e : ℕ). Misses e word (moves_of_step b from r n)) (sym (own_domain d k before.0)) here),
       )
 
   kept_by : (inside : Option ℕ) → context_of_step b r n ≡ inside →
-      MarksAfter (history_until b n r) (joint_until n r).domains inside (items_of_turn (slice_get r.turns n))
-      (joint_until (suc n) r).domains → AreKept b r (suc n)
+      MarksAfter (history_until b from n r) (joint_until n r).domains inside (items_of_turn (slice_get r.turns n))
+      (joint_until (suc n) r).domains → AreKept b from r (suc n)
   kept_by None own marks d k word is = stands None own d k word (marks d k word is) (no_moves _ _ _ d word)
   kept_by (Some ctx) own marks d k word is = elim (marks d k word (aligned (suc n) d k word is) is) [
     | inl makes ↦
@@ -203,35 +220,36 @@ module _ (b : Bundle) (r : Run) (n : ℕ) (kept : AreKept b r n) (aligned : AreA
             before = omega arith;
             own = own ∙ ap (λ (x : ℕ). Some x) number;
             reserved = ap (λ (o : Option ℕ). reserved_by
-                (step_reached (history_until b n r) (joint_until n r).domains o (items_of_turn (slice_get r.turns n))))
+                (step_reached (history_until b from n r) (joint_until n r).domains o
+                (items_of_turn (slice_get r.turns n))))
                 own ∙ makes.by;
-            unstored = λ later from to. absurd (omega (arith, from, to));
+            unstored = λ later since to. absurd (omega (arith, since, to));
           },
         )
     | inr stood ↦ stands (Some ctx) own d k word stood.was stood.unstored
   ]
 
 -- as it begins, and over each step
-record IsKnown (b : Bundle) (r : Run) : Type 0 where
+record IsKnown (b : Bundle) (from : Beginning) (r : Run) : Type 0 where
   pub begins : HasNone (joint_until 0 r)
-  pub steps : (n : ℕ) → suc n ≤ length r.turns → Agrees (history_until b n r) (joint_until n r).memory.plain →
-      StepMarks b r n
+  pub steps : (n : ℕ) → suc n ≤ length r.turns → Agrees (history_until b from n r) (joint_until n r).memory.plain →
+      StepMarks b from r n
 
-run_known : (b : Bundle) (stream : Random) (budget : ℕ) (o : Opened) → opening b stream ≡ Ok o →
-    IsKnown b (run_of b budget o)
+run_known : (b : Bundle) (from : Beginning) (budget : ℕ) (o : Opened) → opening_from b from ≡ Ok o →
+    IsKnown b from (run_of b budget o)
 unfolding run_of joint_after
-run_known b stream budget o opens = record {
-  begins = begins HasNone b stream (λ m. none_joint b m) o opens;
-  steps = run_step b stream budget o opens;
+run_known b from budget o opens = record {
+  begins = begins HasNone b from (λ m. none_joint b m) none_given o opens;
+  steps = run_step b from budget o opens;
 }
 
-all_kept : (b : Bundle) (r : Run) → IsKnown b r → AreAligned r →
-    ((n : ℕ) → n ≤ length r.turns → Agrees (history_until b n r) (joint_until n r).memory.plain) →
-    (n : ℕ) → n ≤ length r.turns → AreKept b r n
-all_kept b r known aligned agrees zero low d k word is = absurd (known.begins d k word is)
-all_kept b r known aligned agrees (suc n) low d k word is =
+all_kept : (b : Bundle) (from : Beginning) (r : Run) → IsKnown b from r → AreAligned r →
+    ((n : ℕ) → n ≤ length r.turns → Agrees (history_until b from n r) (joint_until n r).memory.plain) →
+    (n : ℕ) → n ≤ length r.turns → AreKept b from r n
+all_kept b from r known aligned agrees zero low d k word is = absurd (known.begins d k word is)
+all_kept b from r known aligned agrees (suc n) low d k word is =
     let low' : n ≤ length r.turns = omega (arith, low) in
-    kept_by b r n (all_kept b r known aligned agrees n low') aligned (context_of_step b r n) refl
+    kept_by b from r n (all_kept b from r known aligned agrees n low') aligned (context_of_step b r n) refl
     (known.steps n low (agrees n low')) d k word is
 
 -- Places of words.
@@ -253,25 +271,25 @@ program_aligned (Some program) k word limits is =
     context_aligned program.control.resources (context_at program.control.contexts k) word
     ((limits program refl).contexts k) is
 
-are_aligned : (b : Bundle) (stream : Random) (budget : ℕ) (r : Run) → IsInGrammar b → joint_run b stream budget ≡ Ok r →
+are_aligned : (b : Bundle) (from : Beginning) (budget : ℕ) (r : Run) → IsInGrammar b → run_from b from budget ≡ Ok r →
     AreAligned r
-are_aligned b stream budget r grammar runs n d k word is =
+are_aligned b from budget r grammar runs n d k word is =
     program_aligned (slice_get (joint_until n r).domains d) k word
-    (λ program there. runs_keep_limits b stream budget r grammar runs n d program there) is
+    (λ program there. runs_keep_limits b from budget r grammar runs n d program there) is
 
-run_kept : (b : Bundle) (stream : Random) (budget : ℕ) (r : Run) → IsInGrammar b → joint_run b stream budget ≡ Ok r →
-    (n : ℕ) → n ≤ length r.turns → AreKept b r n
-run_kept b stream budget r grammar runs =
-    let gives = runs_give_latest b stream budget r grammar runs in
-    all_kept b r
-    (of_opened b budget (IsKnown b) (opening b stream) r runs (λ o opens. run_known b stream budget o opens))
-    (are_aligned b stream budget r grammar runs) (λ n low. gives.pages n low)
+run_kept : (b : Bundle) (from : Beginning) (budget : ℕ) (r : Run) → IsInGrammar b → IsBeginning b from →
+    run_from b from budget ≡ Ok r → (n : ℕ) → n ≤ length r.turns → AreKept b from r n
+run_kept b from budget r grammar begins runs =
+    let gives = runs_give_latest b from budget r grammar begins runs in
+    all_kept b from r
+    (of_opened b budget (IsKnown b from) (opening_from b from) r runs (λ o opens. run_known b from budget o opens))
+    (are_aligned b from budget r grammar runs) (λ n low. gives.pages n low)
 
 -- The laws.
 
 pub contexts_keep_reservations : ContextsKeepReservations
-contexts_keep_reservations b stream budget r grammar runs n low d slot program c word there context mark =
-    (run_kept b stream budget r grammar runs n low d slot word
+contexts_keep_reservations b from budget r grammar begins runs n low d slot program c word there context mark =
+    (run_kept b from budget r grammar begins runs n low d slot word
     (ap (λ (o : Option Domain). mark_in o slot) there ∙ ap mark_of context ∙ mark)).1
 
 -- SC stores the word that its context had reserved.
@@ -346,14 +364,14 @@ program_own (Some d) history slot told word is =
     context_own (context_at d.control.contexts slot) history d.control told word is
 
 pub contexts_store_reserved : ContextsStoreReserved
-contexts_store_reserved b stream budget r grammar runs n ctx word low own stores =
+contexts_store_reserved b from budget r grammar begins runs n ctx word low own stores =
     let j : Joint = joint_until n r in
-    let history : List Move = history_until b n r in
+    let history : List Move = history_until b from n r in
     let items : List Item = items_of_turn (slice_get r.turns n) in
     let here : stored_by (step_reached history j.domains (Some ctx) items) ≡ Some word =
     ap (λ (o : Option ℕ). stored_by (step_reached history j.domains o items)) (sym own) ∙ stores in
     let mark : marks_in j.domains (domain_of ctx) (slot_of ctx) ≡ Some word =
     program_own (slice_get j.domains (domain_of ctx)) history (slot_of ctx) (inward_half (domain_of ctx) items) word
     here in
-    subst (λ (x : ℕ). WasReservedInside b r n x word) (whole_number ctx)
-    (run_kept b stream budget r grammar runs n (omega (arith, low)) (domain_of ctx) (slot_of ctx) word mark).1
+    subst (λ (x : ℕ). WasReservedInside b from r n x word) (whole_number ctx)
+    (run_kept b from budget r grammar begins runs n (omega (arith, low)) (domain_of ctx) (slot_of ctx) word mark).1

@@ -3,7 +3,6 @@
 -- answered in the step, and by the history before it.
 use Rattle.std.specs.Prelude.{ℕ, suc, ◌≡◌, ◌≤◌, ◌+◌, ◌%◌, nat_eq, nat_lt, Bool, false, ◌&&◌, List, length, slice_get, Option, Some, None, option_map, Ok, if◌then◌else◌}
 use Rattle.std.specs.List.{list_any}
-use Rattle.cloak_base.specs.Random.{Random}
 use Rattle.cloak_base.specs.Registers.{register}
 use Rattle.cloak_base.specs.declared.names.PageId.{PageId}
 use Rattle.rv_atomic.specs.Table.{atomic_instruction}
@@ -15,11 +14,12 @@ use Rattle.cloak_model.specs.declared.context.Phase.TheVariants.{Plain}
 use Rattle.cloak_model.specs.declared.context.WordPlace.{WordPlace}
 use Rattle.cloak_model.specs.declared.image.Bundle.{Bundle}
 use Rattle.cloak_model.specs.declared.item.Item.{Item}
+use Rattle.cloak_model.specs.Beginning.{Beginning, IsBeginning}
 use Rattle.cloak_model.specs.Bundle.{IsInGrammar}
 use Rattle.cloak_model.specs.Contexts.{Context, context_at, context_number, domain_of, slot_of, word_of_page, is_reserved}
 use Rattle.cloak_model.specs.DomainState.{Control, Domain}
 use Rattle.cloak_model.specs.Halves.{inward_half}
-use Rattle.cloak_model.specs.Run.{Run, joint_run}
+use Rattle.cloak_model.specs.Run.{Run, run_from}
 use Rattle.kernel_isolation.specs.Isolation.{joint_until}
 use Rattle.store_law.specs.Ciphers.{items_of_turn}
 use Rattle.store_law.specs.OwnPages.{context_of_step}
@@ -66,14 +66,14 @@ step_reached earlier domains (Some ctx) items =
 
 -- Step n of a run, counted from 0.
 
-abbrev pub reached_of_step : Bundle → Run → ℕ → Option Reached
-reached_of_step b r n =
-    step_reached (history_until b n r) (joint_until n r).domains (context_of_step b r n)
+abbrev pub reached_of_step : Bundle → Beginning → Run → ℕ → Option Reached
+reached_of_step b from r n =
+    step_reached (history_until b from n r) (joint_until n r).domains (context_of_step b r n)
     (items_of_turn (slice_get r.turns n))
 
-abbrev pub moves_of_step : Bundle → Run → ℕ → List Move
-moves_of_step b r n =
-    step_moves (history_until b n r) (joint_until n r).domains (context_of_step b r n)
+abbrev pub moves_of_step : Bundle → Beginning → Run → ℕ → List Move
+moves_of_step b from r n =
+    step_moves (history_until b from n r) (joint_until n r).domains (context_of_step b r n)
     (items_of_turn (slice_get r.turns n))
 
 -- the word that LR reserves
@@ -108,37 +108,37 @@ stores_in d word (Combines q at op operand) = meets_place d word q at 4
 stores_in d word _ = false
 
 -- The context reserved the word with LR, in a step before step n, and from then on to step n no step stored a byte of it.
-pub record WasReservedInside (b : Bundle) (r : Run) (n ctx : ℕ) (word : WordPlace) : Type 0 where
+pub record WasReservedInside (b : Bundle) (from : Beginning) (r : Run) (n ctx : ℕ) (word : WordPlace) : Type 0 where
   pub step : ℕ
   pub before : suc step ≤ n
   pub own : context_of_step b r step ≡ Some ctx
-  pub reserved : reserved_by (reached_of_step b r step) ≡ Some word
+  pub reserved : reserved_by (reached_of_step b from r step) ≡ Some word
   pub unstored : (k : ℕ) → suc step ≤ k → suc k ≤ n →
-      list_any (stores_in (domain_of ctx) word) (moves_of_step b r k) ≡ false
+      list_any (stores_in (domain_of ctx) word) (moves_of_step b from r k) ≡ false
 
 -- What a run keeps to.
 
 -- each reservation that a context has, at each moment, was made so and kept
-abbrev pub KeepsContextReservations : Bundle → Run → Type 0
-KeepsContextReservations b r =
+abbrev pub KeepsContextReservations : Bundle → Beginning → Run → Type 0
+KeepsContextReservations b from r =
     (n : ℕ) → n ≤ length r.turns → (d slot : ℕ) (program : Domain) (c : Context) (word : WordPlace) →
     slice_get (joint_until n r).domains d ≡ Some program → context_at program.control.contexts slot ≡ Some c →
-    c.mark ≡ Some word → WasReservedInside b r n (context_number d slot) word
+    c.mark ≡ Some word → WasReservedInside b from r n (context_number d slot) word
 
 -- SC stores only so
-abbrev pub StoresOnlyReservedInside : Bundle → Run → Type 0
-StoresOnlyReservedInside b r =
+abbrev pub StoresOnlyReservedInside : Bundle → Beginning → Run → Type 0
+StoresOnlyReservedInside b from r =
     (n ctx : ℕ) (word : WordPlace) → suc n ≤ length r.turns → context_of_step b r n ≡ Some ctx →
-    stored_by (reached_of_step b r n) ≡ Some word → WasReservedInside b r n ctx word
+    stored_by (reached_of_step b from r n) ≡ Some word → WasReservedInside b from r n ctx word
 
--- The laws: every run of an image in the grammar does.
+-- The laws: every run of an image in the grammar does, from whatever beginning.
 
 abbrev pub ContextsKeepReservations : Type 0
 ContextsKeepReservations =
-    (b : Bundle) (stream : Random) (budget : ℕ) (r : Run) → IsInGrammar b → joint_run b stream budget ≡ Ok r →
-    KeepsContextReservations b r
+    (b : Bundle) (from : Beginning) (budget : ℕ) (r : Run) → IsInGrammar b → IsBeginning b from →
+    run_from b from budget ≡ Ok r → KeepsContextReservations b from r
 
 abbrev pub ContextsStoreReserved : Type 0
 ContextsStoreReserved =
-    (b : Bundle) (stream : Random) (budget : ℕ) (r : Run) → IsInGrammar b → joint_run b stream budget ≡ Ok r →
-    StoresOnlyReservedInside b r
+    (b : Bundle) (from : Beginning) (budget : ℕ) (r : Run) → IsInGrammar b → IsBeginning b from →
+    run_from b from budget ≡ Ok r → StoresOnlyReservedInside b from r

@@ -7,13 +7,14 @@ use Rattle.cloak_model.specs.declared.image.Bundle.{Bundle}
 use Rattle.cloak_model.specs.declared.image.Program.{Program}
 use Rattle.cloak_model.specs.declared.item.Item.{Item}
 use Rattle.cloak_model.specs.declared.item.Item.TheVariants as item
+use Rattle.cloak_model.specs.Beginning.{Beginning}
 use Rattle.cloak_model.specs.Exchange.{steps_items}
 use Rattle.cloak_model.specs.Halves.{is_inward, inward_half}
 use Rattle.cloak_model.specs.Record.{IsOfStep}
 use Rattle.cloak_model.specs.Parts.{DomainPart, domain_part}
 use Rattle.cloak_model.specs.Joint.{Turn}
 use Rattle.cloak_model.specs.Run.{Run, turns_from, first_moment, joint_after, closing, run_of, exchange, run_inward_half}
-use Rattle.cloak_model.specs.DomainAlone.{DomainAlone, domain_alone}
+use Rattle.cloak_model.specs.DomainAlone.{DomainAlone, domain_alone_from, part_from}
 use Rattle.domain_isolation.specs.Isolation.{Hosts, HasDomain, DomainDependsOnHalf}
 use Rattle.kernel_isolation.specs.Isolation.{items_until}
 use Rattle.domain_isolation.proofs.Ignoring.{inward_half_suffices}
@@ -102,14 +103,14 @@ record Tells (d : ℕ) (r : Run) : Type 0 where
   pub until : (n : ℕ) → inward_half d (items_until n r) ≡ steps_items 1
       (take n (told_by d r.turns)) ++ item.Close n ∷ []
 
-tells : (b : Bundle) (d : ℕ) (p : Program) (r : Run) → Hosts b d p r → Tells d r
+tells : (b : Bundle) (d : ℕ) (p : Program) (from : Beginning) (r : Run) → Hosts b d p from r → Tells d r
 unfolding run_of
-tells b d p r h =
-    let runs = hosted b d p r h in
+tells b d p from r h =
+    let runs = hosted b d p from r h in
     let o = runs.opened in
     let turns = turns_from h.budget (first_moment b o.joint) in
-    let none = opened_half b o d runs.is_opened in
-    let front = run_after b d p h.budget o h.in_grammar runs.is_opened h.program (length turns) (omega arith) in
+    let none = opened_half b from o d runs.is_opened in
+    let front = run_after b d p from h.budget o h.in_grammar runs.is_opened h.program (length turns) (omega arith) in
     let told : AllByRecursion (AllByRecursion IsOfStep) (told_by d turns) =
     subst (λ (l : List Turn). AllByRecursion (AllByRecursion IsOfStep) (told_by d l)) (all_taken turns) front.told in
     let count = length (map (λ (t : Turn). t.items) turns) in
@@ -127,39 +128,42 @@ tells b d p r h =
 
 -- Two runs.
 
-same_domain : (d : ℕ) (schedule schedule' : List ℕ) (p : Program) (items items' : List Item)
-    (part part' : Option DomainPart) → schedule' ≡ schedule → items' ≡ items →
-    HasDomain (domain_alone d schedule p items) part → HasDomain (domain_alone d schedule' p items') part' →
+same_domain : (d : ℕ) (schedule schedule' : List ℕ) (p p' : DomainPart) (items items' : List Item)
+    (part part' : Option DomainPart) → schedule' ≡ schedule → p' ≡ p → items' ≡ items →
+    HasDomain (domain_alone_from d schedule p items) part → HasDomain (domain_alone_from d schedule' p' items') part' →
     part' ≡ part
-same_domain d schedule schedule' p items items' part part' same half has has' =
+same_domain d schedule schedule' p p' items items' part part' same begun half has has' =
     sym has'.same
-    ∙ ap (λ (s : List ℕ). Some (domain_alone d s p items').part) same
-    ∙ ap (λ (l : List Item). Some (domain_alone d schedule p l).part) half
+    ∙ ap (λ (s : List ℕ). Some (domain_alone_from d s p' items').part) same
+    ∙ ap (λ (x : DomainPart). Some (domain_alone_from d schedule x items').part) begun
+    ∙ ap (λ (l : List Item). Some (domain_alone_from d schedule p l).part) half
     ∙ has.same
 
 pub domain_depends_on_half : DomainDependsOnHalf
-domain_depends_on_half b b' d p r r' h h' schedule half =
-    let t = tells b d p r h in
-    let t' = tells b' d p r' h' in
+domain_depends_on_half b b' d p from from' r r' h h' schedule begun half =
+    let part : DomainPart = part_from d from p in
+    let part' : DomainPart = part_from d from' p in
+    let t = tells b d p from r h in
+    let t' = tells b' d p from' r' h' in
     let told : told_by d r'.turns ≡ told_by d r.turns = sym t'.steps
     ∙ ap (λ (items : List Item). (parsed items).steps) half ∙ t.steps in
     let steps : length r'.turns ≡ length r.turns =
     sym (length-map r'.turns (λ (t : Turn). inward_half d t.items)) ∙ ap (λ (l : List (List Item)). length l) told
     ∙ length-map r.turns (λ (t : Turn). inward_half d t.items) in
-    let ends = domain_ends_alone b d p r h in
-    let ends' = domain_ends_alone b' d p r' h' in
+    let ends = domain_ends_alone b d p from r h in
+    let ends' = domain_ends_alone b' d p from' r' h' in
     record {
       steps = steps;
       after = λ n le.
           let le' : n ≤ length r'.turns = subst (λ (x : ℕ). n ≤ x) (sym steps) le in
-          same_domain d b.kernel.schedule b'.kernel.schedule p _ _ _ _ schedule
+          same_domain d b.kernel.schedule b'.kernel.schedule part part' _ _ _ _ schedule begun
           (t'.until n ∙ ap (λ (l : List (List Item)). steps_items 1 (take n l) ++ item.Close n ∷ []) told
           ∙ sym (t.until n))
-          (domain_is_alone b d p r h n le) (domain_is_alone b' d p r' h' n le');
-      closed = same_domain d b.kernel.schedule b'.kernel.schedule p (run_inward_half d r)
-          (run_inward_half d r') _ _ schedule half
+          (domain_is_alone b d p from r h n le) (domain_is_alone b' d p from' r' h' n le');
+      closed = same_domain d b.kernel.schedule b'.kernel.schedule part part' (run_inward_half d r)
+          (run_inward_half d r') _ _ schedule begun half
           (subst (λ (s : DomainAlone). HasDomain s (domain_part r.closed.joint d))
-          (sym (inward_half_suffices d b.kernel.schedule p (exchange r))) ends)
+          (sym (inward_half_suffices d b.kernel.schedule part (exchange r))) ends)
           (subst (λ (s : DomainAlone). HasDomain s (domain_part r'.closed.joint d))
-          (sym (inward_half_suffices d b'.kernel.schedule p (exchange r'))) ends');
+          (sym (inward_half_suffices d b'.kernel.schedule part' (exchange r'))) ends');
     }

@@ -4,7 +4,7 @@ use Rattle.std.specs.Option.{is_some}
 use Rattle.cloak_model.specs.declared.item.Item.{Item}
 use Rattle.cloak_model.specs.declared.item.Item.TheVariants as item
 use Rattle.cloak_model.specs.Halves.{is_inward, inward_half}
-use Rattle.cloak_model.specs.DomainAlone.{DomainAlone, domain_takes, take_domain_item, domain_taken, opened_domain}
+use Rattle.cloak_model.specs.DomainAlone.{DomainAlone, domain_takes, take_domain_item, domain_taken, opened_with_part}
 use Rattle.domain_isolation.specs.Isolation.{InwardHalfSuffices}
 
 either_same : {A : Type 0} (b : Bool) (x y : A) → y ≡ x → cond b x y ≡ x
@@ -55,7 +55,7 @@ half_taken d schedule s (i ∷ items) =
     half_one d schedule s i items (inward_half d items) (is_inward d i) refl (λ t. half_taken d schedule t items)
 
 pub inward_half_suffices : InwardHalfSuffices
-inward_half_suffices d schedule p items = half_taken d schedule (opened_domain d p) items
+inward_half_suffices d schedule p items = half_taken d schedule (opened_with_part p) items
 
 -- what is taken one after another
 pub taken_append : (d : ℕ) (schedule : List ℕ) (s : DomainAlone) (a b : List Item) →

@@ -5,28 +5,29 @@ use Rattle.std.specs.Prelude.{is_some, slice_get, slice_index, All}
 use Rattle.std.specs.List.{AllByRecursion}
 use Rattle.std.specs.Result.{result_map_both}
 use Rattle.std.proofs.lemmas.List.{take_all}
-use Rattle.cloak_base.specs.Random.{Random}
 use Rattle.cloak_base.specs.declared.causes.Stop.{Stop}
 use Rattle.cloak_model.specs.declared.image.Bundle.{Bundle}
 use Rattle.cloak_model.specs.declared.image.Program.{Program}
 use Rattle.cloak_model.specs.declared.item.Item.{Item}
 use Rattle.cloak_model.specs.declared.item.Item.TheVariants as item
+use Rattle.cloak_model.specs.Beginning.{Beginning, opening_from}
 use Rattle.cloak_model.specs.Bundle.{IsInGrammar}
 use Rattle.cloak_model.specs.Halves.{inward_half}
 use Rattle.cloak_model.specs.Exchange.{steps_items}
 use Rattle.cloak_model.specs.Record.{IsOfStep}
-use Rattle.cloak_model.specs.Opening.{Lack, Opened, opening}
+use Rattle.cloak_model.specs.Opening.{Lack, Opened}
 use Rattle.cloak_model.specs.Parts.{Joint, DomainPart, domain_part}
 use Rattle.cloak_model.specs.Joint.{Moment, Turn, joint_step, stop_of, hart_in, turn_of, answers_violation}
 use Rattle.cloak_model.specs.Run.{Run, unless_stopped, turns_from, joint_after, closing, first_moment, run_of, exchange}
-use Rattle.cloak_model.specs.DomainAlone.{DomainAlone, Between, domain_step_ended, domain_taken, domain_takes, opened_domain, domain_alone}
+use Rattle.cloak_model.specs.DomainAlone.{DomainAlone, Between, domain_step_ended, domain_taken, domain_takes, opened_with_part, domain_alone_from, part_from}
 use Rattle.domain_isolation.specs.Isolation.{HasDomain, Hosts, DomainIsAlone, DomainEndsAlone}
 use Rattle.kernel_isolation.specs.Isolation.{items_until}
+use Rattle.kernel_isolation.proofs.FilesAdded.{OpensOver, opens_over}
 use Rattle.domain_isolation.proofs.Ignoring.{half_taken, taken_append, taken_half, item_taken}
 use Rattle.domain_isolation.proofs.Alone.{alone_at, ended, RestsAt, from_ended, begins, closes}
 use Rattle.domain_isolation.proofs.InOrder.{InOrder}
 use Rattle.domain_isolation.proofs.JointSteps.{HoldsPart, has_part}
-use Rattle.domain_isolation.proofs.Opened.{IsOpened, is_opened, started_part, opened_half, opened_order, opened_has, closing_half, closing_has}
+use Rattle.domain_isolation.proofs.Opened.{opened_half, opened_order, opened_has, closing_half, closing_has}
 
 -- the items of these steps, behind so many others
 abbrev pub items_behind : ℕ → List Turn → List Item
@@ -164,29 +165,29 @@ fronts (suc budget) d count schedule is k j s p n order has rests =
 
 -- A run.
 
--- a run of a bundle, as it was opened
-pub record RunsOf (b : Bundle) (budget : ℕ) (r : Run) : Type 0 where
+-- a run of a bundle from a beginning, as it was opened
+pub record RunsOf (b : Bundle) (from : Beginning) (budget : ℕ) (r : Run) : Type 0 where
   pub opened : Opened
-  pub is_opened : IsOpened b opened
+  pub is_opened : OpensOver b from opened
   pub is : run_of b budget opened ≡ r
 
 run_value : Run → Result Run Lack → Run
 run_value d (Ok r) = r
 run_value d (Err lack) = d
 
-runs_of : (b : Bundle) (stream : Random) (budget : ℕ) (r : Run) (made : Result Opened Lack) →
-    opening b stream ≡ made → result_map_both (run_of b budget) (λ lack. lack) made ≡ Ok r → RunsOf b budget r
+runs_of : (b : Bundle) (from : Beginning) (budget : ℕ) (r : Run) (made : Result Opened Lack) →
+    opening_from b from ≡ made → result_map_both (run_of b budget) (λ lack. lack) made ≡ Ok r → RunsOf b from budget r
 unfolding run_value
-runs_of b stream budget r (Err lack) is made = absurd cc
-runs_of b stream budget r (Ok o) is made = record {
+runs_of b from budget r (Err lack) is made = absurd cc
+runs_of b from budget r (Ok o) is made = record {
   opened = o;
-  is_opened = is_opened b stream o is;
-  is = ap
-      (run_value r) made;
+  is_opened = opens_over b from o is;
+  is = ap (run_value r) made;
 }
 
-pub hosted : (b : Bundle) (d : ℕ) (p : Program) (r : Run) (h : Hosts b d p r) → RunsOf b h.budget r
-hosted b d p r h = runs_of b h.stream h.budget r (opening b h.stream) refl h.runs
+pub hosted : (b : Bundle) (d : ℕ) (p : Program) (from : Beginning) (r : Run) (h : Hosts b d p from r) →
+    RunsOf b from h.budget r
+hosted b d p from r h = runs_of b from h.budget r (opening_from b from) refl h.runs
 
 schedule_of : (b : Bundle) → IsInGrammar b → IsSchedule b.kernel.harts b.kernel.schedule
 schedule_of b g = record { some = g.kernel.some_turns; turns = g.kernel.turns }
@@ -195,37 +196,38 @@ nothing_taken : (d : ℕ) (schedule : List ℕ) (s : DomainAlone) → domain_tak
 unfolding domain_taken
 nothing_taken d schedule s = refl
 
-starts_between : (d : ℕ) (p : Program) → ended (opened_domain d p) ≡ alone_at (started_part d p) 0 Between
+starts_between : (p : DomainPart) → ended (opened_with_part p) ≡ alone_at p 0 Between
 unfolding domain_step_ended
-starts_between d p = refl
+starts_between p = refl
 
 -- the front of the run: behind the opening's items
-pub run_after : (b : Bundle) (d : ℕ) (p : Program) (budget : ℕ) (o : Opened) → IsInGrammar b → IsOpened b o →
-    slice_get b.programs d ≡ Some p →
+pub run_after : (b : Bundle) (d : ℕ) (p : Program) (from : Beginning) (budget : ℕ) (o : Opened) → IsInGrammar b →
+    OpensOver b from o → slice_get b.programs d ≡ Some p →
     Fronts d b.kernel.schedule 0 o.joint (turns_from budget (first_moment b o.joint))
-    (domain_taken d b.kernel.schedule (opened_domain d p) o.items)
-run_after b d p budget o g opened found =
-    let start = opened_domain d p in
+    (domain_taken d b.kernel.schedule (opened_with_part (part_from d from p)) o.items)
+run_after b d p from budget o g opened found =
+    let part : DomainPart = part_from d from p in
+    let start = opened_with_part part in
     let none : domain_taken d b.kernel.schedule start o.items ≡ start =
-    taken_half d b.kernel.schedule start o.items [] (opened_half b o d opened)
+    taken_half d b.kernel.schedule start o.items [] (opened_half b from o d opened)
     ∙ nothing_taken d b.kernel.schedule start in
-    fronts budget d b.kernel.harts b.kernel.schedule (schedule_of b g) 0 o.joint _ (started_part d p) 0
-    (opened_order b o opened) (opened_has b o d p opened found)
-    (ap ended none ∙ starts_between d p)
+    fronts budget d b.kernel.harts b.kernel.schedule (schedule_of b g) 0 o.joint _ part 0
+    (opened_order b from o opened) (opened_has b from o d p opened found)
+    (ap ended none ∙ starts_between part)
 
 -- with Close behind it, and items that are not told
-closed_part : (d : ℕ) (schedule : List ℕ) (p : Program) (opening : List Item) (k : ℕ) (j j' : Joint)
+closed_part : (d : ℕ) (schedule : List ℕ) (p : DomainPart) (opening : List Item) (k : ℕ) (j j' : Joint)
     (turns : List Turn) (rest : List Item) →
-    FrontAlone d schedule 0 j turns (domain_taken d schedule (opened_domain d p) opening) →
+    FrontAlone d schedule 0 j turns (domain_taken d schedule (opened_with_part p) opening) →
     ((s : DomainAlone) → s.unfit ≡ None → domain_taken d schedule s rest ≡ s) →
     ((q : DomainPart) → HoldsPart d (joint_after j turns) q → HoldsPart d j' q) →
-    HasDomain (domain_alone d schedule p (opening ++ (items_behind 0 turns ++ item.Close k ∷ rest))) (domain_part j' d)
+    HasDomain (domain_alone_from d schedule p (opening ++ (items_behind 0 turns ++ item.Close k ∷ rest))) (domain_part j' d)
 closed_part d schedule p opening k j j' turns rest after ignored kept =
-    let start = opened_domain d p in
+    let start = opened_with_part p in
     let first = domain_taken d schedule start opening in
     let s = domain_taken d schedule first (items_behind 0 turns) in
     let end = alone_at after.part after.rests.steps after.rests.place in
-    let all : domain_alone d schedule p (opening ++ (items_behind 0 turns ++ item.Close k ∷ rest)) ≡ end =
+    let all : domain_alone_from d schedule p (opening ++ (items_behind 0 turns ++ item.Close k ∷ rest)) ≡ end =
     taken_append d schedule start opening (items_behind 0 turns ++ item.Close k ∷ rest)
     ∙ taken_append d schedule first (items_behind 0 turns) (item.Close k ∷ rest)
     ∙ taken_append d schedule s (item.Close k ∷ []) rest
@@ -239,18 +241,19 @@ closed_part d schedule p opening k j j' turns rest after ignored kept =
 
 pub domain_is_alone : DomainIsAlone
 unfolding run_of
-domain_is_alone b d p r h n le =
-    let runs = hosted b d p r h in
+domain_is_alone b d p from r h n le =
+    let runs = hosted b d p from r h in
+    let part : DomainPart = part_from d from p in
     subst (λ (x : Run). n ≤ length x.turns → HasDomain
-    (domain_alone d b.kernel.schedule p (inward_half d (items_until n x)))
+    (domain_alone_from d b.kernel.schedule part (inward_half d (items_until n x)))
     (domain_part (joint_after x.opened.joint (take n x.turns)) d)) runs.is
     (λ le'.
     let o = runs.opened in
     let turns = turns_from h.budget (first_moment b o.joint) in
     subst (λ (s : DomainAlone). HasDomain s (domain_part (joint_after o.joint (take n turns)) d))
-    (sym (half_taken d b.kernel.schedule (opened_domain d p) (items_until n (run_of b h.budget o))))
-    (closed_part d b.kernel.schedule p o.items n o.joint (joint_after o.joint (take n turns)) (take n turns) []
-    (run_after b d p h.budget o h.in_grammar runs.is_opened h.program n le')
+    (sym (half_taken d b.kernel.schedule (opened_with_part part) (items_until n (run_of b h.budget o))))
+    (closed_part d b.kernel.schedule part o.items n o.joint (joint_after o.joint (take n turns)) (take n turns) []
+    (run_after b d p from h.budget o h.in_grammar runs.is_opened h.program n le')
     (λ s fits. nothing_taken d b.kernel.schedule s) (λ q has. has))) le
 
 -- what is shown as the run closes, and End
@@ -268,16 +271,17 @@ all_taken turns = take_all (length turns) turns (omega arith)
 
 pub domain_ends_alone : DomainEndsAlone
 unfolding run_of
-domain_ends_alone b d p r h =
-    let runs = hosted b d p r h in
-    subst (λ (x : Run). HasDomain (domain_alone d b.kernel.schedule p (exchange x))
+domain_ends_alone b d p from r h =
+    let runs = hosted b d p from r h in
+    let part : DomainPart = part_from d from p in
+    subst (λ (x : Run). HasDomain (domain_alone_from d b.kernel.schedule part (exchange x))
     (domain_part x.closed.joint d)) runs.is
     (let o = runs.opened in
     let turns = turns_from h.budget (first_moment b o.joint) in
     let j = joint_after o.joint turns in
-    closed_part d b.kernel.schedule p o.items (length (map (λ (t : Turn). t.items) turns)) o.joint
+    closed_part d b.kernel.schedule part o.items (length (map (λ (t : Turn). t.items) turns)) o.joint
     (closing j).joint turns ((closing j).items ++ item.End ∷ [])
     (subst (λ (l : List Turn). FrontAlone d b.kernel.schedule 0 o.joint l
-    (domain_taken d b.kernel.schedule (opened_domain d p) o.items)) (all_taken turns)
-    (run_after b d p h.budget o h.in_grammar runs.is_opened h.program (length turns) (omega arith)))
+    (domain_taken d b.kernel.schedule (opened_with_part part) o.items)) (all_taken turns)
+    (run_after b d p from h.budget o h.in_grammar runs.is_opened h.program (length turns) (omega arith)))
     (closing_ignored d b.kernel.schedule j) (closing_has d j))

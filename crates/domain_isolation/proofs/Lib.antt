@@ -15,6 +15,7 @@ pub mod JointSteps
 pub mod OutsideSteps
 pub mod InsideSteps
 pub mod Endings
+pub mod FileParts
 pub mod Opened
 pub mod Isolated
 pub mod Halves

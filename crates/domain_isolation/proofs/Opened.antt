@@ -1,10 +1,10 @@
 -- The joint machine as a run is opened and closed, and the program alone before any step.
-use Rattle.std.proofs.Common.{◌≡◌, ◌≢◌, ◌∙◌, inl, inr, ◌+◌, ◌<◌, ◌≤◌, true, false, cond, suc, zero, ℕ, Bool, List, [], ◌∷◌, ◌++◌, Option, Some, None, Result, Ok, Err, refl, ap, sym, subst, eq-eqb, ne_eqb, arith, length, map, filter, replicate, nat_eq, nat_lt, lt-ltb, le-ltb, eqb-true, length-append, if◌then◌else◌}
+use Rattle.std.proofs.Common.{◌≡◌, ◌≢◌, ◌∙◌, inl, inr, ◌+◌, ◌<◌, ◌≤◌, true, false, cond, suc, zero, ℕ, Bool, List, [], ◌∷◌, ◌++◌, Option, Some, None, refl, ap, sym, subst, eq-eqb, ne_eqb, arith, length, map, filter, replicate, nat_eq, nat_lt, lt-ltb, le-ltb, eqb-true, length-append, if◌then◌else◌}
 use mathlib.Core.Path.{fun_ext}
 use Rattle.std.specs.Prelude.{◌&&◌, ◌||◌, ◌==◌, option_and_then, slice_get, slice_index_or}
 use Rattle.std.proofs.lemmas.Bool.{cases_lt, false≢true}
 use Rattle.cloak_base.specs.Random.{Random}
-use Rattle.cloak_base.specs.Pages.{zero_page, same_page, with_page}
+use Rattle.cloak_base.specs.Pages.{zero_page, with_page}
 use Rattle.cloak_base.specs.declared.names.PageId.{PageId}
 use Rattle.cloak_base.specs.declared.names.Start.{Start}
 use Rattle.cloak_model.specs.declared.image.Bundle.{Bundle}
@@ -13,20 +13,23 @@ use Rattle.cloak_model.specs.declared.item.Item.TheVariants.{Cipher}
 use Rattle.cloak_model.specs.Hart.{Hart, started}
 use Rattle.cloak_model.specs.Ledger.{Keys, vector_of}
 use Rattle.cloak_model.specs.Halves.{inward_half}
+use Rattle.cloak_model.specs.Beginning.{Beginning, Fresh, Stored}
 use Rattle.cloak_model.specs.Cloaking.{CloakedMemory, settle}
 use Rattle.cloak_model.specs.PageMoves.{place, place_with}
 use Rattle.cloak_model.specs.World.{Cloak}
 use Rattle.cloak_model.specs.Contexts.{Context, started_contexts, new_context}
 use Rattle.cloak_model.specs.DomainState.{Domain, started_control, started_domain}
 use Rattle.cloak_model.specs.Parts.{Joint, DomainPart, domain_pages}
-use Rattle.cloak_model.specs.Opening.{key_count, drawn_keys, keys_for, started_harts, started_kernel, started_memory, started_domains, started_joint, program_page, numbers_below, is_placed, place_pages, place_programs, opening_items, Opened, opened_with, opened_by, opening}
+use Rattle.cloak_model.specs.Opening.{started_harts, started_kernel, started_memory, started_domains, started_joint, program_page, numbers_below, is_placed, place_pages, place_programs, Opened}
 use Rattle.cloak_model.specs.Joint.{hart_in, cloak_outside}
 use Rattle.cloak_model.specs.Run.{settled_below, closing}
-use Rattle.cloak_model.specs.DomainAlone.{started_page, is_hart}
+use Rattle.cloak_model.specs.DomainAlone.{started_page, started_part, with_files, part_from, is_hart}
+use Rattle.kernel_isolation.proofs.FilesAdded.{OpensOver, files_of, added_keep}
 use Rattle.domain_isolation.proofs.Runs.{runs_in}
 use Rattle.domain_isolation.proofs.Steady.{settle_plain, ciphers_told}
 use Rattle.domain_isolation.proofs.InOrder.{same_some, decided, inside_at, InOrder, started_outside}
 use Rattle.domain_isolation.proofs.JointSteps.{HoldsPart}
+use Rattle.domain_isolation.proofs.FileParts.{own_page, other_page, files_have, files_order}
 
 -- The pages of one program.
 
@@ -84,24 +87,6 @@ below_next i n = elim (decided i n) [
   ])
 ]
 
-own_page_placed : (d n : ℕ) (p : Program) (plain : PageId → List ℕ) →
-    domain_pages d (with_page plain (page_zero d n) (program_page p.bytes n)) ≡
-    (λ resource page. if (resource == 0) && nat_eq page n then program_page p.bytes n else domain_pages d plain
-    resource page)
-unfolding same_page
-own_page_placed d n p plain =
-    fun_ext (λ resource. fun_ext (λ page.
-    ap (λ (b : Bool). cond (b && ((resource == 0) && nat_eq page n)) (program_page p.bytes n)
-    (domain_pages d plain resource page)) (eq-eqb d d refl)))
-
-other_page_placed : (d e n : ℕ) (bytes : List ℕ) (plain : PageId → List ℕ) → e ≢ d →
-    domain_pages e (with_page plain (page_zero d n) bytes) ≡ domain_pages e plain
-unfolding same_page
-other_page_placed d e n bytes plain other =
-    fun_ext (λ resource. fun_ext (λ page.
-    ap (λ (b : Bool). cond (b && ((resource == 0) && nat_eq page n)) bytes (domain_pages e plain resource page))
-    (ne_eqb e d other)))
-
 pages_next : (p : Program) (n : ℕ) (plain : ℕ → ℕ → List ℕ) →
     (let f : ℕ → ℕ → List ℕ = λ resource page. if
     (resource == 0) && nat_eq page n then program_page p.bytes n else pages_to p n plain resource page in
@@ -138,13 +123,13 @@ pages_placed d p (suc n) m m' is =
     let plain = placed (page_zero d n) (p.place + n) (program_page p.bytes n) b.value m' b.next in
     record {
       own =
-          ap (domain_pages d) plain ∙ own_page_placed d n p b.value.plain
+          ap (domain_pages d) plain ∙ own_page d 0 n (program_page p.bytes n) b.value.plain
           ∙ ap (λ (pages : ℕ → ℕ → List ℕ). let f : ℕ → ℕ →
           List ℕ = λ resource page. if (resource == 0) && nat_eq page n then program_page p.bytes n else pages
           resource page in f) first.own
           ∙ pages_next p n (domain_pages d m.plain);
       others = λ e other. ap (domain_pages e) plain
-          ∙ other_page_placed d e n (program_page p.bytes n) b.value.plain other ∙ first.others e other;
+          ∙ other_page e (page_zero d n) (program_page p.bytes n) b.value.plain other ∙ first.others e other;
     }
 
 -- The pages of all programs.
@@ -245,92 +230,66 @@ harts_counted entry (suc n) =
 
 -- The opening.
 
--- a run is opened so
-pub record IsOpened (b : Bundle) (o : Opened) : Type 0 where
-  pub keys : Keys
-  pub stream : Random
-  pub memory : CloakedMemory
-  pub placed : place_programs 0 b.programs (started_memory b.kernel keys stream) ≡ Some memory
-  pub joint : o.joint ≡ started_joint b memory
-  pub items : o.items ≡ opening_items b.programs memory.ram
-
-ok_value : {A E : Type 0} → A → Result A E → A
-ok_value d (Ok a) = a
-ok_value d (Err e) = d
-
-opened_of : (b : Bundle) (keys : Keys) (stream : Random) (memory : Option CloakedMemory) (o : Opened) →
-    place_programs 0 b.programs (started_memory b.kernel keys stream) ≡ memory → opened_with b memory ≡ Ok o →
-    IsOpened b o
-unfolding opened_with ok_value
-opened_of b keys stream None o is made = absurd cc
-opened_of b keys stream (Some m) o is made =
-    let it = ap (ok_value o) made in
-    record {
-      keys = keys;
-      stream = stream;
-      memory = m;
-      placed = is;
-      joint = ap (λ (x : Opened). x.joint)
-          (sym it);
-      items = ap (λ (x : Opened). x.items) (sym it);
-    }
-
-opened_from : (b : Bundle) (draw : Option (List (List ℕ) × Random)) (o : Opened) → opened_by b draw ≡ Ok o →
-    IsOpened b o
-unfolding opened_by
-opened_from b None o made = absurd cc
-opened_from b (Some draw) o made =
-    let keys = keys_for b.programs draw.0 in
-    opened_of b keys draw.1 (place_programs 0 b.programs (started_memory b.kernel keys draw.1)) o refl made
-
-pub is_opened : (b : Bundle) (stream : Random) (o : Opened) → opening b stream ≡ Ok o → IsOpened b o
-is_opened b stream o made = opened_from b (drawn_keys (key_count b.programs) stream) o made
-
--- the part of a program as it begins
-abbrev pub started_part : ℕ → Program → DomainPart
-started_part d p = record { domain = started_domain d p.start; plain = started_page p }
-
 -- what the kernel is shown is told to no program
 shown_half : (d : ℕ) (ram : List (List ℕ)) (frames : List ℕ) →
     inward_half d (map (λ f. Cipher f (slice_index_or ram f [])) frames) ≡ []
 shown_half d ram [] = refl
 shown_half d ram (f ∷ frames) = shown_half d ram frames
 
-pub opened_half : (b : Bundle) (o : Opened) (d : ℕ) → IsOpened b o → inward_half d o.items ≡ []
-opened_half b o d opened =
+pub opened_half : (b : Bundle) (from : Beginning) (o : Opened) (d : ℕ) → OpensOver b from o → inward_half d o.items ≡ []
+opened_half b from o d opened =
     ap (inward_half d) opened.items ∙ shown_half d opened.memory.ram
     (filter (is_placed b.programs) (numbers_below (length opened.memory.ram)))
 
-pub opened_order : (b : Bundle) (o : Opened) → IsOpened b o → InOrder b.kernel.harts o.joint.harts o.joint.domains
+bare_order : (b : Bundle) (m : CloakedMemory) →
+    let j = started_joint b m in InOrder b.kernel.harts j.harts j.domains
 unfolding started_joint started_kernel
-opened_order b o opened =
-    subst (λ (j : Joint). InOrder b.kernel.harts j.harts j.domains) (sym opened.joint)
-    (record {
-      harts_count = harts_counted b.kernel.entry b.kernel.harts;
-      numbers = λ d domain found. let same : 0 + d ≡ d = omega arith in
-          (domains_idle 0 d b.programs domain found).number ∙ same;
-      runs = λ d domain found hart slot on.
-          absurd (false≢true (sym ((domains_idle 0 d b.programs domain found).idle hart slot) ∙ on));
-    })
+bare_order b m = record {
+  harts_count = harts_counted b.kernel.entry b.kernel.harts;
+  numbers = λ d domain found. let same : 0 + d ≡ d = omega arith in
+      (domains_idle 0 d b.programs domain found).number ∙ same;
+  runs = λ d domain found hart slot on.
+      absurd (false≢true (sym ((domains_idle 0 d b.programs domain found).idle hart slot) ∙ on));
+}
+
+pub opened_order : (b : Bundle) (from : Beginning) (o : Opened) → OpensOver b from o →
+    InOrder b.kernel.harts o.joint.harts o.joint.domains
+opened_order b from o opened =
+    let bare : Joint = started_joint b opened.memory in
+    files_order b.kernel.harts bare o.joint (added_keep (files_of from) bare o.joint opened.added)
+    (bare_order b opened.memory)
 
 opened_zeros : (b : Bundle) (keys : Keys) (stream : Random) (e : ℕ) →
     domain_pages e (started_memory b.kernel keys stream).plain ≡ (λ resource page. zero_page)
 unfolding started_memory
 opened_zeros b keys stream e = refl
 
-pub opened_has : (b : Bundle) (o : Opened) (d : ℕ) (p : Program) → IsOpened b o → slice_get b.programs d ≡ Some p →
-    HoldsPart d o.joint (started_part d p)
+bare_has : (b : Bundle) (from : Beginning) (o : Opened) (d : ℕ) (p : Program) (opened : OpensOver b from o) →
+    slice_get b.programs d ≡ Some p → HoldsPart d (started_joint b opened.memory) (started_part d p)
 unfolding started_joint
-opened_has b o d p opened found =
+bare_has b from o d p opened found =
     let same : 0 + d ≡ d = omega arith in
-    subst (λ (j : Joint). HoldsPart d j (started_part d p)) (sym opened.joint)
-    (record {
+    record {
       domain = domains_started 0 d b.programs p found ∙ ap (λ (e : ℕ). Some (started_domain e p.start)) same;
       plain =
           ap (λ (e : ℕ). domain_pages e opened.memory.plain) (sym same)
           ∙ programs_placed 0 d b.programs p _ opened.memory opened.placed found
           (λ e more. opened_zeros b opened.keys opened.stream e);
-    })
+    }
+
+-- the part of a beginning is that with its files
+part_is : (d : ℕ) (from : Beginning) (p : Program) →
+    with_files d (files_of from) (started_part d p) ≡ part_from d from p
+unfolding with_files
+part_is d (Fresh stream) p = refl
+part_is d (Stored keys stream files) p = refl
+
+pub opened_has : (b : Bundle) (from : Beginning) (o : Opened) (d : ℕ) (p : Program) → OpensOver b from o →
+    slice_get b.programs d ≡ Some p → HoldsPart d o.joint (part_from d from p)
+opened_has b from o d p opened found =
+    subst (HoldsPart d o.joint) (part_is d from p)
+    (files_have d (files_of from) (started_joint b opened.memory) o.joint (started_part d p) opened.added
+    (bare_has b from o d p opened found))
 
 -- The closing.
 

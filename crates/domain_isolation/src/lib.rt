@@ -1,8 +1,10 @@
 //! Laws on the definitions alone: a program's half of isolation. In a joint run (`cloak_model`, `specs/Run`) what a
 //! program has, its contexts and resources, its loads and the newest bytes of its pages, is a function of its image,
-//! the schedule and its own half of the exchange, after each step and at the end: it is the part of the program alone
-//! (`specs/DomainAlone`), which reads its items and finds none unfit. So the kernel, the other programs and the random
-//! stream reach a program by its inward items alone.
+//! its files of an earlier run, if it has any, the schedule and its own half of the exchange, after each step and at
+//! the end: it is the part of the program alone (`specs/DomainAlone`), which begins with the pages of its files, reads
+//! its items and finds none unfit. So the kernel, the other programs and their files, the keys and the random stream
+//! reach a program by its inward items alone. The laws hold of every beginning (`specs/Beginning`), whatever its files
+//! hold.
 //!
 //! No body turns a law, so there is no wrong body to refuse here. These changed definitions were tried on a copy, and
 //! with none of them did the proofs go through. Of the joint machine: the timer is told to program 0; a resuming tells
@@ -14,8 +16,8 @@
 
 ghost use Rattle.domain_isolation.specs.Isolation.{DomainDependsOnHalf, DomainEndsAlone, DomainIsAlone, InwardHalfSuffices};
 
-/// The program alone ignores the items that are not in its half, forged ones too. It does nothing: its contract is the
-/// law.
+/// The program alone, from any part on, ignores the items that are not in its half, forged ones too. It does nothing:
+/// its contract is the law.
 pub fn law_of_inward_halves()
     ensures { InwardHalfSuffices }
 {}

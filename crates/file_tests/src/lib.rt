@@ -1,5 +1,5 @@
-//! Tests of the outside (files, output, random bytes), and of the files and texts that are read (bundles, records,
-//! assembler text).
+//! Tests of the outside (files, output, random bytes), and of the files and texts that are read (bundles, records, store
+//! files, assembler text).
 #![tactic(auto)]
 
 #[cfg(test)]
@@ -16,5 +16,7 @@ mod memory_shelf;
 mod records;
 #[cfg(test)]
 mod std_sink;
+#[cfg(test)]
+mod stores;
 #[cfg(test)]
 mod stream;

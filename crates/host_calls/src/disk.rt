@@ -41,6 +41,14 @@ impl Disk {
         self.blocks.as_slice()
     }
 
+    /// Copies the bytes of all blocks into as many.
+    pub fn copy_to(&self, into: &mut [u8])
+        requires { length into.old ≡ length self.now }
+        ensures { into.new ≡ self.now }
+    {
+        into.copy_from_slice(self.blocks.as_slice());
+    }
+
     /// There is a block of this number.
     pub(crate) fn has_block(&self, block: u32) -> bool
         ensures { result ≡ nat_lt block (length self.now / 4096) }

@@ -165,6 +165,7 @@ impl Control {
             return self.answer(slot, fault_word(MapFault::BadArg));
         }
         let thread = Context::start(c.space, pc, c.regs.get(11), c.regs.get(12));
+        self.reserved = true;
         match self.contexts.add(thread) {
             None => self.answer(slot, fault_word(MapFault::Full)),
             Some(free) => {
@@ -185,6 +186,7 @@ impl Control {
         ensures resources { self.new.resources ≡ self.old.resources }
     {
         let number = self.context_number(slot);
+        self.reserved = true;
         let c = self.contexts.get_mut(slot);
         c.pc = c.pc.wrapping_add(4);
         match begin(c, &self.resources) {
@@ -211,6 +213,7 @@ impl Control {
         ensures number { self.new.number ≡ self.old.number }
         ensures same_domain { M.serves m.new ≡ M.serves m.old }
     {
+        self.reserved = true;
         match fork_space(
             &mut self.resources,
             &mut self.contexts,
@@ -239,6 +242,7 @@ impl Control {
         ensures same_domain { M.serves m.new ≡ M.serves m.old }
     {
         let seen = shown(self.running(slot), self.context_number(slot), &Why::Exit);
+        self.reserved = true;
         match end_context(
             &mut self.resources,
             &mut self.contexts,

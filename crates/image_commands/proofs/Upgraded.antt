@@ -32,6 +32,9 @@ refused old_name new_name (refusal.Usage fault) before after is given = absurd i
 refused old_name new_name refusal.NoKey before after is given = absurd is
 refused old_name new_name refusal.NoPageDraw before after is given = absurd is
 refused old_name new_name refusal.NoSuchDomain before after is given = absurd is
+refused old_name new_name refusal.ShortSecret before after is given = absurd is
+refused old_name new_name (refusal.BadStore fault) before after is given = absurd is
+refused old_name new_name (refusal.NoRoom domain) before after is given = absurd is
 
 pub upgrade_refuses : {S O : Type 0} {old_name new_name : List ℕ} {r : Refusal} {before after : Outside S O}
     {given : Status} → IsUnread r → NoRun (spec.Upgrade old_name new_name) r before.files after.files →
@@ -87,6 +90,9 @@ not_made old_name new_name b refusal.ReadFault made file files low refuses = abs
 not_made old_name new_name b refusal.NoKey made file files low refuses = absurd made
 not_made old_name new_name b refusal.NoPageDraw made file files low refuses = absurd made
 not_made old_name new_name b refusal.NoSuchDomain made file files low refuses = absurd made
+not_made old_name new_name b refusal.ShortSecret made file files low refuses = absurd made
+not_made old_name new_name b (refusal.BadStore fault) made file files low refuses = absurd made
+not_made old_name new_name b (refusal.NoRoom domain) made file files low refuses = absurd made
 
 -- It was written, or not, seen from before the bundle was read.
 
@@ -146,3 +152,4 @@ upgrades new_name before mid out after b file fits held reading writing status.R
 upgrades new_name before mid out after b file fits held reading writing status.NoMemory w = absurd w
 upgrades new_name before mid out after b file fits held reading writing status.NoRandom w = absurd w
 upgrades new_name before mid out after b file fits held reading writing status.BadRecord w = absurd w
+upgrades new_name before mid out after b file fits held reading writing status.BadStore w = absurd w

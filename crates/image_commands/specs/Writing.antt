@@ -1,12 +1,9 @@
 -- What becomes of files and output as a file is written, and then a line is shown.
-use Rattle.std.specs.Prelude.{ℕ, ◌≡◌, ◌≤◌, ◌⊎◌, List, length, take, Option}
+use Rattle.std.specs.Prelude.{ℕ, ◌≡◌, ◌⊎◌, List}
 use Rattle.outside_io.specs.Told.{Tells, OtherFiles}
+use Rattle.program_parts.specs.Files.{TellsFront}
 use Rattle.program_parts.specs.Outside.{FilesOutside, Outside, Raised}
 use Rattle.image_commands.specs.Showing.{IsShown, IsShownInPart}
-
--- if bytes are told, they are a front of these
-abbrev pub TellsFront : Option (List ℕ) → List ℕ → Type 0
-TellsFront told bytes = (n : ℕ) × (n ≤ length bytes) × Tells told (take n bytes)
 
 -- The file of this name has these bytes. Other files keep theirs, and no call on files failed.
 pub record WritesFile {S : Type 0} (bytes name : List ℕ) (before after : FilesOutside S) : Type 0 where

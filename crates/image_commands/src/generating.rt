@@ -3,12 +3,11 @@ ghost use Rattle.std.specs.Prelude.{◌≡◌, ◌<◌, ◌-◌, ◌^◌, IfOk};
 ghost use Rattle.program_parts.specs.Outside.{outside};
 ghost use Rattle.image_commands.specs.Generating.{GenAnswers, image_bytes};
 
-use crate::writing::write_file;
 use cloak_base::NoMemory;
 use guest_bundle::write;
 use guest_kernel::{generate, put_summary};
 use outside_io::{Shelf, Sink};
-use program_parts::{Refusal, Status, refuse};
+use program_parts::{Refusal, Status, refuse, write_file};
 use std::alloc::Global;
 
 /// The bytes of the file of a number's image.

@@ -9,7 +9,6 @@
 mod demonstrating;
 mod generating;
 mod upgrading;
-mod writing;
 
 pub use demonstrating::demo_command;
 pub use generating::gen_command;

@@ -6,12 +6,11 @@ ghost use Rattle.outside_io.specs.Told.{OtherFiles};
 ghost use Rattle.program_parts.specs.Outside.{outside};
 ghost use Rattle.image_commands.specs.Upgrading.{MakesVersion2, UpgradeAnswers, WritesUpgrade, version_2};
 
-use crate::writing::write_file;
 use cloak_base::LARGEST_BUNDLE;
 use cloak_model::{Bundle, BundleFault};
 use guest_bundle::{file_length, write};
 use outside_io::{Shelf, Sink};
-use program_parts::{Refusal, Status, read_bundle, refuse, show_numbered};
+use program_parts::{Refusal, Status, read_bundle, refuse, show_numbered, write_file};
 use std::alloc::Global;
 
 /// The bytes of version 2 of a bundle, unless they are too many for a file.

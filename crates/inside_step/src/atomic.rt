@@ -1,7 +1,7 @@
 //! Atomic instructions of a context (RISC-V unprivileged manual 20191213, chapter 8), at cloaked addresses alone. What
 //! is reserved is a word of a cloaked page, and no word of RAM: the kernel may move the page as it likes.
-ghost use Rattle.std.specs.Prelude.{◌≡◌, ◌≢◌, ◌<◌, ◌%◌, ℕ, IfSome, None};
-ghost use Rattle.rv_atomic.specs.Table.{InRange};
+ghost use Rattle.std.specs.Prelude.{◌≡◌, ◌≢◌, ◌<◌, ◌%◌, ℕ, false, IfSome, None, is_some};
+ghost use Rattle.rv_atomic.specs.Table.{InRange, atomic_instruction};
 ghost use Rattle.cloak_model.specs.Asking.{Follows, FollowsWhere, Keeps};
 ghost use Rattle.cloak_model.specs.AskPages.{HasPages};
 ghost use Rattle.cloak_model.specs.Resources.{page_at, resource_at};
@@ -9,13 +9,13 @@ ghost use Rattle.cloak_model.specs.KernelStep as kernel;
 ghost use Rattle.cloak_model.specs.Contexts.{word_of_page, is_reserved};
 ghost use Rattle.cloak_model.specs.InsideStep as spec;
 ghost use Rattle.inside_step.specs.Completion.{IsLeftOpen};
-ghost use Rattle.inside_step.specs.Making.{after_instruction};
+ghost use Rattle.inside_step.specs.Making.{after_instruction, TellsMark};
 
 use crate::instruction::{go_on_with, loaded};
 use cloak_base::{Kind, PageId};
 use cloak_model::{Answer, PageSide, Ran, WordPlace};
 use resource_map::{Resources, page_at};
-use rv_atomic::{Atomic, AtomicOp, combine};
+use rv_atomic::{Atomic, AtomicOp, combine, decode_atomic};
 use thread_context::{Context, is_reserved, word_of_page};
 
 /// LR is a load; SC and the operations are stores.
@@ -68,6 +68,7 @@ fn store_conditional<M: PageSide>(
         (spec.conditional_inside (is_reserved (word_of_page q va) c.old.mark) c.old rd q va operand) }
     ensures unchanged { IsLeftOpen result → c.new ≡ c.old }
     ensures unwritten { IsLeftOpen result → wrote.new ≡ None }
+    ensures unmarked { is_some c.old.mark ≡ false → is_some c.new.mark ≡ false }
     ensures same_space { c.new.space ≡ c.old.space }
     ensures same_hart { c.new.on ≡ c.old.on }
     ensures unused { (n : ℕ) → M.is_unused m.old n → M.is_unused m.new n }
@@ -110,6 +111,7 @@ fn operate<M: PageSide>(
         (spec.atomic_granted c.old rd op q va operand) }
     ensures unchanged { IsLeftOpen result → c.new ≡ c.old }
     ensures unwritten { IsLeftOpen result → wrote.new ≡ None }
+    ensures unmarked { is_some c.old.mark ≡ false → is_some c.new.mark ≡ false }
     ensures same_space { c.new.space ≡ c.old.space }
     ensures same_hart { c.new.on ≡ c.old.on }
     ensures unused { (n : ℕ) → M.is_unused m.old n → M.is_unused m.new n }
@@ -133,6 +135,7 @@ fn granted<M: PageSide>(
     operand: u32,
     m: &mut M,
     wrote: &mut Option<WordPlace>,
+    reserved: &mut bool,
 ) -> Ran
     requires nothing_yet { wrote.old ≡ None }
     requires register { rd < 32 }
@@ -143,6 +146,7 @@ fn granted<M: PageSide>(
         (spec.atomic_granted c.old rd op q va operand) }
     ensures unchanged { IsLeftOpen result → c.new ≡ c.old }
     ensures unwritten { IsLeftOpen result → wrote.new ≡ None }
+    ensures tells { TellsMark reserved.old reserved.new c.old c.new }
     ensures same_space { c.new.space ≡ c.old.space }
     ensures same_hart { c.new.on ≡ c.old.on }
     ensures unused { (n : ℕ) → M.is_unused m.old n → M.is_unused m.new n }
@@ -153,6 +157,7 @@ fn granted<M: PageSide>(
         AtomicOp::Lr => {
             let old = m.read(q, va % 4096, 4);
             c.mark = Some(word_of_page(q, va));
+            *reserved = true;
             loaded(c, rd, va, 4, false, old)
         }
         AtomicOp::Sc => store_conditional(c, rd, q, va, operand, m, wrote),
@@ -172,6 +177,7 @@ fn placed<M: PageSide>(
     operand: u32,
     m: &mut M,
     wrote: &mut Option<WordPlace>,
+    reserved: &mut bool,
 ) -> Ran
     requires nothing_yet { wrote.old ≡ None }
     requires domain { domain ≡ M.serves m.old }
@@ -182,6 +188,7 @@ fn placed<M: PageSide>(
         (spec.atomic_placed c.old rd op va operand (page_at domain r.now c.old.space va)) }
     ensures unchanged { IsLeftOpen result → c.new ≡ c.old }
     ensures unwritten { IsLeftOpen result → wrote.new ≡ None }
+    ensures tells { TellsMark reserved.old reserved.new c.old c.new }
     ensures same_space { c.new.space ≡ c.old.space }
     ensures same_hart { c.new.on ≡ c.old.on }
     ensures unused { (n : ℕ) → resource_at r.now n ≡ None → M.is_unused m.old n → M.is_unused m.new n }
@@ -195,22 +202,22 @@ fn placed<M: PageSide>(
         };
     };
     match m.reach(q, va, atomic_kind(op)) {
-        Answer::Ok => granted(c, rd, op, q, va, operand, m, wrote),
+        Answer::Ok => granted(c, rd, op, q, va, operand, m, wrote, reserved),
         Answer::Absent(cause) => Ran::Trap { cause, address: va },
         Answer::Word(_) | Answer::Stopped => Ran::Stopped,
     }
 }
 
-/// Makes an atomic instruction, or none, which is illegal. Apart, so that other instructions make no room for it.
-#[inline(never)]
+/// Makes an atomic instruction, or none, which is illegal.
 #[tactic(auto, using(crate::proofs::InstructionLater::laters, cloak_model::proofs::PagesLater::stay_pages), unfolding(cloak_model::specs::InsideStep::atomic_inside))]
-pub(crate) fn atomic_step<M: PageSide>(
+fn atomic_step<M: PageSide>(
     c: &mut Context,
     r: &Resources,
     domain: u32,
     a: &Option<Atomic>,
     m: &mut M,
     wrote: &mut Option<WordPlace>,
+    reserved: &mut bool,
 ) -> Ran
     requires nothing_yet { wrote.old ≡ None }
     requires domain { domain ≡ M.serves m.old }
@@ -219,6 +226,7 @@ pub(crate) fn atomic_step<M: PageSide>(
         (after_instruction c.new result wrote.new) (spec.atomic_inside domain r.now c.old a.now) }
     ensures unchanged { IsLeftOpen result → c.new ≡ c.old }
     ensures unwritten { IsLeftOpen result → wrote.new ≡ None }
+    ensures tells { TellsMark reserved.old reserved.new c.old c.new }
     ensures same_space { c.new.space ≡ c.old.space }
     ensures same_hart { c.new.on ≡ c.old.on }
     ensures unused { (n : ℕ) → resource_at r.now n ≡ None → M.is_unused m.old n → M.is_unused m.new n }
@@ -239,5 +247,68 @@ pub(crate) fn atomic_step<M: PageSide>(
             address: va,
         };
     }
-    placed(c, r, domain, a.rd, a.op, va, operand, m, wrote)
+    placed(c, r, domain, a.rd, a.op, va, operand, m, wrote, reserved)
+}
+
+/// Makes the atomic instruction that a word is, or none. How it ended is written to `ended`. Apart, so that other
+/// instructions make no room for it.
+#[cold]
+#[inline(never)]
+fn make_atomic<M: PageSide>(
+    c: &mut Context,
+    r: &Resources,
+    domain: u32,
+    word: u32,
+    m: &mut M,
+    wrote: &mut Option<WordPlace>,
+    reserved: &mut bool,
+    ended: &mut Ran,
+)
+    requires nothing_yet { wrote.old ≡ None }
+    requires domain { domain ≡ M.serves m.old }
+    ensures follows { FollowsWhere (HasPages domain r.now c.old.space) M.stands_for m.old m.new
+        (after_instruction c.new ended.new wrote.new) (spec.atomic_inside domain r.now c.old (atomic_instruction word)) }
+    ensures unchanged { IsLeftOpen ended.new → c.new ≡ c.old }
+    ensures unwritten { IsLeftOpen ended.new → wrote.new ≡ None }
+    ensures tells { TellsMark reserved.old reserved.new c.old c.new }
+    ensures same_space { c.new.space ≡ c.old.space }
+    ensures same_hart { c.new.on ≡ c.old.on }
+    ensures unused { (n : ℕ) → resource_at r.now n ≡ None → M.is_unused m.old n → M.is_unused m.new n }
+    ensures keeps { Keeps M.kept m.old m.new }
+    ensures same_domain { M.serves m.new ≡ M.serves m.old }
+{
+    let a = decode_atomic(word);
+    *ended = atomic_step(c, r, domain, &a, m, wrote, reserved);
+}
+
+/// Makes the atomic instruction that a word is, or none. It has places of its own for what is told of it, so that those of
+/// other instructions stay in registers.
+#[inline(always)]
+pub(crate) fn atomic_word<M: PageSide>(
+    c: &mut Context,
+    r: &Resources,
+    domain: u32,
+    word: u32,
+    m: &mut M,
+    wrote: &mut Option<WordPlace>,
+    reserved: &mut bool,
+) -> Ran
+    requires nothing_yet { wrote.old ≡ None }
+    requires domain { domain ≡ M.serves m.old }
+    ensures follows { FollowsWhere (HasPages domain r.now c.old.space) M.stands_for m.old m.new
+        (after_instruction c.new result wrote.new) (spec.atomic_inside domain r.now c.old (atomic_instruction word)) }
+    ensures unchanged { IsLeftOpen result → c.new ≡ c.old }
+    ensures unwritten { IsLeftOpen result → wrote.new ≡ None }
+    ensures tells { TellsMark reserved.old reserved.new c.old c.new }
+    ensures same_space { c.new.space ≡ c.old.space }
+    ensures same_hart { c.new.on ≡ c.old.on }
+    ensures unused { (n : ℕ) → resource_at r.now n ≡ None → M.is_unused m.old n → M.is_unused m.new n }
+    ensures keeps { Keeps M.kept m.old m.new }
+    ensures same_domain { M.serves m.new ≡ M.serves m.old }
+{
+    let mut place = None;
+    let mut ended = Ran::Stay;
+    make_atomic(c, r, domain, word, m, &mut place, reserved, &mut ended);
+    *wrote = place;
+    ended
 }

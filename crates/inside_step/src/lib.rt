@@ -3,7 +3,7 @@
 //! store reaches such a page, or memory that is not the program's own. Atomic instructions reach cloaked pages alone.
 //!
 //! The context changes in place, and only where the instruction is completed. A word of a cloaked page that was written in
-//! is told of; the reservations that other contexts have of it are not ended here.
+//! is told of; the reservations that other contexts have of it are not ended here. Whether a word was reserved is told, too.
 #![tactic(auto)]
 
 mod atomic;

@@ -137,7 +137,7 @@ abbrev NumberFits : Result ℕ MapFault → Type 0
 NumberFits (Ok n) = IsWord n
 NumberFits (Err f) = Unit {0}
 
-record MadeFits (m : Mapped ℕ) : Type 0 where
+pub record MadeFits (m : Mapped ℕ) : Type 0 where
   pub answer : NumberFits m.answer
   pub numbers : NumbersFit m.resources
 
@@ -169,7 +169,7 @@ file_found_fits number pages (Some n) r few low =
       numbers = few;
     }) (refused_fits fault.BadArg r few)
 
-file_fits : (number pages : ℕ) (r : Resources) → NumbersFit r → MadeFits (file_resource number pages r)
+pub file_fits : (number pages : ℕ) (r : Resources) → NumbersFit r → MadeFits (file_resource number pages r)
 unfolding file_resource
 file_fits number pages r few = file_found_fits number pages _ r few (found_low (holds_file number) r.held)
 

@@ -8,5 +8,6 @@ pub mod KernelSteps
 pub mod Programs
 pub mod Controls
 pub mod Turns
+pub mod Adding
 pub mod Opened
 pub mod Runs

@@ -1,8 +1,9 @@
 -- The opening of a run: the machine fits, and what the kernel is shown then are items of a record.
 use Rattle.std.proofs.Common.{◌≡◌, ◌∙◌, ℕ, zero, suc, ◌+◌, ◌*◌, ◌<◌, ◌≤◌, Bool, List, [], ◌∷◌, ◌++◌, length, map, filter, replicate, slice_set, slice_index_or, Option, Some, None, Ok, sym, subst, arith}
-use Rattle.std.specs.Prelude.{option_and_then, option_map}
+use Rattle.std.specs.Prelude.{All, option_and_then, option_map}
 use Rattle.std.specs.List.{AllByRecursion}
 use Rattle.std.proofs.lemmas.List.{length-append, length-set, length-replicate, length-take-le}
+use Rattle.std.proofs.lemmas.List.Elements.{All-nil}
 use Rattle.aes_block.specs.Bytes.{IsBytes}
 use Rattle.cloak_base.specs.Random.{Random, next_draw}
 use Rattle.cloak_base.specs.Pages.{zero_page, same_page}
@@ -13,6 +14,7 @@ use Rattle.cloak_model.specs.declared.image.Program.{Program}
 use Rattle.cloak_model.specs.declared.image.Segment.{Segment}
 use Rattle.cloak_model.specs.declared.item.Item.TheVariants as item
 use Rattle.cloak_model.specs.declared.resource.Resource.{Resource}
+use Rattle.cloak_model.specs.Beginning.{Beginning, Fresh, Stored, stored_keys, opening_from}
 use Rattle.cloak_model.specs.Bundle.{IsKernelImage, IsProgramIn, IsInGrammar}
 use Rattle.cloak_model.specs.Cloaking.{CloakedMemory, ciphertext_of}
 use Rattle.cloak_model.specs.Contexts.{Context, started_contexts}
@@ -20,11 +22,13 @@ use Rattle.cloak_model.specs.DomainState.{started_control, started_domain}
 use Rattle.cloak_model.specs.Ledger.{Keys, key_in, key_of, vector_of}
 use Rattle.cloak_base.specs.Constants.{frame_of, place_of}
 use Rattle.cloak_model.specs.Memory.{zero_ram, with_byte, with_bytes}
-use Rattle.cloak_model.specs.Opening.{key_count, drawn_keys, filled_up, keys_for, with_segments, started_harts, numbers_below, started_ledger, started_kernel, started_memory, program_page, place_pages, place_programs, started_domains, started_joint, is_placed, opening_items, Opened, opened_with, opened_by, opening}
+use Rattle.cloak_model.specs.Opening.{key_count, drawn_keys, filled_up, groups, keys_for, with_segments, started_harts, numbers_below, started_ledger, started_kernel, started_memory, program_page, place_pages, place_programs, started_domains, started_joint, is_placed, opening_items, Opened}
 use Rattle.cloak_model.specs.PageMoves.{place, place_with}
 use Rattle.cloak_model.specs.Record.{IsItem, IsWord}
 use Rattle.cloak_model.specs.Resources.{started_resources}
-use Rattle.item_law.specs.Writing.{AreBytes, IsOfBytes, IsStreamOfBytes}
+use Rattle.kernel_isolation.proofs.FilesAdded.{HasKeys, files_of, opens_over}
+use Rattle.item_law.specs.Writing.{AreBytes, IsOfBytes, IsStreamOfBytes, IsBeginningOfBytes}
+use Rattle.item_law.proofs.Adding.{HasPageBytes, all_bytes, added_fit}
 use Rattle.item_law.proofs.Bounds.{either, all_append, all_take, all_drop, all_set, all_replicate, all_or, all_map, by_recursion, by_place, zero_bytes}
 use Rattle.item_law.proofs.Ciphers.{MayDraw, draw_fits, as_block, block_bytes, SealedFits, sealed_fits}
 use Rattle.item_law.proofs.Controls.{SlotFits}
@@ -112,20 +116,55 @@ filled_long x xs =
     let four = length-replicate 4 x in
     length-take-le 4 (xs ++ replicate 4 x) (omega (arith, both, four))
 
-keys_fit : (frames : ℕ) (programs : List Program) (drawn : List (List ℕ)) →
-    AllByRecursion (IsProgramIn frames) programs → AllByRecursion (IsBytes 16) drawn → (q : PageId) →
-    IsBytes 16 (key_in (keys_for programs drawn) q)
-keys_fit frames programs drawn are all q =
+-- four keys, for the programs of an image
+four_fit : (frames : ℕ) (programs : List Program) (keys : List (List ℕ)) →
+    AllByRecursion (IsProgramIn frames) programs → length keys ≡ 4 → All (IsBytes 16) keys → (q : PageId) →
+    IsBytes 16 (key_in (record { numbered = keys; group = groups programs }) q)
+four_fit frames programs keys are long all q =
     let IsNumber : ℕ → Type 0 = λ k. k < 4 in
     let numbers : List ℕ = map (λ (p : Program). p.key) programs in
     let each = all_map (IsProgramIn frames) IsNumber (λ (p : Program). p.key) programs (λ p is. is.key) are in
     let group = all_or IsNumber (filled_up 0 numbers) q.domain 0 (filled_fits IsNumber 0 numbers each (omega arith))
     (omega arith) in
+    all _ [] (omega (arith, group, long))
+
+keys_fit : (frames : ℕ) (programs : List Program) (drawn : List (List ℕ)) →
+    AllByRecursion (IsProgramIn frames) programs → AllByRecursion (IsBytes 16) drawn → (q : PageId) →
+    IsBytes 16 (key_in (keys_for programs drawn) q)
+keys_fit frames programs drawn are all =
     let zeros : List ℕ = replicate 16 0 in
     let zero_key = as_block zeros (length-replicate {A = ℕ} 16 0) (all_replicate (λ b. b < 256) 16 0 (omega arith)) in
-    let long = filled_long zeros drawn in
-    by_place (IsBytes 16) (filled_up zeros drawn) (filled_fits (IsBytes 16) zeros drawn all zero_key) _ []
-    (omega (arith, group, long))
+    four_fit frames programs (filled_up zeros drawn) are (filled_long zeros drawn)
+    (by_place (IsBytes 16) (filled_up zeros drawn) (filled_fits (IsBytes 16) zeros drawn all zero_key))
+
+-- The keys of a run, and the stream after them.
+record BeginsFit (keys : Keys) (rest : Random) : Type 0 where
+  pub blocks : (q : PageId) → IsBytes 16 (key_in keys q)
+  pub stream : IsStreamOfBytes rest
+
+begins_fit : (b : Bundle) (from : Beginning) (keys : Keys) (rest : Random) → IsInGrammar b → IsBeginningOfBytes b from →
+    HasKeys b from keys rest → BeginsFit keys rest
+begins_fit b (Fresh stream) keys rest grammar all has =
+    let frames : ℕ = b.kernel.frames in
+    let draws = subst MayDrawKeys has.draws (drawn_fit (key_count b.programs) stream all) in
+    let are = by_recursion (IsProgramIn frames) b.programs grammar.programs in
+    record {
+      blocks = subst (λ (k : Keys). (q : PageId) → IsBytes 16 (key_in k q)) (sym has.are)
+          (keys_fit frames b.programs has.drawn are draws.keys);
+      stream = draws.rest;
+    }
+begins_fit b (Stored handed stream files) keys rest grammar all has =
+    let frames : ℕ = b.kernel.frames in
+    let are = by_recursion (IsProgramIn frames) b.programs grammar.programs in
+    record {
+      blocks = subst (λ (k : Keys). (q : PageId) → IsBytes 16 (key_in k q)) (sym has.are)
+          (four_fit frames b.programs handed are all.four_keys.four all.four_keys.whole);
+      stream = subst IsStreamOfBytes (sym has.stays) all.bytes;
+    }
+
+files_bytes : (b : Bundle) (from : Beginning) → IsBeginningOfBytes b from → All HasPageBytes (files_of from)
+files_bytes b (Fresh stream) all = All-nil HasPageBytes
+files_bytes b (Stored keys stream files) all = all_bytes (stored_keys b keys) files all.contents.sealed
 
 -- Placing.
 
@@ -268,42 +307,28 @@ pub record OpenedFits (o : Opened) : Type 0 where
   pub joint : JointFits o.joint
   pub items : AllByRecursion IsItem o.items
 
-opened_memory : (b : Bundle) (m : CloakedMemory) → IsInGrammar b → IsOfBytes b → OpenFits m →
-    OpenedFits (record { joint = started_joint b m; items = opening_items b.programs m.ram })
+bare_fits : (b : Bundle) (m : CloakedMemory) → IsInGrammar b → IsOfBytes b → OpenFits m → JointFits (started_joint b m)
 unfolding started_joint started_kernel
-opened_memory b m grammar bytes fits = record {
-  joint = record {
-    harts = harts_fit b.kernel.entry b.kernel.harts grammar.kernel.entry_fits grammar.kernel.few_harts;
-    disk = bytes.disk;
-    memory = fits.memory;
-    programs = domains_fit b.kernel.frames 0 b.programs (let few = grammar.few_programs in omega (arith, few))
-        (by_recursion (IsProgramIn b.kernel.frames) b.programs grammar.programs);
-  };
-  items = items_fit b.programs m.ram fits.memory.ram.few fits.pages;
+bare_fits b m grammar bytes fits = record {
+  harts = harts_fit b.kernel.entry b.kernel.harts grammar.kernel.entry_fits grammar.kernel.few_harts;
+  disk = bytes.disk;
+  memory = fits.memory;
+  programs = domains_fit b.kernel.frames 0 b.programs (let few = grammar.few_programs in omega (arith, few))
+      (by_recursion (IsProgramIn b.kernel.frames) b.programs grammar.programs);
 }
 
-opened_if : (b : Bundle) (m : Option CloakedMemory) (o : Opened) → IsInGrammar b → IsOfBytes b → MayOpen m →
-    opened_with b m ≡ Ok o → OpenedFits o
-unfolding opened_with
-opened_if b None o grammar bytes fits opens = absurd cc
-opened_if b (Some m) o grammar bytes fits opens =
-    let same : record { joint = started_joint b m; items = opening_items b.programs m.ram } ≡ o = cc in
-    subst OpenedFits same (opened_memory b m grammar bytes fits)
-
-opened_draw : (b : Bundle) (draw : Option (List (List ℕ) × Random)) (o : Opened) → IsInGrammar b → IsOfBytes b →
-    MayDrawKeys draw → opened_by b draw ≡ Ok o → OpenedFits o
-unfolding opened_by
-opened_draw b None o grammar bytes draws opens = absurd cc
-opened_draw b (Some draw) o grammar bytes draws opens =
-    let keys = keys_for b.programs draw.0 in
-    let frames : ℕ = b.kernel.frames in
-    let blocks = keys_fit frames b.programs draw.0 (by_recursion (IsProgramIn frames) b.programs grammar.programs)
-    draws.keys in
-    opened_if b _ o grammar bytes
-    (programs_fit 0 b.programs (started_memory b.kernel keys draw.1)
-    (started_fits_memory b.kernel keys draw.1 grammar.kernel bytes.segments blocks draws.rest) bytes.programs) opens
-
-pub opened_fits : (b : Bundle) (stream : Random) (o : Opened) → IsInGrammar b → IsOfBytes b →
-    IsStreamOfBytes stream → opening b stream ≡ Ok o → OpenedFits o
-opened_fits b stream o grammar bytes all opens =
-    opened_draw b _ o grammar bytes (drawn_fit (key_count b.programs) stream all) opens
+pub opened_fits : (b : Bundle) (from : Beginning) (o : Opened) → IsInGrammar b → IsOfBytes b →
+    IsBeginningOfBytes b from → opening_from b from ≡ Ok o → OpenedFits o
+opened_fits b from o grammar bytes all opens =
+    let over = opens_over b from o opens in
+    let begins = begins_fit b from over.keys over.stream grammar all over.has_keys in
+    let start = started_fits_memory b.kernel over.keys over.stream grammar.kernel bytes.segments begins.blocks
+    begins.stream in
+    let fits = subst MayOpen over.placed
+    (programs_fit 0 b.programs (started_memory b.kernel over.keys over.stream) start bytes.programs) in
+    record {
+      joint = added_fit (files_of from) (started_joint b over.memory) o.joint (files_bytes b from all) over.added
+          (bare_fits b over.memory grammar bytes fits);
+      items = subst (AllByRecursion IsItem) (sym over.items)
+          (items_fit b.programs over.memory.ram fits.memory.ram.few fits.pages);
+    }

@@ -3,14 +3,14 @@ use Rattle.std.proofs.Common.{◌≡◌, ℕ, zero, suc, ◌+◌, ◌^◌, ◌<�
 use Rattle.std.specs.List.{AllByRecursion}
 use Rattle.std.proofs.lemmas.List.{length-map}
 use Rattle.cloak_base.specs.declared.causes.Stop.{Stop}
-use Rattle.cloak_base.specs.Random.{Random}
 use Rattle.cloak_model.specs.declared.image.Bundle.{Bundle}
 use Rattle.cloak_model.specs.declared.item.Item.{Item}
 use Rattle.cloak_model.specs.declared.item.Item.TheVariants as item
+use Rattle.cloak_model.specs.Beginning.{Beginning, opening_from}
 use Rattle.cloak_model.specs.Bundle.{IsInGrammar}
 use Rattle.cloak_model.specs.Exchange.{steps_items}
 use Rattle.cloak_model.specs.Joint.{Moment, Turn, joint_step, after_turn, stop_of, cloak_outside, hart_in}
-use Rattle.cloak_model.specs.Opening.{Opened, opening}
+use Rattle.cloak_model.specs.Opening.{Opened}
 use Rattle.cloak_model.specs.Parts.{Joint}
 use Rattle.cloak_model.specs.Record.{IsItem}
 use Rattle.cloak_model.specs.Run.{Run, unless_stopped, turns_from, joint_after, settled_below, closing, first_moment, run_of}
@@ -18,7 +18,7 @@ use Rattle.cloak_model.specs.World.{Cloak}
 use Rattle.kernel_isolation.specs.Isolation.{items_by_step}
 use Rattle.kernel_isolation.proofs.Isolated.{of_opened}
 use Rattle.kernel_isolation.proofs.TwoRuns.{writes_an_exchange}
-use Rattle.item_law.specs.Writing.{IsOfBytes, IsStreamOfBytes, WritesARecord}
+use Rattle.item_law.specs.Writing.{IsOfBytes, IsBeginningOfBytes, WritesARecord}
 use Rattle.item_law.proofs.Bounds.{all_append}
 use Rattle.item_law.proofs.Opened.{opened_fits}
 use Rattle.item_law.proofs.Turns.{JointFits, turn_fits}
@@ -74,11 +74,11 @@ record RunFits (most : ℕ) (r : Run) : Type 0 where
   pub steps : AllByRecursion AreItems (items_by_step r.turns)
   pub closing : AreItems r.closed.items
 
-run_of_fits : (b : Bundle) (stream : Random) (budget : ℕ) → IsInGrammar b → IsOfBytes b → IsStreamOfBytes stream →
-    (o : Opened) → opening b stream ≡ Ok o → RunFits budget (run_of b budget o)
+run_of_fits : (b : Bundle) (from : Beginning) (budget : ℕ) → IsInGrammar b → IsOfBytes b → IsBeginningOfBytes b from →
+    (o : Opened) → opening_from b from ≡ Ok o → RunFits budget (run_of b budget o)
 unfolding run_of
-run_of_fits b stream budget grammar bytes all o opens =
-    let opened = opened_fits b stream o grammar bytes all opens in
+run_of_fits b from budget grammar bytes all o opens =
+    let opened = opened_fits b from o grammar bytes all opens in
     let steps = steps_fit budget (first_moment b o.joint) opened.joint in
     record {
       few = steps.few;
@@ -98,9 +98,9 @@ steps_items_fit number (x ∷ steps) few all = (
 )
 
 pub writes_a_record : WritesARecord
-writes_a_record b stream budget r grammar bytes all least is =
-    let fits = of_opened b budget (RunFits budget) (opening b stream) r is
-    (run_of_fits b stream budget grammar bytes all) in
+writes_a_record b from budget r grammar bytes all least is =
+    let fits = of_opened b budget (RunFits budget) (opening_from b from) r is
+    (run_of_fits b from budget grammar bytes all) in
     let few = fits.few in
     let steps : List (List Item) = items_by_step r.turns in
     let count : length steps ≡ length r.turns = length-map r.turns (λ (t : Turn). t.items) in
@@ -110,5 +110,5 @@ writes_a_record b stream budget r grammar bytes all least is =
           (all_append IsItem (steps_items 1 steps) _
           (steps_items_fit 1 steps (omega (arith, count, few, least)) fits.steps)
           (omega (arith, count, few, least), all_append IsItem r.closed.items (item.End ∷ []) fits.closing (tt, tt)));
-      exchange = writes_an_exchange b stream budget r is;
+      exchange = writes_an_exchange b from budget r is;
     }

@@ -1,7 +1,7 @@
 //! A law on the definitions alone: each field of each item that a run writes (`cloak_model`, `specs/Run`) is in its range,
 //! so that the bytes of its record are the record of its exchange (`specs/Record`), and of nothing else (`record_law`).
-//! The law holds of each bundle of the grammar whose bytes are bytes, under each stream of bytes, and of each budget that
-//! the program takes.
+//! The law holds of each bundle of the grammar whose bytes are bytes, from each beginning of bytes (a stream, or also keys
+//! and sealed files), and of each budget that the program takes.
 //!
 //! No body turns a law, so there is no wrong body to refuse here. With this changed definition, tried on a copy, its
 //! proof did not go through: a stream that is handed in has any numbers in the place of bytes.

@@ -17,7 +17,7 @@ use Rattle.cloak_model.specs.Parts as model
 use Rattle.cloak_model.specs.Resuming.{with_roots}
 use Rattle.cloak_model.specs.World.{World, items_of, violation_of}
 use Rattle.cloak_base.specs.declared.names.PageId.{PageId}
-use Rattle.protect_meta.specs.declared.meta.Meta.{Meta}
+use Rattle.cloak_base.specs.declared.names.Meta.{Meta}
 use Rattle.cloak_pager.specs.State.{PagerState}
 use Rattle.cloak_pager.specs.Relation.{FrameStands, PageStands}
 use Rattle.cloak_pager.specs.declared.held.Held.{Held}
@@ -49,6 +49,7 @@ holds_rooted memory m root h = record {
     frames = λ f inside. frame_rooted memory.pager h.wiped m root f _ (h.pager.frames f inside);
     owed = h.pager.owed;
     pages = λ q. page_rooted (h.wiped q) m root q _ (h.pager.pages q);
+    vectors = h.pager.vectors;
     plain = h.pager.plain;
     drained = h.pager.drained;
   };

@@ -1,5 +1,5 @@
 pub mod Backwards
-pub mod Stored
+pub mod Loaded
 pub mod Drawn
 pub mod Placed
 pub mod Started
@@ -21,3 +21,9 @@ pub mod Tracked
 pub mod Mapped
 pub mod Ends
 pub mod AfterEnd
+pub mod Continued
+pub mod Filed
+pub mod OpensOver
+pub mod Sorting
+pub mod Known
+pub mod Holding

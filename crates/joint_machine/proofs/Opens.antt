@@ -5,6 +5,7 @@ use Rattle.cloak_base.specs.declared.names.SpaceId.{SpaceId}
 use Rattle.cloak_base.specs.Random.{Random}
 use Rattle.cloak_model.specs.declared.image.Bundle.{Bundle}
 use Rattle.cloak_model.specs.declared.image.Program.{Program}
+use Rattle.cloak_model.specs.Beginning.{stored_keys}
 use Rattle.cloak_model.specs.Bundle.{IsProgramIn}
 use Rattle.cloak_model.specs.Cloaking.{CloakedMemory}
 use Rattle.cloak_model.specs.Hart.{started}
@@ -16,10 +17,11 @@ use Rattle.cloaked_side.specs.Holding.{Holds}
 use Rattle.cloaked_side.specs.declared.memory.Memory.{Memory}
 use Rattle.hypercalls.specs.declared.domain.Domain.{Domain}
 use Rattle.joint_machine.specs.declared.joint.Joint.{Joint}
+use Rattle.joint_machine.specs.declared.reading.JointParts.{JointParts}
 use Rattle.joint_machine.specs.Standing.{AreDomains, OpensJoint, StandsForJoint}
 use Rattle.joint_machine.specs.Programs.{AreFreeUnused}
-use Rattle.joint_machine.specs.Starting.{DrawsKeys, PlacesTo}
-use Rattle.joint_machine.proofs.Placed.{KeepsRoots, programs_roots}
+use Rattle.joint_machine.specs.Starting.{DrawsKeys, IsOfParts, PlacesTo, StartsParts}
+use Rattle.joint_machine.proofs.Placed.{KeepsFixed, KeepsFixedIf, programs_fixed}
 
 pub length-started_harts : (entry n : ℕ) → length (started_harts entry n) ≡ n
 length-started_harts entry zero = refl
@@ -98,35 +100,52 @@ pub record HasParts (joint : Joint) (b : Bundle) (keys : Keys) (rest : Random) :
   pub refused : joint.refused ≡ 0
   pub memory : PlacesTo joint.memory true (place_programs 0 b.programs (started_memory b.kernel keys rest))
 
-no_roots : (b : Bundle) (keys : Keys) (rest : Random) (s : SpaceId) →
+pub no_roots : (b : Bundle) (keys : Keys) (rest : Random) (s : SpaceId) →
     (started_memory b.kernel keys rest).ledger.root s ≡ None
 unfolding started_memory started_ledger
 no_roots b keys rest s = refl
 
 stands_with : (joint : Joint) (b : Bundle) (keys : Keys) (rest : Random) (m : CloakedMemory) →
     HasParts joint b keys rest → Holds joint.memory m →
-    ((s : SpaceId) → m.ledger.root s ≡ (started_memory b.kernel keys rest).ledger.root s) →
-    StandsForJoint joint (started_joint b m)
+    KeepsFixed (started_memory b.kernel keys rest) m → StandsForJoint joint (started_joint b m)
 unfolding started_joint started_kernel
-stands_with joint b keys rest m parts holds roots = record {
+stands_with joint b keys rest m parts holds fixed = record {
   harts = parts.harts;
   disk = parts.disk;
   memory = holds;
   domains = parts.domains;
-  roots = λ s. parts.roots s ∙ sym (roots s ∙ no_roots b keys rest s);
+  roots = λ s. parts.roots s ∙ sym (fixed.roots s ∙ no_roots b keys rest s);
   ended = parts.ended;
   refused = parts.refused;
 }
 
+-- the parts began so, the pages were placed in their memory, and this machine was made of them
+pub has_parts : (joint : Joint) (b : Bundle) (numbered : List (List ℕ)) (rest : Random) (parts placed : JointParts) →
+    StartsParts b numbered rest parts → placed.harts ≡ parts.harts → placed.domains ≡ parts.domains →
+    placed.disk ≡ parts.disk → placed.ended ≡ parts.ended → placed.refused ≡ parts.refused →
+    IsOfParts joint placed → ((s : SpaceId) → root_at joint.roots s ≡ None) →
+    PlacesTo placed.memory true (place_programs 0 b.programs (started_memory b.kernel (stored_keys b numbered) rest)) →
+    HasParts joint b (stored_keys b numbered) rest
+has_parts joint b numbered rest parts placed starts harts domains disk ended refused is roots places = record {
+  harts = ap (λ (x : _). x.items) (is.harts ∙ harts) ∙ starts.harts;
+  disk = is.disk ∙ disk ∙ starts.disk;
+  domains = subst (λ (x : _). AreDomains x.items (started_domains 0 b.programs)) (sym (is.domains ∙ domains)) starts.domains;
+  roots = roots;
+  ended = is.ended ∙ ended ∙ starts.ended;
+  refused = is.refused ∙ refused ∙ starts.refused;
+  memory = subst (λ (x : Memory). PlacesTo x true (place_programs 0 b.programs (started_memory b.kernel (stored_keys b numbered) rest)))
+      (sym is.memory) places;
+}
+
 opened_as : (joint : Joint) (b : Bundle) (s rest : Random) (keys : Keys) (o : Option CloakedMemory) →
     opening b s ≡ opened_with b o → HasParts joint b keys rest → PlacesTo joint.memory true o →
-    KeepsRoots (started_memory b.kernel keys rest) o → OpensJoint b s joint
+    KeepsFixedIf (started_memory b.kernel keys rest) o → OpensJoint b s joint
 unfolding opened_with
-opened_as joint b s rest keys None opens parts places roots = absurd places
-opened_as joint b s rest keys (Some m) opens parts places roots = record {
+opened_as joint b s rest keys None opens parts places fixed = absurd places
+opened_as joint b s rest keys (Some m) opens parts places fixed = record {
   opened = record { joint = started_joint b m; items = opening_items b.programs m.ram };
   opens = opens;
-  stands = stands_with joint b keys rest m parts places roots;
+  stands = stands_with joint b keys rest m parts places fixed;
 }
 
 pub opens_joint : (joint : Joint) (b : Bundle) (s rest : Random) (keys : Keys) → HasKeys b s rest keys →
@@ -134,4 +153,4 @@ pub opens_joint : (joint : Joint) (b : Bundle) (s rest : Random) (keys : Keys) �
 opens_joint joint b s rest keys some parts =
     let m = started_memory b.kernel keys rest in
     opened_as joint b s rest keys (place_programs 0 b.programs m) (opening_with b s rest keys _ some refl) parts parts.memory
-    (programs_roots 0 b.programs m)
+    (programs_fixed 0 b.programs m)

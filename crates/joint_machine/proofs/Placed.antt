@@ -28,7 +28,7 @@ use Rattle.shadow_law.proofs.Tables.{write_agrees}
 use Rattle.cloaked_side.specs.Holding.{Holds}
 use Rattle.cloaked_side.proofs.Translating.{agrees_rights, ending_frames}
 use Rattle.cloaked_side.specs.declared.memory.Memory.{Memory}
-use Rattle.joint_machine.specs.Starting.{IsReady, PlacesTo}
+use Rattle.joint_machine.specs.Starting.{IsReady, KeepsUnplaced, PlacesTo}
 
 -- One page.
 
@@ -64,6 +64,19 @@ ready_next draw stream left old new d n f bytes turns rights ready = record {
       ∙ ready.later q past;
 }
 
+-- what is known of pages of other resources stays
+pub unplaced_next : (draw : Option (List ℕ × Random)) (stream left : Random) (old new : PagerState) (d n f : ℕ)
+    (bytes : List ℕ) → PlaceTurns draw stream old new left (first_page d n) f bytes → KeepsUnplaced old new
+unplaced_next draw stream left old new d n f bytes turns q other =
+    metas_kept draw stream left old new (first_page d n) f bytes turns q
+    (λ same. other (ap (λ (x : PageId). x.resource) same))
+
+pub unplaced_then : (a b c : PagerState) → KeepsUnplaced a b → KeepsUnplaced b c → KeepsUnplaced a c
+unplaced_then a b c first second q other = second q other ∙ first q other
+
+pub unplaced_none : (p : PagerState) → KeepsUnplaced p p
+unplaced_none p q other = refl
+
 pub ready_domain : (p : PagerState) (d n : ℕ) → IsReady p d n → IsReady p (d + 1) 0
 ready_domain p d n ready = record {
   outside = ready.outside;
@@ -75,6 +88,7 @@ ready_domain p d n ready = record {
 pub record KeepsLedger (m m' : CloakedMemory) : Type 0 where
   pub draws : m'.ledger.draws ≡ min (m.ledger.draws + 1) (2 ^ 64 - 1)
   pub missed : m'.ledger.missed ≡ m.ledger.missed
+  pub keys : m'.ledger.keys ≡ m.ledger.keys
   pub root : (s : SpaceId) → m'.ledger.root s ≡ m.ledger.root s
 
 abbrev pub KeepsLedgerIf : CloakedMemory → Option CloakedMemory → Type 0
@@ -85,7 +99,7 @@ keeps_with : (q : PageId) (f : ℕ) (bytes : List ℕ) (draw : Option (List ℕ 
     KeepsLedgerIf m (place_with q f bytes draw m)
 unfolding place_with
 keeps_with q f bytes None m = tt
-keeps_with q f bytes (Some draw) m = record { draws = refl; missed = refl; root = λ s. refl }
+keeps_with q f bytes (Some draw) m = record { draws = refl; missed = refl; keys = refl; root = λ s. refl }
 
 pub keeps_ledger : (q : PageId) (f : ℕ) (bytes : List ℕ) (m : CloakedMemory) → KeepsLedgerIf m (place q f bytes m)
 unfolding place
@@ -247,35 +261,39 @@ programs_all memory i [] programs m from end =
     subst (λ (o : Option CloakedMemory). PlacesTo memory true o) from.left from.holds
 programs_all memory i (p ∷ rest) programs m from end = absurd (omega (arith, end))
 
--- Roots.
+-- Keys and roots.
 
--- the page tables that are recorded stay
-abbrev pub KeepsRoots : CloakedMemory → Option CloakedMemory → Type 0
-KeepsRoots m None = Unit {0}
-KeepsRoots m (Some m') = (s : SpaceId) → m'.ledger.root s ≡ m.ledger.root s
+-- the keys and the page tables that are recorded stay
+pub record KeepsFixed (m m' : CloakedMemory) : Type 0 where
+  pub keys : m'.ledger.keys ≡ m.ledger.keys
+  pub roots : (s : SpaceId) → m'.ledger.root s ≡ m.ledger.root s
 
-roots_of : (m : CloakedMemory) (o : Option CloakedMemory) → KeepsLedgerIf m o → KeepsRoots m o
-roots_of m None keeps = tt
-roots_of m (Some m') keeps = keeps.root
+abbrev pub KeepsFixedIf : CloakedMemory → Option CloakedMemory → Type 0
+KeepsFixedIf m None = Unit {0}
+KeepsFixedIf m (Some m') = KeepsFixed m m'
 
-roots_before : (m x : CloakedMemory) (o : Option CloakedMemory) → ((s : SpaceId) → x.ledger.root s ≡ m.ledger.root s) →
-    KeepsRoots x o → KeepsRoots m o
-roots_before m x None first keeps = tt
-roots_before m x (Some m') first keeps = λ s. keeps s ∙ first s
+fixed_of : (m : CloakedMemory) (o : Option CloakedMemory) → KeepsLedgerIf m o → KeepsFixedIf m o
+fixed_of m None keeps = tt
+fixed_of m (Some m') keeps = record { keys = keeps.keys; roots = keeps.root }
 
-roots_then : (m : CloakedMemory) (next : CloakedMemory → Option CloakedMemory) (o : Option CloakedMemory) →
-    KeepsRoots m o → ((x : CloakedMemory) → KeepsRoots x (next x)) → KeepsRoots m (option_and_then next o)
-roots_then m next None keeps more = tt
-roots_then m next (Some x) keeps more = roots_before m x (next x) keeps (more x)
+fixed_before : (m x : CloakedMemory) (o : Option CloakedMemory) → KeepsFixed m x → KeepsFixedIf x o → KeepsFixedIf m o
+fixed_before m x None first keeps = tt
+fixed_before m x (Some m') first keeps =
+    record { keys = keeps.keys ∙ first.keys; roots = λ s. keeps.roots s ∙ first.roots s }
 
-pages_roots : (d : ℕ) (p : Program) (n : ℕ) (m : CloakedMemory) → KeepsRoots m (place_pages d p n m)
-pages_roots d p zero m = λ s. refl
-pages_roots d p (suc n) m =
-    roots_then m (place (first_page d n) (p.place + n) (program_page p.bytes n)) (place_pages d p n m) (pages_roots d p n m)
-    (λ x. roots_of x _ (keeps_ledger (first_page d n) (p.place + n) (program_page p.bytes n) x))
+fixed_then : (m : CloakedMemory) (next : CloakedMemory → Option CloakedMemory) (o : Option CloakedMemory) →
+    KeepsFixedIf m o → ((x : CloakedMemory) → KeepsFixedIf x (next x)) → KeepsFixedIf m (option_and_then next o)
+fixed_then m next None keeps more = tt
+fixed_then m next (Some x) keeps more = fixed_before m x (next x) keeps (more x)
 
-pub programs_roots : (d : ℕ) (programs : List Program) (m : CloakedMemory) → KeepsRoots m (place_programs d programs m)
-programs_roots d [] m = λ s. refl
-programs_roots d (p ∷ programs) m =
-    roots_then m (place_programs (d + 1) programs) (place_pages d p p.start.pages m) (pages_roots d p p.start.pages m)
-    (λ x. programs_roots (d + 1) programs x)
+pages_fixed : (d : ℕ) (p : Program) (n : ℕ) (m : CloakedMemory) → KeepsFixedIf m (place_pages d p n m)
+pages_fixed d p zero m = record { keys = refl; roots = λ s. refl }
+pages_fixed d p (suc n) m =
+    fixed_then m (place (first_page d n) (p.place + n) (program_page p.bytes n)) (place_pages d p n m) (pages_fixed d p n m)
+    (λ x. fixed_of x _ (keeps_ledger (first_page d n) (p.place + n) (program_page p.bytes n) x))
+
+pub programs_fixed : (d : ℕ) (programs : List Program) (m : CloakedMemory) → KeepsFixedIf m (place_programs d programs m)
+programs_fixed d [] m = record { keys = refl; roots = λ s. refl }
+programs_fixed d (p ∷ programs) m =
+    fixed_then m (place_programs (d + 1) programs) (place_pages d p p.start.pages m) (pages_fixed d p p.start.pages m)
+    (λ x. programs_fixed (d + 1) programs x)

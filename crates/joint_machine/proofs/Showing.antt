@@ -1,5 +1,5 @@
 -- What is shown as a run begins, over plain variables.
-use Rattle.std.proofs.Common.{◌≡◌, ◌+◌, ℕ, Bool, true, false, cond, ◌&&◌, nat_le, nat_lt, if◌then◌else◌, length, List, [], ◌∷◌, ◌++◌, slice_index_or, refl, ap, sym, ◌∙◌, subst, add-one, Result, Ok, Err, Option, None, Some}
+use Rattle.std.proofs.Common.{◌≡◌, ◌+◌, ℕ, Bool, true, false, cond, ◌&&◌, nat_le, nat_lt, if◌then◌else◌, length, List, [], ◌∷◌, ◌++◌, slice_index_or, refl, ap, sym, ◌∙◌, subst, add-one, slice_get, Result, Ok, Err, Option, None, Some}
 use Rattle.std.specs.Prelude.{map, filter}
 use Rattle.std.proofs.lemmas.List.{map-append, ext_get_or}
 use Rattle.std.proofs.lemmas.List.Elements.{filter-append}
@@ -8,9 +8,15 @@ use Rattle.cloak_base.specs.Random.{Random}
 use Rattle.cloak_model.specs.declared.image.Program.{Program}
 use Rattle.cloak_model.specs.declared.image.Bundle.{Bundle}
 use Rattle.cloak_model.specs.declared.item.Item.{Item}
+use Rattle.cloak_model.specs.declared.resource.MapFault.{MapFault}
+use Rattle.cloak_model.specs.Beginning.{and_then, file_given, file_added, files_added, opened_over, opening_stored, Beginning, Fresh, Stored, opening_from}
 use Rattle.cloak_model.specs.Cloaking.{CloakedMemory}
+use Rattle.cloak_model.specs.DomainState as model
+use Rattle.cloak_model.specs.Parts.{Joint as Machine}
+use Rattle.cloak_model.specs.Resources.{Resources}
+use Rattle.cloak_model.specs.StoredFiles.{FileContents}
 use Rattle.cloak_model.specs.Exchange.{Piece, Emits, item_pieces}
-use Rattle.cloak_model.specs.Opening.{is_placed, numbers_below, opening_items, Opened, Lack, drawn_keys, key_count, keys_for, opening, opened_by, opened_with, started_joint, started_memory, place_programs}
+use Rattle.cloak_model.specs.Opening.{is_placed, numbers_below, opening_items, Opened, Lack, NoPageDraw, drawn_keys, key_count, keys_for, opened_by, opened_with, started_joint, started_memory, place_programs}
 use Rattle.cloak_pager.specs.State.{PagerState, bytes_in, page_of, right_at, held_in}
 use Rattle.cloak_pager.specs.Turns.{IsReadOnce}
 use Rattle.cloak_pager.specs.Relation.{StandsForMemory, FrameStands}
@@ -22,6 +28,7 @@ use Rattle.cloaked_side.specs.Holding.{Holds, frames_of}
 use Rattle.cloaked_side.specs.declared.memory.Memory.{Memory}
 use Rattle.cloaked_side.proofs.Emitting.{emits_none, emits_items}
 use Rattle.cloaked_side.proofs.Sided.{still_read as still}
+use Rattle.joint_machine.proofs.Continued.{contents_continue}
 use Rattle.joint_machine.specs.Placings.{covers, placing}
 use Rattle.joint_machine.specs.Starting.{IsReadOnly, frame_item, placed_among}
 use Rattle.joint_machine.specs.declared.placings.Placing.{Placing}
@@ -141,9 +148,63 @@ shows_by b None = tt
 shows_by b (Some draw) =
     shows_with b (place_programs 0 b.programs (started_memory b.kernel (keys_for b.programs draw.0) draw.1))
 
-pub opening_shows : (b : Bundle) (s : Random) (o : Opened) → opening b s ≡ Ok o →
+-- the files that are added leave RAM as it was
+abbrev SameRam : Machine → Result Machine Lack → Type 0
+SameRam j (Ok after) = after.memory.ram ≡ j.memory.ram
+SameRam j (Err lack) = Unit {0}
+
+ram_then : (j k : Machine) (r : Result Machine Lack) → k.memory.ram ≡ j.memory.ram → SameRam k r → SameRam j r
+ram_then j k (Ok after) first second = second ∙ first
+ram_then j k (Err lack) first second = tt
+
+ram_next : (j : Machine) (next : Machine → Result Machine Lack) (r : Result Machine Lack) → SameRam j r →
+    ((k : Machine) → SameRam k (next k)) → SameRam j (and_then next r)
+ram_next j next (Ok k) first more = ram_then j k (next k) first (more k)
+ram_next j next (Err lack) first more = tt
+
+ram_given : (f : FileContents) (domain : model.Domain) (j : Machine) (answer : Result ℕ MapFault) (resources : Resources) →
+    SameRam j (file_given f domain j answer resources)
+unfolding file_given
+ram_given f domain j (Err fault) resources = tt
+ram_given f domain j (Ok n) resources =
+    ap (λ (m : CloakedMemory). m.ram) (contents_continue f.domain n 0 f.pages j.memory).is
+
+ram_added : (f : FileContents) (j : Machine) (found : Option model.Domain) → SameRam j (file_added f j found)
+unfolding file_added
+ram_added f j None = tt
+ram_added f j (Some domain) = ram_given f domain j _ _
+
+ram_files : (files : List FileContents) (j : Machine) → SameRam j (files_added files j)
+unfolding files_added
+ram_files [] j = refl
+ram_files (f ∷ files) j =
+    ram_next j (files_added files) _ (ram_added f j (slice_get j.domains f.domain)) (λ k. ram_files files k)
+
+shows_files : (b : Bundle) (m : CloakedMemory) (r : Result Machine Lack) → SameRam (started_joint b m) r →
+    ShowsMemory b (and_then (λ (j : Machine). Ok (record { joint = j; items = opening_items b.programs m.ram })) r)
+unfolding started_joint
+shows_files b m (Ok j) same = ap (opening_items b.programs) (sym same)
+shows_files b m (Err lack) same = tt
+
+nothing_shown : (b : Bundle) (r : Result Machine Lack) →
+    ShowsMemory b (and_then (λ (j : Machine). let none : Result Opened Lack = Err NoPageDraw in none) r)
+nothing_shown b (Ok j) = tt
+nothing_shown b (Err lack) = tt
+
+shows_over : (b : Bundle) (files : List FileContents) (bare : Machine) (o : Option CloakedMemory) →
+    ShowsMemory b (opened_over b files bare o)
+unfolding opened_over
+shows_over b files bare None = nothing_shown b (files_added files bare)
+shows_over b files bare (Some m) = shows_files b m _ (ram_files files (started_joint b m))
+
+shows_from : (b : Bundle) (from : Beginning) → ShowsMemory b (opening_from b from)
+unfolding opening_stored
+shows_from b (Fresh stream) = shows_by b (drawn_keys (key_count b.programs) stream)
+shows_from b (Stored keys stream files) = shows_over b files _ _
+
+pub opening_shows : (b : Bundle) (from : Beginning) (o : Opened) → opening_from b from ≡ Ok o →
     o.items ≡ opening_items b.programs o.joint.memory.ram
-opening_shows b s o opens = subst (λ (r : Result Opened Lack). ShowsMemory b r) opens (shows_by b (drawn_keys (key_count b.programs) s))
+opening_shows b from o opens = subst (λ (r : Result Opened Lack). ShowsMemory b r) opens (shows_from b from)
 
 -- of programs that are placed so
 covers_placed : (programs : List Program) (f : ℕ) → covers (map placing programs) f ≡ is_placed programs f
@@ -160,14 +221,14 @@ placed_shown programs ram =
 
 -- the frames of a memory in which nothing is held are those that its opening shows
 pub opening_emits : {E : Type 0} (gave : E → E → List Piece → Type 0) (e e' : E) (memory : Memory)
-    (placings : List Placing) (b : Bundle) (s : Random) (o : Opened) → opening b s ≡ Ok o → placings ≡ map placing b.programs →
+    (placings : List Placing) (b : Bundle) (from : Beginning) (o : Opened) → opening_from b from ≡ Ok o → placings ≡ map placing b.programs →
     Holds memory o.joint.memory → ((k : ℕ) → held_in memory.pager k ≡ None) →
     Emits gave e e' (item_pieces (placed_among placings memory.pager.frames (numbers_below (frames_of memory)))) →
     Emits gave e e' (item_pieces o.items)
-opening_emits {E} gave e e' memory placings b s o opens same holds none emits =
+opening_emits {E} gave e e' memory placings b from o opens same holds none emits =
     let shown = frames_shown memory.pager holds.wiped o.joint.memory holds.pager none in
     let is : placed_among placings memory.pager.frames (numbers_below (frames_of memory)) ≡ o.items =
     ap (λ (ps : List Placing). placed_among ps memory.pager.frames (numbers_below (frames_of memory))) same
     ∙ (ap (λ (ram : List (List ℕ)). placed_among (map placing b.programs) ram (numbers_below (length ram))) shown
-    ∙ (placed_shown b.programs o.joint.memory.ram ∙ sym (opening_shows b s o opens))) in
+    ∙ (placed_shown b.programs o.joint.memory.ram ∙ sym (opening_shows b from o opens))) in
     subst (λ (items : List Item). Emits gave e e' (item_pieces items)) is emits

@@ -7,7 +7,9 @@ use Rattle.cloak_model.specs.Exchange.{Piece, Emits, item_pieces}
 use Rattle.cloak_model.specs.DomainState as program
 use Rattle.cloak_model.specs.Parts as model
 use Rattle.cloak_model.specs.Joint.{Turn, hart_in, turn_of, answers_violation, stop_of}
-use Rattle.cloak_model.specs.Opening.{Opened, NoKey, NoPageDraw, opening}
+use Rattle.cloak_model.specs.Opening.{Opened, NoKey, NoPageDraw, NoRoom, opening}
+use Rattle.cloak_model.specs.StoredFiles.{StoredFile, FileContents, StandsForFiles}
+use Rattle.cloak_model.specs.Beginning.{opening_stored, stored_keys}
 use Rattle.thread_context.specs.Recorded.{root_at}
 use Rattle.cloak_base.specs.declared.names.PageId.{PageId}
 use Rattle.cloak_model.specs.Cloaking.{CloakedMemory}
@@ -20,6 +22,8 @@ use Rattle.joint_machine.specs.declared.joint.Joint.{Joint}
 use Rattle.joint_machine.specs.declared.turned.Turned.{Turned}
 use Rattle.joint_machine.specs.declared.opened.OpenFault.{OpenFault}
 use Rattle.joint_machine.specs.declared.opened.OpenFault.TheVariants as fault
+use Rattle.joint_machine.specs.declared.opened.StoredFault.{StoredFault}
+use Rattle.joint_machine.specs.declared.opened.StoredFault.TheVariants as stored
 
 -- how many harts there are
 abbrev pub harts_of : Joint → ℕ
@@ -78,6 +82,26 @@ OpensAs b stream (Ok joint) = OpensJoint b stream joint
 OpensAs b stream (Err fault.NoKey) = opening b stream ≡ Err NoKey
 OpensAs b stream (Err fault.NoRandom) = opening b stream ≡ Err NoPageDraw
 OpensAs b stream (Err fault.NoMemory) = Unit {0}
+
+-- the machine is that of a run's opening over files with these contents
+pub record OpensOver (b : Bundle) (keys : List (List ℕ)) (stream : Random) (contents : List FileContents) (joint : Joint) :
+    Type 0 where
+  pub opened : Opened
+  pub opens : opening_stored b keys stream contents ≡ Ok opened
+  pub stands : StandsForJoint joint opened.joint
+
+-- it is, or what the opening lacks
+abbrev pub OpensWith : Bundle → List (List ℕ) → Random → List FileContents → Result Joint StoredFault → Type 0
+OpensWith b keys stream contents (Ok joint) = OpensOver b keys stream contents joint
+OpensWith b keys stream contents (Err stored.NoRandom) = opening_stored b keys stream contents ≡ Err NoPageDraw
+OpensWith b keys stream contents (Err (stored.NoRoom d)) = opening_stored b keys stream contents ≡ Err (NoRoom d)
+OpensWith b keys stream contents (Err stored.NoMemory) = Unit {0}
+
+-- so for all contents that the table stands for under these keys
+abbrev pub OpensStoredAs : Bundle → List (List ℕ) → Random → List StoredFile → Result Joint StoredFault → Type 0
+OpensStoredAs b keys stream files result =
+    (contents : List FileContents) → StandsForFiles (stored_keys b keys) files contents →
+    OpensWith b keys stream contents result
 
 -- what was shown, and what the machine then stands for
 pub record ShowsAs {E : Type 0} (gave : E → E → List Piece → Type 0) (e e' : E) (joint : Joint) (o : Opened) : Type 0 where

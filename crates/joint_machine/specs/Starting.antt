@@ -1,18 +1,24 @@
 -- How far a machine is as it opens.
-use Rattle.std.specs.Prelude.{ℕ, ◌≡◌, ◌<◌, ◌≤◌, Bool, true, false, List, [], Option, Some, None, All, length, map, filter, replicate, slice_index_or}
+use Rattle.std.specs.Prelude.{ℕ, ◌≡◌, ◌≢◌, ◌<◌, ◌≤◌, Bool, true, false, List, [], Option, Some, None, All, length, map, filter, replicate, slice_index_or}
 use Rattle.cloak_base.specs.declared.names.PageId.{PageId}
 use Rattle.cloak_base.specs.Random.{Random}
 use Rattle.cloak_model.specs.declared.item.Item.{Item}
 use Rattle.cloak_model.specs.declared.item.Item.TheVariants.{Cipher}
 use Rattle.cloak_model.specs.Cloaking.{CloakedMemory}
-use Rattle.cloak_model.specs.Opening.{drawn_keys, filled_up}
+use Rattle.cloak_model.specs.declared.image.Bundle.{Bundle}
+use Rattle.cloak_model.specs.Beginning.{stored_keys}
+use Rattle.cloak_model.specs.Opening.{drawn_keys, filled_up, started_domains, started_harts, started_memory}
 use Rattle.protect_meta.specs.Table.{meta_at}
 use Rattle.cloak_pager.specs.State.{PagerState, held_in}
 use Rattle.cloak_pager.specs.Turns.{Turns}
-use Rattle.cloaked_side.specs.Holding.{Holds, domains_in}
+use Rattle.cloaked_side.specs.Holding.{Holds, domains_in, frames_of}
 use Rattle.cloaked_side.specs.declared.memory.Memory.{Memory}
 use Rattle.joint_machine.specs.Placings.{covers}
+use Rattle.joint_machine.specs.declared.joint.Joint.{Joint}
 use Rattle.joint_machine.specs.declared.placings.Placing.{Placing}
+use Rattle.joint_machine.specs.declared.reading.JointParts.{JointParts}
+use Rattle.joint_machine.specs.Programs.{AreNumbered}
+use Rattle.joint_machine.specs.Standing.{AreDomains}
 
 -- Keys.
 
@@ -40,6 +46,10 @@ pub record IsReady (p : PagerState) (d n : ℕ) : Type 0 where
   pub rest : (q : PageId) → q.domain ≡ d → n ≤ q.page → meta_at p.table q ≡ None
   pub later : (q : PageId) → d < q.domain → meta_at p.table q ≡ None
 
+-- what is known of pages stays, but for those of the first resource of a domain
+abbrev pub KeepsUnplaced : PagerState → PagerState → Type 0
+KeepsUnplaced old new = (q : PageId) → q.resource ≢ 0 → meta_at new.table q ≡ meta_at old.table q
+
 -- the memory is the one in which pages were placed, or a draw was missing
 abbrev pub PlacesTo : Memory → Bool → Option CloakedMemory → Type 0
 PlacesTo memory true None = ⊥
@@ -64,3 +74,29 @@ pub record IsReadOnly (old new : Memory) : Type 0 where
   pub domains : domains_in new ≡ domains_in old
   pub shadows : new.shadows ≡ old.shadows
   pub holds : (m : CloakedMemory) → Holds old m → Holds new m
+
+-- Parts.
+
+-- the parts of a machine under these keys before any page is placed
+pub record StartsParts (b : Bundle) (keys : List (List ℕ)) (stream : Random) (parts : JointParts) : Type 0 where
+  pub harts : parts.harts.items ≡ started_harts b.kernel.entry b.kernel.harts
+  pub memory : Holds parts.memory (started_memory b.kernel (stored_keys b keys) stream)
+  pub frames : frames_of parts.memory ≡ b.kernel.frames
+  pub served : domains_in parts.memory ≡ length b.programs
+  pub ready : IsReady parts.memory.pager 0 0
+  pub empty : parts.memory.shadows.live ≡ []
+  pub domains : AreDomains parts.domains.items (started_domains 0 b.programs)
+  pub count : length parts.domains.items ≡ length b.programs
+  pub numbered : AreNumbered parts.domains.items
+  pub disk : parts.disk ≡ b.kernel.disk
+  pub ended : parts.ended ≡ replicate 4 None
+  pub refused : parts.refused ≡ 0
+
+-- a machine has these parts
+pub record IsOfParts (joint : Joint) (parts : JointParts) : Type 0 where
+  pub harts : joint.harts ≡ parts.harts
+  pub memory : joint.memory ≡ parts.memory
+  pub domains : joint.domains ≡ parts.domains
+  pub disk : joint.disk ≡ parts.disk
+  pub ended : joint.ended ≡ parts.ended
+  pub refused : joint.refused ≡ parts.refused

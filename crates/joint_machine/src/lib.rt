@@ -1,8 +1,9 @@
 //! The joint machine: harts, memory over the pager with the reservations of harts, programs, recorded page tables, and disk.
 //!
-//! `Joint::open` stands for the opening of a joint run, `turn` for the next step of a hart, with the end of the domain of
-//! a violation that it met, and `close` for the closing (`cloak_model`, `specs/Opening`, `Joint`, `Run`). Items are
-//! emitted in their order as they come about. What the schedule is, how many steps were made, and what the console was
+//! `Joint::open` stands for the opening of a joint run, `open_stored` for that over the files of an earlier one, `turn` for
+//! the next step of a hart, with the end of the domain of a violation that it met, `close` for the closing, and
+//! `store_files` for what the files then hold (`cloak_model`, `specs/Opening`, `Beginning`, `Joint`, `Run`, `StoredRun`).
+//! Items are emitted in their order as they come about. What the schedule is, how many steps were made, and what the console was
 //! shown, is known above. After the opening no call takes memory.
 //!
 //! The layer above may rely on this: for every state of the joint machine that this one stands for
@@ -14,6 +15,7 @@ mod closing;
 mod drawing;
 mod ended;
 mod ending;
+mod filing;
 mod going;
 mod inside;
 mod joint;
@@ -27,10 +29,12 @@ mod reading;
 mod resuming;
 mod starting;
 mod stepping;
+mod stored;
+mod storing;
 mod turned;
 
 pub use joint::Joint;
-pub use opened::OpenFault;
+pub use opened::{OpenFault, StoredFault};
 pub use placings::{Placing, placings_of};
 pub use reading::JointParts;
 pub use turned::Turned;

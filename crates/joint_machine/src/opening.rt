@@ -1,28 +1,26 @@
 //! The opening of a joint run.
 ghost use Rattle.std.specs.Prelude.{◌≡◌, ◌<◌, ℕ, [], ◌∷◌, Ok, IfOk, map};
-ghost use Rattle.cloak_base.specs.Random.{Random};
 ghost use Rattle.cloak_model.specs.declared.image.Bundle.{Bundle};
 ghost use Rattle.cloak_model.specs.Bundle.{IsInGrammar};
 ghost use Rattle.cloak_model.specs.Exchange.{EmitsSome, Emits, item_pieces};
-ghost use Rattle.cloak_model.specs.Opening.{Opened, numbers_below, opening};
+ghost use Rattle.cloak_model.specs.Beginning.{Beginning, opening_from};
+ghost use Rattle.cloak_model.specs.Opening.{Opened, numbers_below};
 ghost use Rattle.cloak_pager.specs.State.{held_in};
 ghost use Rattle.cloaked_side.specs.Holding.{frames_of};
 ghost use Rattle.joint_machine.specs.Placings.{placing};
 ghost use Rattle.joint_machine.specs.Starting.{IsReadOnly, placed_among};
 
-use crate::drawing::{count_keys, draw_keys, groups_of};
+use crate::drawing::{count_keys, draw_keys};
 use crate::joint::Joint;
-use crate::loading::load;
 use crate::opened::OpenFault;
 use crate::placing::place_programs;
 use crate::placings::{Placing, is_covered};
-use crate::starting::{start_domains, start_harts};
+use crate::starting::{joint_of, start_parts};
 use cloak_base::Frame;
 use cloak_model::{Emit, KernelImage, Program, Sequence};
-use cloaked_side::{KeptItems, Memory};
+use cloaked_side::Memory;
 use outside_io::Stream;
 use std::alloc::Global;
-use thread_context::Roots;
 
 /// Emits a frame where a page of a program is placed in it.
 fn show_frame<E: Emit>(memory: &mut Memory, placings: &[Placing], f: Frame, e: &mut E)
@@ -73,29 +71,11 @@ impl Joint {
         let Some(keys) = draw_keys(&mut stream, count_keys(programs.as_slice())) else {
             return Err(OpenFault::NoKey);
         };
-        let harts = start_harts(alloc, kernel.entry, kernel.harts)?;
-        let (mut memory, disk) = load(
-            alloc,
-            kernel,
-            programs.as_slice().len() as u32,
-            keys,
-            groups_of(programs.as_slice()),
-            stream,
-        )?;
-        let domains = start_domains(alloc, programs.as_slice())?;
-        if !place_programs(&mut memory, programs) {
+        let mut parts = start_parts(alloc, kernel, programs.as_slice(), keys, stream)?;
+        if !place_programs(&mut parts.memory, programs) {
             return Err(OpenFault::NoRandom);
         }
-        Ok(Joint {
-            harts,
-            memory,
-            domains,
-            roots: Roots::open(),
-            disk,
-            items: KeptItems::new(),
-            ended: [None; 4],
-            refused: 0,
-        })
+        Ok(joint_of(parts))
     }
 
     /// Emits what the kernel is shown as the run begins: each frame that holds a page of a program, where the programs
@@ -106,7 +86,7 @@ impl Joint {
         ensures harts { harts_of self.new ≡ harts_of self.old }
         ensures emits_some { EmitsSome E.gave e.old e.new }
         ensures shadows { self.new.memory.shadows ≡ self.old.memory.shadows }
-        ensures shows { (b : Bundle) (s : Random) (o : Opened) → opening b s ≡ Ok o →
+        ensures shows { (b : Bundle) (from : Beginning) (o : Opened) → opening_from b from ≡ Ok o →
             placings.now ≡ map placing b.programs → StandsForJoint self.old o.joint →
             ShowsAs E.gave e.old e.new self.new o }
     {

@@ -6,7 +6,7 @@ ghost use Rattle.cloak_model.specs.Opening as spec;
 ghost use Rattle.cloak_model.specs.PageMoves.{place};
 ghost use Rattle.cloak_pager.specs.State.{held_in};
 ghost use Rattle.cloaked_side.specs.Holding.{Holds, SameSize, domains_in, frames_of};
-ghost use Rattle.joint_machine.specs.Starting.{IsReady, PlacesTo};
+ghost use Rattle.joint_machine.specs.Starting.{IsReady, KeepsUnplaced, PlacesTo};
 
 use cloak_base::{Frame, PageId};
 use cloak_model::{Program, Sequence};
@@ -36,6 +36,7 @@ fn place_page(memory: &mut Memory, domain: u32, first: u32, page: u32, bytes: &[
     requires ready { IsReady memory.old.pager domain page }
     ensures size { SameSize memory.old memory.new }
     ensures ready { IsReady memory.new.pager domain (page + 1) }
+    ensures others { KeepsUnplaced memory.old.pager memory.new.pager }
     ensures empty { memory.old.shadows.live ≡ [] → memory.new.shadows.live ≡ [] }
     ensures places { (m : CloakedMemory) → Holds memory.old m → PlacesTo memory.new result
         (place (record { domain = domain; resource = 0; page = page }) (first + page) bytes.now m) }
@@ -64,6 +65,7 @@ fn place_pages(memory: &mut Memory, domain: u32, p: Program) -> bool
     requires ready { IsReady memory.old.pager domain 0 }
     ensures size { SameSize memory.old memory.new }
     ensures ready { IsReady memory.new.pager (domain + 1) 0 }
+    ensures others { KeepsUnplaced memory.old.pager memory.new.pager }
     ensures empty { memory.old.shadows.live ≡ [] → memory.new.shadows.live ≡ [] }
     ensures places { (m : CloakedMemory) → Holds memory.old m →
         PlacesTo memory.new result (spec.place_pages domain p p.start.pages m) }
@@ -92,6 +94,7 @@ pub(crate) fn place_programs(memory: &mut Memory, programs: Sequence<Program>) -
     requires ready { IsReady memory.old.pager 0 0 }
     ensures size { SameSize memory.old memory.new }
     ensures outside { (k : ℕ) → held_in memory.new.pager k ≡ None }
+    ensures others { KeepsUnplaced memory.old.pager memory.new.pager }
     ensures empty { memory.old.shadows.live ≡ [] → memory.new.shadows.live ≡ [] }
     ensures places { (m : CloakedMemory) → Holds memory.old m →
         PlacesTo memory.new result (spec.place_programs 0 programs m) }

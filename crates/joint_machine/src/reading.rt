@@ -55,6 +55,13 @@ impl Joint {
         self.memory.shadows.counts()
     }
 
+    /// The bytes of the disk.
+    pub fn disk(&self) -> &[u8]
+        ensures { result.now ≡ self.now.disk }
+    {
+        self.disk.bytes()
+    }
+
     /// Ends the machine, and gives its parts.
     pub fn into_parts(self) -> JointParts
         ensures harts { result.harts ≡ self.harts }

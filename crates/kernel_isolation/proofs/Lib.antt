@@ -15,6 +15,7 @@ pub mod Markers
 pub mod Resumes
 pub mod Ends
 pub mod Turns
+pub mod FilesAdded
 pub mod Closed
 pub mod Opened
 pub mod Isolated

@@ -13,14 +13,17 @@ use Rattle.cloak_model.specs.declared.image.Segment.{Segment}
 use Rattle.cloak_model.specs.declared.item.Item.{Item}
 use Rattle.cloak_model.specs.declared.item.Item.TheVariants as item
 use Rattle.cloak_model.specs.Ahead.{with_shown}
+use Rattle.cloak_model.specs.Beginning.{files_added, Beginning, opening_from}
 use Rattle.cloak_model.specs.Cloaking.{CloakedMemory, seen_in}
 use Rattle.cloak_model.specs.DomainState.{started_domain, started_control}
 use Rattle.cloak_model.specs.Ledger.{Keys, vector_of}
 use Rattle.cloak_model.specs.Memory.{zero_ram, with_bytes, with_byte, Seen, unless_written, filled}
-use Rattle.cloak_model.specs.Opening.{key_count, drawn_keys, keys_for, with_segments, numbers_below, started_ledger, started_kernel, started_memory, program_page, place_pages, place_programs, started_domains, started_joint, is_placed, opening_items, Opened, opened_with, opened_by, opening}
+use Rattle.cloak_model.specs.Opening.{with_segments, numbers_below, started_ledger, started_kernel, started_memory, program_page, place_pages, place_programs, started_domains, started_joint, is_placed, opening_items, Opened}
 use Rattle.cloak_model.specs.PageMoves.{place, place_with}
-use Rattle.cloak_model.specs.Parts.{KernelPart, kernel_part}
+use Rattle.cloak_model.specs.Parts.{Joint, KernelPart, kernel_part}
+use Rattle.cloak_model.specs.StoredFiles.{FileContents}
 use Rattle.cloak_model.specs.World.{cipher_items}
+use Rattle.kernel_isolation.proofs.FilesAdded.{added_keep, added_programs, same_part, files_of, opens_over}
 use Rattle.kernel_isolation.proofs.Shown.{AreFrames}
 use Rattle.kernel_isolation.proofs.Settlings.{HasPlaces, length-with_shown, with_shown-append}
 use Rattle.kernel_isolation.proofs.Numbers.{AreFrom}
@@ -285,11 +288,14 @@ started_none : (k : KernelImage) → AreNone k.harts (started_kernel k).marks
 unfolding started_kernel
 started_none k = refl
 
-opened_memory : (b : Bundle) (keys : Keys) (rest : Random) (m : CloakedMemory) →
+-- the memory in which the pages were placed, and the machine with the files
+opened_memory : (b : Bundle) (keys : Keys) (rest : Random) (m : CloakedMemory) (files : List FileContents) (j : Joint) →
     PlacesApart (IsAway b.programs) (started_memory b.kernel keys rest) m →
-    IsOpened b (record { joint = started_joint b m; items = opening_items b.programs m.ram })
+    files_added files (started_joint b m) ≡ Ok j →
+    IsOpened b (record { joint = j; items = opening_items b.programs m.ram })
 unfolding started_memory started_joint
-opened_memory b keys rest m placed =
+opened_memory b keys rest m files j placed added =
+    let keeps = added_keep files (started_joint b m) j added in
     let k : KernelPart = started_kernel b.kernel in
     let was : Seen = kernel_seen k in
     let ciphers : List (ℕ × List ℕ) = shown_below (is_placed b.programs) m.ram (length m.ram) in
@@ -303,30 +309,21 @@ opened_memory b keys rest m placed =
       ciphers = ciphers;
       items = items_by m.ram (filter (is_placed b.programs) (numbers_below (length m.ram)));
       frames = frames_below (is_placed b.programs) m.ram was.ram (length m.ram) (omega (arith, count));
-      part = ap (λ (ram : List (List ℕ)). with_kernel_seen (record { ram = ram; marks = m.marks }) k) (sym whole)
+      part = same_part (started_joint b m) j keeps
+          ∙ (ap (λ (ram : List (List ℕ)). with_kernel_seen (record { ram = ram; marks = m.marks }) k) (sym whole)
           ∙ ap (λ (l : List (Option ℕ)). with_kernel_seen (record { ram = (with_shown ciphers was).ram; marks = l }) k)
-          marks;
+          marks);
       steady = record {
-        places = ap length placed.owed ∙ (started_places b.kernel keys rest ∙ sym placed.count);
-        programs = started_from 0 b.programs;
+        places = ap length (keeps.memory.owed ∙ placed.owed)
+            ∙ (started_places b.kernel keys rest ∙ sym (ap length keeps.memory.ram ∙ placed.count));
+        programs = added_programs files (started_joint b m) j added (started_from 0 b.programs);
       };
     }
 
-opened_if : (b : Bundle) (keys : Keys) (rest : Random) (o : Opened) (m : Option CloakedMemory) →
-    PlacesIf (IsAway b.programs) (started_memory b.kernel keys rest) m → opened_with b m ≡ Ok o → IsOpened b o
-unfolding opened_with
-opened_if b keys rest o None placed opens = absurd cc
-opened_if b keys rest o (Some m) placed opens =
-    let same : record { joint = started_joint b m; items = opening_items b.programs m.ram } ≡ o = cc in
-    subst (IsOpened b) same (opened_memory b keys rest m placed)
-
-opened_draw : (b : Bundle) (draw : Option (List (List ℕ) × Random)) (o : Opened) → opened_by b draw ≡ Ok o →
-    IsOpened b o
-unfolding opened_by
-opened_draw b None o opens = absurd cc
-opened_draw b (Some draw) o opens =
-    let keys = keys_for b.programs draw.0 in
-    opened_if b keys draw.1 o _ (programs_apart 0 b.programs (started_memory b.kernel keys draw.1)) opens
-
-pub is_opened : (b : Bundle) (stream : Random) (o : Opened) → opening b stream ≡ Ok o → IsOpened b o
-is_opened b stream o opens = opened_draw b (drawn_keys (key_count b.programs) stream) o opens
+pub is_opened : (b : Bundle) (from : Beginning) (o : Opened) → opening_from b from ≡ Ok o → IsOpened b o
+is_opened b from o opens =
+    let over = opens_over b from o opens in
+    let bare : CloakedMemory = started_memory b.kernel over.keys over.stream in
+    subst (λ (items : List Item). IsOpened b (record { joint = o.joint; items = items })) (sym over.items)
+    (opened_memory b over.keys over.stream over.memory (files_of from) o.joint
+    (subst (PlacesIf (IsAway b.programs) bare) over.placed (programs_apart 0 b.programs bare)) over.added)

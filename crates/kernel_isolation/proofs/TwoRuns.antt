@@ -4,19 +4,19 @@ use Rattle.std.specs.List.{AllByRecursion}
 use Rattle.std.proofs.lemmas.List.{length-map, take-map}
 use Rattle.std.proofs.lemmas.List.Elements.{filter-append}
 use Rattle.cloak_base.specs.declared.causes.Stop.{Stop}
-use Rattle.cloak_base.specs.Random.{Random}
 use Rattle.cloak_model.specs.declared.image.Bundle.{Bundle}
 use Rattle.cloak_model.specs.declared.image.KernelImage.{KernelImage}
 use Rattle.cloak_model.specs.declared.item.Item.{Item}
 use Rattle.cloak_model.specs.declared.item.Item.TheVariants as item
+use Rattle.cloak_model.specs.Beginning.{Beginning, opening_from}
 use Rattle.cloak_model.specs.Exchange.{steps_items}
 use Rattle.cloak_model.specs.Halves.{is_outward, outward_half}
 use Rattle.cloak_model.specs.Joint.{Moment, Turn, joint_step, after_turn, stop_of}
 use Rattle.cloak_model.specs.KernelAlone.{KernelAlone, kernel_alone}
-use Rattle.cloak_model.specs.Opening.{Opened, opening}
+use Rattle.cloak_model.specs.Opening.{Opened}
 use Rattle.cloak_model.specs.Parts.{KernelPart, kernel_part}
 use Rattle.cloak_model.specs.Record.{IsCipher}
-use Rattle.cloak_model.specs.Run.{Run, unless_stopped, turns_from, first_moment, joint_after, run_of, joint_run, exchange, run_outward_half}
+use Rattle.cloak_model.specs.Run.{Run, unless_stopped, turns_from, first_moment, joint_after, run_of, run_from, exchange, run_outward_half}
 use Rattle.kernel_isolation.specs.Isolation.{items_by_step, items_until, HasKernel, KernelDependsOnHalf, WritesAnExchange}
 use Rattle.kernel_isolation.proofs.Ignoring.{outward_half_suffices}
 use Rattle.kernel_isolation.proofs.Turns.{IsSteady, turn_is_alone}
@@ -51,15 +51,15 @@ record WritesAsExchange (r : Run) : Type 0 where
   pub steps : AllByRecursion AreOfStep (items_by_step r.turns)
   pub closing : AllByRecursion IsCipher r.closed.items
 
-writes_of : (b : Bundle) (stream : Random) (budget : ℕ) (o : Opened) → opening b stream ≡ Ok o →
+writes_of : (b : Bundle) (from : Beginning) (budget : ℕ) (o : Opened) → opening_from b from ≡ Ok o →
     WritesAsExchange (run_of b budget o)
 unfolding run_of
-writes_of b stream budget o opens =
-    let opened = is_opened b stream o opens in
+writes_of b from budget o opens =
+    let opened = is_opened b from o opens in
     let m : Moment = first_moment b o.joint in
     let turns : List Turn = turns_from budget m in
     let all : take (length turns) turns ≡ turns = take_all (length turns) turns (omega arith) in
-    let read = until_read b stream budget o opens (length turns) (omega arith) in
+    let read = until_read b from budget o opens (length turns) (omega arith) in
     let closed = is_closed (joint_after o.joint turns)
     (subst (λ (ts : List Turn). IsSteady (joint_after o.joint ts)) all read.steady).places in
     record {
@@ -68,12 +68,12 @@ writes_of b stream budget o opens =
       closing = subst (AllByRecursion IsCipher) (sym closed.items) (ciphers_are_ciphers closed.ciphers);
     }
 
-writes : (b : Bundle) (stream : Random) (budget : ℕ) (r : Run) → joint_run b stream budget ≡ Ok r → WritesAsExchange r
-writes b stream budget r is = of_opened b budget WritesAsExchange (opening b stream) r is (writes_of b stream budget)
+writes : (b : Bundle) (from : Beginning) (budget : ℕ) (r : Run) → run_from b from budget ≡ Ok r → WritesAsExchange r
+writes b from budget r is = of_opened b budget WritesAsExchange (opening_from b from) r is (writes_of b from budget)
 
 pub writes_an_exchange : WritesAnExchange
-writes_an_exchange b stream budget r is =
-    let w = writes b stream budget r is in
+writes_an_exchange b from budget r is =
+    let w = writes b from budget r is in
     record {
       opening = r.opened.items;
       steps = items_by_step r.turns;
@@ -130,19 +130,19 @@ same_kernel k k' items items' p p' image half has has' =
     ∙ (ap (λ (l : List Item). (kernel_alone k l).kernel) half ∙ has.same))
 
 pub kernel_depends_on_half : KernelDependsOnHalf
-kernel_depends_on_half b b' stream stream' budget budget' r r' is is' image half =
-    let w = writes b stream budget r is in
-    let w' = writes b' stream' budget' r' is' in
+kernel_depends_on_half b b' from from' budget budget' r r' is is' image half =
+    let w = writes b from budget r is in
+    let w' = writes b' from' budget' r' is' in
     let steps : length r'.turns ≡ length r.turns = sym (steps_told r' w') ∙ (ap closes_at half ∙ steps_told r w) in
-    let ends = kernel_ends_alone b stream budget r is in
-    let ends' = kernel_ends_alone b' stream' budget' r' is' in
+    let ends = kernel_ends_alone b from budget r is in
+    let ends' = kernel_ends_alone b' from' budget' r' is' in
     record {
       steps = steps;
       after = λ n le.
           let le' : n ≤ length r'.turns = subst (λ (x : ℕ). n ≤ x) (sym steps) le in
           same_kernel b.kernel b'.kernel _ _ _ _ image
           (half_until r' w' n le' ∙ (ap (until_from n) half ∙ sym (half_until r w n le)))
-          (kernel_is_alone b stream budget r is n le) (kernel_is_alone b' stream' budget' r' is' n le');
+          (kernel_is_alone b from budget r is n le) (kernel_is_alone b' from' budget' r' is' n le');
       closed = same_kernel b.kernel b'.kernel (run_outward_half r) (run_outward_half r') _ _ image half
           (subst (λ (s : KernelAlone). HasKernel s (kernel_part r.closed.joint))
           (sym (outward_half_suffices b.kernel (exchange r))) ends)

@@ -1,17 +1,17 @@
 -- The kernel's part of the joint machine is a function of the kernel's image and the outward half of the exchange.
 use Rattle.std.specs.Prelude.{ℕ, ◌≡◌, ◌≤◌, List, [], ◌∷◌, ◌++◌, length, map, take, None, Ok}
-use Rattle.cloak_base.specs.Random.{Random}
 use Rattle.cloak_model.specs.declared.image.Bundle.{Bundle}
 use Rattle.cloak_model.specs.declared.image.KernelImage.{KernelImage}
 use Rattle.cloak_model.specs.declared.item.Item.{Item}
 use Rattle.cloak_model.specs.declared.item.Item.TheVariants as item
+use Rattle.cloak_model.specs.Beginning.{Beginning}
 use Rattle.cloak_model.specs.Exchange.{steps_items}
 use Rattle.cloak_model.specs.Halves.{outward_half}
 use Rattle.cloak_model.specs.Joint.{Turn}
 use Rattle.cloak_model.specs.KernelAlone.{KernelAlone, kernel_alone}
 use Rattle.cloak_model.specs.Parts.{Joint, KernelPart, kernel_part}
 use Rattle.cloak_model.specs.Record.{IsExchange}
-use Rattle.cloak_model.specs.Run.{Run, joint_run, joint_after, exchange, run_outward_half}
+use Rattle.cloak_model.specs.Run.{Run, run_from, joint_after, exchange, run_outward_half}
 
 -- what each of these steps wrote behind its marker
 abbrev pub items_by_step : List Turn → List (List Item)
@@ -35,14 +35,14 @@ pub record HasKernel (s : KernelAlone) (k : KernelPart) : Type 0 where
 -- so far.
 abbrev pub KernelIsAlone : Type 0
 KernelIsAlone =
-    (b : Bundle) (stream : Random) (budget : ℕ) (r : Run) → joint_run b stream budget ≡ Ok r → (n : ℕ) →
+    (b : Bundle) (from : Beginning) (budget : ℕ) (r : Run) → run_from b from budget ≡ Ok r → (n : ℕ) →
     n ≤ length r.turns →
     HasKernel (kernel_alone b.kernel (outward_half (items_until n r))) (kernel_part (joint_until n r))
 
 -- So it is as the run was closed, with all that it wrote.
 abbrev pub KernelEndsAlone : Type 0
 KernelEndsAlone =
-    (b : Bundle) (stream : Random) (budget : ℕ) (r : Run) → joint_run b stream budget ≡ Ok r →
+    (b : Bundle) (from : Beginning) (budget : ℕ) (r : Run) → run_from b from budget ≡ Ok r →
     HasKernel (kernel_alone b.kernel (exchange r)) (kernel_part r.closed.joint)
 
 -- Two runs agree in the kernel: they made as many steps, and after each of them, and as they were closed, the kernel's
@@ -52,17 +52,17 @@ pub record AgreeInKernel (r r' : Run) : Type 0 where
   pub after : (n : ℕ) → n ≤ length r.turns → kernel_part (joint_until n r') ≡ kernel_part (joint_until n r)
   pub closed : kernel_part r'.closed.joint ≡ kernel_part r.closed.joint
 
--- Whatever programs, streams and budgets they have, runs with one kernel image and one outward half do.
+-- Whatever programs, beginnings and budgets they have, runs with one kernel image and one outward half do.
 abbrev pub KernelDependsOnHalf : Type 0
 KernelDependsOnHalf =
-    (b b' : Bundle) (stream stream' : Random) (budget budget' : ℕ) (r r' : Run) → joint_run b stream budget ≡ Ok r →
-    joint_run b' stream' budget' ≡ Ok r' → b'.kernel ≡ b.kernel → run_outward_half r' ≡ run_outward_half r →
+    (b b' : Bundle) (from from' : Beginning) (budget budget' : ℕ) (r r' : Run) → run_from b from budget ≡ Ok r →
+    run_from b' from' budget' ≡ Ok r' → b'.kernel ≡ b.kernel → run_outward_half r' ≡ run_outward_half r →
     AgreeInKernel r r'
 
 -- The items of a run are in the order of an exchange.
 abbrev pub WritesAnExchange : Type 0
 WritesAnExchange =
-    (b : Bundle) (stream : Random) (budget : ℕ) (r : Run) → joint_run b stream budget ≡ Ok r → IsExchange (exchange r)
+    (b : Bundle) (from : Beginning) (budget : ℕ) (r : Run) → run_from b from budget ≡ Ok r → IsExchange (exchange r)
 
 -- The kernel alone ignores inward items.
 abbrev pub OutwardHalfSuffices : Type 0

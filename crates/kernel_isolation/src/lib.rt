@@ -2,7 +2,8 @@
 //! kernel's part of the machine, with the reservations of its harts, is a function of the kernel's image and the outward
 //! half of the exchange, after each step and at the end: it is the part of the kernel alone (`specs/KernelAlone`), which
 //! reads them and finds no item unfit. So what a program's pages hold, and what the ledger keeps, reaches the kernel by
-//! the outward items alone. The laws hold of the run of every bundle, also of one that no file spells.
+//! the outward items alone. The laws hold of the run of every bundle, also of one that no file spells, and of every
+//! beginning (`specs/Beginning`): of a run from a random stream alone, and of one over any files, whatever they hold.
 //!
 //! No body turns a law, so there is no wrong body to refuse here. These changed definitions were tried on a copy, and
 //! with none of them did the proofs go through. Of the kernel alone: the timer of a hart inside does not count; a Put

@@ -2,33 +2,38 @@
 use Rattle.std.proofs.Common.{◌≡◌, ◌≢◌, ◌∙◌, ℕ, zero, suc, ◌+◌, ◌-◌, ◌*◌, ◌%◌, true, ◌<◌, ◌≤◌, cond, List, [], ◌∷◌, length, take, drop, slice_get, slice_index, Option, Some, None, Ok, refl, sym, ap, subst, arith, length-drop, take_all, All, Bool, false}
 use Rattle.std.specs.Prelude.{option_and_then}
 use Rattle.std.proofs.lemmas.List.{length-take}
-use Rattle.std.proofs.lemmas.List.Elements.{All-head, All-tail}
+use Rattle.std.proofs.lemmas.List.Elements.{All-nil, All-head, All-tail}
 use Rattle.cloak_base.specs.Random.{Random}
 use Rattle.cloak_base.proofs.Pages.{same_page-other}
 use Rattle.cloak_base.specs.Pages.{with_page}
 use Rattle.cloak_base.specs.declared.names.PageId.{PageId}
 use Rattle.cloak_model.specs.declared.image.Bundle.{Bundle}
 use Rattle.cloak_model.specs.declared.image.Program.{Program}
+use Rattle.cloak_model.specs.Beginning.{Beginning, Fresh, Stored, IsBeginning, files_added, stored_keys, opening_from}
 use Rattle.cloak_model.specs.Bundle.{IsInGrammar, IsProgramIn}
 use Rattle.cloak_model.specs.Cloaking.{CloakedMemory}
 use Rattle.cloak_model.specs.DomainState.{Domain, started_control, started_domain}
 use Rattle.cloak_model.specs.Joint.{Moment, Turn, hart_in, joint_step}
 use Rattle.cloak_model.specs.Ledger.{Keys, vector_of}
-use Rattle.cloak_model.specs.Opening.{key_count, drawn_keys, keys_for, program_page, place_pages, place_programs, opening_items, started_domains, started_memory, started_joint, Opened, opened_with, opened_by, opening}
+use Rattle.cloak_model.specs.Opening.{program_page, place_pages, place_programs, started_domains, started_memory, started_joint, Opened}
 use Rattle.cloak_model.specs.PageMoves.{place, place_with}
 use Rattle.cloak_model.specs.Parts.{Joint}
 use Rattle.cloak_model.specs.Resources.{Resources, resource_at, started_resources}
-use Rattle.cloak_model.specs.Run.{Run, turns_from, joint_run, joint_after, first_moment, run_of, closing}
+use Rattle.cloak_model.specs.Run.{Run, turns_from, run_from, joint_after, first_moment, run_of, closing}
+use Rattle.cloak_model.specs.StoredFiles.{HasSealedPages}
 use Rattle.kernel_isolation.specs.Isolation.{joint_until}
+use Rattle.kernel_isolation.proofs.FilesAdded as added
+use Rattle.kernel_isolation.proofs.FilesAdded.{opens_over}
 use Rattle.kernel_isolation.proofs.Isolated.{until_read}
 use Rattle.kernel_isolation.proofs.Numbers.{AreFrom}
 use Rattle.resource_map.proofs.Lists.{get_or-replicate_none}
 use Rattle.store_law.specs.Ciphers.{items_of_turn}
 use Rattle.store_law.specs.OwnPages.{context_of_step, program_of_step, ends_in}
 use Rattle.store_law.proofs.Ciphers.{of_opened}
-use Rattle.store_law.proofs.OwnPages.{moment_behind, step_is, steps_keep_pages}
+use Rattle.store_law.proofs.OwnPages.{moment_behind, step_is, steps_keep_pages, closing_keeps_pages}
 use Rattle.latest_store.specs.Moves.{Move, Makes, latest, loads_of}
-use Rattle.latest_store.specs.LatestStore.{made_pages, made_programs, history_until, StaysOver, RunsGiveLatest}
+use Rattle.latest_store.specs.LatestStore.{files_of, made_pages, made_programs, history_until, IsLatest, IsThere, StaysOver, RunsGiveLatest}
+use Rattle.latest_store.proofs.Begun.{Opens, files_open}
 use Rattle.latest_store.proofs.Values.{zero_page_at, zero_page_whole}
 use Rattle.latest_store.proofs.Moved.{Agrees, move_agrees}
 use Rattle.latest_store.proofs.Numbers.{HasFew, MapsHeld, no_resources, started_few, started_maps, started_free}
@@ -180,25 +185,36 @@ started_holds b m agrees = record {
       (subst (λ (r : Resources). resource_at r q.resource ≡ None) s.is free)) ∙ empty_latest q at;
 }
 
-opened_holds_with : (b : Bundle) (keys : Keys) (stream : Random) (placed : Option CloakedMemory) (o : Opened) →
-    IsInGrammar b → place_programs 0 b.programs (started_memory b.kernel keys stream) ≡ placed →
-    opened_with b placed ≡ Ok o → Holds (made_programs 0 b.programs []) o.joint
-unfolding opened_with
-opened_holds_with b keys stream None o fits is opens = absurd cc
-opened_holds_with b keys stream (Some m) o fits is opens =
-    let made : Opened = record { joint = started_joint b m; items = opening_items b.programs m.ram } in
-    let same : made ≡ o = cc in
-    subst (λ (x : Opened). Holds (made_programs 0 b.programs []) x.joint) same
-    (started_holds b m
-    (programs_agree b.kernel.frames 0 b.programs (started_memory b.kernel keys stream) m [] fits.programs is
-    (zeros_agree b keys stream)))
+files_same : (b : Bundle) (from : Beginning) (m : CloakedMemory) (o : Opened) →
+    files_added (added.files_of from) (started_joint b m) ≡ Ok o.joint →
+    files_added (files_of from) (started_joint b m) ≡ Ok o.joint
+files_same b (Fresh stream) m o is = is
+files_same b (Stored keys stream files) m o is = is
 
-opened_holds_by : (b : Bundle) (draw : Option (List (List ℕ) × Random)) (o : Opened) → IsInGrammar b →
-    opened_by b draw ≡ Ok o → Holds (made_programs 0 b.programs []) o.joint
-unfolding opened_by
-opened_holds_by b None o fits opens = absurd cc
-opened_holds_by b (Some draw) o fits opens =
-    opened_holds_with b (keys_for b.programs draw.0) draw.1 _ o fits refl opens
+files_then : (b : Bundle) (from : Beginning) (m : CloakedMemory) (o : Opened) → IsBeginning b from →
+    files_added (files_of from) (started_joint b m) ≡ Ok o.joint →
+    Holds (made_programs 0 b.programs []) (started_joint b m) →
+    Opens (files_of from) (made_programs 0 b.programs []) o.joint
+files_then b (Fresh stream) m o begins added holds =
+    files_open (stored_keys b []) [] (started_joint b m) o.joint _ added (All-nil (HasSealedPages (stored_keys b [])))
+    holds
+files_then b (Stored keys stream files) m o begins added holds =
+    files_open (stored_keys b keys) files (started_joint b m) o.joint _ added begins.sealed holds
+
+opened_holds : (b : Bundle) (from : Beginning) (o : Opened) → IsInGrammar b → IsBeginning b from →
+    opening_from b from ≡ Ok o → Opens (files_of from) (made_programs 0 b.programs []) o.joint
+opened_holds b from o fits begins opens =
+    let over = opens_over b from o opens in
+    files_then b from over.memory o begins (files_same b from over.memory o over.added)
+    (started_holds b over.memory
+    (programs_agree b.kernel.frames 0 b.programs (started_memory b.kernel over.keys over.stream) over.memory []
+    fits.programs over.placed (zeros_agree b over.keys over.stream)))
+
+opened_there : (b : Bundle) (from : Beginning) (budget : ℕ) (o : Opened) → opening_from b from ≡ Ok o →
+    IsInGrammar b → IsBeginning b from →
+    All (IsThere (run_of b budget o).opened.joint.domains) (files_of from)
+unfolding run_of
+opened_there b from budget o opens fits begins = (opened_holds b from o fits begins opens).there
 
 -- The steps.
 
@@ -221,22 +237,21 @@ after_step j [] (suc n) t is = absurd cc
 after_step j (x ∷ turns) zero t is = ap (λ (y : Turn). y.joint) (same_some x t is)
 after_step j (x ∷ turns) (suc n) t is = after_step x.joint turns n t is
 
-run_holds : (b : Bundle) (stream : Random) (budget : ℕ) (o : Opened) → opening b stream ≡ Ok o → IsInGrammar b →
-    let r = run_of b budget o in
-    (n : ℕ) → n ≤ length r.turns → Holds (history_until b n r) (joint_until n r)
+run_holds : (b : Bundle) (from : Beginning) (budget : ℕ) (o : Opened) → opening_from b from ≡ Ok o → IsInGrammar b →
+    IsBeginning b from → let r = run_of b budget o in
+    (n : ℕ) → n ≤ length r.turns → Holds (history_until b from n r) (joint_until n r)
 unfolding run_of history_until joint_after
-run_holds b stream budget o opens fits zero low =
-    opened_holds_by b (drawn_keys (key_count b.programs) stream) o fits opens
-run_holds b stream budget o opens fits (suc n) low =
+run_holds b from budget o opens fits begins zero low = (opened_holds b from o fits begins opens).holds
+run_holds b from budget o opens fits begins (suc n) low =
     let r : Run = run_of b budget o in
     let turns : List Turn = turns_from budget (first_moment b o.joint) in
     let low' : n ≤ length turns = omega (arith, low) in
-    let holds = run_holds b stream budget o opens fits n low' in
+    let holds = run_holds b from budget o opens fits begins n low' in
     let step = has_step turns n (omega (arith, low)) in
     let t = step.turn in
     let m : Moment = moment_behind (first_moment b o.joint) n turns in
-    let steady = (until_read b stream budget o opens n low').steady in
-    let earlier : List Move = history_until b n r in
+    let steady = (until_read b from budget o opens n low').steady in
+    let earlier : List Move = history_until b from n r in
     let inside : ℕ → Option ℕ = λ k.
     (hart_in m.joint (slice_index b.kernel.schedule (k % length b.kernel.schedule))).inside in
     let after : HoldsAfter earlier m.joint (inside m.steps) t.items t.joint =
@@ -248,12 +263,12 @@ run_holds b stream budget o opens fits (suc n) low =
     let after'' : HoldsAfter earlier m.joint (context_of_step b r n) (items_of_turn (slice_get r.turns n)) t.joint =
     subst (λ (found : Option Turn). HoldsAfter earlier m.joint (context_of_step b r n) (items_of_turn found) t.joint)
     (sym step.is) after' in
-    subst (Holds (history_until b (suc n) r)) (sym (after_step o.joint turns n t step.is)) after''
+    subst (Holds (history_until b from (suc n) r)) (sym (after_step o.joint turns n t step.is)) after''
 
 -- The law.
 
-abbrev HoldsAlways : Bundle → Run → Type 0
-HoldsAlways b r = (n : ℕ) → n ≤ length r.turns → Holds (history_until b n r) (joint_until n r)
+abbrev HoldsAlways : Bundle → Beginning → Run → Type 0
+HoldsAlways b from r = (n : ℕ) → n ≤ length r.turns → Holds (history_until b from n r) (joint_until n r)
 
 -- the closing leaves programs as they are
 closed_domains : (b : Bundle) (budget : ℕ) (o : Opened) → let r = run_of b budget o in
@@ -264,14 +279,14 @@ closed_domains b budget o =
     ap (λ (ts : List Turn). (joint_after o.joint ts).domains) (sym (take_all (length turns) turns (omega arith)))
 
 -- a step that is not the program's own, in which it does not end
-others_stay : (b : Bundle) (stream : Random) (budget : ℕ) (r : Run) → joint_run b stream budget ≡ Ok r →
-    HoldsAlways b r → (n : ℕ) → suc n ≤ length r.turns → (q : PageId) → program_of_step b r n ≢ Some q.domain →
+others_stay : (b : Bundle) (from : Beginning) (budget : ℕ) (r : Run) → run_from b from budget ≡ Ok r →
+    HoldsAlways b from r → (n : ℕ) → suc n ≤ length r.turns → (q : PageId) → program_of_step b r n ≢ Some q.domain →
     ends_in q.domain (items_of_turn (slice_get r.turns n)) ≡ false → (at : ℕ) →
-    latest (history_until b (suc n) r) q at ≡ latest (history_until b n r) q at
-others_stay b stream budget r runs holds n low q other gone at =
+    latest (history_until b from (suc n) r) q at ≡ latest (history_until b from n r) q at
+others_stay b from budget r runs holds n low q other gone at =
     let step = has_step r.turns n (omega (arith, low)) in
     let t = step.turn in
-    let kept = steps_keep_pages b stream budget r runs n t step.is q.domain other
+    let kept = steps_keep_pages b from budget r runs n t step.is q.domain other
     (ap (λ (found : Option Turn). ends_in q.domain (items_of_turn found)) (sym step.is) ∙ gone) in
     let same : t.joint.memory.plain q ≡ (joint_until n r).memory.plain q =
     ap (λ (pages : ℕ → ℕ → List ℕ). pages q.resource q.page) kept in
@@ -284,44 +299,44 @@ others_stay b stream budget r runs holds n low q other gone at =
 -- an ended domain
 
 -- the machine after n steps and one more
-after_next : (b : Bundle) (stream : Random) (budget : ℕ) (o : Opened) → opening b stream ≡ Ok o →
+after_next : (b : Bundle) (from : Beginning) (budget : ℕ) (o : Opened) → opening_from b from ≡ Ok o →
     let r = run_of b budget o in
     (n : ℕ) → suc n ≤ length r.turns → (P : Joint → Type 0) →
     ((m : Moment) → m.joint ≡ joint_until n r → AreFrom 0 m.joint.domains →
     slice_get r.turns n ≡ Some (joint_step m) → P (joint_step m).joint) →
     P (joint_until (suc n) r)
 unfolding run_of
-after_next b stream budget o opens n low P next =
+after_next b from budget o opens n low P next =
     let r : Run = run_of b budget o in
     let turns : List Turn = turns_from budget (first_moment b o.joint) in
     let step = has_step turns n (omega (arith, low)) in
     let m : Moment = moment_behind (first_moment b o.joint) n turns in
     let same : joint_step m ≡ step.turn = step_is budget n (first_moment b o.joint) step.turn step.is in
-    let steady = (until_read b stream budget o opens n (omega (arith, low))).steady in
+    let steady = (until_read b from budget o opens n (omega (arith, low))).steady in
     subst P (sym (after_step o.joint turns n step.turn step.is))
     (subst (λ (t : Turn). P t.joint) same
     (next m refl steady.programs (step.is ∙ ap (λ (t : Turn). Some t) (sym same))))
 
-run_goes_over : (b : Bundle) (stream : Random) (budget : ℕ) (o : Opened) → opening b stream ≡ Ok o →
+run_goes_over : (b : Bundle) (from : Beginning) (budget : ℕ) (o : Opened) → opening_from b from ≡ Ok o →
     let r = run_of b budget o in
     (d n : ℕ) → suc n ≤ length r.turns → ends_in d (items_of_turn (slice_get r.turns n)) ≡ true →
     GoesOver d (joint_until (suc n) r)
-run_goes_over b stream budget o opens d n low ends =
-    after_next b stream budget o opens n low (GoesOver d) (λ m at programs is.
+run_goes_over b from budget o opens d n low ends =
+    after_next b from budget o opens n low (GoesOver d) (λ m at programs is.
     step_goes_over d m programs (ap (λ (found : Option Turn). ends_in d (items_of_turn found)) (sym is) ∙ ends))
 
-run_stays_over : (b : Bundle) (stream : Random) (budget : ℕ) (o : Opened) → opening b stream ≡ Ok o →
+run_stays_over : (b : Bundle) (from : Beginning) (budget : ℕ) (o : Opened) → opening_from b from ≡ Ok o →
     let r = run_of b budget o in
     (d : ℕ) (loads : List (ℕ × ℕ)) (n : ℕ) → IsOver d loads (joint_until n r) → (k : ℕ) → k + n ≤ length r.turns →
     IsOver d loads (joint_until (k + n) r)
-run_stays_over b stream budget o opens d loads n over zero low =
+run_stays_over b from budget o opens d loads n over zero low =
     let count : n ≡ 0 + n = omega arith in
     subst (λ (k : ℕ). IsOver d loads (joint_until k (run_of b budget o))) count over
-run_stays_over b stream budget o opens d loads n over (suc k) low =
-    let before = run_stays_over b stream budget o opens d loads n over k (omega (arith, low)) in
+run_stays_over b from budget o opens d loads n over (suc k) low =
+    let before = run_stays_over b from budget o opens d loads n over k (omega (arith, low)) in
     let count : suc (k + n) ≡ suc k + n = omega arith in
     subst (λ (k : ℕ). IsOver d loads (joint_until k (run_of b budget o))) count
-    (after_next b stream budget o opens (k + n) (omega (arith, low)) (IsOver d loads) (λ m at programs is.
+    (after_next b from budget o opens (k + n) (omega (arith, low)) (IsOver d loads) (λ m at programs is.
     step_over d loads m (subst (IsOver d loads) (sym at) before)))
 
 -- it is over at a later moment, too
@@ -329,17 +344,17 @@ abbrev OverLater : Bundle → Run → Type 0
 OverLater b r = (n later : ℕ) → suc n ≤ later → later ≤ length r.turns → (d : ℕ) →
     ends_in d (items_of_turn (slice_get r.turns n)) ≡ true → OverFrom d (joint_until (suc n) r) (joint_until later r)
 
-run_over : (b : Bundle) (stream : Random) (budget : ℕ) (o : Opened) → opening b stream ≡ Ok o →
+run_over : (b : Bundle) (from : Beginning) (budget : ℕ) (o : Opened) → opening_from b from ≡ Ok o →
     OverLater b (run_of b budget o)
-run_over b stream budget o opens n later from low d ends =
+run_over b from budget o opens n later past low d ends =
     let r : Run = run_of b budget o in
-    let first = run_goes_over b stream budget o opens d n (omega (arith, from, low)) ends in
-    let count : (later - suc n) + suc n ≡ later = omega (arith, from) in
+    let first = run_goes_over b from budget o opens d n (omega (arith, past, low)) ends in
+    let count : (later - suc n) + suc n ≡ later = omega (arith, past) in
     record {
       loads = first.loads;
       first = first.over;
       later = subst (λ (k : ℕ). IsOver d first.loads (joint_until k r)) count
-          (run_stays_over b stream budget o opens d first.loads (suc n) first.over (later - suc n)
+          (run_stays_over b from budget o opens d first.loads (suc n) first.over (later - suc n)
           (subst (λ (k : ℕ). k ≤ length r.turns) (sym count) low));
     }
 
@@ -357,24 +372,29 @@ stays_over d history later j j' over was now = record {
 }
 
 pub runs_give_latest : RunsGiveLatest
-runs_give_latest b stream budget r fits runs =
-    let holds : HoldsAlways b r =
-    of_opened b budget (HoldsAlways b) (opening b stream) r runs
-    (λ o opens. run_holds b stream budget o opens fits) in
+runs_give_latest b from budget r fits begins runs =
+    let holds : HoldsAlways b from r =
+    of_opened b budget (HoldsAlways b from) (opening_from b from) r runs
+    (λ o opens. run_holds b from budget o opens fits begins) in
     let closed : r.closed.joint.domains ≡ (joint_until (length r.turns) r).domains =
     of_opened b budget (λ (x : Run). x.closed.joint.domains ≡ (joint_until (length x.turns) x).domains)
-    (opening b stream) r runs (λ o opens. closed_domains b budget o) in
+    (opening_from b from) r runs (λ o opens. closed_domains b budget o) in
     let over : OverLater b r =
-    of_opened b budget (OverLater b) (opening b stream) r runs (λ o opens. run_over b stream budget o opens) in
+    of_opened b budget (OverLater b) (opening_from b from) r runs (λ o opens. run_over b from budget o opens) in
     record {
+      files = of_opened b budget (λ (x : Run). All (IsThere x.opened.joint.domains) (files_of from))
+          (opening_from b from) r runs (λ o opens. opened_there b from budget o opens fits begins);
       loads = λ n low. (holds n low).loads;
       ends = λ d program is.
           (holds (length r.turns) (omega arith)).loads d program
           (subst (λ (domains : List Domain). slice_get domains d ≡ Some program) closed is);
       pages = λ n low. (holds n low).agrees;
-      others = others_stay b stream budget r runs holds;
-      over = λ n later from low d ends.
-          stays_over d (history_until b (suc n) r) (history_until b later r) (joint_until (suc n) r)
+      closed = λ q.
+          subst (λ (plain : PageId → List ℕ). IsLatest (history_until b from (length r.turns) r) q (plain q))
+          (sym (closing_keeps_pages b from budget r runs)) ((holds (length r.turns) (omega arith)).agrees q);
+      others = others_stay b from budget r runs holds;
+      over = λ n later past low d ends.
+          stays_over d (history_until b from (suc n) r) (history_until b from later r) (joint_until (suc n) r)
           (joint_until later r)
-          (over n later from low d ends) (holds (suc n) (omega (arith, from, low))) (holds later low);
+          (over n later past low d ends) (holds (suc n) (omega (arith, past, low))) (holds later low);
     }

@@ -11,5 +11,6 @@ pub mod Turned
 pub mod Told
 pub mod Held
 pub mod Over
+pub mod Begun
 pub mod Histories
 pub mod Sums

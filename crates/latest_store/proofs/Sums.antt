@@ -150,5 +150,5 @@ add_up q at (m ∷ since) before all =
 
 -- So they do in the history of a run.
 pub runs_add_up : RunsAddUp
-runs_add_up b stream budget r fits runs n low since before is q at all =
+runs_add_up b from budget r fits runs n low since before is q at all =
     ap (λ (history : List Move). latest_value history q at 4 % 2 ^ 32) is ∙ add_up q at since before all

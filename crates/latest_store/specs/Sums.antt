@@ -1,12 +1,12 @@
 -- Additions to a word, by whatever contexts and in whatever order: none of them is lost.
 use Rattle.std.specs.Prelude.{ℕ, ◌≡◌, ◌≤◌, ◌+◌, ◌%◌, ◌^◌, ◌==◌, nat_lt, Bool, false, ◌&&◌, List, ◌++◌, length, All, sum_by, Option, Some, None, is_some, unwrap_or, Ok, if◌then◌else◌}
 use Rattle.cloak_base.specs.Pages.{same_page, is_of}
-use Rattle.cloak_base.specs.Random.{Random}
 use Rattle.cloak_base.specs.declared.names.PageId.{PageId}
 use Rattle.rv_atomic.specs.declared.atomic.AtomicOp.TheVariants.{Add}
 use Rattle.cloak_model.specs.declared.image.Bundle.{Bundle}
+use Rattle.cloak_model.specs.Beginning.{Beginning}
 use Rattle.cloak_model.specs.Bundle.{IsInGrammar}
-use Rattle.cloak_model.specs.Run.{Run, joint_run}
+use Rattle.cloak_model.specs.Run.{Run, run_from}
 use Rattle.latest_store.specs.Moves.{Move, Makes, Stores, Combines, Copies, Zeros, Drops, Loads, latest_value}
 use Rattle.latest_store.specs.LatestStore.{history_until}
 
@@ -39,14 +39,14 @@ added q at moves = sum_by (λ m. unwrap_or (addend q at m) 0) moves
 
 -- At each moment of a run: where, since some place of its history, what wrote in a word was additions to it alone, the
 -- latest value of the word is the value there plus the sum of their operands, modulo 2 ^ 32.
-abbrev pub AddsUp : Bundle → Run → Type 0
-AddsUp b r =
-    (n : ℕ) → n ≤ length r.turns → (since before : List Move) → history_until b n r ≡ since ++ before →
+abbrev pub AddsUp : Bundle → Beginning → Run → Type 0
+AddsUp b from r =
+    (n : ℕ) → n ≤ length r.turns → (since before : List Move) → history_until b from n r ≡ since ++ before →
     (q : PageId) (at : ℕ) → OnlyAdd q at since →
-    latest_value (history_until b n r) q at 4 % 2 ^ 32 ≡ (latest_value before q at 4 + added q at since) % 2 ^ 32
+    latest_value (history_until b from n r) q at 4 % 2 ^ 32 ≡ (latest_value before q at 4 + added q at since) % 2 ^ 32
 
--- Every run of an image does, under every schedule.
+-- Every run of an image does, from whatever beginning and under every schedule.
 abbrev pub RunsAddUp : Type 0
 RunsAddUp =
-    (b : Bundle) (stream : Random) (budget : ℕ) (r : Run) → IsInGrammar b → joint_run b stream budget ≡ Ok r →
-    AddsUp b r
+    (b : Bundle) (from : Beginning) (budget : ℕ) (r : Run) → IsInGrammar b → run_from b from budget ≡ Ok r →
+    AddsUp b from r

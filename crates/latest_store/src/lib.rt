@@ -1,10 +1,14 @@
 //! Laws on the definitions alone: what a completed cloaked load of a joint run (`cloak_model`, `specs/Run`) gives is,
 //! byte by byte, what its own program stored last at that byte of the page since the page was made, or the byte with
 //! which it was made. What was stored is read off the steps: the instructions of the program's contexts, the bytes
-//! that READ copied in, forks and ends of spaces, ends of domains, and the bytes of the image (`specs/Deeds`). LR is a
-//! load, and SC a store if it stores. An atomic operation is a load of the word that stood, and then stores what it
-//! makes of this word and its operand. So additions to a word add up, whatever the schedule (`specs/Sums`). After its
-//! end a domain completes no load, and its pages are zeros.
+//! that READ copied in, forks and ends of spaces, ends of domains (`specs/Deeds`). Pages are made with the bytes of the
+//! image, and with those of the files that the run begins over, each file as the resource that it is in the opened
+//! machine (`specs/LatestStore`). LR is a load, and SC a store if it stores. An atomic operation is a load of the word
+//! that stood, and then stores what it makes of this word and its operand. So additions to a word add up, whatever the
+//! schedule (`specs/Sums`). After its end a domain completes no load, and its pages are zeros.
+//!
+//! Both laws hold of both beginnings. The first asks that the files of a beginning are such of which a table can tell,
+//! and that each of their ciphertexts is that of its page (`IsBeginning`). That is nothing if there are none.
 //!
 //! No body turns the laws, so there is no wrong body to refuse here. With these changed definitions, tried on a copy,
 //! the proofs did not go through: a fork makes pages of zeros; the end of a domain drops only 15 of its 16 numbers; SC

@@ -1,5 +1,5 @@
 -- What ended is gone, what ended it is told, and refusals are few: over each step of the joint machine, and in a run.
-use Rattle.std.proofs.Common.{◌≡◌, ◌∙◌, ℕ, zero, suc, ◌+◌, ◌-◌, ◌^◌, ◌<◌, ◌≤◌, Bool, true, false, List, [], ◌∷◌, length, length-set, replicate, take, slice_get, slice_set, slice_index_or, Option, Some, None, IfSome, refl, sym, ap, subst, arith}
+use Rattle.std.proofs.Common.{◌≡◌, ◌∙◌, ℕ, zero, suc, ◌+◌, ◌-◌, ◌^◌, ◌<◌, ◌≤◌, Bool, true, false, List, [], ◌∷◌, length, length-set, replicate, take, slice_get, slice_set, slice_index_or, Option, Some, None, IfSome, Ok, refl, sym, ap, subst, arith}
 use Rattle.std.specs.Prelude.{IsSome, IsSomeAnd, is_some}
 use Rattle.std.proofs.Math.Nat.{min-le_left, min-le_right}
 use Rattle.std.proofs.lemmas.Bool.{false≢true}
@@ -7,15 +7,18 @@ use Rattle.cloak_base.specs.declared.causes.Violation.{Violation}
 use Rattle.cloak_model.specs.declared.image.Bundle.{Bundle}
 use Rattle.cloak_model.specs.declared.image.Program.{Program}
 use Rattle.cloak_model.specs.declared.resource.Region.{Region}
+use Rattle.cloak_model.specs.Beginning.{Beginning, opening_from}
 use Rattle.cloak_model.specs.Bundle.{IsInGrammar}
 use Rattle.cloak_model.specs.Cloaking.{CloakedMemory}
 use Rattle.cloak_model.specs.DomainState.{Domain, started_control, started_domain}
 use Rattle.cloak_model.specs.Ending.{ended_domain}
 use Rattle.cloak_model.specs.Joint.{Moment, Turn, end_domain, step_before_end, joint_step, after_turn, stop_of}
-use Rattle.cloak_model.specs.Opening.{Opened, opening, started_joint, started_domains}
+use Rattle.cloak_model.specs.Opening.{Opened, started_joint, started_domains}
 use Rattle.cloak_model.specs.Parts.{Joint}
 use Rattle.cloak_model.specs.Run.{Run, turns_from, joint_after, first_moment, run_of}
+use Rattle.cloak_model.specs.StoredFiles.{FileContents}
 use Rattle.kernel_isolation.specs.Isolation.{joint_until}
+use Rattle.kernel_isolation.proofs.FilesAdded.{IsGiven}
 use Rattle.kernel_isolation.proofs.Isolated.{of_opened}
 use Rattle.resource_map.specs.Kept.{IsInUse}
 use Rattle.resource_map.proofs.Lists.{get_or-replicate_none}
@@ -23,28 +26,44 @@ use Rattle.limit_law.specs.Endings.{HasNothing, EndedAreGone, has_ended, EndedAr
 use Rattle.limit_law.proofs.Endings.{answers_give, answers_keep}
 use Rattle.limit_law.proofs.Gone.{Gone, AllGone, step_keeps_gone}
 use Rattle.limit_law.proofs.Moments.{IsKept, following, at_every_moment}
-use Rattle.limit_law.proofs.Openings.{begins}
+use Rattle.limit_law.proofs.Openings.{begins, given_all}
+use Rattle.limit_law.proofs.Programs.{AllOf}
 use Rattle.limit_law.proofs.RootRuns.{roots_are_of_spaces_in_use}
 use Rattle.limit_law.proofs.Runs.{next_is_low}
-use Rattle.limit_law.proofs.Told.{flags, LeavesEnded, step_leaves}
+use Rattle.limit_law.proofs.Told.{flags, LeavesEnded, flags_set, step_leaves}
 
--- What ended is gone.
+-- What ended is gone. As a run begins, nothing has ended.
 
-started_gone : (d : ℕ) (p : Program) → Gone (started_domain d p.start)
+abbrev Lives : Domain → Type 0
+Lives d = d.control.ended ≡ false
+
+started_lives : (d : ℕ) (p : Program) → Lives (started_domain d p.start)
 unfolding started_domain started_control
-started_gone d p over = absurd (false≢true over)
+started_lives d p = refl
 
-domains_gone : (d : ℕ) (programs : List Program) → AllGone (started_domains d programs)
-domains_gone d [] k = tt
-domains_gone d (p ∷ programs) zero = started_gone d p
-domains_gone d (p ∷ programs) (suc k) = domains_gone (d + 1) programs k
+domains_live : (d : ℕ) (programs : List Program) → AllOf Lives (started_domains d programs)
+domains_live d [] k = tt
+domains_live d (p ∷ programs) zero = started_lives d p
+domains_live d (p ∷ programs) (suc k) = domains_live (d + 1) programs k
+
+abbrev JointLives : Joint → Type 0
+JointLives j = AllOf Lives j.domains
+
+joint_lives : (b : Bundle) (m : CloakedMemory) → JointLives (started_joint b m)
+unfolding started_joint
+joint_lives b m = domains_live 0 b.programs
+
+live_gone : (o : Option Domain) → IfSome o Lives → IfSome o Gone
+live_gone None lives = tt
+live_gone (Some d) lives = λ over. absurd (false≢true (sym lives ∙ over))
 
 abbrev JointGone : Joint → Type 0
 JointGone j = AllGone j.domains
 
-joint_gone : (b : Bundle) (m : CloakedMemory) → JointGone (started_joint b m)
-unfolding started_joint
-joint_gone b m = domains_gone 0 b.programs
+opened_gone : (b : Bundle) (from : Beginning) (o : Opened) → opening_from b from ≡ Ok o → JointGone o.joint
+opened_gone b from o opens d =
+    live_gone (slice_get o.joint.domains d)
+    (begins JointLives b from (joint_lives b) (λ f x y. given_all Lives f x y (λ was lives. lives)) o opens d)
 
 gone_is_kept : (b : Bundle) → IsInGrammar b → IsKept JointGone b.kernel.schedule
 gone_is_kept b grammar m same all = step_keeps_gone m (next_is_low b m grammar same) all
@@ -70,16 +89,16 @@ root_none None never = refl
 root_none (Some satp) never = absurd (never refl)
 
 pub ended_are_gone : EndedAreGone
-ended_are_gone b stream budget r grammar is n d program there over =
+ended_are_gone b from budget r grammar is n d program there over =
     let nothing = at_domain _ program there
-    (at_every_moment JointGone b stream budget r (begins JointGone b stream (joint_gone b)) (gone_is_kept b grammar) is n d)
+    (at_every_moment JointGone b from budget r (opened_gone b from) (gone_is_kept b grammar) is n d)
     over in
     record {
       nothing = nothing;
       roots = λ s own. root_none ((joint_until n r).memory.ledger.root s) (λ some.
           none_there (slice_get (joint_until n r).domains s.domain) program s.number
           (ap (slice_get (joint_until n r).domains) own ∙ there) nothing
-          (roots_are_of_spaces_in_use b stream budget r grammar is n s some));
+          (roots_are_of_spaces_in_use b from budget r grammar is n s some));
     }
 
 -- What ended it is told. Places beyond the last program are free.
@@ -110,19 +129,24 @@ record JointTells (j : Joint) : Type 0 where
   four : length j.ended ≡ 4
   tells : Tells j.ended (flags j.domains)
 
-started_flag : (d : ℕ) (p : Program) → false ≡ (started_domain d p.start).control.ended
-unfolding started_domain started_control
-started_flag d p = refl
-
 domains_tell : (n d : ℕ) (programs : List Program) → length programs ≤ n →
     Tells (replicate n None) (flags (started_domains d programs))
 domains_tell n d [] few = λ k. get_or-replicate_none n k
 domains_tell zero d (p ∷ programs) few = absurd (omega (arith, few))
-domains_tell (suc n) d (p ∷ programs) few = (started_flag d p, domains_tell n (d + 1) programs (omega (arith, few)))
+domains_tell (suc n) d (p ∷ programs) few = (sym (started_lives d p), domains_tell n (d + 1) programs (omega (arith, few)))
 
 joint_tells : (b : Bundle) (m : CloakedMemory) → IsInGrammar b → JointTells (started_joint b m)
 unfolding started_joint
 joint_tells b m grammar = record { four = refl; tells = domains_tell 4 0 b.programs grammar.few_programs }
+
+given_leaves : (f : FileContents) (x y : Joint) → IsGiven f x y → LeavesEnded x y
+given_leaves f x y given =
+    subst (LeavesEnded x) given.is
+    (record {
+      ended = refl;
+      refused = refl;
+      flags = flags_set x.domains f.domain given.domain _ given.there (record { ended = refl });
+    })
 
 end_tells : (d : ℕ) (was : Domain) (v : Violation) (t : Turn) → slice_get t.joint.domains d ≡ Some was →
     JointTells t.joint → JointTells (end_domain d was v t).joint
@@ -146,9 +170,10 @@ step_tells m here =
     (before_tells m.joint (step_before_end m).joint (step_leaves m) here)
 
 pub ended_are_told : EndedAreTold
-ended_are_told b stream budget r grammar is n =
-    let here = at_every_moment JointTells b stream budget r
-    (begins JointTells b stream (λ m. joint_tells b m grammar)) (λ m same tells. step_tells m tells) is n in
+ended_are_told b from budget r grammar is n =
+    let here = at_every_moment JointTells b from budget r
+    (begins JointTells b from (λ m. joint_tells b m grammar) (λ f x y given. before_tells x y (given_leaves f x y given)))
+    (λ m same tells. step_tells m tells) is n in
     record { four = here.four; taken = λ d. place_tells (joint_until n r).ended (joint_until n r).domains d here.tells }
 
 -- Refusals are few.
@@ -205,6 +230,8 @@ unfolding started_joint
 joint_none b m = refl
 
 pub refusals_are_few : RefusalsAreFew
-refusals_are_few b stream budget r is =
-    of_opened b budget FewAtAll (opening b stream) r is
-    (λ o opens. opened_few b budget o (begins (λ (j : Joint). j.refused ≡ 0) b stream (joint_none b) o opens))
+refusals_are_few b from budget r is =
+    of_opened b budget FewAtAll (opening_from b from) r is
+    (λ o opens. opened_few b budget o
+    (begins (λ (j : Joint). j.refused ≡ 0) b from (joint_none b)
+    (λ f x y given none. (given_leaves f x y given).refused ∙ none) o opens))

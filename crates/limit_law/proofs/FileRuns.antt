@@ -1,27 +1,33 @@
 -- The numbers of files are words: over each step of the joint machine, and in a run.
-use Rattle.std.proofs.Common.{◌≡◌, ℕ, zero, suc, ◌+◌, List, [], ◌∷◌, slice_get, Option, Some, None, IfSome, Ok, sym, subst}
+use Rattle.std.proofs.Common.{◌≡◌, ℕ, zero, suc, ◌+◌, List, [], ◌∷◌, length, slice_get, Option, Some, None, IfSome, Ok, sym, subst}
+use Rattle.std.specs.Prelude.{All}
 use Rattle.std.specs.List.{AllByRecursion}
-use Rattle.cloak_base.specs.Random.{Random}
+use Rattle.std.proofs.lemmas.List.Elements.{All-nil, All-cons, All-head, All-tail}
 use Rattle.cloak_model.specs.declared.image.Bundle.{Bundle}
 use Rattle.cloak_model.specs.declared.image.Program.{Program}
 use Rattle.cloak_model.specs.declared.resource.Resource.{Resource}
+use Rattle.cloak_model.specs.Beginning.{Beginning, Fresh, Stored, opening_from}
 use Rattle.cloak_model.specs.Bundle.{IsInGrammar}
 use Rattle.cloak_model.specs.Cloaking.{CloakedMemory}
 use Rattle.cloak_model.specs.DomainState.{Domain, started_control, started_domain}
 use Rattle.cloak_model.specs.DomainStep.{interrupt}
 use Rattle.cloak_model.specs.Ending.{ended_domain}
-use Rattle.cloak_model.specs.Opening.{Opened, opening, started_joint, started_domains}
+use Rattle.cloak_model.specs.Opening.{Opened, started_joint, started_domains}
 use Rattle.cloak_model.specs.Parts.{Joint}
+use Rattle.cloak_model.specs.Record.{IsWord}
 use Rattle.cloak_model.specs.Resources.{resource_at, started_resources}
-use Rattle.item_law.specs.Writing.{IsOfBytes, IsStreamOfBytes}
+use Rattle.cloak_model.specs.StoredFiles.{FileContents, IsFile, stored_file, table_of}
+use Rattle.item_law.specs.Writing.{IsOfBytes, IsBeginningOfBytes}
+use Rattle.item_law.proofs.Adding.{all_files_keep}
 use Rattle.item_law.proofs.Controls.{slot_fits}
 use Rattle.item_law.proofs.Turns.{ProgramFits, JointFits, turn_fits}
+use Rattle.kernel_isolation.proofs.FilesAdded.{IsGiven, files_of, opens_over}
 use Rattle.resource_map.proofs.Lists.{get_or-replicate_none}
 use Rattle.limit_law.specs.Files.{HasOwnerWord, AreFileWords, RunsHaveFileWords}
-use Rattle.limit_law.proofs.Files.{step_file_words}
+use Rattle.limit_law.proofs.Files.{file_words, step_file_words}
 use Rattle.limit_law.proofs.RootRuns.{slot_same, interrupt_same}
 use Rattle.limit_law.proofs.Moments.{IsKept, at_every_moment}
-use Rattle.limit_law.proofs.Openings.{begins}
+use Rattle.limit_law.proofs.Openings.{given_all}
 use Rattle.limit_law.proofs.Programs.{AllOf, KeptInside, step_all}
 use Rattle.limit_law.proofs.Runs.{JointKeeps, next_is_low, opened_keep, limits_are_kept}
 use Rattle.limit_law.proofs.Turns.{Keeps}
@@ -60,7 +66,7 @@ fit_at [] d keeps all = tt
 fit_at (x ∷ domains) zero keeps all = record { limits = keeps; words = all.0 }
 fit_at (x ∷ domains) (suc d) keeps all = fit_at domains d keeps all.1
 
--- The opening: there are no files.
+-- The opening: a program begins without files, and the number of each file that is added is a word.
 
 first_words : (pages base n : ℕ) →
     IfSome (resource_at (started_resources pages base) n) (λ (held : Resource). HasOwnerWord held.owner)
@@ -82,6 +88,30 @@ joint_words : (b : Bundle) (m : CloakedMemory) → AllWords (started_joint b m).
 unfolding started_joint
 joint_words b m = domains_words 0 b.programs
 
+abbrev HasWordNumber : FileContents → Type 0
+HasWordNumber f = IsWord f.number
+
+given_words : (f : FileContents) (x y : Joint) → HasWordNumber f → IsGiven f x y → AllWords x.domains → AllWords y.domains
+given_words f x y number =
+    given_all Words f x y (λ d words. file_words f.number (length f.pages) d.control.resources words number)
+
+table_numbers : (files : List FileContents) → All IsFile (table_of files) → All HasWordNumber files
+table_numbers [] all = All-nil HasWordNumber
+table_numbers (f ∷ files) all =
+    All-cons HasWordNumber f files (All-head IsFile (stored_file f) (table_of files) all).number
+    (table_numbers files (All-tail IsFile (stored_file f) (table_of files) all))
+
+numbers : (b : Bundle) (from : Beginning) → IsBeginningOfBytes b from → All HasWordNumber (files_of from)
+numbers b (Fresh stream) all = All-nil HasWordNumber
+numbers b (Stored keys stream files) all = table_numbers files all.contents.table.each
+
+opened_files : (b : Bundle) (from : Beginning) → IsBeginningOfBytes b from → (o : Opened) →
+    opening_from b from ≡ Ok o → AllWords o.joint.domains
+opened_files b from all o opens =
+    let over = opens_over b from o opens in
+    all_files_keep (λ (j : Joint). AllWords j.domains) HasWordNumber given_words (files_of from)
+    (started_joint b over.memory) o.joint (numbers b from all) over.added (joint_words b over.memory)
+
 -- The run.
 
 record IsFitJoint (j : Joint) : Type 0 where
@@ -97,12 +127,12 @@ file_words_are_kept b grammar m same here = record {
       (λ d. fit_at m.joint.domains d (here.limits d) here.words.programs) here.files;
 }
 
-file_words_begin : (b : Bundle) (stream : Random) → IsInGrammar b → IsOfBytes b → IsStreamOfBytes stream → (o : Opened) →
-    opening b stream ≡ Ok o → IsFitJoint o.joint
-file_words_begin b stream grammar bytes all o opens = record {
-  limits = opened_keep b stream grammar o opens;
-  words = opened_words b stream grammar bytes all o opens;
-  files = begins (λ (j : Joint). AllWords j.domains) b stream (joint_words b) o opens;
+file_words_begin : (b : Bundle) (from : Beginning) → IsInGrammar b → IsOfBytes b → IsBeginningOfBytes b from →
+    (o : Opened) → opening_from b from ≡ Ok o → IsFitJoint o.joint
+file_words_begin b from grammar bytes all o opens = record {
+  limits = opened_keep b from grammar o opens;
+  words = opened_words b from grammar bytes all o opens;
+  files = opened_files b from all o opens;
 }
 
 at_domain : (found : Option Domain) (program : Domain) → found ≡ Some program → IfSome found Words → Words program
@@ -110,7 +140,7 @@ at_domain None program is here = absurd cc
 at_domain (Some x) program is here = let same : x ≡ program = cc in subst Words same here
 
 pub runs_have_file_words : RunsHaveFileWords
-runs_have_file_words b stream budget r grammar bytes all is n d program there =
+runs_have_file_words b from budget r grammar bytes all is n d program there =
     at_domain _ program there
-    ((at_every_moment IsFitJoint b stream budget r (file_words_begin b stream grammar bytes all)
+    ((at_every_moment IsFitJoint b from budget r (file_words_begin b from grammar bytes all)
     (file_words_are_kept b grammar) is n).files d)

@@ -107,7 +107,7 @@ context_moved r r' used None here = tt
 context_moved r r' used (Some c) here =
     record { steady = here.steady; waiting = here.waiting; hart = here.hart; space = used c.space here.space }
 
-resources_kept : (d : Control) (r : Resources) → KeepsLimits d → StayKept d.resources r →
+pub resources_kept : (d : Control) (r : Resources) → KeepsLimits d → StayKept d.resources r →
     KeepsLimits (record d { resources = r })
 resources_kept d r keeps stays = record {
   slots = keeps.slots;

@@ -1,12 +1,12 @@
 -- What holds as a run begins, and is kept by each step of the joint machine, holds at every moment of the run.
 use Rattle.std.proofs.Common.{◌≡◌, ℕ, zero, suc, List, take, Option, Some, None, Ok, refl}
-use Rattle.cloak_base.specs.Random.{Random}
 use Rattle.cloak_base.specs.declared.causes.Stop.{Stop}
 use Rattle.cloak_model.specs.declared.image.Bundle.{Bundle}
+use Rattle.cloak_model.specs.Beginning.{Beginning, opening_from}
 use Rattle.cloak_model.specs.Joint.{Moment, Turn, joint_step, after_turn, stop_of}
-use Rattle.cloak_model.specs.Opening.{Opened, opening}
+use Rattle.cloak_model.specs.Opening.{Opened}
 use Rattle.cloak_model.specs.Parts.{Joint}
-use Rattle.cloak_model.specs.Run.{Run, joint_run, unless_stopped, turns_from, joint_after, first_moment, run_of}
+use Rattle.cloak_model.specs.Run.{Run, run_from, unless_stopped, turns_from, joint_after, first_moment, run_of}
 use Rattle.kernel_isolation.specs.Isolation.{joint_until}
 use Rattle.kernel_isolation.proofs.Isolated.{of_opened}
 
@@ -43,8 +43,8 @@ opened_run : (P : Joint → Type 0) (b : Bundle) (budget : ℕ) (o : Opened) →
 unfolding run_of
 opened_run P b budget o kept here n = after_steps P b.kernel.schedule kept budget n (first_moment b o.joint) refl here
 
-pub at_every_moment : (P : Joint → Type 0) (b : Bundle) (stream : Random) (budget : ℕ) (r : Run) →
-    ((o : Opened) → opening b stream ≡ Ok o → P o.joint) → IsKept P b.kernel.schedule →
-    joint_run b stream budget ≡ Ok r → (n : ℕ) → P (joint_until n r)
-at_every_moment P b stream budget r begins kept is =
-    of_opened b budget (AtAll P) (opening b stream) r is (λ o opens. opened_run P b budget o kept (begins o opens))
+pub at_every_moment : (P : Joint → Type 0) (b : Bundle) (from : Beginning) (budget : ℕ) (r : Run) →
+    ((o : Opened) → opening_from b from ≡ Ok o → P o.joint) → IsKept P b.kernel.schedule →
+    run_from b from budget ≡ Ok r → (n : ℕ) → P (joint_until n r)
+at_every_moment P b from budget r begins kept is =
+    of_opened b budget (AtAll P) (opening_from b from) r is (λ o opens. opened_run P b budget o kept (begins o opens))

@@ -1,15 +1,22 @@
--- The opening of a run: what holds of the joint machine with each memory that may stand there holds as the run begins.
-use Rattle.std.proofs.Common.{◌≡◌, ℕ, zero, suc, ◌+◌, List, [], ◌∷◌, Option, Some, None, IfSome, Ok, subst}
+-- The opening of a run: what holds of the joint machine with each memory that may stand there, and is kept as files are
+-- added, holds as the run begins.
+use Rattle.std.proofs.Common.{◌≡◌, ℕ, zero, suc, ◌+◌, List, [], ◌∷◌, length, Option, Some, None, IfSome, Ok, subst}
 use Rattle.std.specs.Prelude.{option_and_then}
 use Rattle.cloak_base.specs.Random.{Random}
 use Rattle.cloak_base.specs.declared.names.PageId.{PageId}
 use Rattle.cloak_model.specs.declared.image.Bundle.{Bundle}
 use Rattle.cloak_model.specs.declared.image.Program.{Program}
+use Rattle.cloak_model.specs.Beginning.{Beginning, opening_from}
 use Rattle.cloak_model.specs.Cloaking.{CloakedMemory}
+use Rattle.cloak_model.specs.DomainState.{Domain, with_resources}
+use Rattle.cloak_model.specs.Files.{file_resource}
 use Rattle.cloak_model.specs.Ledger.{Keys, vector_of}
-use Rattle.cloak_model.specs.Opening.{key_count, drawn_keys, keys_for, Opened, opened_with, opened_by, opening, started_joint, started_memory, place_pages, place_programs}
+use Rattle.cloak_model.specs.Opening.{Opened, started_joint, started_memory, place_pages, place_programs}
 use Rattle.cloak_model.specs.PageMoves.{place, place_with}
 use Rattle.cloak_model.specs.Parts.{Joint}
+use Rattle.cloak_model.specs.StoredFiles.{FileContents}
+use Rattle.kernel_isolation.proofs.FilesAdded.{IsGiven, files_keep, files_of, opens_over}
+use Rattle.limit_law.proofs.Programs.{AllOf, set_all, all_at}
 
 -- Of a memory: what holds before any page is placed, and is kept as one is placed.
 
@@ -39,45 +46,39 @@ module _ (N : CloakedMemory → Type 0)
 
 -- Of the joint machine.
 
-module _ (P : Joint → Type 0) (b : Bundle) where
-  with_memory : (m : Option CloakedMemory) (o : Opened) → IfSome m (λ (x : CloakedMemory). P (started_joint b x)) →
-      opened_with b m ≡ Ok o → P o.joint
-  unfolding opened_with
-  with_memory None o here opens = absurd cc
-  with_memory (Some m) o here opens = let same : started_joint b m ≡ o.joint = cc in subst P same here
-
-  with_draw : (draw : Option (List (List ℕ) × Random)) (o : Opened) →
-      ((keys : Keys) (stream : Random) →
-      IfSome (place_programs 0 b.programs (started_memory b.kernel keys stream))
-      (λ (x : CloakedMemory). P (started_joint b x))) →
-      opened_by b draw ≡ Ok o → P o.joint
-  unfolding opened_by
-  with_draw None o here opens = absurd cc
-  with_draw (Some draw) o here opens = with_memory _ o (here (keys_for b.programs draw.0) draw.1) opens
-
-each_some : (P Q : CloakedMemory → Type 0) (o : Option CloakedMemory) → ((m : CloakedMemory) → P m → Q m) → IfSome o P →
-    IfSome o Q
-each_some P Q None gives here = tt
-each_some P Q (Some m) gives here = gives m here
-
-any_some : (Q : CloakedMemory → Type 0) (o : Option CloakedMemory) → ((m : CloakedMemory) → Q m) → IfSome o Q
-any_some Q None gives = tt
-any_some Q (Some m) gives = gives m
+-- a file that is added keeps the property
+abbrev pub KeepsFiles : (Joint → Type 0) → Type 0
+KeepsFiles P = (f : FileContents) (x y : Joint) → IsGiven f x y → P x → P y
 
 -- by what holds of the memory
-pub begins_by_memory : (N : CloakedMemory → Type 0) (P : Joint → Type 0) (b : Bundle) (stream : Random) →
+pub begins_by_memory : (N : CloakedMemory → Type 0) (P : Joint → Type 0) (b : Bundle) (from : Beginning) →
     ((q : PageId) (f : ℕ) (bytes : List ℕ) (draw : Option (List ℕ × Random)) (m : CloakedMemory) → N m →
     IfSome (place_with q f bytes draw m) N) →
     ((keys : Keys) (rest : Random) → N (started_memory b.kernel keys rest)) →
-    ((m : CloakedMemory) → N m → P (started_joint b m)) → (o : Opened) → opening b stream ≡ Ok o → P o.joint
-begins_by_memory N P b stream one first gives o opens =
-    with_draw P b (drawn_keys (key_count b.programs) stream) o
-    (λ keys rest. each_some N (λ (x : CloakedMemory). P (started_joint b x)) _ gives
-    (programs_placed N one 0 b.programs _ (first keys rest))) opens
+    ((m : CloakedMemory) → N m → P (started_joint b m)) → KeepsFiles P → (o : Opened) → opening_from b from ≡ Ok o →
+    P o.joint
+begins_by_memory N P b from one first gives keeps o opens =
+    let over = opens_over b from o opens in
+    let placed = subst (λ (m : Option CloakedMemory). IfSome m N) over.placed
+    (programs_placed N one 0 b.programs _ (first over.keys over.stream)) in
+    files_keep P keeps (files_of from) (started_joint b over.memory) o.joint over.added (gives over.memory placed)
 
 -- whatever the memory is
-pub begins : (P : Joint → Type 0) (b : Bundle) (stream : Random) → ((m : CloakedMemory) → P (started_joint b m)) →
-    (o : Opened) → opening b stream ≡ Ok o → P o.joint
-begins P b stream gives o opens =
-    with_draw P b (drawn_keys (key_count b.programs) stream) o
-    (λ keys rest. any_some (λ (x : CloakedMemory). P (started_joint b x)) _ gives) opens
+pub begins : (P : Joint → Type 0) (b : Bundle) (from : Beginning) → ((m : CloakedMemory) → P (started_joint b m)) →
+    KeepsFiles P → (o : Opened) → opening_from b from ≡ Ok o → P o.joint
+begins P b from gives keeps o opens =
+    let over = opens_over b from o opens in
+    files_keep P keeps (files_of from) (started_joint b over.memory) o.joint over.added (gives over.memory)
+
+-- What each program keeps as it gets the resource of a file.
+
+abbrev pub with_made : ℕ → ℕ → Domain → Domain
+with_made number pages d = with_resources (file_resource number pages d.control.resources).resources d
+
+pub given_all : (Q : Domain → Type 0) (f : FileContents) (x y : Joint) →
+    ((d : Domain) → Q d → Q (with_made f.number (length f.pages) d)) → IsGiven f x y → AllOf Q x.domains →
+    AllOf Q y.domains
+given_all Q f x y made given all =
+    let here = made given.domain (all_at Q x.domains f.domain given.domain given.there all) in
+    subst (λ (j : Joint). AllOf Q j.domains) given.is
+    (set_all Q x.domains f.domain (with_made f.number (length f.pages) given.domain) all here)

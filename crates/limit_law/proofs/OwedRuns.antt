@@ -1,5 +1,5 @@
 -- No page is owed by two frames: over each step, and in a run.
-use Rattle.std.proofs.Common.{◌≡◌, ℕ, zero, suc, Bool, true, false, List, find, replicate, slice_get, Option, Some, None, IfSome, Result, Ok, Err, sym, ◌∙◌}
+use Rattle.std.proofs.Common.{◌≡◌, ℕ, zero, suc, Bool, true, false, List, find, replicate, slice_get, Option, Some, None, IfSome, Result, Ok, Err, sym, subst, ◌∙◌}
 use Rattle.cloak_base.specs.Random.{Random}
 use Rattle.cloak_base.specs.declared.causes.Violation.{Violation}
 use Rattle.cloak_base.specs.declared.names.PageId.{PageId}
@@ -13,6 +13,7 @@ use Rattle.cloak_model.specs.declared.outcome.Kernel.TheVariants.{Stay, Put, Hal
 use Rattle.cloak_model.specs.Ahead.{settle_while, settle_found, settle_touched, settled_step, made_after, is_owed}
 use Rattle.cloak_model.specs.AskPages.{ask_copy, ask_forget}
 use Rattle.cloak_model.specs.Asking.{Told}
+use Rattle.cloak_model.specs.Beginning.{Beginning, opening_from}
 use Rattle.cloak_model.specs.Cloaking.{CloakedMemory, AfterSettling, settle}
 use Rattle.cloak_model.specs.Contexts.{Admitted, context_at, domain_of, slot_of}
 use Rattle.cloak_model.specs.DomainState.{Control, Domain}
@@ -24,11 +25,13 @@ use Rattle.cloak_model.specs.Hypercalls.{Stepped}
 use Rattle.cloak_model.specs.Joint.{Moment, Turn, next_hart, cloak_of, cloak_outside, memory_of, outside_ended, after_outside, outside_step, domain_ended, after_domain_step, pages_for, interrupt_ended, after_interrupt, by_interrupt, by_running, inside_step, turn_of, end_domain, step_before_end, joint_step}
 use Rattle.cloak_model.specs.KernelStep.{ticked}
 use Rattle.cloak_model.specs.Ledger.{Keys}
-use Rattle.cloak_model.specs.Opening.{Opened, opening, started_joint, started_ledger, started_memory}
+use Rattle.cloak_model.specs.Opening.{Opened, started_joint, started_ledger, started_memory}
 use Rattle.cloak_model.specs.PageMoves.{copy_pages, drop_pages, place_with}
 use Rattle.cloak_model.specs.Parts.{Joint}
 use Rattle.cloak_model.specs.Resuming.{by_root, by_context, by_domain, resume}
 use Rattle.cloak_model.specs.World.{World, Flat, Cloaked, Alone, noted, stored_at, settled, written, with_plain}
+use Rattle.cloak_model.specs.StoredFiles.{FileContents}
+use Rattle.kernel_isolation.proofs.FilesAdded.{IsGiven, given_keeps}
 use Rattle.resource_map.proofs.Lists.{get_or-replicate_none}
 use Rattle.script_fold.proofs.Folding.{step_keeps}
 use Rattle.script_fold.proofs.Questions.{Kept}
@@ -267,11 +270,14 @@ joint_once : (b : Bundle) (m : CloakedMemory) → Keeps m → JointOnce (started
 unfolding started_joint
 joint_once b m once = once
 
-opened_once : (b : Bundle) (stream : Random) (o : Opened) → opening b stream ≡ Ok o → JointOnce o.joint
-opened_once b stream = begins_by_memory Keeps JointOnce b stream place_once (started_once b) (joint_once b)
+given_once : (f : FileContents) (x y : Joint) → IsGiven f x y → JointOnce x → JointOnce y
+given_once f x y given once = subst IsOnce (sym (given_keeps f x y given).memory.owed) once
+
+opened_once : (b : Bundle) (from : Beginning) (o : Opened) → opening_from b from ≡ Ok o → JointOnce o.joint
+opened_once b from = begins_by_memory Keeps JointOnce b from place_once (started_once b) (joint_once b) given_once
 
 -- The run.
 
 pub pages_are_owed_once : PagesAreOwedOnce
-pages_are_owed_once b stream budget r is =
-    at_every_moment JointOnce b stream budget r (opened_once b stream) (λ m same once. step_once m once) is
+pages_are_owed_once b from budget r is =
+    at_every_moment JointOnce b from budget r (opened_once b from) (λ m same once. step_once m once) is

@@ -32,7 +32,7 @@ pub record KeptInside (K Q : Domain → Type 0) : Type 0 where
       Q (record d { control = (resume_slot slot hart reply d.control).control })
   pub ended : (d : Domain) → Q d → Q (ended_domain d)
 
-set_all : (Q : Domain → Type 0) (domains : List Domain) (i : ℕ) (x : Domain) → AllOf Q domains → Q x →
+pub set_all : (Q : Domain → Type 0) (domains : List Domain) (i : ℕ) (x : Domain) → AllOf Q domains → Q x →
     AllOf Q (slice_set domains i x)
 set_all Q [] i x all here d = tt
 set_all Q (y ∷ domains) zero x all here zero = here
@@ -40,7 +40,7 @@ set_all Q (y ∷ domains) zero x all here (suc d) = all (suc d)
 set_all Q (y ∷ domains) (suc i) x all here zero = all zero
 set_all Q (y ∷ domains) (suc i) x all here (suc d) = set_all Q domains i x (λ k. all (suc k)) here d
 
-all_at : (Q : Domain → Type 0) (domains : List Domain) (d : ℕ) (x : Domain) → slice_get domains d ≡ Some x →
+pub all_at : (Q : Domain → Type 0) (domains : List Domain) (d : ℕ) (x : Domain) → slice_get domains d ≡ Some x →
     AllOf Q domains → Q x
 all_at Q domains d x is all = subst (λ (o : Option Domain). IfSome o Q) is (all d)
 

@@ -17,6 +17,7 @@ use Rattle.cloak_model.specs.declared.outcome.Kernel.TheVariants.{Stay, Put, Hal
 use Rattle.cloak_model.specs.Ahead.{settle_while, settle_found, settle_touched, settled_step, made_after, is_owed}
 use Rattle.cloak_model.specs.Asking.{Told}
 use Rattle.cloak_model.specs.Bundle.{IsInGrammar}
+use Rattle.cloak_model.specs.Beginning.{Beginning, opening_from}
 use Rattle.cloak_model.specs.Cloaking.{CloakedMemory, AfterSettling, settle}
 use Rattle.cloak_model.specs.Contexts.{Context, Admitted, admit, is_root, context_at, domain_of, slot_of, same_space, with_space, resume_if, resume_at}
 use Rattle.cloak_model.specs.DomainState.{Control, Domain}
@@ -27,14 +28,16 @@ use Rattle.cloak_model.specs.Hypercalls.{Stepped}
 use Rattle.cloak_model.specs.Joint.{Moment, Turn, next_hart, cloak_of, cloak_outside, memory_of, outside_ended, after_outside, outside_step, domain_ended, after_domain_step, pages_for, interrupt_ended, after_interrupt, by_interrupt, by_running, inside_step, turn_of, end_domain, step_before_end, joint_step}
 use Rattle.cloak_model.specs.KernelStep.{ticked}
 use Rattle.cloak_model.specs.Ledger.{Keys}
-use Rattle.cloak_model.specs.Opening.{Opened, opening, started_joint, started_ledger, started_memory}
+use Rattle.cloak_model.specs.Opening.{Opened, started_joint, started_ledger, started_memory}
 use Rattle.cloak_model.specs.PageMoves.{place_with}
 use Rattle.cloak_model.specs.Parts.{Joint}
 use Rattle.cloak_model.specs.Resources.{Resources}
 use Rattle.cloak_model.specs.Resuming.{space_of, by_root, by_context, by_domain, resume}
+use Rattle.cloak_model.specs.StoredFiles.{FileContents}
 use Rattle.cloak_model.specs.World.{World, Flat, Cloaked, Alone}
 use Rattle.resource_map.specs.Kept.{IsInUse}
 use Rattle.script_fold.specs.Tables.{recorded_tables}
+use Rattle.kernel_isolation.proofs.FilesAdded.{IsGiven, given_keeps}
 use Rattle.script_fold.proofs.Rooted.{settle_root, rooted_domain_step, rooted_end}
 use Rattle.limit_law.specs.Limits.{IsContext, KeepsLimits}
 use Rattle.limit_law.specs.Roots.{RootsAreOfSpacesInUse}
@@ -346,12 +349,21 @@ started_none : (b : Bundle) (keys : Keys) (stream : Random) → NoRoot (started_
 unfolding started_memory started_ledger
 started_none b keys stream s = refl
 
-joint_rooted : (b : Bundle) (m : CloakedMemory) → NoRoot m → JointRooted (started_joint b m)
-unfolding started_joint
-joint_rooted b m none s some = absurd (false≢true (ap is_some (sym (none s)) ∙ some))
+abbrev NoneRooted : Joint → Type 0
+NoneRooted j = NoRoot j.memory
 
-opened_rooted : (b : Bundle) (stream : Random) (o : Opened) → opening b stream ≡ Ok o → JointRooted o.joint
-opened_rooted b stream = begins_by_memory NoRoot JointRooted b stream place_none (started_none b) (joint_rooted b)
+joint_none : (b : Bundle) (m : CloakedMemory) → NoRoot m → NoneRooted (started_joint b m)
+unfolding started_joint
+joint_none b m none = none
+
+given_none : (f : FileContents) (x y : Joint) → IsGiven f x y → NoneRooted x → NoneRooted y
+given_none f x y given none s =
+    ap (λ (root : SpaceId → Option ℕ). root s) (given_keeps f x y given).memory.root ∙ none s
+
+opened_rooted : (b : Bundle) (from : Beginning) (o : Opened) → opening_from b from ≡ Ok o → JointRooted o.joint
+opened_rooted b from o opens s some =
+    let none = begins_by_memory NoRoot NoneRooted b from place_none (started_none b) (joint_none b) given_none o opens in
+    absurd (false≢true (ap is_some (sym (none s)) ∙ some))
 
 -- The run.
 
@@ -366,7 +378,7 @@ roots_are_kept b grammar m same here = record {
 }
 
 pub roots_are_of_spaces_in_use : RootsAreOfSpacesInUse
-roots_are_of_spaces_in_use b stream budget r grammar is n =
-    (at_every_moment IsFit b stream budget r
-    (λ o opens. record { keep = opened_keep b stream grammar o opens; rooted = opened_rooted b stream o opens })
+roots_are_of_spaces_in_use b from budget r grammar is n =
+    (at_every_moment IsFit b from budget r
+    (λ o opens. record { keep = opened_keep b from grammar o opens; rooted = opened_rooted b from o opens })
     (roots_are_kept b grammar) is n).rooted

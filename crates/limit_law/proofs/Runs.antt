@@ -3,26 +3,26 @@ use Rattle.std.proofs.Common.{◌≡◌, ℕ, zero, suc, ◌+◌, ◌%◌, ◌<�
 use Rattle.std.specs.Prelude.{All}
 use Rattle.std.proofs.Math.Nat.{mod-lt}
 use Rattle.std.proofs.lemmas.List.Elements.{All-nil, All-cons, All-head, All-tail}
-use Rattle.cloak_base.specs.Random.{Random}
 use Rattle.cloak_model.specs.declared.image.Bundle.{Bundle}
 use Rattle.cloak_model.specs.declared.image.Program.{Program}
 use Rattle.cloak_model.specs.declared.resource.Region.{Region}
+use Rattle.cloak_model.specs.Beginning.{Beginning, opening_from}
 use Rattle.cloak_model.specs.Bundle.{IsProgramIn, IsInGrammar}
 use Rattle.cloak_model.specs.Cloaking.{CloakedMemory}
 use Rattle.cloak_model.specs.Contexts.{Context, context_at, started_contexts}
 use Rattle.cloak_model.specs.DomainState.{Domain, started_control, started_domain}
 use Rattle.cloak_model.specs.Joint.{Moment, next_hart}
-use Rattle.cloak_model.specs.Opening.{Opened, opening, started_joint, started_domains}
+use Rattle.cloak_model.specs.Opening.{Opened, started_joint, started_domains}
 use Rattle.cloak_model.specs.Parts.{Joint}
 use Rattle.cloak_model.specs.Resources.{regions_in, started_resources}
 use Rattle.resource_map.specs.Kept.{IsSoundRegion}
 use Rattle.resource_map.proofs.Lists.{get_or-replicate_none}
 use Rattle.resource_map.proofs.Soundness.{IsSound-started}
 use Rattle.limit_law.specs.Limits.{IsContext, IsSpace, RunsKeepLimits}
-use Rattle.limit_law.proofs.Resources.{no_regions}
-use Rattle.limit_law.proofs.Hypercalls.{new_is_context}
+use Rattle.limit_law.proofs.Resources.{no_regions, file_stays}
+use Rattle.limit_law.proofs.Hypercalls.{new_is_context, are_kept, resources_kept}
 use Rattle.limit_law.proofs.Moments.{IsKept, at_every_moment}
-use Rattle.limit_law.proofs.Openings.{begins}
+use Rattle.limit_law.proofs.Openings.{begins, with_made, given_all}
 use Rattle.limit_law.proofs.Turns.{Keeps, AllKeep, step_keep}
 
 -- As a program begins.
@@ -75,9 +75,15 @@ joint_keep b m grammar = domains_keep b.kernel.frames 0 b.programs grammar.progr
 abbrev pub JointKeeps : Joint → Type 0
 JointKeeps j = AllKeep j.domains
 
-pub opened_keep : (b : Bundle) (stream : Random) → IsInGrammar b → (o : Opened) → opening b stream ≡ Ok o →
+made_keeps : (number pages : ℕ) (d : Domain) → Keeps d → Keeps (with_made number pages d)
+made_keeps number pages d keeps =
+    resources_kept d.control _ keeps (file_stays number pages d.control.resources (are_kept d.control keeps))
+
+pub opened_keep : (b : Bundle) (from : Beginning) → IsInGrammar b → (o : Opened) → opening_from b from ≡ Ok o →
     JointKeeps o.joint
-opened_keep b stream grammar = begins JointKeeps b stream (λ m. joint_keep b m grammar)
+opened_keep b from grammar =
+    begins JointKeeps b from (λ m. joint_keep b m grammar)
+    (λ f x y. given_all Keeps f x y (made_keeps f.number (length f.pages)))
 
 -- The steps.
 
@@ -100,6 +106,6 @@ at_domain None program is here = absurd cc
 at_domain (Some x) program is here = let same : x ≡ program = cc in subst Keeps same here
 
 pub runs_keep_limits : RunsKeepLimits
-runs_keep_limits b stream budget r grammar is n d program there =
+runs_keep_limits b from budget r grammar is n d program there =
     at_domain _ program there
-    (at_every_moment JointKeeps b stream budget r (opened_keep b stream grammar) (limits_are_kept b grammar) is n d)
+    (at_every_moment JointKeeps b from budget r (opened_keep b from grammar) (limits_are_kept b grammar) is n d)

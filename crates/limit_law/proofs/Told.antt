@@ -28,7 +28,7 @@ pub record LeavesEnded (j j' : Joint) : Type 0 where
   pub refused : j'.refused ≡ j.refused
   pub flags : flags j'.domains ≡ flags j.domains
 
-flags_set : (domains : List Domain) (i : ℕ) (was new : Domain) → slice_get domains i ≡ Some was →
+pub flags_set : (domains : List Domain) (i : ℕ) (was new : Domain) → slice_get domains i ≡ Some was →
     SameFlag was.control new.control → flags (slice_set domains i new) ≡ flags domains
 flags_set [] i was new is same = refl
 flags_set (x ∷ domains) zero was new is same =

@@ -1,15 +1,15 @@
 -- Harts and contexts hold words, at every moment of a run.
 use Rattle.std.proofs.Common.{◌≡◌, List, [], ◌∷◌, Option, Some, None, Ok}
 use Rattle.std.specs.List.{AllByRecursion}
-use Rattle.cloak_base.specs.Random.{Random}
 use Rattle.cloak_model.specs.declared.image.Bundle.{Bundle}
+use Rattle.cloak_model.specs.Beginning.{Beginning, opening_from}
 use Rattle.cloak_model.specs.Bundle.{IsInGrammar}
 use Rattle.cloak_model.specs.Contexts.{Context}
 use Rattle.cloak_model.specs.DomainState.{Domain}
 use Rattle.cloak_model.specs.Hart.{Hart}
-use Rattle.cloak_model.specs.Opening.{Opened, opening}
+use Rattle.cloak_model.specs.Opening.{Opened}
 use Rattle.cloak_model.specs.Parts.{Joint}
-use Rattle.item_law.specs.Writing.{IsOfBytes, IsStreamOfBytes}
+use Rattle.item_law.specs.Writing.{IsOfBytes, IsBeginningOfBytes}
 use Rattle.item_law.proofs.Controls.{SlotFits}
 use Rattle.item_law.proofs.Harts.{HartFits}
 use Rattle.item_law.proofs.Opened.{opened_fits}
@@ -40,12 +40,12 @@ words j fits = record {
   programs = each ProgramFits HasProgramWords j.domains program_words fits.programs;
 }
 
-pub opened_words : (b : Bundle) (stream : Random) → IsInGrammar b → IsOfBytes b → IsStreamOfBytes stream →
-    (o : Opened) → opening b stream ≡ Ok o → JointFits o.joint
-opened_words b stream grammar bytes all o opens = (opened_fits b stream o grammar bytes all opens).joint
+pub opened_words : (b : Bundle) (from : Beginning) → IsInGrammar b → IsOfBytes b → IsBeginningOfBytes b from →
+    (o : Opened) → opening_from b from ≡ Ok o → JointFits o.joint
+opened_words b from grammar bytes all o opens = (opened_fits b from o grammar bytes all opens).joint
 
 pub runs_have_words : RunsHaveWords
-runs_have_words b stream budget r grammar bytes all is n =
+runs_have_words b from budget r grammar bytes all is n =
     words _
-    (at_every_moment JointFits b stream budget r (opened_words b stream grammar bytes all)
+    (at_every_moment JointFits b from budget r (opened_words b from grammar bytes all)
     (λ m same fits. (turn_fits m fits).joint) is n)

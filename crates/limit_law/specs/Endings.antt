@@ -1,14 +1,14 @@
 -- What the end of a domain leaves, at every moment of a run: nothing of the program, and a place that tells what ended it.
 use Rattle.std.specs.Prelude.{ℕ, ◌≡◌, ◌<◌, ◌≤◌, ◌^◌, Bool, true, false, is_some, length, slice_get, slice_index_or, Option, Some, None, Ok}
-use Rattle.cloak_base.specs.Random.{Random}
 use Rattle.cloak_base.specs.declared.names.SpaceId.{SpaceId}
 use Rattle.cloak_model.specs.declared.image.Bundle.{Bundle}
+use Rattle.cloak_model.specs.Beginning.{Beginning}
 use Rattle.cloak_model.specs.Bundle.{IsInGrammar}
 use Rattle.cloak_model.specs.Contexts.{context_at}
 use Rattle.cloak_model.specs.DomainState.{Control, Domain}
 use Rattle.cloak_model.specs.Parts.{Joint}
 use Rattle.cloak_model.specs.Resources.{resource_at}
-use Rattle.cloak_model.specs.Run.{Run, joint_run}
+use Rattle.cloak_model.specs.Run.{Run, run_from}
 use Rattle.kernel_isolation.specs.Isolation.{joint_until}
 
 -- What has ended.
@@ -31,7 +31,7 @@ pub record IsGone (j : Joint) (d : ℕ) (control : Control) : Type 0 where
 -- The law, of each program that has ended at a moment of the run of an image in the grammar.
 abbrev pub EndedAreGone : Type 0
 EndedAreGone =
-    (b : Bundle) (stream : Random) (budget : ℕ) (r : Run) → IsInGrammar b → joint_run b stream budget ≡ Ok r → (n d : ℕ) →
+    (b : Bundle) (from : Beginning) (budget : ℕ) (r : Run) → IsInGrammar b → run_from b from budget ≡ Ok r → (n d : ℕ) →
     (program : Domain) → slice_get (joint_until n r).domains d ≡ Some program → program.control.ended ≡ true →
     IsGone (joint_until n r) d program.control
 
@@ -51,7 +51,7 @@ pub record TellsEnded (j : Joint) : Type 0 where
 -- The law, of every moment of the run of an image in the grammar.
 abbrev pub EndedAreTold : Type 0
 EndedAreTold =
-    (b : Bundle) (stream : Random) (budget : ℕ) (r : Run) → IsInGrammar b → joint_run b stream budget ≡ Ok r → (n : ℕ) →
+    (b : Bundle) (from : Beginning) (budget : ℕ) (r : Run) → IsInGrammar b → run_from b from budget ≡ Ok r → (n : ℕ) →
     TellsEnded (joint_until n r)
 
 -- Refusals.
@@ -64,5 +64,5 @@ pub record AreFew (n refused : ℕ) : Type 0 where
 -- The law, of every moment of each run, also of an image that no file spells.
 abbrev pub RefusalsAreFew : Type 0
 RefusalsAreFew =
-    (b : Bundle) (stream : Random) (budget : ℕ) (r : Run) → joint_run b stream budget ≡ Ok r → (n : ℕ) →
+    (b : Bundle) (from : Beginning) (budget : ℕ) (r : Run) → run_from b from budget ≡ Ok r → (n : ℕ) →
     AreFew n (joint_until n r).refused

@@ -1,15 +1,15 @@
 -- The numbers of files are words, at every moment of a run.
 use Rattle.std.specs.Prelude.{ℕ, ◌≡◌, slice_get, IfSome, Some, Ok}
-use Rattle.cloak_base.specs.Random.{Random}
 use Rattle.cloak_model.specs.declared.image.Bundle.{Bundle}
 use Rattle.cloak_model.specs.declared.resource.Owner.{Owner}
 use Rattle.cloak_model.specs.declared.resource.Owner.TheVariants.{Space, File}
+use Rattle.cloak_model.specs.Beginning.{Beginning}
 use Rattle.cloak_model.specs.Bundle.{IsInGrammar}
 use Rattle.cloak_model.specs.DomainState.{Domain}
 use Rattle.cloak_model.specs.Record.{IsWord}
 use Rattle.cloak_model.specs.Resources.{Resources, resource_at}
-use Rattle.cloak_model.specs.Run.{Run, joint_run}
-use Rattle.item_law.specs.Writing.{IsOfBytes, IsStreamOfBytes}
+use Rattle.cloak_model.specs.Run.{Run, run_from}
+use Rattle.item_law.specs.Writing.{IsOfBytes, IsBeginningOfBytes}
 use Rattle.kernel_isolation.specs.Isolation.{joint_until}
 
 -- The number of a file is a word. A private resource has none.
@@ -21,9 +21,9 @@ HasOwnerWord (File number) = IsWord number
 abbrev pub AreFileWords : Resources → Type 0
 AreFileWords r = (n : ℕ) → IfSome (resource_at r n) (λ held. HasOwnerWord held.owner)
 
--- The law, of the run of an image in the grammar whose bytes are bytes, under a stream of bytes.
+-- The law, of the run of an image in the grammar whose bytes are bytes, from a beginning of bytes.
 abbrev pub RunsHaveFileWords : Type 0
 RunsHaveFileWords =
-    (b : Bundle) (stream : Random) (budget : ℕ) (r : Run) → IsInGrammar b → IsOfBytes b → IsStreamOfBytes stream →
-    joint_run b stream budget ≡ Ok r → (n d : ℕ) (program : Domain) →
+    (b : Bundle) (from : Beginning) (budget : ℕ) (r : Run) → IsInGrammar b → IsOfBytes b → IsBeginningOfBytes b from →
+    run_from b from budget ≡ Ok r → (n d : ℕ) (program : Domain) →
     slice_get (joint_until n r).domains d ≡ Some program → AreFileWords program.control.resources

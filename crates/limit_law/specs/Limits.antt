@@ -1,7 +1,6 @@
 -- The limits of a program: its contexts, its resources and the regions of its spaces. Each program keeps them at every
 -- moment of a run.
 use Rattle.std.specs.Prelude.{ℕ, ◌≡◌, ◌<◌, ◌≤◌, ◌+◌, ◌%◌, ◌^◌, ◌⊎◌, List, length, slice_get, All, AllPairs, IfSome, Option, Some, None, Ok}
-use Rattle.cloak_base.specs.Random.{Random}
 use Rattle.cloak_base.specs.Registers.{register}
 use Rattle.cloak_base.specs.declared.names.HartId.{HartId}
 use Rattle.cloak_model.specs.declared.context.Phase.{Phase}
@@ -9,11 +8,12 @@ use Rattle.cloak_model.specs.declared.context.Phase.TheVariants.{Plain, CopyIn, 
 use Rattle.cloak_model.specs.declared.context.WordPlace.{WordPlace}
 use Rattle.cloak_model.specs.declared.image.Bundle.{Bundle}
 use Rattle.cloak_model.specs.declared.resource.Region.{Region}
+use Rattle.cloak_model.specs.Beginning.{Beginning}
 use Rattle.cloak_model.specs.Bundle.{IsInGrammar}
 use Rattle.cloak_model.specs.Contexts.{Context, context_at}
 use Rattle.cloak_model.specs.DomainState.{Control, Domain}
 use Rattle.cloak_model.specs.Resources.{Resources, regions_in}
-use Rattle.cloak_model.specs.Run.{Run, joint_run}
+use Rattle.cloak_model.specs.Run.{Run, run_from}
 use Rattle.kernel_isolation.specs.Isolation.{joint_until}
 use Rattle.resource_map.specs.Kept.{IsInUse, IsSound, IsSoundRegion, EndsBelow}
 
@@ -99,5 +99,5 @@ pub record KeepsLimits (d : Control) : Type 0 where
 -- The law, of each program that there is at a moment of the run of an image in the grammar.
 abbrev pub RunsKeepLimits : Type 0
 RunsKeepLimits =
-    (b : Bundle) (stream : Random) (budget : ℕ) (r : Run) → IsInGrammar b → joint_run b stream budget ≡ Ok r → (n d : ℕ) →
+    (b : Bundle) (from : Beginning) (budget : ℕ) (r : Run) → IsInGrammar b → run_from b from budget ≡ Ok r → (n d : ℕ) →
     (program : Domain) → slice_get (joint_until n r).domains d ≡ Some program → KeepsLimits program.control

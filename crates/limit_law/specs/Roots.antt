@@ -1,11 +1,11 @@
 -- A page table is recorded only of a space in use, of a program that there is.
 use Rattle.std.specs.Prelude.{ℕ, ◌≡◌, true, is_some, IsSomeAnd, slice_get, Ok}
-use Rattle.cloak_base.specs.Random.{Random}
 use Rattle.cloak_base.specs.declared.names.SpaceId.{SpaceId}
 use Rattle.cloak_model.specs.declared.image.Bundle.{Bundle}
+use Rattle.cloak_model.specs.Beginning.{Beginning}
 use Rattle.cloak_model.specs.Bundle.{IsInGrammar}
 use Rattle.cloak_model.specs.Parts.{Joint}
-use Rattle.cloak_model.specs.Run.{Run, joint_run}
+use Rattle.cloak_model.specs.Run.{Run, run_from}
 use Rattle.kernel_isolation.specs.Isolation.{joint_until}
 use Rattle.resource_map.specs.Kept.{IsInUse}
 
@@ -16,5 +16,5 @@ IsThere j s = IsSomeAnd (slice_get j.domains s.domain) (λ d. IsInUse d.control.
 -- The law, of every moment of the run of an image in the grammar.
 abbrev pub RootsAreOfSpacesInUse : Type 0
 RootsAreOfSpacesInUse =
-    (b : Bundle) (stream : Random) (budget : ℕ) (r : Run) → IsInGrammar b → joint_run b stream budget ≡ Ok r → (n : ℕ) →
+    (b : Bundle) (from : Beginning) (budget : ℕ) (r : Run) → IsInGrammar b → run_from b from budget ≡ Ok r → (n : ℕ) →
     (s : SpaceId) → is_some ((joint_until n r).memory.ledger.root s) ≡ true → IsThere (joint_until n r) s

@@ -1,16 +1,16 @@
 -- Harts and contexts hold words, at every moment of a run.
 use Rattle.std.specs.Prelude.{ℕ, ◌≡◌, ◌<◌, List, IfSome, Option, Some, None, Ok}
 use Rattle.std.specs.List.{AllByRecursion}
-use Rattle.cloak_base.specs.Random.{Random}
 use Rattle.cloak_model.specs.declared.image.Bundle.{Bundle}
+use Rattle.cloak_model.specs.Beginning.{Beginning}
 use Rattle.cloak_model.specs.Bundle.{IsInGrammar}
 use Rattle.cloak_model.specs.Contexts.{Context}
 use Rattle.cloak_model.specs.DomainState.{Domain}
 use Rattle.cloak_model.specs.Hart.{Hart}
 use Rattle.cloak_model.specs.Parts.{Joint}
 use Rattle.cloak_model.specs.Record.{IsWord}
-use Rattle.cloak_model.specs.Run.{Run, joint_run}
-use Rattle.item_law.specs.Writing.{IsOfBytes, IsStreamOfBytes}
+use Rattle.cloak_model.specs.Run.{Run, run_from}
+use Rattle.item_law.specs.Writing.{IsOfBytes, IsBeginningOfBytes}
 use Rattle.kernel_isolation.specs.Isolation.{joint_until}
 
 -- Words of 32 bits.
@@ -45,8 +45,8 @@ pub record HasWords (j : Joint) : Type 0 where
   pub harts : AllByRecursion HasHartWords j.harts
   pub programs : AllByRecursion HasProgramWords j.domains
 
--- The law, of the run of an image in the grammar whose bytes are bytes, under a stream of bytes.
+-- The law, of the run of an image in the grammar whose bytes are bytes, from a beginning of bytes.
 abbrev pub RunsHaveWords : Type 0
 RunsHaveWords =
-    (b : Bundle) (stream : Random) (budget : ℕ) (r : Run) → IsInGrammar b → IsOfBytes b → IsStreamOfBytes stream →
-    joint_run b stream budget ≡ Ok r → (n : ℕ) → HasWords (joint_until n r)
+    (b : Bundle) (from : Beginning) (budget : ℕ) (r : Run) → IsInGrammar b → IsOfBytes b → IsBeginningOfBytes b from →
+    run_from b from budget ≡ Ok r → (n : ℕ) → HasWords (joint_until n r)

@@ -4,8 +4,9 @@
 //! program can have; and resources and regions fit together. No page is owed by two frames. A page table is recorded
 //! only of a space in use, of a program that there is. Registers, program counters and the numbers of files are words.
 //! Nothing is left of a program that has ended, and its place tells that it has. Each step refuses one resuming at
-//! most. The laws are of images in the grammar, under every stream and budget; those on owed pages and on refusals are
-//! of all images, and those on words are of images and streams of bytes.
+//! most. The laws are of images in the grammar, from every beginning and with every budget, also over the files of an
+//! earlier run; those on owed pages and on refusals are of all images, and those on words are of images and beginnings of
+//! bytes.
 //!
 //! No body turns a law, so there is no wrong body to refuse here. These changes were tried on a copy, and with none of
 //! them did the proofs go through. Of the limits: 15 regions in a space; harts below 3; program counters that are

@@ -6,9 +6,8 @@ ghost use Rattle.aes_block.specs.Bytes.{IsBytes};
 ghost use Rattle.page_states.specs.Opening.{IsPlain, OpensTo};
 
 use aes_block::Schedule;
-use cloak_base::PageId;
+use cloak_base::{Meta, PageId};
 use frame_store::{ChangedRight, CleanRight, FrameStore, OutsideRight};
-use protect_meta::Meta;
 use sha2::{Digest, Sha256};
 
 // The new bytes are made in one local page, and no call does with less: a transition of the store takes all of them by

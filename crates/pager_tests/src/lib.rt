@@ -1,4 +1,4 @@
-//! Tests of the ciphers, the page states, the pager, and the side of a step over it.
+//! Tests of the ciphers, the page states, the table of files, the pager, and the side of a step over it.
 #![tactic(auto)]
 
 #[cfg(test)]
@@ -7,6 +7,8 @@ mod chain;
 mod checks;
 #[cfg(test)]
 mod cipher;
+#[cfg(test)]
+mod files;
 #[cfg(test)]
 mod pager;
 #[cfg(test)]

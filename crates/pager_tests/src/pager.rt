@@ -6,10 +6,9 @@ ghost use Rattle.protect_meta.specs.Table.{domains_of};
 ghost use Rattle.cloak_pager.specs.State.{held_in, owed_at};
 
 use crate::checks::same;
-use cloak_base::{Frame, PageId};
+use cloak_base::{Frame, Meta, PageId};
 use cloak_pager::{Offered, Pager, Touched};
 use outside_io::Stream;
-use protect_meta::Meta;
 use sha2::{Digest, Sha256};
 use std::process::Abort;
 use std::test::Fail;
@@ -82,6 +81,15 @@ const EIGHT_3: [u8; 32] = [
     0x50, 0xbe, 0x1b, 0x42, 0x96, 0x93, 0x98, 0x7e, 0xe1, 0x9d, 0xfa, 0x5e, 0x51, 0xa2, 0x13, 0x0c,
     0x1c, 0xd2, 0xbe, 0x10, 0xff, 0x04, 0x0d, 0xb8, 0xfe, 0x89, 0xee, 0xaf, 0xab, 0xfa, 0xb2, 0x62,
 ];
+
+/// What is known of page Q with a 7 as it was shown under draw 2.
+const SHOWN_2: Meta = Meta {
+    iv: [
+        0x20, 0x21, 0x22, 0x23, 0x24, 0x25, 0x26, 0x27, 0x28, 0x29, 0x2a, 0x2b, 0x2c, 0x2d, 0x2e,
+        0x2f,
+    ],
+    digest: SEVEN_2,
+};
 
 /// A step of a way: a call, or a look at the frames and the stream from outside.
 #[derive(Clone, Copy, Debug, PartialEq, Eq)]
@@ -171,9 +179,7 @@ impl Run {
     /// A run to whose pager page Q is restored, as it is under draw 2 with a 7.
     fn restored(rt: &HostRuntime, kept: [u8; 4096]) -> Result<Run, Fail> {
         let mut pager = Pager::open(rt.alloc(), 64, 1, [KEY; 4], [0; 4])?;
-        let iv = 0x202122232425262728292a2b2c2d2e2f_u128.to_be_bytes();
-        let digest = SEVEN_2;
-        pager.restore(Q, Meta { iv, digest });
+        pager.restore(Q, SHOWN_2);
         let stream = stream_of(rt, 0)?;
         Ok(Run {
             pager,
@@ -197,6 +203,11 @@ impl Run {
             kept: [0; 4096],
         };
         Ok((run, placed))
+    }
+
+    /// What is known of a page.
+    fn known(&self, q: PageId) -> Option<Meta> {
+        if is_page(q) { self.pager.meta(q) } else { None }
     }
 
     fn is_outside(&self, f: Frame) -> bool
@@ -521,7 +532,10 @@ fn a_restored_page_is_opened(rt: HostRuntime) -> Result<(), Fail> {
     run.goes(&rt, &STORE_AND_LOAD);
     run.goes(&rt, &ONLY_READ);
     run.goes(&rt, &[(Step::Keep(F5), Seen::Done)]);
+    same(&rt, &run.known(Q), &Some(SHOWN_2), "shown");
+    same(&rt, &run.known(R), &None, "never shown");
     let mut other = Run::restored(&rt, run.kept)?;
+    same(&rt, &other.known(Q), &Some(SHOWN_2), "restored");
     other.goes(
         &rt,
         &[

@@ -53,6 +53,9 @@ no_bundle {S} {asked} {name} (refusal.Usage fault) before after asks reads low h
 no_bundle {S} {asked} {name} refusal.NoKey before after asks reads low held writing = absurd reads
 no_bundle {S} {asked} {name} refusal.NoPageDraw before after asks reads low held writing = absurd reads
 no_bundle {S} {asked} {name} refusal.NoSuchDomain before after asks reads low held writing = absurd reads
+no_bundle {S} {asked} {name} refusal.ShortSecret before after asks reads low held writing = absurd reads
+no_bundle {S} {asked} {name} (refusal.BadStore fault) before after asks reads low held writing = absurd reads
+no_bundle {S} {asked} {name} (refusal.NoRoom domain) before after asks reads low held writing = absurd reads
 
 -- a reason for which a bundle is not read
 abbrev pub IsUnread : Refusal → Type 0
@@ -69,6 +72,9 @@ unread (refusal.Usage fault) told m n reads = absurd reads
 unread refusal.NoKey told m n reads = absurd reads
 unread refusal.NoPageDraw told m n reads = absurd reads
 unread refusal.NoSuchDomain told m n reads = absurd reads
+unread refusal.ShortSecret told m n reads = absurd reads
+unread (refusal.BadStore fault) told m n reads = absurd reads
+unread (refusal.NoRoom domain) told m n reads = absurd reads
 
 -- a file was not read, after the bundle
 pub no_file : {S : Type 0} (A : Type 0) {asked : spec.Asked} {name : List ℕ} (r : Refusal) (before after : FilesOutside S) (reading : ℕ) →
@@ -87,3 +93,6 @@ no_file {S} A {asked} {name} (refusal.Usage fault) before after reading asks sam
 no_file {S} A {asked} {name} refusal.NoKey before after reading asks same reads low held writing = absurd reads
 no_file {S} A {asked} {name} refusal.NoPageDraw before after reading asks same reads low held writing = absurd reads
 no_file {S} A {asked} {name} refusal.NoSuchDomain before after reading asks same reads low held writing = absurd reads
+no_file {S} A {asked} {name} refusal.ShortSecret before after reading asks same reads low held writing = absurd reads
+no_file {S} A {asked} {name} (refusal.BadStore fault) before after reading asks same reads low held writing = absurd reads
+no_file {S} A {asked} {name} (refusal.NoRoom domain) before after reading asks same reads low held writing = absurd reads

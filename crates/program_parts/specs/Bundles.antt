@@ -1,7 +1,8 @@
 -- What reading the file of a bundle answers.
-use Rattle.std.specs.Prelude.{ℕ, ◌≡◌, List, Option, Some, IfSome, Result, Ok, Err}
+use Rattle.std.specs.Prelude.{ℕ, ◌≡◌, List, Option, Some, IfSome, Vec, Result, Ok, Err}
+use Rattle.std.specs.declared.alloc.Global.{Global}
 use Rattle.cloak_model.specs.declared.image.Bundle.{Bundle}
-use Rattle.cloak_model.specs.Bundle.{IsBundle, IsInGrammar}
+use Rattle.cloak_model.specs.Bundle.{IsBundle, IsBundleIn, IsInGrammar}
 use Rattle.cloak_model.specs.BundleFault.{bundle_fault}
 use Rattle.program_parts.specs.declared.refusal.Refusal.{Refusal}
 use Rattle.program_parts.specs.declared.refusal.Refusal.TheVariants as refusal
@@ -23,3 +24,14 @@ ReadsJudging told before now outcome = ReadsFile before now outcome
 abbrev pub ReadsBundle : Option (List ℕ) → ℕ → ℕ → Result Bundle Refusal → Type 0
 ReadsBundle told before now (Ok bundle) = (now ≡ before) × IsInFile told bundle
 ReadsBundle told before now (Err refused) = ReadsJudging {A = Bundle} told before now (Err refused)
+
+-- These bytes are a bundle of this version, and the file's, where those are told.
+pub record IsInFileAs (version : ℕ) (told : Option (List ℕ)) (bytes : List ℕ) (bundle : Bundle) : Type 0 where
+  pub is : IsBundleIn version bytes bundle
+  pub file : IfSome told (λ known. known ≡ bytes)
+
+-- the bundle that a file is with the file's bytes, or why it is none
+abbrev pub ReadsBundleBytes : Option (List ℕ) → ℕ → ℕ → Result (Bundle × Vec ℕ Global) Refusal → Type 0
+ReadsBundleBytes told before now (Ok read) =
+    (now ≡ before) × ((version : ℕ) × IsInFileAs version told read.1.items read.0)
+ReadsBundleBytes told before now (Err refused) = ReadsJudging {A = Bundle} told before now (Err refused)

@@ -1,6 +1,6 @@
--- What reading a file does to the count of reading faults.
-use Rattle.std.specs.Prelude.{ℕ, ◌≡◌, Result, Ok, Err}
-use Rattle.outside_io.specs.Told.{Rose}
+-- What reading a file does to the count of reading faults, and what writing one leaves of it.
+use Rattle.std.specs.Prelude.{ℕ, ◌≡◌, ◌≤◌, List, length, take, Option, Result, Ok, Err}
+use Rattle.outside_io.specs.Told.{Rose, Tells}
 use Rattle.program_parts.specs.declared.refusal.Refusal.{Refusal}
 use Rattle.program_parts.specs.declared.refusal.Refusal.TheVariants.{ReadFault, NoMemory}
 
@@ -10,3 +10,7 @@ ReadsFile before now (Ok a) = now ≡ before
 ReadsFile before now (Err ReadFault) = Rose before now
 ReadsFile before now (Err NoMemory) = now ≡ before
 ReadsFile before now (Err _) = ⊥
+
+-- if bytes are told, they are a front of these
+abbrev pub TellsFront : Option (List ℕ) → List ℕ → Type 0
+TellsFront told bytes = (n : ℕ) × (n ≤ length bytes) × Tells told (take n bytes)

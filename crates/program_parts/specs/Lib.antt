@@ -4,4 +4,6 @@ pub mod Files
 pub mod Refusal
 pub mod Refusing
 pub mod Bundles
+pub mod Streams
+pub mod Storing
 pub mod NoRun

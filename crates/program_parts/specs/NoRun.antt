@@ -1,11 +1,11 @@
 -- Why a command does nothing but show one line: each reason with its cause.
-use Rattle.std.specs.Prelude.{ℕ, ◌≡◌, ◌≤◌, ◌⊎◌, List, length, take, Option, Some, None, IfSome, Err}
-use Rattle.cloak_base.specs.Random.{Random, handed, numbered}
+use Rattle.std.specs.Prelude.{ℕ, ◌≡◌, ◌≤◌, ◌⊎◌, List, length, Option, Some, None, IfSome, Err}
+use Rattle.cloak_base.specs.Random.{Random}
 use Rattle.outside_io.specs.Told.{Grows, GrowsByFront, SameFiles}
 use Rattle.cloak_model.specs.declared.fault.BundleFault.{BundleFault}
 use Rattle.cloak_model.specs.declared.image.Bundle.{Bundle}
 use Rattle.cloak_model.specs.BundleFault.{bundle_fault}
-use Rattle.cloak_model.specs.Opening.{Lack, NoKey, NoPageDraw, opening}
+use Rattle.cloak_model.specs.Opening.{Lack, NoKey, NoPageDraw, NoRoom, opening}
 use Rattle.command_words.specs.declared.usage_fault.UsageFault.{UsageFault}
 use Rattle.command_words.specs.Command as spec
 use Rattle.program_parts.specs.declared.refusal.Refusal.{Refusal}
@@ -15,6 +15,8 @@ use Rattle.program_parts.specs.declared.status.Status.TheVariants as status
 use Rattle.program_parts.specs.Bundles.{IsInFile}
 use Rattle.program_parts.specs.Outside.{FilesOutside, Outside, Raised}
 use Rattle.program_parts.specs.Refusal.{status_of_refusal, refusal_line}
+use Rattle.program_parts.specs.Storing.{IsShortSecret, IsBadStore, IsStoredLack}
+use Rattle.program_parts.specs.Streams.{IsStream}
 
 -- What is asked for.
 
@@ -28,20 +30,10 @@ bundle_named (spec.Gen number bundle_name) = None
 bundle_named (spec.Demo number steps) = None
 bundle_named (spec.Stats bundle steps randomness) = Some bundle
 bundle_named (spec.Upgrade old_name new_name) = Some old_name
+bundle_named (spec.Store names counter steps randomness) = Some names.bundle
 
 abbrev pub AsksFile : spec.Asked → List ℕ → Type 0
 AsksFile asked bundle_name = bundle_named asked ≡ Some bundle_name
-
--- a stream of the first bytes of a file, where they are told
-pub record IsOfFile (told : Option (List ℕ)) (stream : Random) : Type 0 where
-  pub bytes : List ℕ
-  pub handed_in : stream ≡ handed bytes
-  pub few : length bytes ≤ spec.longest_stream
-  pub front : IfSome told (λ file. bytes ≡ take spec.longest_stream file)
-
-abbrev pub IsStream : (List ℕ → Option (List ℕ)) → spec.Randomness → Random → Type 0
-IsStream held (spec.Numbered number) stream = stream ≡ numbered number
-IsStream held (spec.FromFile name) stream = IsOfFile (held name) stream
 
 -- The words ask for the run of this bundle under this random stream, with its record, where that has a name, and else
 -- for its counts.
@@ -104,8 +96,12 @@ HasCause asked (refusal.BadBundle fault) before after = IsBadBundle asked fault 
 HasCause asked refusal.ReadFault before after = IsReadFault asked before after
 HasCause asked refusal.NoMemory before after = IsNoMemory before after
 HasCause asked refusal.NoKey before after = IsLack asked NoKey before after
-HasCause asked refusal.NoPageDraw before after = IsLack asked NoPageDraw before after
+HasCause asked refusal.NoPageDraw before after =
+    IsLack asked NoPageDraw before after ⊎ IsStoredLack asked NoPageDraw before after
 HasCause asked refusal.NoSuchDomain before after = IsNoSuchDomain asked before after
+HasCause asked refusal.ShortSecret before after = IsShortSecret asked before after
+HasCause asked (refusal.BadStore fault) before after = IsBadStore asked fault before after
+HasCause asked (refusal.NoRoom domain) before after = IsStoredLack asked (NoRoom domain) before after
 
 -- There is no run for this reason, and no file was written.
 pub record NoRun {S : Type 0} (asked : spec.Asked) (refused : Refusal) (before after : FilesOutside S) : Type 0 where

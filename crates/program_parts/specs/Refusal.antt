@@ -2,6 +2,8 @@
 use Rattle.std.specs.Prelude.{ℕ, List, [], ◌++◌, codes, decimal}
 use Rattle.cloak_model.specs.declared.fault.BundleFault.{BundleFault}
 use Rattle.cloak_model.specs.declared.fault.BundleFault.TheVariants as fault
+use Rattle.cloak_model.specs.declared.fault.StoreFault.{StoreFault}
+use Rattle.cloak_model.specs.declared.fault.StoreFault.TheVariants as store
 use Rattle.command_words.specs.Command.{usage_line}
 use Rattle.program_parts.specs.declared.refusal.Refusal.{Refusal}
 use Rattle.program_parts.specs.declared.refusal.Refusal.TheVariants as refusal
@@ -16,6 +18,9 @@ status_of_refusal refusal.NoMemory = status.NoMemory
 status_of_refusal refusal.NoKey = status.NoRandom
 status_of_refusal refusal.NoPageDraw = status.NoRandom
 status_of_refusal refusal.NoSuchDomain = status.Usage
+status_of_refusal refusal.ShortSecret = status.BadStore
+status_of_refusal (refusal.BadStore fault) = status.BadStore
+status_of_refusal (refusal.NoRoom domain) = status.BadStore
 
 -- a line that ends with a number
 abbrev pub numbered_line : List ℕ → ℕ → List ℕ
@@ -32,6 +37,13 @@ bundle_line (fault.BadRange at) = numbered_line (codes "bundle: range at ") at
 bundle_line (fault.Extra at) = numbered_line (codes "bundle: extra at ") at
 bundle_line fault.NoMemory = codes "no memory\n"
 
+abbrev pub store_line : StoreFault → List ℕ
+store_line (store.Short n) = numbered_line (codes "store: short at ") n
+store_line store.BadMagic = codes "store: magic\n"
+store_line store.Seal = codes "store: seal\n"
+store_line (store.Counter counter) = numbered_line (codes "store: counter ") counter
+store_line (store.Form at) = numbered_line (codes "store: form at ") at
+
 unfoldable pub refusal_line : Refusal → List ℕ
 refusal_line (refusal.Usage fault) = usage_line fault
 refusal_line (refusal.BadBundle fault) = bundle_line fault
@@ -40,3 +52,6 @@ refusal_line refusal.NoMemory = codes "no memory\n"
 refusal_line refusal.NoKey = codes "random: no key\n"
 refusal_line refusal.NoPageDraw = codes "random: opening\n"
 refusal_line refusal.NoSuchDomain = codes "usage: no such domain\n"
+refusal_line refusal.ShortSecret = codes "secret: short\n"
+refusal_line (refusal.BadStore fault) = store_line fault
+refusal_line (refusal.NoRoom domain) = numbered_line (codes "store: no room ") domain

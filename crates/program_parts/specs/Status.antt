@@ -13,3 +13,4 @@ status_number status.WriteFault = 5
 status_number status.NoMemory = 6
 status_number status.NoRandom = 7
 status_number status.BadRecord = 8
+status_number status.BadStore = 10

@@ -1,7 +1,7 @@
 //! The bundle that a file is.
 ghost use Rattle.std.specs.Prelude.{◌≡◌, IfOk, IfSome};
 ghost use Rattle.outside_io.specs.Told.{SameFiles};
-ghost use Rattle.program_parts.specs.Bundles.{ReadsBundle, ReadsJudging};
+ghost use Rattle.program_parts.specs.Bundles.{ReadsBundle, ReadsBundleBytes, ReadsJudging};
 
 use crate::files::read_front;
 use crate::refusal::Refusal;
@@ -41,6 +41,31 @@ pub fn read_bundle<S: Shelf>(alloc: Global, shelf: &mut S, name: &str) -> Result
     let bytes = read_whole(alloc, shelf, name)?;
     match read(alloc, bytes) {
         Ok(bundle) => Ok(bundle),
+        Err(BundleFault::NoMemory) => Err(Refusal::NoMemory),
+        Err(fault) => Err(Refusal::BadBundle(fault)),
+    }
+}
+
+/// The bundle that a file is, and a copy of the file's bytes.
+pub fn read_bundle_with_bytes<S: Shelf>(
+    alloc: Global,
+    shelf: &mut S,
+    name: &str,
+) -> Result<(Bundle, Vec<u8>), Refusal>
+    requires { S.is_settled shelf.old }
+    ensures bundle { ReadsBundleBytes (S.held shelf.old name.now)
+        (S.reading_faults shelf.old) (S.reading_faults shelf.new) result }
+    ensures files { SameFiles (S.held shelf.old) (S.held shelf.new) }
+    ensures writing { S.writing_faults shelf.new ≡ S.writing_faults shelf.old }
+    ensures settled { S.is_settled shelf.new }
+{
+    let bytes = read_whole(alloc, shelf, name)?;
+    let copy = match Vec::from_slice(alloc, bytes.as_slice()) {
+        Ok(copy) => copy,
+        Err(_) => return Err(Refusal::NoMemory),
+    };
+    match read(alloc, bytes) {
+        Ok(bundle) => Ok((bundle, copy)),
         Err(BundleFault::NoMemory) => Err(Refusal::NoMemory),
         Err(fault) => Err(Refusal::BadBundle(fault)),
     }

@@ -4,11 +4,11 @@ ghost use Rattle.outside_io.specs.Sinks.{PutsTo};
 ghost use Rattle.command_words.specs.Command.{usage_line};
 ghost use Rattle.program_parts.specs.Outside.{output};
 ghost use Rattle.program_parts.specs.Refusing.{Refuses};
-ghost use Rattle.program_parts.specs.Refusal.{bundle_line, numbered_line, refusal_line, status_of_refusal};
+ghost use Rattle.program_parts.specs.Refusal.{bundle_line, numbered_line, refusal_line, status_of_refusal, store_line};
 
 use crate::status::Status;
 use cloak_base::Failed;
-use cloak_model::BundleFault;
+use cloak_model::{BundleFault, StoreFault};
 use command_words::UsageFault;
 use outside_io::{Sink, put_all};
 
@@ -26,6 +26,12 @@ pub enum Refusal {
     NoPageDraw,
     /// The bundle has no program of the number that is asked for.
     NoSuchDomain,
+    /// The secret file has fewer than 80 bytes.
+    ShortSecret,
+    /// The file that was to tell of cloaked files does not.
+    BadStore(StoreFault),
+    /// There is no room for a cloaked file of this domain.
+    NoRoom(u32),
 }
 
 /// The status that a refusal is answered with.
@@ -38,6 +44,7 @@ fn status(refusal: &Refusal) -> Status
         Refusal::ReadFault => Status::ReadFault,
         Refusal::NoMemory => Status::NoMemory,
         Refusal::NoKey | Refusal::NoPageDraw => Status::NoRandom,
+        Refusal::ShortSecret | Refusal::BadStore(_) | Refusal::NoRoom(_) => Status::BadStore,
     }
 }
 
@@ -75,6 +82,7 @@ fn show_usage<O: Sink>(out: &mut O, fault: UsageFault) -> Result<(), Failed>
         UsageFault::WrongWords => show(out, b"usage: words\n"),
         UsageFault::NoRandomness => show(out, b"usage: randomness\n"),
         UsageFault::WrongNumber => show(out, b"usage: number\n"),
+        UsageFault::SameName => show(out, b"usage: same name\n"),
     }
 }
 
@@ -94,6 +102,19 @@ fn show_bundle_fault<O: Sink>(out: &mut O, fault: BundleFault) -> Result<(), Fai
     }
 }
 
+/// Shows why a file is no store file.
+fn show_store_fault<O: Sink>(out: &mut O, fault: StoreFault) -> Result<(), Failed>
+    ensures { PutsTo O.Sink out.old out.new (store_line fault) result }
+{
+    match fault {
+        StoreFault::Short(length) => show_numbered(out, b"store: short at ", length),
+        StoreFault::BadMagic => show(out, b"store: magic\n"),
+        StoreFault::Seal => show(out, b"store: seal\n"),
+        StoreFault::Counter(counter) => show_numbered(out, b"store: counter ", counter),
+        StoreFault::Form(at) => show_numbered(out, b"store: form at ", at),
+    }
+}
+
 /// Shows the line of a refusal.
 #[tactic(auto, unfolding(crate::specs::Refusal::refusal_line))]
 fn show_line<O: Sink>(out: &mut O, refusal: &Refusal) -> Result<(), Failed>
@@ -107,6 +128,9 @@ fn show_line<O: Sink>(out: &mut O, refusal: &Refusal) -> Result<(), Failed>
         Refusal::NoKey => show(out, b"random: no key\n"),
         Refusal::NoPageDraw => show(out, b"random: opening\n"),
         Refusal::NoSuchDomain => show(out, b"usage: no such domain\n"),
+        Refusal::ShortSecret => show(out, b"secret: short\n"),
+        Refusal::BadStore(fault) => show_store_fault(out, fault),
+        Refusal::NoRoom(domain) => show_numbered(out, b"store: no room ", domain as u64),
     }
 }
 

@@ -13,6 +13,7 @@ pub enum Status {
     NoMemory,
     NoRandom,
     BadRecord,
+    BadStore,
 }
 
 impl Status {
@@ -30,6 +31,7 @@ impl Status {
             Status::NoMemory => 6,
             Status::NoRandom => 7,
             Status::BadRecord => 8,
+            Status::BadStore => 10,
         }
     }
 }

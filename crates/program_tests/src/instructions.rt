@@ -88,7 +88,7 @@ fn context(address: u32, value: u32) -> Context {
 }
 
 fn run(c: &mut Context, m: &mut Fake) -> Ran {
-    instruction_step(c, &Resources::open(1, CLOAKED), 0, m, &mut None)
+    instruction_step(c, &Resources::open(1, CLOAKED), 0, m, &mut None, &mut false)
 }
 
 /// The word of `lb` (0), `lh` (1), `lw` (2), `lbu` (4) or `lhu` (5) of x6, 0(x5).

@@ -1,3 +1,5 @@
 pub mod Pages
 pub mod PageRow
 pub mod Table
+pub mod FileRows
+pub mod FileTable

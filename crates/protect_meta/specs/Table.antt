@@ -1,7 +1,7 @@
 -- A table of metadata, as a map from pages.
 use Rattle.std.specs.Prelude.{ℕ, Option}
 use Rattle.cloak_base.specs.declared.names.PageId.{PageId}
-use Rattle.protect_meta.specs.declared.meta.Meta.{Meta}
+use Rattle.cloak_base.specs.declared.names.Meta.{Meta}
 use Rattle.protect_meta.specs.PageRow.{PageRow, at_page}
 
 abbrev pub Table : Type 0

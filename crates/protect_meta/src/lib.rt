@@ -4,13 +4,18 @@
 //! A map has room for every page of every domain: 16 resources of 1024 pages each. Its memory is taken once at the
 //! opening, and a look-up costs the same whatever is set.
 //!
-//! The layer above may rely on this: to contracts a map is a finite map from pages, `at_page`, and each call says what
-//! stands at every page afterwards. It decides nothing: whether metadata is owed, old or right is no matter of this
-//! crate.
+//! Between runs a table of files keeps the same of the pages of cloaked files. It has room for 64 files with 4096 pages
+//! in all, and its memory, too, is taken once at the opening.
+//!
+//! The layer above may rely on this: to contracts a map is a finite map from pages, `at_page`, and a table is the list
+//! of its files, and each call says what stands at every page afterwards. Whether metadata is owed, old or right is no
+//! matter of this crate.
 #![tactic(auto)]
 
+mod file_table;
 mod meta;
 mod page_map;
 
-pub use meta::{Meta, MetaTable};
+pub use file_table::FileTable;
+pub use meta::MetaTable;
 pub use page_map::PageMap;

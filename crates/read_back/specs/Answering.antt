@@ -99,6 +99,7 @@ ViewAnswers asked before after status.WriteFault = LineFailed asked before after
 ViewAnswers asked before after status.NoMemory = IsRefused asked status.NoMemory before after
 ViewAnswers asked before after status.NoRandom = ⊥
 ViewAnswers asked before after status.BadRecord = HasView asked status.BadRecord before after
+ViewAnswers asked before after status.BadStore = ⊥
 
 -- The same of `solo`, for which the bundle may lack the program.
 abbrev pub SoloAnswers : {S O : Type 0} → spec.Asked → Outside S O → Outside S O → Status → Type 0
@@ -112,3 +113,4 @@ SoloAnswers asked before after status.WriteFault = LineFailed asked before after
 SoloAnswers asked before after status.NoMemory = IsRefused asked status.NoMemory before after
 SoloAnswers asked before after status.NoRandom = ⊥
 SoloAnswers asked before after status.BadRecord = HasSolo asked status.BadRecord before after
+SoloAnswers asked before after status.BadStore = ⊥

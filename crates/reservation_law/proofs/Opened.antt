@@ -1,5 +1,5 @@
 -- As a run begins, each frame has its 4096 bytes.
-use Rattle.std.proofs.Common.{◌≡◌, ◌∙◌, ℕ, zero, suc, ◌+◌, List, [], ◌∷◌, length, slice_index_or, Option, Some, None, Ok, ap, subst, arith}
+use Rattle.std.proofs.Common.{◌≡◌, ◌∙◌, ℕ, zero, suc, ◌+◌, List, [], ◌∷◌, length, slice_index_or, Option, Some, None, Ok, sym, ap, subst, arith}
 use Rattle.std.specs.Prelude.{option_and_then}
 use Rattle.std.proofs.lemmas.List.{get_or-replicate, length-replicate, length-set}
 use Rattle.cloak_base.specs.Constants.{frame_of, place_of}
@@ -10,12 +10,13 @@ use Rattle.cloak_model.specs.declared.image.Bundle.{Bundle}
 use Rattle.cloak_model.specs.declared.image.KernelImage.{KernelImage}
 use Rattle.cloak_model.specs.declared.image.Program.{Program}
 use Rattle.cloak_model.specs.declared.image.Segment.{Segment}
+use Rattle.cloak_model.specs.Beginning.{Beginning, opening_from}
 use Rattle.cloak_model.specs.Cloaking.{CloakedMemory}
 use Rattle.cloak_model.specs.Ledger.{Keys, key_of, vector_of}
 use Rattle.cloak_model.specs.Memory.{zero_ram, with_byte, with_bytes}
-use Rattle.cloak_model.specs.Opening.{key_count, drawn_keys, keys_for, with_segments, started_kernel, started_memory, started_joint, place_pages, place_programs, Opened, opened_with, opened_by, opening}
-use Rattle.cloak_model.specs.Parts.{Joint}
+use Rattle.cloak_model.specs.Opening.{with_segments, started_kernel, started_memory, started_joint, place_pages, place_programs, Opened}
 use Rattle.cloak_model.specs.PageMoves.{place, place_with}
+use Rattle.kernel_isolation.proofs.FilesAdded.{added_keep, files_of, opens_over}
 use Rattle.reservation_law.proofs.Keeping.{AreWhole, whole_set}
 use Rattle.reservation_law.proofs.Sizes.{cbc_long, zeros_long}
 
@@ -88,21 +89,11 @@ joint_whole : (b : Bundle) (m : CloakedMemory) → AreWhole m.ram → AreWhole (
 unfolding started_joint
 joint_whole b m all = all
 
-with_whole : (b : Bundle) (m : Option CloakedMemory) (o : Opened) → MayBeWhole m → opened_with b m ≡ Ok o →
+pub opened_whole : (b : Bundle) (from : Beginning) (o : Opened) → opening_from b from ≡ Ok o →
     AreWhole o.joint.memory.ram
-unfolding opened_with
-with_whole b None o all opens = absurd cc
-with_whole b (Some m) o all opens =
-    let same : started_joint b m ≡ o.joint = cc in
-    subst (λ (ram : List (List ℕ)). AreWhole ram) (ap (λ (j : Joint). j.memory.ram) same) (joint_whole b m all)
-
-draw_whole : (b : Bundle) (draw : Option (List (List ℕ) × Random)) (o : Opened) → opened_by b draw ≡ Ok o →
-    AreWhole o.joint.memory.ram
-unfolding opened_by
-draw_whole b None o opens = absurd cc
-draw_whole b (Some draw) o opens =
-    with_whole b _ o
-    (programs_whole 0 b.programs _ (memory_whole b.kernel (keys_for b.programs draw.0) draw.1)) opens
-
-pub opened_whole : (b : Bundle) (stream : Random) (o : Opened) → opening b stream ≡ Ok o → AreWhole o.joint.memory.ram
-opened_whole b stream o opens = draw_whole b (drawn_keys (key_count b.programs) stream) o opens
+opened_whole b from o opens =
+    let over = opens_over b from o opens in
+    let keeps = added_keep (files_of from) (started_joint b over.memory) o.joint over.added in
+    let placed = subst MayBeWhole over.placed
+    (programs_whole 0 b.programs _ (memory_whole b.kernel over.keys over.stream)) in
+    subst AreWhole (sym keeps.memory.ram) (joint_whole b over.memory placed)

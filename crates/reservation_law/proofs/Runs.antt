@@ -4,21 +4,21 @@ use Rattle.std.specs.Prelude.{◌||◌, ◌==◌}
 use Rattle.std.specs.List.{AllByRecursion, list_any}
 use Rattle.std.proofs.lemmas.Bool.{cases_lt, cases_eq}
 use Rattle.std.proofs.lemmas.List.{get_or_past, get_or-replicate, get_or_append_left, get_or-append_right, length-append, length-replicate}
-use Rattle.cloak_base.specs.Random.{Random}
 use Rattle.cloak_base.specs.declared.causes.Stop.{Stop}
 use Rattle.cloak_model.specs.declared.image.Bundle.{Bundle}
 use Rattle.cloak_model.specs.declared.image.KernelImage.{KernelImage}
 use Rattle.cloak_model.specs.declared.item.Item.{Item}
 use Rattle.cloak_model.specs.Ahead.{with_shown}
+use Rattle.cloak_model.specs.Beginning.{Beginning, opening_from}
 use Rattle.cloak_model.specs.Cloaking.{seen_in}
 use Rattle.cloak_model.specs.Hart.{Hart, started}
 use Rattle.cloak_model.specs.Joint.{Moment, Turn, hart_in, joint_step, after_turn, stop_of}
 use Rattle.cloak_model.specs.KernelAlone.{kernel_seen}
 use Rattle.cloak_model.specs.Memory.{Seen, mark_of, filled}
 use Rattle.cloak_base.specs.Constants.{frame_of}
-use Rattle.cloak_model.specs.Opening.{Opened, opening, started_harts, started_kernel}
+use Rattle.cloak_model.specs.Opening.{Opened, started_harts, started_kernel}
 use Rattle.cloak_model.specs.Parts.{Joint, KernelPart}
-use Rattle.cloak_model.specs.Run.{Run, joint_run, unless_stopped, turns_from, joint_after, first_moment, run_of}
+use Rattle.cloak_model.specs.Run.{Run, run_from, unless_stopped, turns_from, joint_after, first_moment, run_of}
 use Rattle.kernel_isolation.specs.Isolation.{joint_until}
 use Rattle.kernel_isolation.proofs.Isolated.{of_opened}
 use Rattle.kernel_isolation.proofs.Opened.{is_opened}
@@ -108,25 +108,25 @@ kernel_ids image k less =
     let count = started_count image.entry image.harts in
     started_ids image.entry image.harts k (omega (arith, less, count))
 
-opened_marks : (b : Bundle) (stream : Random) (o : Opened) → opening b stream ≡ Ok o → (k pa : ℕ) →
+opened_marks : (b : Bundle) (from : Beginning) (o : Opened) → opening_from b from ≡ Ok o → (k pa : ℕ) →
     mark_of k o.joint.memory.marks ≡ Some pa → ⊥
-opened_marks b stream o opens k pa is =
-    let opened = is_opened b stream o opens in
+opened_marks b from o opens k pa is =
+    let opened = is_opened b from o opens in
     let marks = ap (λ (p : KernelPart). p.marks) opened.part in
     started_marks b.kernel k pa
     (shown_marks opened.ciphers (kernel_seen (started_kernel b.kernel)) k pa
     (subst (λ (l : List (Option ℕ)). mark_of k l ≡ Some pa) marks is))
 
-opened_orderly : (b : Bundle) (stream : Random) (o : Opened) → opening b stream ≡ Ok o → IsOrderly o.joint
-opened_orderly b stream o opens =
-    let opened = is_opened b stream o opens in
+pub opened_orderly : (b : Bundle) (from : Beginning) (o : Opened) → opening_from b from ≡ Ok o → IsOrderly o.joint
+opened_orderly b from o opens =
+    let opened = is_opened b from o opens in
     let harts : o.joint.harts ≡ (started_kernel b.kernel).harts = ap (λ (p : KernelPart). p.harts) opened.part in
     record {
       steady = opened.steady;
       ids = subst (λ (l : List Hart). (k : ℕ) → k < length l → (slice_index_or l k (started 0 0)).id ≡ k) (sym harts)
           (kernel_ids b.kernel);
-      words = λ k pa is. absurd (opened_marks b stream o opens k pa is);
-      whole = opened_whole b stream o opens;
+      words = λ k pa is. absurd (opened_marks b from o opens k pa is);
+      whole = opened_whole b from o opens;
     }
 
 -- The steps.
@@ -202,21 +202,21 @@ known_step b budget o orderly n less =
     (sym found.1)
     (subst (λ (j' : Joint). StepDoes b n j t.items j') (sym (one_more o.joint turns n t found.1)) does')
 
-known_run : (b : Bundle) (stream : Random) (budget : ℕ) (o : Opened) → opening b stream ≡ Ok o →
+known_run : (b : Bundle) (from : Beginning) (budget : ℕ) (o : Opened) → opening_from b from ≡ Ok o →
     IsKnown b (run_of b budget o)
 unfolding run_of
-known_run b stream budget o opens =
-    let orderly = opened_orderly b stream o opens in
+known_run b from budget o opens =
+    let orderly = opened_orderly b from o opens in
     record {
-      bare = λ k pa is. opened_marks b stream o opens k pa
+      bare = λ k pa is. opened_marks b from o opens k pa
           (subst (λ (j : Joint). mark_of k j.memory.marks ≡ Some pa)
           (none_taken o.joint (turns_from budget (first_moment b o.joint))) is);
       orderly = λ n. orderly_after budget n (first_moment b o.joint) orderly;
       steps = λ n less. known_step b budget o orderly n less;
     }
 
-known : (b : Bundle) (stream : Random) (budget : ℕ) (r : Run) → joint_run b stream budget ≡ Ok r → IsKnown b r
-known b stream budget r is = of_opened b budget (IsKnown b) (opening b stream) r is (known_run b stream budget)
+known : (b : Bundle) (from : Beginning) (budget : ℕ) (r : Run) → run_from b from budget ≡ Ok r → IsKnown b r
+known b from budget r is = of_opened b budget (IsKnown b) (opening_from b from) r is (known_run b from budget)
 
 -- The laws.
 
@@ -260,13 +260,13 @@ was_reserved b r known (suc n) le hart pa is =
     ]
 
 pub reservations_are_kept : ReservationsAreKept
-reservations_are_kept b stream budget r is n le hart pa there =
-    was_reserved b r (known b stream budget r is) n le hart pa there
+reservations_are_kept b from budget r is n le hart pa there =
+    was_reserved b r (known b from budget r is) n le hart pa there
 
 pub conditionals_store_reserved : ConditionalsStoreReserved
 unfolding deed_of_step
-conditionals_store_reserved b stream budget r is n pa less stores =
-    let k = known b stream budget r is in
+conditionals_store_reserved b from budget r is n pa less stores =
+    let k = known b from budget r is in
     let kept = (k.steps n less).conditional pa stores in
     let at = (k.orderly n).words (hart_of_step b n) pa kept.0 in
     record {
@@ -276,8 +276,8 @@ conditionals_store_reserved b stream budget r is n pa less stores =
 
 pub bytes_stay : BytesStay
 unfolding deed_of_step
-bytes_stay b stream budget r is n pa less inside spares =
-    let k = known b stream budget r is in
+bytes_stay b from budget r is n pa less inside spares =
+    let k = known b from budget r is in
     let before : Joint = joint_until n r in
     (k.steps n less).bytes (k.orderly n).whole pa (in_ram_low before.memory.ram pa inside)
     (each_fails (has_byte pa) (writes_of_step b r n) spares)

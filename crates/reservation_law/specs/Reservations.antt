@@ -1,9 +1,9 @@
 -- Reservations of harts: whoever writes RAM, SC stores only where no byte of its word was written since the hart's LR.
 use Rattle.std.specs.Prelude.{ℕ, suc, ◌≡◌, ◌≤◌, true, length, slice_get, Some, Ok}
-use Rattle.cloak_base.specs.Random.{Random}
 use Rattle.cloak_model.specs.declared.image.Bundle.{Bundle}
+use Rattle.cloak_model.specs.Beginning.{Beginning}
 use Rattle.cloak_model.specs.Memory.{is_in_ram, value_at, mark_of}
-use Rattle.cloak_model.specs.Run.{Run, joint_run}
+use Rattle.cloak_model.specs.Run.{Run, run_from}
 use Rattle.kernel_isolation.specs.Isolation.{joint_until}
 use Rattle.store_law.specs.Ciphers.{items_of_turn}
 use Rattle.reservation_law.specs.Deeds.{Reserves, StoresReserved}
@@ -44,16 +44,16 @@ KeepsOtherBytes b r =
     spares_byte pa (writes_of_step b r n) ≡ true →
     value_at (joint_until (suc n) r).memory.ram pa 1 ≡ value_at (joint_until n r).memory.ram pa 1
 
--- The laws: every run does.
+-- The laws: every run does, from whatever beginning.
 
 abbrev pub ReservationsAreKept : Type 0
 ReservationsAreKept =
-    (b : Bundle) (stream : Random) (budget : ℕ) (r : Run) → joint_run b stream budget ≡ Ok r → KeepsReservations b r
+    (b : Bundle) (from : Beginning) (budget : ℕ) (r : Run) → run_from b from budget ≡ Ok r → KeepsReservations b r
 
 abbrev pub ConditionalsStoreReserved : Type 0
 ConditionalsStoreReserved =
-    (b : Bundle) (stream : Random) (budget : ℕ) (r : Run) → joint_run b stream budget ≡ Ok r → StoresOnlyReserved b r
+    (b : Bundle) (from : Beginning) (budget : ℕ) (r : Run) → run_from b from budget ≡ Ok r → StoresOnlyReserved b r
 
 abbrev pub BytesStay : Type 0
 BytesStay =
-    (b : Bundle) (stream : Random) (budget : ℕ) (r : Run) → joint_run b stream budget ≡ Ok r → KeepsOtherBytes b r
+    (b : Bundle) (from : Beginning) (budget : ℕ) (r : Run) → run_from b from budget ≡ Ok r → KeepsOtherBytes b r

@@ -11,18 +11,9 @@ use Rattle.outside_io.proofs.ToldFacts.{Tells_after, Rose-after}
 use Rattle.command_words.specs.Command as spec
 use Rattle.cloak_model.specs.Exchange.{Piece, recorded, shown, recorded_bytes, shown_bytes}
 use Rattle.std.specs.Result.{result_map_both}
+use Rattle.cloak_model.specs.Beginning.{Fresh}
 use Rattle.cloak_model.specs.Opening.{Opened, Lack}
-use Rattle.cloak_model.specs.Bundle.{IsInGrammar}
-use Rattle.cloak_model.specs.Run.{Run, run_of, due, joint_run, exchange, record_bytes, most_steps}
-use Rattle.cloak_model.specs.declared.image.Bundle.{Bundle}
-use Rattle.cloak_base.specs.Random.{Random}
-use Rattle.item_law.specs.Writing.{IsOfBytes, IsStreamOfBytes}
-use Rattle.item_law.proofs.Runs.{writes_a_record}
-use Rattle.cloak_model.specs.declared.item.Item.{Item}
-use Rattle.cloak_model.specs.DomainAlone.{domain_alone}
-use Rattle.cloak_model.specs.KernelAlone.{kernel_alone}
-use Rattle.run_command.proofs.FrontFacts.{kernel_front_fits, domain_front_fits}
-use Rattle.record_law.proofs.Judged.{one_record, not_both}
+use Rattle.cloak_model.specs.Run.{Run, run_of, due}
 use Rattle.program_parts.specs.declared.refusal.Refusal.{Refusal}
 use Rattle.program_parts.specs.declared.refusal.Refusal.TheVariants as refusal
 use Rattle.program_parts.specs.declared.status.Status.{Status}
@@ -36,19 +27,8 @@ use Rattle.run_command.specs.Preparing.{IsPrepared}
 use Rattle.run_command.specs.Recording.{Records, GrowsSome}
 use Rattle.program_parts.specs.Refusing.{Refuses}
 use Rattle.program_parts.proofs.FaultFacts.{raised}
-use Rattle.latest_store.proofs.Histories.{runs_give_latest}
-use Rattle.latest_store.proofs.Sums.{runs_add_up}
-use Rattle.reservation_law.proofs.Runs.{conditionals_store_reserved}
-use Rattle.context_law.proofs.Runs.{contexts_store_reserved}
-use Rattle.store_law.proofs.Ciphers.{ciphers_show_pages, pages_keep_their_keys}
-use Rattle.store_law.proofs.OwnDraws.{ciphers_have_own_draws}
-use Rattle.cause_law.proofs.Closed.{closing_owes_nothing}
-use Rattle.cause_law.proofs.Runs.{count_has_cause, end_has_cause, listed_have_ended, presented_is_refused, stopped_ends, violation_has_cause}
-use Rattle.kernel_isolation.proofs.Isolated.{kernel_ends_alone}
-use Rattle.domain_isolation.proofs.Isolated.{domain_ends_alone}
 use Rattle.program_parts.specs.NoRun.{NoRun, IsRefused}
-use Rattle.run_command.specs.Refusing.{RefusesRightly}
-use Rattle.run_command.specs.ReadingBack.{ComesToEnds, FitsAlone, ReadsBack}
+use Rattle.run_command.proofs.Lawful.{is_lawful}
 use Rattle.run_command.specs.Answering.{AsksRun, IsLawful, HasRun, RunAnswers, KeepsFiles}
 
 -- A line that refuses.
@@ -62,6 +42,9 @@ answers_refused asked refusal.NoMemory before after refused = refused
 answers_refused asked refusal.NoKey before after refused = inl refused
 answers_refused asked refusal.NoPageDraw before after refused = inl refused
 answers_refused asked refusal.NoSuchDomain before after refused = refused
+answers_refused asked refusal.ShortSecret before after refused = refused
+answers_refused asked (refusal.BadStore fault) before after refused = refused
+answers_refused asked (refusal.NoRoom domain) before after refused = refused
 
 -- what is answered where there is no run
 pub answers_no_run : {S O : Type 0} {asked : spec.Asked} {r : Refusal} {before after : Outside S O} {given : Status} →
@@ -92,7 +75,7 @@ records_at {S} {O} of_shelf of_sink name before now s' o' given r same_shelf sam
     records)
 
 -- where writing failed, seen from before the record was begun
-failed_since : {S O : Type 0} (piece : Piece) (before mid after : Outside S O) →
+pub failed_since : {S O : Type 0} (piece : Piece) (before mid after : Outside S O) →
     mid.files.writing ≡ before.files.writing → mid.output ≡ before.output → FailedAt Rose piece mid after →
     FailedAt Rose piece before after
 failed_since {S} {O} (recorded bytes) before mid after writing output fault =
@@ -223,7 +206,7 @@ answers_some_stop {S} {O} asked before after given some run =
     (answers_stop asked before after some.0 some.1
     (subst (λ (s : Status). HasRun asked s before after) some.2 run))
 
-failed_above : {S O : Type 0} (piece : Piece) (before after : Outside S O) → before.files.writing < 2 ^ 64 - 1 →
+pub failed_above : {S O : Type 0} (piece : Piece) (before after : Outside S O) → before.files.writing < 2 ^ 64 - 1 →
     before.output.faults < 2 ^ 64 - 1 → FailedAt Rose piece before after → FailedAt Raised piece before after
 failed_above (recorded bytes) before after low_writing low_faults fault = (raised fault.0 low_writing, fault.1)
 failed_above (shown bytes) before after low_writing low_faults fault = (fault.0, raised fault.1 low_faults)
@@ -241,76 +224,17 @@ asks_run {asked} {held} {record_name} {steps} {machine} prepared = record {
       prepared.opens;
 }
 
--- what the laws say of it
-comes_to_ends : (b : Bundle) (stream : Random) (budget : ℕ) (r : Run) → IsInGrammar b → joint_run b stream budget ≡ Ok r →
-    ComesToEnds b r
-comes_to_ends b stream budget r grammar runs = record {
-  kernel = kernel_ends_alone b stream budget r runs;
-  programs = λ d p there. domain_ends_alone b d p r (record {
-    in_grammar = grammar;
-    program = there;
-    stream = stream;
-    budget = budget;
-    runs = runs;
-  });
-}
-
-front_fits : (b : Bundle) (r : Run) (front more : List Item) → front ++ more ≡ exchange r → ComesToEnds b r →
-    FitsAlone b front
-front_fits b r front more whole ends = record {
-  kernel = kernel_front_fits b.kernel front more
-      (ap (λ (l : List Item). (kernel_alone b.kernel l).unfit) whole ∙ ends.kernel.fits);
-  programs = λ d p there. domain_front_fits d b.kernel.schedule p front more
-      (ap (λ (l : List Item). (domain_alone d b.kernel.schedule p l).unfit) whole ∙ (ends.programs d p there).fits);
-}
-
-reads_back : (b : Bundle) (stream : Random) (budget : ℕ) (r : Run) → IsInGrammar b → IsOfBytes b →
-    IsStreamOfBytes stream → budget ≤ most_steps → joint_run b stream budget ≡ Ok r → ReadsBack b r
-reads_back b stream budget r grammar bytes all few runs =
-    let is = writes_a_record b stream budget r grammar bytes all few runs in
-    let ends = comes_to_ends b stream budget r grammar runs in
-    record {
-      is_record = is;
-      no_other = λ items other. one_record (record_bytes r) items (exchange r) other is;
-      no_fault = λ fault has. not_both (record_bytes r) (exchange r) fault is has;
-      fits = λ front more whole. front_fits b r front more whole ends;
-      ends = ends;
-    }
-
-refuses_rightly : (b : Bundle) (stream : Random) (budget : ℕ) (r : Run) → joint_run b stream budget ≡ Ok r →
-    RefusesRightly b r
-refuses_rightly b stream budget r runs = record {
-  met = violation_has_cause b stream budget r runs;
-  ended = end_has_cause b stream budget r runs;
-  listed = listed_have_ended b stream budget r runs;
-  counted = count_has_cause b stream budget r runs;
-  presented = presented_is_refused b stream budget r runs;
-  stopped = stopped_ends b stream budget r runs;
-}
-
+-- the laws hold of it
 pub lawful_run : {asked : spec.Asked} {held : List ℕ → Option (List ℕ)} {record_name : List ℕ} {steps : ℕ}
     {machine : Machine} (prepared : IsPrepared asked held (Some record_name) steps machine) →
-    IsLawful (asks_run prepared).bundle (asks_run prepared).stream (run_of prepared.bundle steps prepared.opened)
+    IsLawful (asks_run prepared).bundle (Fresh (asks_run prepared).stream) (run_of prepared.bundle steps prepared.opened)
 unfolding asks_run
 lawful_run {asked} {held} {record_name} {steps} {machine} prepared =
-    let r : Run = run_of prepared.bundle steps prepared.opened in
-    let runs = (asks_run prepared).joint in
-    record {
-      reads_back = reads_back prepared.bundle prepared.stream steps r prepared.asks.file.in_grammar prepared.image_bytes
-          prepared.stream_bytes prepared.few_steps runs;
-      latest = runs_give_latest prepared.bundle prepared.stream steps r prepared.asks.file.in_grammar runs;
-      sums = runs_add_up prepared.bundle prepared.stream steps r prepared.asks.file.in_grammar runs;
-      conditionals = conditionals_store_reserved prepared.bundle prepared.stream steps r runs;
-      inside = contexts_store_reserved prepared.bundle prepared.stream steps r prepared.asks.file.in_grammar runs;
-      ciphers = ciphers_show_pages prepared.bundle prepared.stream steps r prepared.asks.file.in_grammar runs;
-      draws = ciphers_have_own_draws prepared.bundle prepared.stream steps r runs;
-      keys = pages_keep_their_keys prepared.bundle prepared.stream steps r prepared.asks.file.in_grammar runs;
-      refuses = refuses_rightly prepared.bundle prepared.stream steps r runs;
-      closed = closing_owes_nothing prepared.bundle prepared.stream steps r runs;
-    }
+    is_lawful prepared.bundle (Fresh prepared.stream) steps (run_of prepared.bundle steps prepared.opened)
+    prepared.asks.file.in_grammar prepared.image_bytes prepared.stream_bytes prepared.few_steps (asks_run prepared).joint
 
 pub answers_recorded : {S O : Type 0} {asked : spec.Asked} {name : List ℕ} {before mid after : Outside S O}
-    {given : Status} {r : Run} (asks : AsksRun asked before.files.held name r) → IsLawful asks.bundle asks.stream r →
+    {given : Status} {r : Run} (asks : AsksRun asked before.files.held name r) → IsLawful asks.bundle (Fresh asks.stream) r →
     OnlyRead before.files mid.files → mid.output ≡ before.output → before.files.writing < 2 ^ 64 - 1 →
     before.output.faults < 2 ^ 64 - 1 → Records name mid after given r →
     RunAnswers asked before after given
@@ -400,6 +324,7 @@ same_files (spec.Gen number bundle_name) answer held held' same = same
 same_files (spec.Demo number steps) answer held held' same = same
 same_files (spec.Stats bundle_name steps from) answer held held' same = same
 same_files (spec.Upgrade old_name new_name) answer held held' same = same
+same_files (spec.Store names counter steps from) answer held held' same = same
 same_files (spec.Run bundle_name record_name steps from) status.Done held held' same = λ other apart. same other
 same_files (spec.Run bundle_name record_name steps from) status.Violation held held' same = λ other apart. same other
 same_files (spec.Run bundle_name record_name steps from) status.Usage held held' same = same
@@ -409,6 +334,7 @@ same_files (spec.Run bundle_name record_name steps from) status.WriteFault held 
 same_files (spec.Run bundle_name record_name steps from) status.NoMemory held held' same = same
 same_files (spec.Run bundle_name record_name steps from) status.NoRandom held held' same = λ other apart. same other
 same_files (spec.Run bundle_name record_name steps from) status.BadRecord held held' same = same
+same_files (spec.Run bundle_name record_name steps from) status.BadStore held held' same = same
 
 -- a run that was made changed its record at most
 keeps_record : {S O : Type 0} (asked : spec.Asked) (before after : Outside S O) (answer given : Status) →
@@ -442,3 +368,4 @@ keeps_files asked before after status.NoRandom (inl refused) =
 keeps_files asked before after status.NoRandom (inr run) =
     keeps_record asked before after status.NoRandom status.NoRandom run (λ b r n f others. others)
 keeps_files asked before after status.BadRecord never = absurd never
+keeps_files asked before after status.BadStore refused = same_files asked status.BadStore _ _ refused.no_run.held

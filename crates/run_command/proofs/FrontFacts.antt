@@ -2,9 +2,9 @@
 use Rattle.std.proofs.Common.{◌≡◌, ◌∙◌, ℕ, List, [], ◌∷◌, ◌++◌, Option, Some, None, is_some, refl, sym, ap}
 use Rattle.std.proofs.lemmas.Bool.{cond-true}
 use Rattle.cloak_model.specs.declared.image.KernelImage.{KernelImage}
-use Rattle.cloak_model.specs.declared.image.Program.{Program}
 use Rattle.cloak_model.specs.declared.item.Item.{Item}
-use Rattle.cloak_model.specs.DomainAlone.{DomainAlone, domain_takes, take_domain_item, domain_taken, domain_alone, opened_domain}
+use Rattle.cloak_model.specs.DomainAlone.{DomainAlone, domain_takes, take_domain_item, domain_taken, domain_alone_from, opened_with_part}
+use Rattle.cloak_model.specs.Parts.{DomainPart}
 use Rattle.cloak_model.specs.KernelAlone.{KernelAlone, kernel_takes, take_kernel_item, kernel_taken, kernel_alone, opened_kernel}
 use Rattle.domain_isolation.proofs.Ignoring.{taken_append}
 use Rattle.kernel_isolation.proofs.Ignoring.{kernel_append}
@@ -40,16 +40,17 @@ domain_stays d schedule s (i ∷ items) step is =
     cond-true (is_some s.unfit) s (domain_takes d schedule i s) (ap (λ (o : Option ℕ). is_some o) is) in
     domain_stays d schedule (take_domain_item d schedule s i) items step (ap (λ (x : DomainAlone). x.unfit) same ∙ is)
 
-domain_by : (d : ℕ) (schedule : List ℕ) (p : Program) (front more : List Item) (o : Option ℕ) →
-    (domain_alone d schedule p front).unfit ≡ o → (domain_alone d schedule p (front ++ more)).unfit ≡ None → o ≡ None
+domain_by : (d : ℕ) (schedule : List ℕ) (p : DomainPart) (front more : List Item) (o : Option ℕ) →
+    (domain_alone_from d schedule p front).unfit ≡ o → (domain_alone_from d schedule p (front ++ more)).unfit ≡ None →
+    o ≡ None
 domain_by d schedule p front more None is fits = refl
 domain_by d schedule p front more (Some step) is fits =
-    let whole : (domain_alone d schedule p (front ++ more)).unfit ≡ Some step =
-    ap (λ (x : DomainAlone). x.unfit) (taken_append d schedule (opened_domain d p) front more)
-    ∙ domain_stays d schedule (domain_alone d schedule p front) more step is in
+    let whole : (domain_alone_from d schedule p (front ++ more)).unfit ≡ Some step =
+    ap (λ (x : DomainAlone). x.unfit) (taken_append d schedule (opened_with_part p) front more)
+    ∙ domain_stays d schedule (domain_alone_from d schedule p front) more step is in
     let clash : None ≡ Some step = sym fits ∙ whole in absurd cc
 
-pub domain_front_fits : (d : ℕ) (schedule : List ℕ) (p : Program) (front more : List Item) →
-    (domain_alone d schedule p (front ++ more)).unfit ≡ None → (domain_alone d schedule p front).unfit ≡ None
+pub domain_front_fits : (d : ℕ) (schedule : List ℕ) (p : DomainPart) (front more : List Item) →
+    (domain_alone_from d schedule p (front ++ more)).unfit ≡ None → (domain_alone_from d schedule p front).unfit ≡ None
 domain_front_fits d schedule p front more fits =
-    domain_by d schedule p front more (domain_alone d schedule p front).unfit refl fits
+    domain_by d schedule p front more (domain_alone_from d schedule p front).unfit refl fits

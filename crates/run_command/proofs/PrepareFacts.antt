@@ -5,7 +5,8 @@ use Rattle.std.specs.List.{AllByRecursion}
 use Rattle.cloak_base.specs.Random.{Random, numbered}
 use Rattle.command_words.specs.Command as spec
 use Rattle.outside_io.specs.Told.{SameFiles}
-use Rattle.program_parts.specs.NoRun.{AsksFile, IsOfFile, IsStream}
+use Rattle.program_parts.specs.NoRun.{AsksFile}
+use Rattle.program_parts.specs.Streams.{IsOfFile, IsStream}
 use Rattle.item_law.specs.Writing.{AreBytes, IsStreamOfBytes}
 
 -- What a loop over a slice found of each element so far.

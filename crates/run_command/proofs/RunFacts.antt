@@ -18,7 +18,7 @@ use Rattle.cloak_machine.specs.Standing.{StandsForMoment, ShowsOpening, MakesTur
 use Rattle.cloak_machine.specs.Ending.{end_is_refused, end_report}
 use Rattle.cloak_machine.specs.declared.end.End.{End}
 use Rattle.program_parts.specs.declared.status.Status.{Status}
-use Rattle.run_command.specs.Running.{NoClashYet, RunsSteps, EndsRun, WritesRun, last_pieces, moment_behind, status_of}
+use Rattle.run_command.specs.Running.{BeginsRun, NoClashYet, RunsSteps, EndsRun, WritesRun, first_pieces, last_pieces, moment_behind, status_of}
 use Rattle.run_command.proofs.ClashFacts.{rest_unclashed, turns_unclashed}
 
 -- Steps behind steps.
@@ -278,51 +278,56 @@ emits_text : {E : Type 0} {gave : E → E → List Piece → Type 0} {e f : E} {
 emits_text {E} {gave} {e} {f} {x} {y} same emits =
     subst (λ (text : List ℕ). Emits gave e f (shown text ∷ [])) same emits
 
+-- the record's first bytes, the opening and the steps of a run
+pub begins_run : {E : Type 0} {gave : E → E → List Piece → Type 0} {failed : Bool} {e f g h : E}
+    {opened machine : Machine} {stopped : Option Stop} {b : Bundle} {o : Opened} {turns : List Turn} →
+    Emits gave e f (recorded record_magic ∷ []) → ShowsOpening gave f g opened b o →
+    RunsSteps gave failed g h machine stopped (first_moment b o.joint) turns →
+    BeginsRun gave failed e h machine stopped b o turns
+begins_run {E} {gave} {failed} {e} {f} {g} {h} {opened} {machine} {stopped} {b} {o} {turns} first opens runs =
+    record { emits = emits_then first (emits_then opens.emits runs.emits); made = runs.made }
+
 -- the pieces of a run
 pieces_of_run : (b : Bundle) (steps : ℕ) (o : Opened) →
     let turns = turns_from steps (first_moment b o.joint) in
     let closed = closing (joint_after o.joint turns) in
-    recorded record_magic ∷ (item_pieces o.items ++ (turns_pieces 1 turns
-    ++ last_pieces (cause_of closed.joint (last_stop None turns)) (length turns) closed)) ≡ due (run_of b steps o)
+    first_pieces o turns ++ last_pieces (cause_of closed.joint (last_stop None turns)) (length turns) closed ≡ due (run_of b steps o)
 unfolding due run_of
-pieces_of_run b steps o = refl
+pieces_of_run b steps o =
+    let turns = turns_from steps (first_moment b o.joint) in
+    ap (λ (ps : List Piece). recorded record_magic ∷ ps) (append_assoc (item_pieces o.items) (turns_pieces 1 turns) _)
 
 -- a run whose outlet failed before its steps were over, and is given the rest in vain
-pub writes-front : {E : Type 0} (gave : E → E → List Piece → Type 0) (failed : Bool) (e f g h : E) (opened : Machine)
-    (machine : Machine) (stopped : Option Stop) (given : Status) (b : Bundle) (steps : ℕ) (o : Opened) →
-    Emits gave e f (recorded record_magic ∷ []) → ShowsOpening gave f g opened b o →
-    RunsSteps gave failed g h machine stopped (first_moment b o.joint)
-    (turns_from steps (first_moment b o.joint)) → failed ≡ true →
-    ((ps : List Piece) → Emits gave h h ps) → WritesRun gave failed e h given (run_of b steps o)
-writes-front gave failed e f g h opened machine stopped given b steps o first opens runs broken none = record {
-  emits = emits_as (pieces_of_run b steps o)
-      (emits_then first (emits_then opens.emits (emits_then runs.emits (none _))));
+pub writes-front : {E : Type 0} {gave : E → E → List Piece → Type 0} {failed : Bool} {e f : E} {machine : Machine}
+    {stopped : Option Stop} (given : Status) (b : Bundle) (steps : ℕ) (o : Opened) →
+    BeginsRun gave failed e f machine stopped b o (turns_from steps (first_moment b o.joint)) → failed ≡ true →
+    ((ps : List Piece) → Emits gave f f ps) → WritesRun gave failed e f given (run_of b steps o)
+writes-front {E} {gave} {failed} {e} {f} {machine} {stopped} given b steps o begins broken none = record {
+  emits = emits_as (pieces_of_run b steps o) (emits_then begins.emits (none _));
   status = λ unfailed. absurd (let clash : true ≡ false = sym broken ∙ unfailed in cc);
 }
 
 -- a run whose steps were made, and whose end was written
-pub writes-whole : {E : Type 0} (gave : E → E → List Piece → Type 0) (mid_failed failed : Bool) (e f g h i : E)
-    (opened machine : Machine) (stopped : Option Stop) (cause : Stop) (given : Status) (b : Bundle) (steps : ℕ)
-    (o : Opened) → Emits gave e f (recorded record_magic ∷ []) → ShowsOpening gave f g opened b o →
-    RunsSteps gave mid_failed g h machine stopped (first_moment b o.joint)
-    (turns_from steps (first_moment b o.joint)) → mid_failed ≡ false →
-    cause ≡ unwrap_or stopped stop.Budget →
-    ((m : Moment) → StandsForMoment machine m → EndsRun gave h i given cause m.steps (closing m.joint)) →
-    WritesRun gave failed e i given (run_of b steps o)
+pub writes-whole : {E : Type 0} {gave : E → E → List Piece → Type 0} {mid_failed failed : Bool} {e f g : E}
+    {machine : Machine} {stopped : Option Stop} {cause : Stop} {given : Status} (b : Bundle) (steps : ℕ) (o : Opened) →
+    BeginsRun gave mid_failed e f machine stopped b o (turns_from steps (first_moment b o.joint)) →
+    mid_failed ≡ false → cause ≡ unwrap_or stopped stop.Budget →
+    ((m : Moment) → StandsForMoment machine m → EndsRun gave f g given cause m.steps (closing m.joint)) →
+    WritesRun gave failed e g given (run_of b steps o)
 unfolding run_of
-writes-whole {E} gave mid_failed failed e f g h i opened machine stopped cause given b steps o first opens runs well
+writes-whole {E} {gave} {mid_failed} {failed} {e} {f} {g} {machine} {stopped} {cause} {given} b steps o begins well
     unwrapped ends =
     let turns = turns_from steps (first_moment b o.joint) in
-    let all = runs.made well in
+    let all = begins.made well in
     let end = ends (moment_behind (first_moment b o.joint) turns) all.stands in
     let closed = closing (joint_after o.joint turns) in
     let same : cause_of closed.joint (Some cause) ≡ cause_of closed.joint (last_stop None turns) =
     ap (λ (s : Stop). cause_of closed.joint (Some s))
     (unwrapped ∙ ap (λ (s : Option Stop). unwrap_or s stop.Budget) all.last) in
     record {
-      emits = emits_as (pieces_of_run b steps o) (emits_then first (emits_then opens.emits (emits_then runs.emits
+      emits = emits_as (pieces_of_run b steps o) (emits_then begins.emits
           (emits_as (λ k. last_pieces (same k) ((let e : 0 + length turns ≡ length turns = omega arith in e) k)
-          closed) end.emits))));
+          closed) end.emits));
       status = λ unfailed. end.status
           ∙ ap (λ (s : Stop). status_of s (any_refused closed.joint.ended closed.joint.refused)) same;
     }

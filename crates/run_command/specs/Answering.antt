@@ -3,6 +3,7 @@ use Rattle.std.specs.Prelude.{ℕ, ◌≡◌, ◌⊎◌, List, [], Option, Some,
 use Rattle.cloak_base.specs.Random.{Random}
 use Rattle.outside_io.specs.Told.{Tells, SameFiles, OtherFiles}
 use Rattle.cloak_model.specs.declared.image.Bundle.{Bundle}
+use Rattle.cloak_model.specs.Beginning.{Beginning, Fresh}
 use Rattle.cloak_model.specs.Cloaking.{owed_in}
 use Rattle.cloak_model.specs.Run.{Run, joint_run}
 use Rattle.cause_law.specs.Closing.{closed_memory}
@@ -34,20 +35,21 @@ pub record AsksRun (asked : spec.Asked) (held : List ℕ → Option (List ℕ)) 
 
 -- The run.
 
--- What is true of a run, whatever its kernel does: its record reads back; its programs' loads give what was stored last;
--- additions to a word of a program by atomic instructions add up; SC stores only a word that was not written since its LR;
--- the kernel is shown pages as ciphertexts alone, each under its program's key and a draw of its own, and at no moment is a
--- page to be sealed under another key; a domain ended only if the kernel's side presented something other than what is
--- recorded, and all that it presented so was refused; and as the run was closed, no frame was owed a page any more.
-pub record IsLawful (b : Bundle) (stream : Random) (r : Run) : Type 0 where
-  pub reads_back : ReadsBack b r
-  pub latest : GivesLatest b r
-  pub sums : AddsUp b r
+-- What is true of a run, however it begins and whatever its kernel does: its record reads back; its programs' loads
+-- give what was stored last; additions to a word of a program by atomic instructions add up; SC stores only a word
+-- that was not written since its LR; the kernel is shown pages as ciphertexts alone, each under its program's key and
+-- a draw of its own, and at no moment is a page to be sealed under another key; a domain ended only if the kernel's
+-- side presented something other than what is recorded, and all that it presented so was refused; and as the run was
+-- closed, no frame was owed a page any more.
+pub record IsLawful (b : Bundle) (from : Beginning) (r : Run) : Type 0 where
+  pub reads_back : ReadsBack b from r
+  pub latest : GivesLatest b from r
+  pub sums : AddsUp b from r
   pub conditionals : StoresOnlyReserved b r
-  pub inside : StoresOnlyReservedInside b r
-  pub ciphers : ShowsPages b stream r
-  pub draws : HaveOwnDraws b r
-  pub keys : (n : ℕ) → HaveOwnKeys b.programs stream (joint_until n r).memory.ledger
+  pub inside : StoresOnlyReservedInside b from r
+  pub ciphers : ShowsPages b from r
+  pub draws : HaveOwnDraws b from r
+  pub keys : (n : ℕ) → HaveOwnKeys b.programs from (joint_until n r).memory.ledger
   pub refuses : RefusesRightly b r
   pub closed : (frame : ℕ) → owed_in (closed_memory r) frame ≡ None
 
@@ -56,7 +58,7 @@ pub record HasRun {S O : Type 0} (asked : spec.Asked) (answer : Status) (before 
   pub record_name : List ℕ
   pub made : Run
   pub asks : AsksRun asked before.files.held record_name made
-  pub lawful : IsLawful asks.bundle asks.stream made
+  pub lawful : IsLawful asks.bundle (Fresh asks.stream) made
   pub written : NoClash made → IsWritten made record_name answer before after
   pub grows : GrowsSome before.output.taken after.output.taken
   pub others : OtherFiles record_name before.files.held after.files.held
@@ -103,6 +105,7 @@ RunAnswers asked before after status.NoMemory = IsRefused asked status.NoMemory 
 RunAnswers asked before after status.NoRandom =
     IsRefused asked status.NoRandom before after ⊎ HasRun asked status.NoRandom before after
 RunAnswers asked before after status.BadRecord = ⊥
+RunAnswers asked before after status.BadStore = IsRefused asked status.BadStore before after
 
 -- Every file keeps its bytes, save the record's of a run that was begun, or might have been. (A write fault and want
 -- of randomness say by their causes which.)

@@ -10,7 +10,8 @@ use Rattle.cloak_machine.specs.declared.machine.Machine.{Machine}
 use Rattle.item_law.specs.Writing.{IsOfBytes, IsStreamOfBytes}
 use Rattle.joint_machine.specs.Placings.{placing}
 use Rattle.program_parts.specs.declared.refusal.Refusal.{Refusal}
-use Rattle.program_parts.specs.NoRun.{AsksBundle, IsStream, NoRun}
+use Rattle.program_parts.specs.NoRun.{AsksBundle, NoRun}
+use Rattle.program_parts.specs.Streams.{IsStream}
 use Rattle.program_parts.specs.Files.{ReadsFile}
 use Rattle.program_parts.specs.Outside.{FilesOutside, OnlyRead}
 

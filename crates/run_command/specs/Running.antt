@@ -4,12 +4,13 @@ use Rattle.std.specs.Prelude.{None}
 use Rattle.cloak_base.specs.declared.causes.Stop.{Stop}
 use Rattle.cloak_base.specs.declared.causes.Stop.TheVariants as stop
 use Rattle.cloak_model.specs.declared.item.Item.TheVariants as item
-use Rattle.cloak_model.specs.Exchange.{Piece, shown, Emits, item_pieces}
+use Rattle.cloak_model.specs.Exchange.{Piece, recorded, shown, record_magic, Emits, item_pieces}
+use Rattle.cloak_model.specs.declared.image.Bundle.{Bundle}
 use Rattle.cloak_model.specs.Opening.{Opened}
 use Rattle.cloak_model.specs.Report.{report}
 use Rattle.cloak_model.specs.Parts.{Joint}
 use Rattle.cloak_model.specs.Joint.{Moment, Turn}
-use Rattle.cloak_model.specs.Run.{Run, joint_after, last_stop, turns_pieces, cause_of, due, any_refused, is_refused}
+use Rattle.cloak_model.specs.Run.{Run, first_moment, joint_after, last_stop, turns_pieces, cause_of, due, any_refused, is_refused}
 use Rattle.cloak_machine.specs.declared.end.End.{End}
 use Rattle.cloak_machine.specs.declared.machine.Machine.{Machine}
 use Rattle.cloak_machine.specs.Ending.{end_is_refused, end_short_report, short_report}
@@ -35,6 +36,16 @@ pub record RunsSteps {E : Type 0} (gave : E → E → List Piece → Type 0) (fa
     (stopped : Option Stop) (m : Moment) (turns : List Turn) : Type 0 where
   pub emits : Emits gave e e' (turns_pieces (suc m.steps) turns)
   pub made : failed ≡ false → MadeAll machine stopped m turns
+
+-- the pieces of a run that was opened so, up to the last of these steps
+abbrev pub first_pieces : Opened → List Turn → List Piece
+first_pieces o turns = recorded record_magic ∷ (item_pieces o.items ++ turns_pieces 1 turns)
+
+-- these were given, and all of the steps were made unless the outlet failed
+pub record BeginsRun {E : Type 0} (gave : E → E → List Piece → Type 0) (failed : Bool) (e e' : E) (machine : Machine)
+    (stopped : Option Stop) (b : Bundle) (o : Opened) (turns : List Turn) : Type 0 where
+  pub emits : Emits gave e e' (first_pieces o turns)
+  pub made : failed ≡ false → MadeAll machine stopped (first_moment b o.joint) turns
 
 -- the pieces behind the steps of a run that ended so
 abbrev pub last_pieces : Stop → ℕ → Opened → List Piece

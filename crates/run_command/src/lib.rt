@@ -14,6 +14,8 @@ mod run;
 mod unheard;
 
 pub use command::run_command;
-pub use prepare::prepare_run;
-pub use run::stop_status;
+pub use outlet::Outlet;
+pub use pen::RecordPen;
+pub use prepare::{image_is_of_bytes, open_stream, prepare_run};
+pub use run::{stop_status, write_steps};
 pub use unheard::Unheard;

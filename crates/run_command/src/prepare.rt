@@ -10,7 +10,7 @@ ghost use Rattle.std.specs.List.{AllByRecursion};
 ghost use Rattle.cloak_model.specs.declared.image.Program.{Program as ImageProgram};
 ghost use Rattle.cloak_model.specs.declared.image.Segment.{Segment as ImageSegment};
 ghost use Rattle.cloak_model.specs.Run.{most_steps};
-ghost use Rattle.item_law.specs.Writing.{AreBytes};
+ghost use Rattle.item_law.specs.Writing.{AreBytes, IsOfBytes};
 
 use cloak_machine::{Machine, OpenFault};
 use cloak_model::{Bundle, Program, Segment};
@@ -45,8 +45,17 @@ fn programs_are_bytes(programs: &[Program])
     }
 }
 
+/// So are the bytes of an image.
+pub fn image_is_of_bytes(bundle: &Bundle)
+    ensures { IsOfBytes bundle.now }
+{
+    segments_are_bytes(bundle.kernel.segments.as_slice());
+    are_bytes(bundle.kernel.disk.as_slice());
+    programs_are_bytes(bundle.programs.as_slice());
+}
+
 /// The random stream of a run.
-fn open_stream<S: Shelf>(
+pub fn open_stream<S: Shelf>(
     alloc: Global,
     shelf: &mut S,
     randomness: &Randomness<'_>,
@@ -89,9 +98,7 @@ pub fn prepare_run<S: Shelf>(
         Ok(stream) => stream,
         Err(refusal) => return Err(refusal),
     };
-    segments_are_bytes(bundle.kernel.segments.as_slice());
-    are_bytes(bundle.kernel.disk.as_slice());
-    programs_are_bytes(bundle.programs.as_slice());
+    image_is_of_bytes(&bundle);
     let Bundle { kernel, programs } = bundle;
     match Machine::open(alloc, kernel, programs, stream) {
         Ok(machine) => Ok(machine),

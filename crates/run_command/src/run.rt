@@ -1,16 +1,16 @@
 //! A run from its first step to its report.
-ghost use Rattle.std.specs.Prelude.{◌≡◌, ◌≤◌, [], Some, false, map};
-ghost use Rattle.cloak_base.specs.Random.{Random};
+ghost use Rattle.std.specs.Prelude.{◌≡◌, ◌≤◌, [], Ok, Some, false, map};
 ghost use Rattle.cloak_model.specs.declared.image.Bundle.{Bundle};
+ghost use Rattle.cloak_model.specs.Beginning.{Beginning, opening_from};
 ghost use Rattle.cloak_model.specs.Run.{most_steps};
 ghost use Rattle.cloak_model.specs.Exchange.{Emits, EmitsSome};
 ghost use Rattle.cloak_model.specs.Joint.{Moment};
-ghost use Rattle.cloak_model.specs.Opening.{Opened, opening};
+ghost use Rattle.cloak_model.specs.Opening.{Opened};
 ghost use Rattle.cloak_model.specs.Run.{cause_of, closing, first_moment, joint_after, run_of, turns_from};
 ghost use Rattle.cloak_machine.specs.Standing.{StandsForMoment, placings_of, steps_made};
 ghost use Rattle.joint_machine.specs.Placings.{placing};
 ghost use Rattle.run_command.specs.Outlet.{Gave};
-ghost use Rattle.run_command.specs.Running.{EndsRun, IsStatusOfStop, NoClash, NoClashYet, RunsSteps, WritesRun};
+ghost use Rattle.run_command.specs.Running.{BeginsRun, EndsRun, IsStatusOfStop, NoClash, NoClashYet, RunsSteps, WritesRun};
 ghost use Rattle.run_command.specs.Running.{status_of, unless_refused};
 
 use crate::outlet::Outlet;
@@ -46,6 +46,29 @@ fn run_steps<S: Shelf, O: Sink>(
         }
     }
     None
+}
+
+/// Writes the first bytes of the record, what the opening shows, and up to this many steps of a run whose record is begun.
+/// Answers why the last step stopped the run, if it did. Nothing more is done once the outlet failed.
+pub fn write_steps<S: Shelf, O: Sink>(
+    machine: &mut Machine,
+    steps: u32,
+    outlet: &mut Outlet<'_, '_, '_, S, O>,
+) -> Option<Stop>
+    requires fresh { steps_made machine.old ≡ 0 }
+    requires few { steps ≤ most_steps }
+    ensures same_shelf { outlet.new.pen.shelf.ghost_name ≡ outlet.old.pen.shelf.ghost_name }
+    ensures same_out { outlet.new.out.ghost_name ≡ outlet.old.out.ghost_name }
+    ensures emits_some { EmitsSome (Gave S.Shelf O.Sink) outlet.old outlet.new }
+    ensures runs { (b : Bundle) (from : Beginning) (o : Opened) → opening_from b from ≡ Ok o →
+        placings_of machine.old ≡ map placing b.programs → StandsForMoment machine.old (first_moment b o.joint) →
+        NoClashYet (joint_after o.joint (turns_from steps (first_moment b o.joint))) →
+        BeginsRun (Gave S.Shelf O.Sink) outlet.new.pen.failed outlet.old outlet.new machine.new result b o
+        (turns_from steps (first_moment b o.joint)) }
+{
+    outlet.append(b"CLOAKREC");
+    machine.opening(outlet);
+    run_steps(machine, steps, outlet)
 }
 
 /// The status of a run that this stopped, by whether a domain ended or a resuming was refused.
@@ -101,15 +124,13 @@ pub fn write_run<S: Shelf, O: Sink>(
     ensures same_out { outlet.new.out.ghost_name ≡ outlet.old.out.ghost_name }
     ensures emits_some { EmitsSome (Gave S.Shelf O.Sink) outlet.old outlet.new }
     ensures some_stop { outlet.new.pen.failed ≡ false → IsStatusOfStop result }
-    ensures runs { (b : Bundle) (stream : Random) (o : Opened) → opening b stream ≡ Ok o →
+    ensures runs { (b : Bundle) (from : Beginning) (o : Opened) → opening_from b from ≡ Ok o →
         placings_of machine ≡ map placing b.programs → StandsForMoment machine (first_moment b o.joint) →
         NoClash (run_of b steps o) →
         WritesRun (Gave S.Shelf O.Sink) outlet.new.pen.failed outlet.old outlet.new result (run_of b steps o) }
 {
     let mut machine = machine;
-    outlet.append(b"CLOAKREC");
-    machine.opening(outlet);
-    let stopped = run_steps(&mut machine, steps, outlet);
+    let stopped = write_steps(&mut machine, steps, outlet);
     if outlet.pen.failed {
         return Status::WriteFault;
     }

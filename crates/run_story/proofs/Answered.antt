@@ -41,6 +41,9 @@ by_line {S} {O} bundle_name record_name before after refusal.NoMemory reads faul
 by_line {S} {O} bundle_name record_name before after refusal.NoKey reads faults = absurd reads
 by_line {S} {O} bundle_name record_name before after refusal.NoPageDraw reads faults = absurd reads
 by_line {S} {O} bundle_name record_name before after refusal.NoSuchDomain reads faults = absurd reads
+by_line {S} {O} bundle_name record_name before after refusal.ShortSecret reads faults = absurd reads
+by_line {S} {O} bundle_name record_name before after (refusal.BadStore fault) reads faults = absurd reads
+by_line {S} {O} bundle_name record_name before after (refusal.NoRoom domain) reads faults = absurd reads
 
 -- there is no bundle
 pub no_bundle : {S O : Type 0} (bundle_name record_name : List ℕ) (before after : Outside S O) (r : Refusal)
@@ -66,6 +69,7 @@ shows_story {S} {O} bundle_name record_name before after status.WriteFault whole
 shows_story {S} {O} bundle_name record_name before after status.NoMemory whole shows = tt
 shows_story {S} {O} bundle_name record_name before after status.NoRandom whole shows = absurd shows
 shows_story {S} {O} bundle_name record_name before after status.BadRecord whole shows = absurd shows
+shows_story {S} {O} bundle_name record_name before after status.BadStore whole shows = absurd shows
 
 -- the line of an ending was shown
 shows_ending : {S O : Type 0} (bundle_name record_name : List ℕ) (before after : Outside S O) (ended : Ending)

@@ -99,3 +99,4 @@ ExplainAnswers bundle_name record_name before after status.WriteFault = Rose bef
 ExplainAnswers bundle_name record_name before after status.NoMemory = Unit {0}
 ExplainAnswers bundle_name record_name before after status.NoRandom = ⊥
 ExplainAnswers bundle_name record_name before after status.BadRecord = IsRefusedRecord record_name before after
+ExplainAnswers bundle_name record_name before after status.BadStore = ⊥

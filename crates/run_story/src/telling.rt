@@ -235,7 +235,7 @@ fn write_found<W: fmt::Write>(
     )?;
     write!(f, "bytes with the digest {digest}, which were ")?;
     let Some(Showing { page, step, .. }) = origin else {
-        return f.write_str("never shown\n");
+        return f.write_str("not shown in this run before\n");
     };
     let page = PageName(page);
     match step {

@@ -174,12 +174,13 @@ impl Csrs {
     pub fn due(&self, mode: Mode) -> bool
         ensures { result ≡ model.interrupt_due mode self.now }
     {
-        self.timer_pending
-            && self.timer_enabled
-            && match mode {
-                Mode::U => true,
-                Mode::S => self.status.sie,
-            }
+        if !self.timer_pending {
+            return false;
+        }
+        match mode {
+            Mode::U => self.timer_enabled,
+            Mode::S => self.timer_enabled && self.status.sie,
+        }
     }
 
     /// Sets or clears the pending bit of the timer interrupt in `sip`.

@@ -42,6 +42,7 @@ fn refuse(c: &mut Context) -> Copied
         (context.in_phase Phase.Plain (context.set_word c.old 10 0xFFFFFFFE)) Copied.Refused }
     ensures same_space { c.new.space ≡ c.old.space }
     ensures same_hart { c.new.on ≡ c.old.on }
+    ensures same_mark { c.new.mark ≡ c.old.mark }
 {
     c.regs.set(10, 0xffff_fffe);
     c.phase = Phase::Plain;
@@ -65,6 +66,7 @@ fn copy_in_step<M: PageSide>(
     ensures stopped_unchanged { result ≡ Copied.Stopped → c.new ≡ c.old }
     ensures same_space { c.new.space ≡ c.old.space }
     ensures same_hart { c.new.on ≡ c.old.on }
+    ensures same_mark { c.new.mark ≡ c.old.mark }
     ensures unused { (n : ℕ) → resources.resource_at r.now n ≡ None → M.is_unused m.old n → M.is_unused m.new n }
     ensures keeps { Keeps M.kept m.old m.new }
     ensures same_domain { M.serves m.new ≡ M.serves m.old }
@@ -125,6 +127,7 @@ fn store_byte<M: PageSide>(
     ensures stopped_unwritten { result.ending ≡ Copied.Stopped → result.wrote ≡ None }
     ensures same_space { c.new.space ≡ c.old.space }
     ensures same_hart { c.new.on ≡ c.old.on }
+    ensures same_mark { c.new.mark ≡ c.old.mark }
     ensures unused { (n : ℕ) → n ≢ q.resource → M.is_unused m.old n → M.is_unused m.new n }
     ensures keeps { Keeps M.kept m.old m.new }
     ensures same_domain { M.serves m.new ≡ M.serves m.old }
@@ -169,6 +172,7 @@ fn copy_out_byte<M: PageSide>(
     ensures stopped_unwritten { result.ending ≡ Copied.Stopped → result.wrote ≡ None }
     ensures same_space { c.new.space ≡ c.old.space }
     ensures same_hart { c.new.on ≡ c.old.on }
+    ensures same_mark { c.new.mark ≡ c.old.mark }
     ensures unused { (n : ℕ) → n ≢ q.resource → M.is_unused m.old n → M.is_unused m.new n }
     ensures keeps { Keeps M.kept m.old m.new }
     ensures same_domain { M.serves m.new ≡ M.serves m.old }
@@ -202,6 +206,7 @@ fn copy_out_step<M: PageSide>(
     ensures stopped_unwritten { result.ending ≡ Copied.Stopped → result.wrote ≡ None }
     ensures same_space { c.new.space ≡ c.old.space }
     ensures same_hart { c.new.on ≡ c.old.on }
+    ensures same_mark { c.new.mark ≡ c.old.mark }
     ensures unused { (n : ℕ) → resources.resource_at r.now n ≡ None → M.is_unused m.old n → M.is_unused m.new n }
     ensures keeps { Keeps M.kept m.old m.new }
     ensures same_domain { M.serves m.new ≡ M.serves m.old }
@@ -238,6 +243,7 @@ pub fn copy_step<M: PageSide>(c: &mut Context, domain: u32, r: &Resources, m: &m
 
     ensures same_space { c.new.space ≡ c.old.space }
     ensures same_hart { c.new.on ≡ c.old.on }
+    ensures same_mark { c.new.mark ≡ c.old.mark }
 
     ensures unused { (n : ℕ) → resources.resource_at r.now n ≡ None → M.is_unused m.old n → M.is_unused m.new n }
     ensures keeps { Keeps M.kept m.old m.new }

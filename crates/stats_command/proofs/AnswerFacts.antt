@@ -74,6 +74,9 @@ answers_refused asked refusal.NoMemory before after refused = refused
 answers_refused asked refusal.NoKey before after refused = inl refused
 answers_refused asked refusal.NoPageDraw before after refused = inl refused
 answers_refused asked refusal.NoSuchDomain before after refused = refused
+answers_refused asked refusal.ShortSecret before after refused = refused
+answers_refused asked (refusal.BadStore fault) before after refused = refused
+answers_refused asked (refusal.NoRoom domain) before after refused = refused
 
 -- what is answered where there is no run
 pub answers_no_run : {S O : Type 0} {asked : spec.Asked} {r : Refusal} {before after : Outside S O} {given : Status} →

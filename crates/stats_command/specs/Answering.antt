@@ -61,3 +61,4 @@ StatsAnswers asked before after status.NoMemory = IsRefused asked status.NoMemor
 StatsAnswers asked before after status.NoRandom =
     IsRefused asked status.NoRandom before after ⊎ HasStats asked status.NoRandom before after
 StatsAnswers asked before after status.BadRecord = ⊥
+StatsAnswers asked before after status.BadStore = IsRefused asked status.BadStore before after

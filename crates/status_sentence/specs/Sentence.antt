@@ -24,6 +24,7 @@ bundle_of (Some (spec.View bundle record_name)) = bundle_named bundle
 bundle_of (Some (spec.Solo domain bundle record_name)) = bundle_named bundle
 bundle_of (Some (spec.Stats bundle steps randomness)) = bundle_named bundle
 bundle_of (Some (spec.Upgrade old_name new_name)) = bundle_named old_name
+bundle_of (Some (spec.Store names counter steps randomness)) = bundle_named names.bundle
 bundle_of _ = codes "the bundle"
 
 -- the record that is read
@@ -40,6 +41,7 @@ randomness_named (spec.Numbered number) = codes "the random stream"
 abbrev pub stream_of : Option spec.Asked → List ℕ
 stream_of (Some (spec.Run bundle record_name steps randomness)) = randomness_named randomness
 stream_of (Some (spec.Stats bundle steps randomness)) = randomness_named randomness
+stream_of (Some (spec.Store names counter steps randomness)) = randomness_named randomness
 stream_of _ = codes "the random stream"
 
 -- the files that a run reads
@@ -48,6 +50,21 @@ sources_named bundle (spec.Numbered number) = bundle_named bundle
 sources_named bundle (spec.FromFile name) =
     codes "the bundle `" ++ bundle ++ codes "` or the stream `" ++ name ++ codes "`"
 
+-- the files that a run over cloaked files reads
+abbrev pub bundle_and_secret : (bundle secret : List ℕ) → List ℕ
+bundle_and_secret bundle secret = codes "the bundle `" ++ bundle ++ codes "`, the secret `" ++ secret ++ codes "`"
+
+abbrev pub store_last : List ℕ → List ℕ
+store_last old = codes " or the store file `" ++ old ++ codes "`"
+
+abbrev pub last_sources : (old : List ℕ) → spec.Randomness → List ℕ
+last_sources old (spec.Numbered number) = store_last old
+last_sources old (spec.FromFile name) = codes ", the store file `" ++ old ++ codes "` or the stream `" ++ name ++ codes "`"
+
+abbrev pub store_sources_named : spec.StoreNames → spec.Randomness → List ℕ
+store_sources_named names randomness =
+    bundle_and_secret names.bundle names.secret_name ++ last_sources names.old_name randomness
+
 -- the files that are read
 abbrev pub read_of : Option spec.Asked → List ℕ
 read_of (Some (spec.Run bundle record_name steps randomness)) = sources_named bundle randomness
@@ -55,11 +72,19 @@ read_of (Some (spec.Stats bundle steps randomness)) = sources_named bundle rando
 read_of (Some (spec.View bundle record_name)) = files_named bundle record_name
 read_of (Some (spec.Solo domain bundle record_name)) = files_named bundle record_name
 read_of (Some (spec.Upgrade old_name new_name)) = bundle_named old_name
+read_of (Some (spec.Store names counter steps randomness)) = store_sources_named names randomness
 read_of _ = codes "a file"
 
 -- a bundle that is written, and the output
 abbrev pub written_bundle : List ℕ → List ℕ
 written_bundle name = codes "the bundle `" ++ name ++ codes "` or the output"
+
+-- the files that a run over cloaked files writes, and the output
+abbrev pub record_and_store : (record_name new : List ℕ) → List ℕ
+record_and_store record_name new = codes "the record `" ++ record_name ++ codes "`, the store file `" ++ new ++ codes "`"
+
+abbrev pub next_bundle : List ℕ → List ℕ
+next_bundle next = codes ", the bundle `" ++ next ++ codes "` or the output"
 
 -- what is written
 abbrev pub written_of : Option spec.Asked → List ℕ
@@ -67,17 +92,20 @@ written_of (Some (spec.Run bundle record_name steps randomness)) =
     codes "the record `" ++ record_name ++ codes "` or the output"
 written_of (Some (spec.Gen number bundle_name)) = written_bundle bundle_name
 written_of (Some (spec.Upgrade old_name new_name)) = written_bundle new_name
+written_of (Some (spec.Store names counter steps randomness)) =
+    record_and_store names.record_name names.new_name ++ next_bundle names.next_name
 written_of (Some _) = codes "the output"
 written_of None = codes "a file or the output"
 
 -- what is wrong with the words
 abbrev pub usage_of : UsageFault → List ℕ
-usage_of usage.NoCommand = codes "there is no command: it is one of run, view, solo, gen, demo, stats and upgrade"
+usage_of usage.NoCommand = codes "there is no command: it is one of run, view, solo, gen, demo, stats, upgrade and store"
 usage_of usage.UnknownCommand =
-    codes "the first word is no command: it is one of run, view, solo, gen, demo, stats and upgrade"
+    codes "the first word is no command: it is one of run, view, solo, gen, demo, stats, upgrade and store"
 usage_of usage.WrongWords = codes "these are not the words that the command takes"
 usage_of usage.NoRandomness = codes "a run takes its random bytes from exactly one of --number and --stream"
 usage_of usage.WrongNumber = codes "a number is not written in decimal digits, or is out of its range"
+usage_of usage.SameName = codes "two of the files that are written have one name"
 
 abbrev pub words_fault_of : Option spec.Asked → List ℕ
 words_fault_of (Some (spec.Faulty fault)) = usage_of fault
@@ -89,6 +117,19 @@ words_fault_of _ = codes "the words are faulty"
 abbrev pub fault_of_bundle : Option spec.Asked → List ℕ
 fault_of_bundle (Some (spec.Upgrade old_name new_name)) = codes " is no guest image, or is too large in version 2"
 fault_of_bundle _ = codes " is no guest image"
+
+-- why a run does not go on over cloaked files
+abbrev pub store_and_secret : (old secret : List ℕ) → List ℕ
+store_and_secret old secret =
+    codes "the run cannot go on over the store file `" ++ old ++ codes "` with the secret `" ++ secret ++ codes "`"
+
+abbrev pub and_counter : ℕ → List ℕ
+and_counter counter = codes " and the counter " ++ decimal counter ++ codes ", and the line before says why"
+
+abbrev pub store_of : Option spec.Asked → List ℕ
+store_of (Some (spec.Store names counter steps randomness)) =
+    store_and_secret names.old_name names.secret_name ++ and_counter counter
+store_of _ = codes "the run cannot go on over the store file"
 
 -- what is said between the program's name and the line feed
 abbrev pub cause_of : Option spec.Asked → Status → List ℕ
@@ -104,6 +145,7 @@ cause_of asked status.NoMemory = codes "there is not enough memory"
 cause_of asked status.NoRandom = stream_of asked ++ codes " has too few bytes for this run"
 cause_of asked status.BadRecord = record_of asked ++ codes " is damaged, or is none of "
     ++ bundle_of asked ++ codes ", and the line `record` says where"
+cause_of asked status.BadStore = store_of asked
 
 -- The sentence. The status 0 has none.
 abbrev pub sentence : Option spec.Asked → Status → List ℕ

@@ -4,13 +4,14 @@
 //! exactly that, and takes no memory.
 #![tactic(auto)]
 
-ghost use Rattle.std.specs.Prelude.{Some, option_map};
+ghost use Rattle.std.specs.Prelude.{◌++◌, Some, option_map};
 ghost use Rattle.std.specs.Fmt.{DisplaysOnOk};
-ghost use Rattle.command_words.specs.Request.{asked_of, randomness_of};
+ghost use Rattle.command_words.specs.Request.{asked_of, names_of, randomness_of};
+ghost use Rattle.command_words.specs.Command as words;
 ghost use Rattle.status_sentence.specs.Sentence as spec;
 ghost use Rattle.status_sentence.specs.Showing.{sentence_text};
 
-use command_words::{Randomness, Request, UsageFault};
+use command_words::{Randomness, Request, StoreFiles, UsageFault};
 use program_parts::Status;
 use std::fmt;
 
@@ -76,6 +77,7 @@ fn write_cause<W: fmt::Write>(
             write_bundle(request, f)?;
             f.write_str(", and the line `record` says where")
         }
+        Status::BadStore => write_store(request, f),
     }
 }
 
@@ -93,6 +95,7 @@ fn write_bundle<W: fmt::Write>(
         Some(Request::Solo(solo)) => write!(f, "the bundle `{}`", solo.files.bundle),
         Some(Request::Stats(stats)) => write!(f, "the bundle `{}`", stats.bundle),
         Some(Request::Upgrade(upgrade)) => write!(f, "the bundle `{}`", upgrade.old_name),
+        Some(Request::Store(store)) => write!(f, "the bundle `{}`", store.files.bundle),
         _ => f.write_str("the bundle"),
     }
 }
@@ -128,6 +131,31 @@ fn write_record<W: fmt::Write>(
     }
 }
 
+/// Writes why a run does not go on over cloaked files.
+fn write_store<W: fmt::Write>(
+    request: &Option<Request<'_>>,
+    f: &mut fmt::Formatter<W>,
+) -> fmt::Result
+    ensures { DisplaysOnOk W.write_str_gives f.old result
+        (Some (spec.store_of (option_map asked_of request.now))) f.new }
+{
+    match request {
+        Some(Request::Store(store)) => {
+            write!(
+                f,
+                "the run cannot go on over the store file `{}` with the secret `{}`",
+                store.files.old_name, store.files.secret_name
+            )?;
+            write!(
+                f,
+                " and the counter {}, and the line before says why",
+                store.counter
+            )
+        }
+        _ => f.write_str("the run cannot go on over the store file"),
+    }
+}
+
 /// Writes where the random bytes come from.
 fn write_stream<W: fmt::Write>(
     request: &Option<Request<'_>>,
@@ -139,6 +167,7 @@ fn write_stream<W: fmt::Write>(
     match request {
         Some(Request::Run(run)) => write_randomness(&run.randomness, f),
         Some(Request::Stats(stats)) => write_randomness(&stats.randomness, f),
+        Some(Request::Store(store)) => write_randomness(&store.randomness, f),
         _ => f.write_str("the random stream"),
     }
 }
@@ -171,6 +200,7 @@ fn write_read<W: fmt::Write>(
         Some(Request::Solo(solo)) => write_files(solo.files.bundle, solo.files.record_name, f),
         Some(Request::Stats(stats)) => write_sources(stats.bundle, &stats.randomness, f),
         Some(Request::Upgrade(upgrade)) => write!(f, "the bundle `{}`", upgrade.old_name),
+        Some(Request::Store(store)) => write_store_sources(&store.files, &store.randomness, f),
         _ => f.write_str("a file"),
     }
 }
@@ -188,6 +218,49 @@ fn write_sources<W: fmt::Write>(
         Randomness::FromFile(name) => write!(f, "the bundle `{bundle}` or the stream `{name}`"),
         Randomness::Numbered(_) => write!(f, "the bundle `{bundle}`"),
     }
+}
+
+/// Writes the names of the files that a run over cloaked files reads.
+fn write_store_sources<W: fmt::Write>(
+    files: &StoreFiles<'_>,
+    randomness: &Randomness<'_>,
+    f: &mut fmt::Formatter<W>,
+) -> fmt::Result
+    ensures { DisplaysOnOk W.write_str_gives f.old result
+        (Some (spec.store_sources_named (names_of files.now) (randomness_of randomness.now))) f.new }
+{
+    write_bundle_and_secret(files, f)?;
+    match *randomness {
+        Randomness::FromFile(name) => write_last_sources(files.old_name, name, f),
+        Randomness::Numbered(_) => write!(f, " or the store file `{}`", files.old_name),
+    }
+}
+
+/// Writes the names of bundle and secret.
+fn write_bundle_and_secret<W: fmt::Write>(
+    files: &StoreFiles<'_>,
+    f: &mut fmt::Formatter<W>,
+) -> fmt::Result
+    ensures { DisplaysOnOk W.write_str_gives f.old result
+        (Some (spec.bundle_and_secret files.now.bundle.now files.now.secret_name.now)) f.new }
+{
+    write!(
+        f,
+        "the bundle `{}`, the secret `{}`",
+        files.bundle, files.secret_name
+    )
+}
+
+/// Writes the names of store file and stream.
+fn write_last_sources<W: fmt::Write>(
+    old_name: &str,
+    stream: &str,
+    f: &mut fmt::Formatter<W>,
+) -> fmt::Result
+    ensures { DisplaysOnOk W.write_str_gives f.old result
+        (Some (spec.last_sources old_name.now (words.FromFile stream.now))) f.new }
+{
+    write!(f, ", the store file `{old_name}` or the stream `{stream}`")
 }
 
 /// Writes the names of a bundle and a record that are read.
@@ -216,9 +289,24 @@ fn write_written<W: fmt::Write>(
         Some(Request::Upgrade(upgrade)) => {
             write!(f, "the bundle `{}` or the output", upgrade.new_name)
         }
+        Some(Request::Store(store)) => write_stored(&store.files, f),
         Some(_) => f.write_str("the output"),
         None => f.write_str("a file or the output"),
     }
+}
+
+/// Writes the names of the files that a run over cloaked files writes.
+fn write_stored<W: fmt::Write>(files: &StoreFiles<'_>, f: &mut fmt::Formatter<W>) -> fmt::Result
+    ensures { DisplaysOnOk W.write_str_gives f.old result
+        (Some (spec.record_and_store files.now.record_name.now files.now.new_name.now
+        ++ spec.next_bundle files.now.next_name.now)) f.new }
+{
+    write!(
+        f,
+        "the record `{}`, the store file `{}`",
+        files.record_name, files.new_name
+    )?;
+    write!(f, ", the bundle `{}` or the output", files.next_name)
 }
 
 /// Writes what is wrong with the words.
@@ -244,9 +332,9 @@ fn write_usage<W: fmt::Write>(fault: UsageFault, f: &mut fmt::Formatter<W>) -> f
 {
     f.write_str(match fault {
         UsageFault::NoCommand =>
-            "there is no command: it is one of run, view, solo, gen, demo, stats and upgrade",
+            "there is no command: it is one of run, view, solo, gen, demo, stats, upgrade and store",
         UsageFault::UnknownCommand => {
-            "the first word is no command: it is one of run, view, solo, gen, demo, stats and upgrade"
+            "the first word is no command: it is one of run, view, solo, gen, demo, stats, upgrade and store"
         }
         UsageFault::WrongWords => "these are not the words that the command takes",
         UsageFault::NoRandomness => {
@@ -254,5 +342,6 @@ fn write_usage<W: fmt::Write>(fault: UsageFault, f: &mut fmt::Formatter<W>) -> f
         }
         UsageFault::WrongNumber =>
             "a number is not written in decimal digits, or is out of its range",
+        UsageFault::SameName => "two of the files that are written have one name",
     })
 }

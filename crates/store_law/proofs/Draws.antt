@@ -7,9 +7,10 @@ use Rattle.cloak_base.specs.declared.names.PageId.{PageId}
 use Rattle.cloak_model.specs.declared.image.Program.{Program}
 use Rattle.cloak_model.specs.declared.item.Item.{Item}
 use Rattle.cloak_model.specs.declared.item.Item.TheVariants as item
+use Rattle.cloak_model.specs.Beginning.{Beginning}
 use Rattle.cloak_model.specs.Cloaking.{CloakedMemory}
 use Rattle.cloak_model.specs.Ledger.{Keys, Ledger, key_in}
-use Rattle.store_law.specs.Ciphers.{numbered_draw, ShowsPage, cipher_count, ciphers_in, ShowPages}
+use Rattle.store_law.specs.Ciphers.{numbered_draw, stream_of, ShowsPage, cipher_count, ciphers_in, ShowPages}
 use Rattle.store_law.specs.Keys.{HaveOwnKeys}
 
 -- Frames are owed pages of so many programs.
@@ -31,49 +32,49 @@ owed_set count (x ∷ owed) (suc f) o all here = (all.0, owed_set count owed f o
 
 -- A ledger of a run of these programs, which are so many at least, after this many draws of a stream: each page has the
 -- key of its program, and each page that is owed is of a program.
-pub record HasDrawn (count : ℕ) (programs : List Program) (stream : Random) (n : ℕ) (l : Ledger) : Type 0 where
+pub record HasDrawn (count : ℕ) (programs : List Program) (from : Beginning) (n : ℕ) (l : Ledger) : Type 0 where
   pub enough : count ≤ length programs
-  pub keys : HaveOwnKeys programs stream l
+  pub keys : HaveOwnKeys programs from l
   pub owed : OwesPagesOf (length programs) l.owed
-  pub next : next_draw l.stream ≡ numbered_draw n stream
+  pub next : next_draw l.stream ≡ numbered_draw n (stream_of from)
 
 -- the keys are the same ones
-same_keys : (programs : List Program) (stream : Random) (l l' : Ledger) → l'.keys ≡ l.keys →
-    HaveOwnKeys programs stream l → HaveOwnKeys programs stream l'
-same_keys programs stream l l' same have page program is =
+same_keys : (programs : List Program) (from : Beginning) (l l' : Ledger) → l'.keys ≡ l.keys →
+    HaveOwnKeys programs from l → HaveOwnKeys programs from l'
+same_keys programs from l l' same have page program is =
     have page program is ∙ ap (λ (keys : Keys). Some (key_in keys page)) (sym same)
 
 -- the next draw was made
-pub draw_made : {count : ℕ} {programs : List Program} (stream : Random) (n : ℕ) (l l' : Ledger)
-    (draw : List ℕ × Random) → HasDrawn count programs stream n l → next_draw l.stream ≡ Some draw → l'.keys ≡ l.keys →
-    OwesPagesOf (length programs) l'.owed → l'.stream ≡ draw.1 → HasDrawn count programs stream (suc n) l'
-draw_made {count} {programs} stream n l l' draw has is keys owed rest = record {
+pub draw_made : {count : ℕ} {programs : List Program} (from : Beginning) (n : ℕ) (l l' : Ledger)
+    (draw : List ℕ × Random) → HasDrawn count programs from n l → next_draw l.stream ≡ Some draw → l'.keys ≡ l.keys →
+    OwesPagesOf (length programs) l'.owed → l'.stream ≡ draw.1 → HasDrawn count programs from (suc n) l'
+draw_made {count} {programs} from n l l' draw has is keys owed rest = record {
   enough = has.enough;
-  keys = same_keys programs stream l l' keys has.keys;
+  keys = same_keys programs from l l' keys has.keys;
   owed = owed;
   next = ap next_draw rest
       ∙ ap (option_and_then (λ (d : List ℕ × Random). next_draw d.1)) (sym is ∙ has.next);
 }
 
 -- there was none, and there is none later
-pub draw_missed : {count : ℕ} {programs : List Program} (stream : Random) (n : ℕ) (l l' : Ledger) →
-    HasDrawn count programs stream n l → next_draw l.stream ≡ None → l'.keys ≡ l.keys →
-    OwesPagesOf (length programs) l'.owed → l'.stream ≡ l.stream → HasDrawn count programs stream (suc n) l'
-draw_missed {count} {programs} stream n l l' has is keys owed rest = record {
+pub draw_missed : {count : ℕ} {programs : List Program} (from : Beginning) (n : ℕ) (l l' : Ledger) →
+    HasDrawn count programs from n l → next_draw l.stream ≡ None → l'.keys ≡ l.keys →
+    OwesPagesOf (length programs) l'.owed → l'.stream ≡ l.stream → HasDrawn count programs from (suc n) l'
+draw_missed {count} {programs} from n l l' has is keys owed rest = record {
   enough = has.enough;
-  keys = same_keys programs stream l l' keys has.keys;
+  keys = same_keys programs from l l' keys has.keys;
   owed = owed;
   next = ap next_draw rest ∙ is
       ∙ ap (option_and_then (λ (d : List ℕ × Random). next_draw d.1)) (sym is ∙ has.next);
 }
 
 -- none was made
-pub draws_stay : {count : ℕ} {programs : List Program} (stream : Random) (n : ℕ) (l l' : Ledger) →
-    HasDrawn count programs stream n l → l'.keys ≡ l.keys → OwesPagesOf (length programs) l'.owed →
-    l'.stream ≡ l.stream → HasDrawn count programs stream n l'
-draws_stay {count} {programs} stream n l l' has keys owed rest = record {
+pub draws_stay : {count : ℕ} {programs : List Program} (from : Beginning) (n : ℕ) (l l' : Ledger) →
+    HasDrawn count programs from n l → l'.keys ≡ l.keys → OwesPagesOf (length programs) l'.owed →
+    l'.stream ≡ l.stream → HasDrawn count programs from n l'
+draws_stay {count} {programs} from n l l' has keys owed rest = record {
   enough = has.enough;
-  keys = same_keys programs stream l l' keys has.keys;
+  keys = same_keys programs from l l' keys has.keys;
   owed = owed;
   next = ap next_draw rest ∙ has.next;
 }
@@ -117,51 +118,51 @@ draw_behind_counts (i ∷ items) n =
     omega (arith, rest, one)
 
 -- a Cipher shows a page under the draw of this number
-abbrev pub IsShown : List Program → Random → (PageId → List ℕ) → ℕ → Item → Type 0
-IsShown programs stream plain n (item.Cipher f bytes) = ShowsPage programs stream plain n bytes
-IsShown programs stream plain n _ = Unit {0}
+abbrev pub IsShown : List Program → Beginning → (PageId → List ℕ) → ℕ → Item → Type 0
+IsShown programs from plain n (item.Cipher f bytes) = ShowsPage programs from plain n bytes
+IsShown programs from plain n _ = Unit {0}
 
 -- each of them does, under draws one after another
-abbrev pub AreShown : List Program → Random → (PageId → List ℕ) → ℕ → List Item → Type 0
-AreShown programs stream plain n [] = Unit {0}
-AreShown programs stream plain n (i ∷ items) =
-    IsShown programs stream plain n i × AreShown programs stream plain (draw_behind_one i n) items
+abbrev pub AreShown : List Program → Beginning → (PageId → List ℕ) → ℕ → List Item → Type 0
+AreShown programs from plain n [] = Unit {0}
+AreShown programs from plain n (i ∷ items) =
+    IsShown programs from plain n i × AreShown programs from plain (draw_behind_one i n) items
 
-pub shown-append : (programs : List Program) (stream : Random) (plain : PageId → List ℕ) (n : ℕ) (a b : List Item) →
-    AreShown programs stream plain n a → AreShown programs stream plain (draw_behind a n) b →
-    AreShown programs stream plain n (a ++ b)
-shown-append programs stream plain n [] b first second = second
-shown-append programs stream plain n (i ∷ a) b first second =
-    (first.0, shown-append programs stream plain (draw_behind_one i n) a b first.1 second)
+pub shown-append : (programs : List Program) (from : Beginning) (plain : PageId → List ℕ) (n : ℕ) (a b : List Item) →
+    AreShown programs from plain n a → AreShown programs from plain (draw_behind a n) b →
+    AreShown programs from plain n (a ++ b)
+shown-append programs from plain n [] b first second = second
+shown-append programs from plain n (i ∷ a) b first second =
+    (first.0, shown-append programs from plain (draw_behind_one i n) a b first.1 second)
 
-shown_at : (programs : List Program) (stream : Random) (plain : PageId → List ℕ) (n : ℕ) (items : List Item) →
-    AreShown programs stream plain n items → (at f : ℕ) (bytes : List ℕ) →
+shown_at : (programs : List Program) (from : Beginning) (plain : PageId → List ℕ) (n : ℕ) (items : List Item) →
+    AreShown programs from plain n items → (at f : ℕ) (bytes : List ℕ) →
     slice_get items at ≡ Some (item.Cipher f bytes) →
-    ShowsPage programs stream plain (draw_behind (take at items) n) bytes
-shown_at programs stream plain n [] all zero f bytes is = absurd cc
-shown_at programs stream plain n [] all (suc at) f bytes is = absurd cc
-shown_at programs stream plain n (i ∷ items) all zero f bytes is =
+    ShowsPage programs from plain (draw_behind (take at items) n) bytes
+shown_at programs from plain n [] all zero f bytes is = absurd cc
+shown_at programs from plain n [] all (suc at) f bytes is = absurd cc
+shown_at programs from plain n (i ∷ items) all zero f bytes is =
     let same : i ≡ item.Cipher f bytes = cc in
-    subst (IsShown programs stream plain n) same all.0
-shown_at programs stream plain n (i ∷ items) all (suc at) f bytes is =
-    shown_at programs stream plain (draw_behind_one i n) items all.1 at f bytes is
+    subst (IsShown programs from plain n) same all.0
+shown_at programs from plain n (i ∷ items) all (suc at) f bytes is =
+    shown_at programs from plain (draw_behind_one i n) items all.1 at f bytes is
 
 -- so each of them shows a page under the draw that it counts to
-pub each_shown : (programs : List Program) (stream : Random) (plain : PageId → List ℕ) (n : ℕ) (items : List Item) →
-    AreShown programs stream plain n items → ShowPages programs stream plain n items
-each_shown programs stream plain n items all at f bytes is =
-    subst (λ (k : ℕ). ShowsPage programs stream plain k bytes) (draw_behind_counts (take at items) n)
-    (shown_at programs stream plain n items all at f bytes is)
+pub each_shown : (programs : List Program) (from : Beginning) (plain : PageId → List ℕ) (n : ℕ) (items : List Item) →
+    AreShown programs from plain n items → ShowPages programs from plain n items
+each_shown programs from plain n items all at f bytes is =
+    subst (λ (k : ℕ). ShowsPage programs from plain k bytes) (draw_behind_counts (take at items) n)
+    (shown_at programs from plain n items all at f bytes is)
 
 -- From one memory to a later one.
 
 -- These items show pages as they are, under draws one after another from the next one on, and no page changes.
 pub record Draws (count : ℕ) (m : CloakedMemory) (items : List Item) (m' : CloakedMemory) : Type 0 where
   pub plain : m'.plain ≡ m.plain
-  pub drawn : (programs : List Program) (stream : Random) (n : ℕ) → HasDrawn count programs stream n m.ledger →
-      HasDrawn count programs stream (draw_behind items n) m'.ledger
-  pub shown : (programs : List Program) (stream : Random) (n : ℕ) → HasDrawn count programs stream n m.ledger →
-      AreShown programs stream m.plain n items
+  pub drawn : (programs : List Program) (from : Beginning) (n : ℕ) → HasDrawn count programs from n m.ledger →
+      HasDrawn count programs from (draw_behind items n) m'.ledger
+  pub shown : (programs : List Program) (from : Beginning) (n : ℕ) → HasDrawn count programs from n m.ledger →
+      AreShown programs from m.plain n items
 
 -- nothing is shown, and what is owed is pages of programs as before
 pub draws_none : {count : ℕ} (m m' : CloakedMemory) → m'.plain ≡ m.plain → m'.ledger.keys ≡ m.ledger.keys →
@@ -169,9 +170,9 @@ pub draws_none : {count : ℕ} (m m' : CloakedMemory) → m'.plain ≡ m.plain �
     m'.ledger.stream ≡ m.ledger.stream → Draws count m [] m'
 draws_none m m' plain keys owes rest = record {
   plain = plain;
-  drawn = λ programs stream n has.
-      draws_stay stream n m.ledger m'.ledger has keys (owes (length programs) has.enough has.owed) rest;
-  shown = λ programs stream n has. tt;
+  drawn = λ programs from n has.
+      draws_stay from n m.ledger m'.ledger has keys (owes (length programs) has.enough has.owed) rest;
+  shown = λ programs from n has. tt;
 }
 
 -- and the ledger is the same one
@@ -185,11 +186,11 @@ pub draws_then : {count : ℕ} (a b c : CloakedMemory) (first second : List Item
     Draws count b second c → Draws count a (first ++ second) c
 draws_then {count} a b c first second p q = record {
   plain = q.plain ∙ p.plain;
-  drawn = λ programs stream n has.
-      subst (λ (k : ℕ). HasDrawn count programs stream k c.ledger) (sym (draw_behind-append first second n))
-      (q.drawn programs stream (draw_behind first n) (p.drawn programs stream n has));
-  shown = λ programs stream n has.
-      shown-append programs stream a.plain n first second (p.shown programs stream n has)
-      (subst (λ (plain : PageId → List ℕ). AreShown programs stream plain (draw_behind first n) second) p.plain
-      (q.shown programs stream (draw_behind first n) (p.drawn programs stream n has)));
+  drawn = λ programs from n has.
+      subst (λ (k : ℕ). HasDrawn count programs from k c.ledger) (sym (draw_behind-append first second n))
+      (q.drawn programs from (draw_behind first n) (p.drawn programs from n has));
+  shown = λ programs from n has.
+      shown-append programs from a.plain n first second (p.shown programs from n has)
+      (subst (λ (plain : PageId → List ℕ). AreShown programs from plain (draw_behind first n) second) p.plain
+      (q.shown programs from (draw_behind first n) (p.drawn programs from n has)));
 }

@@ -1,4 +1,5 @@
--- The keys of a run are its first draws, and each page begins with the one that has the number of its program's key.
+-- The keys of a run are its first draws, or are handed in, and each page begins with the one that has the number of its
+-- program's key.
 use Rattle.std.proofs.Common.{◌≡◌, ◌∙◌, ℕ, zero, suc, ◌+◌, ◌<◌, ◌≤◌, inl, inr, List, [], ◌∷◌, ◌++◌, length, map, replicate, slice_get, slice_index_or, Option, Some, None, refl, sym, ap, subst, arith}
 use Rattle.std.specs.Prelude.{option_and_then, option_map, All}
 use Rattle.std.proofs.lemmas.List.{length-append, length-map, get_or-map, get_or-take, get_or_append_left}
@@ -8,7 +9,9 @@ use Rattle.std.proofs.Math.Seq.{get_or-append_seam}
 use Rattle.std.proofs.Math.Nat.{le-max_left, le-max_right}
 use Rattle.cloak_base.specs.Random.{Random, next_draw}
 use Rattle.cloak_base.specs.declared.names.PageId.{PageId}
+use Rattle.cloak_model.specs.declared.image.Bundle.{Bundle}
 use Rattle.cloak_model.specs.declared.image.Program.{Program}
+use Rattle.cloak_model.specs.Beginning.{stored_keys}
 use Rattle.cloak_model.specs.Bundle.{IsProgramIn}
 use Rattle.cloak_model.specs.Ledger.{key_in}
 use Rattle.cloak_model.specs.Opening.{key_count, drawn_keys, filled_up, keys_for}
@@ -119,3 +122,10 @@ programs_have_keys programs stream draw few low is page p found =
     drawn.each p.key below
     ∙ ap (λ (k : List ℕ). Some k)
     (sym (ap (λ (g : ℕ). slice_index_or numbered g []) (group_is programs page.domain p few found) ∙ key))
+
+-- so it is if the keys are handed in
+pub handed_keys : (b : Bundle) (keys : List (List ℕ)) → length b.programs ≤ 4 → (page : PageId) (p : Program) →
+    slice_get b.programs page.domain ≡ Some p →
+    Some (slice_index_or keys p.key []) ≡ Some (key_in (stored_keys b keys) page)
+handed_keys b keys few page p found =
+    ap (λ (g : ℕ). Some (slice_index_or keys g [])) (sym (group_is b.programs page.domain p few found))

@@ -10,6 +10,7 @@ pub mod Counts
 pub mod Turns
 pub mod Runs
 pub mod Keys
+pub mod Given
 pub mod Opened
 pub mod Ciphers
 pub mod OwnDraws

@@ -16,6 +16,7 @@ use Rattle.cloak_model.specs.declared.item.Item.{Item}
 use Rattle.cloak_model.specs.declared.outcome.Kernel.{Kernel}
 use Rattle.cloak_model.specs.declared.outcome.Kernel.TheVariants.{Stay, Put, Halt, Resume, Trapped}
 use Rattle.cloak_model.specs.Asking.{Told}
+use Rattle.cloak_model.specs.Beginning.{opening_from}
 use Rattle.cloak_model.specs.Calls.{Copy, copy_in_step, copy_out_step}
 use Rattle.cloak_model.specs.Contexts.{Context, Admitted, context_at, domain_of, slot_of}
 use Rattle.cloak_model.specs.DomainState.{Control, Domain}
@@ -27,7 +28,7 @@ use Rattle.cloak_model.specs.Ending.{ended_domain}
 use Rattle.cloak_model.specs.Joint.{next_hart, hart_in, end_domain, ends_once, ends_resumed, ends_asked, answers_violation}
 use Rattle.cloak_model.specs.Joint.{Moment, Turn, cloak_of, outside_ended, after_outside, outside_step, domain_ended, after_domain_step, pages_for, interrupt_ended, after_interrupt, by_interrupt, by_running, inside_step, turn_of, joint_step}
 use Rattle.cloak_model.specs.KernelStep.{ticked}
-use Rattle.cloak_model.specs.Opening.{Opened, opening}
+use Rattle.cloak_model.specs.Opening.{Opened}
 use Rattle.cloak_model.specs.Parts.{Joint}
 use Rattle.cloak_model.specs.Resuming.{by_root, by_context, by_domain, resume}
 use Rattle.cloak_model.specs.Run.{Run, turns_from, first_moment, run_of}
@@ -36,6 +37,7 @@ use Rattle.store_law.specs.Ciphers.{}
 use Rattle.kernel_isolation.specs.Isolation.{joint_until}
 use Rattle.store_law.specs.Loads.{LoadsNewest, NoLoad, OneLoad, StepsLoadNewest}
 use Rattle.store_law.proofs.Ciphers.{of_opened}
+use Rattle.store_law.proofs.Given.{after_set}
 use Rattle.store_law.proofs.OwnPages.{moment_behind, step_is}
 use Rattle.store_law.proofs.StepLoads.{HasPlain, LoadsIn, CopiesIn, loads_instruction, copies_in, copies_out}
 
@@ -229,18 +231,6 @@ turn_load j number h (Some ctx) = inside_load j number (ticked h) ctx _ refl
 
 -- The end of a domain leaves its loads.
 
-behind_set : (P : Domain → Type 0) (now : List Domain) (e d : ℕ) (found made new : Domain) →
-    slice_get now e ≡ Some found → slice_get (slice_set now e made) d ≡ Some new →
-    ((x : Domain) → slice_get now d ≡ Some x → P x) → (P found → P made) → P new
-behind_set P [] zero d found made new there is all so = absurd cc
-behind_set P [] (suc e) d found made new there is all so = absurd cc
-behind_set P (x ∷ now) zero zero found made new there is all so =
-    let same : made ≡ new = cc in subst P same (so (all found there))
-behind_set P (x ∷ now) zero (suc d) found made new there is all so = all new is
-behind_set P (x ∷ now) (suc e) zero found made new there is all so = all new is
-behind_set P (x ∷ now) (suc e) (suc d) found made new there is all so =
-    behind_set P now e d found made new there is all so
-
 ended_loads : (w : Domain) → (ended_domain w).loads ≡ w.loads
 unfolding ended_domain
 ended_loads w = refl
@@ -250,7 +240,7 @@ end_load : (domains : List Domain) (plain : PageId → List ℕ) (e : ℕ) (foun
     DomainsLoad domains plain (end_domain e found v t).joint.domains
 unfolding end_domain
 end_load domains plain e found v t there loads d was new is is' =
-    behind_set (LoadsNewest was plain) t.joint.domains e d found (ended_domain found) new there is'
+    after_set (LoadsNewest was plain) t.joint.domains e d found (ended_domain found) new there is'
     (λ x at. loads d was x is at) (loads_stay was plain found (ended_domain found) (ended_loads found))
 
 once_load : (over : Bool) (domains : List Domain) (plain : PageId → List ℕ) (e : ℕ) (found : Domain) (v : Violation)
@@ -299,8 +289,8 @@ run_loads b budget o n t is =
     (step_is budget n (first_moment b o.joint) t is) (joint_load m)
 
 pub steps_load_newest : StepsLoadNewest
-steps_load_newest b stream budget r is =
+steps_load_newest b from budget r is =
     of_opened b budget
     (λ (r : Run). (n : ℕ) (t : Turn) → slice_get r.turns n ≡ Some t →
     DomainsLoad (joint_until n r).domains (joint_until n r).memory.plain t.joint.domains)
-    (opening b stream) r is (λ o opens. run_loads b budget o)
+    (opening_from b from) r is (λ o opens. run_loads b budget o)

@@ -12,14 +12,17 @@ use Rattle.cloak_model.specs.declared.image.Program.{Program}
 use Rattle.cloak_model.specs.declared.item.Item.{Item}
 use Rattle.cloak_model.specs.declared.item.Item.TheVariants as item
 use Rattle.cloak_model.specs.Chain.{cbc}
-use Rattle.cloak_model.specs.Cloaking.{CloakedMemory}
+use Rattle.cloak_model.specs.Beginning.{Beginning, Fresh, Stored, opening_from}
 use Rattle.cloak_model.specs.Bundle.{IsInGrammar}
+use Rattle.cloak_model.specs.Cloaking.{CloakedMemory}
 use Rattle.cloak_model.specs.Ledger.{Keys, key_in, key_of, vector_of}
-use Rattle.cloak_model.specs.Opening.{key_count, drawn_keys, keys_for, started_domains, numbers_below, started_ledger, started_memory, program_page, place_pages, place_programs, started_joint, is_placed, opening_items, Opened, opened_with, opened_by, opening}
+use Rattle.cloak_model.specs.Opening.{key_count, started_domains, numbers_below, started_ledger, started_memory, program_page, place_pages, place_programs, started_joint, is_placed, opening_items, Opened}
 use Rattle.cloak_model.specs.PageMoves.{place, place_with}
-use Rattle.store_law.specs.Ciphers.{draw_at, shown_under, ShowsPage, pages_of_programs, placing_draw}
-use Rattle.store_law.proofs.Draws.{OwesPagesOf, HasDrawn, draw_made}
-use Rattle.store_law.proofs.Keys.{before, are_drawn, programs_have_keys, program_at}
+use Rattle.kernel_isolation.proofs.FilesAdded.{added_keep, HasKeys, files_of, opens_over}
+use Rattle.store_law.specs.Ciphers.{draw_at, stream_of, keys_drawn, shown_under, ShowsPage, pages_of_programs, placing_draw}
+use Rattle.store_law.proofs.Draws.{OwesPagesOf, HasDrawn, draw_made, draws_stay}
+use Rattle.store_law.proofs.Given.{added_own}
+use Rattle.store_law.proofs.Keys.{before, are_drawn, programs_have_keys, handed_keys, program_at}
 
 -- the bytes of a frame
 abbrev frame_in : List (List ℕ) → ℕ → List ℕ
@@ -67,23 +70,23 @@ one_placed q f bytes m m' is = placed_by q f bytes (vector_of m.ledger q) m m' r
 -- The pages of a program.
 
 -- the frame of page i shows it as it begins, and these are its newest bytes
-record FrameShows (stream : Random) (d k : ℕ) (p : Program) (m : CloakedMemory) (i : ℕ) : Type 0 where
+record FrameShows (from : Beginning) (d k : ℕ) (p : Program) (m : CloakedMemory) (i : ℕ) : Type 0 where
   pub frame : frame_in m.ram (p.place + i)
-      ≡ shown_under (key_of m.ledger (first_page d i)) (draw_at (k + i) stream) (program_page p.bytes i)
+      ≡ shown_under (key_of m.ledger (first_page d i)) (draw_at (k + i) (stream_of from)) (program_page p.bytes i)
   pub page : m.plain (first_page d i) ≡ program_page p.bytes i
 
 -- a frame is none of the first n of a program
 abbrev pub IsApart : Program → ℕ → ℕ → Type 0
 IsApart p n f = (f < p.place) ⊎ (p.place + n ≤ f)
 
-record PagesShow (all : List Program) (stream : Random) (d k : ℕ) (p : Program) (n : ℕ) (m m' : CloakedMemory) : Type 0
+record PagesShow (all : List Program) (from : Beginning) (d k : ℕ) (p : Program) (n : ℕ) (m m' : CloakedMemory) : Type 0
   where
     pub count : length m'.ram ≡ length m.ram
-    pub drawn : HasDrawn (length all) all stream (k + n) m'.ledger
+    pub drawn : HasDrawn (length all) all from (k + n) m'.ledger
     pub keys : m'.ledger.keys ≡ m.ledger.keys
     pub others : (q : PageId) → q.domain ≢ d → m'.plain q ≡ m.plain q
     pub apart : (f : ℕ) → IsApart p n f → frame_in m'.ram f ≡ frame_in m.ram f
-    pub own : (i : ℕ) → i < n → p.place + i < length m.ram → FrameShows stream d k p m' i
+    pub own : (i : ℕ) → i < n → p.place + i < length m.ram → FrameShows from d k p m' i
 
 page_other : (plain : PageId → List ℕ) (q p : PageId) (bytes : List ℕ) → same_page p q ≡ false →
     with_page plain q bytes p ≡ plain p
@@ -119,61 +122,61 @@ apart_last : (p : Program) (n f : ℕ) → IsApart p (suc n) f → f ≢ p.place
 apart_last p n f (inl low) same = absurd (omega arith)
 apart_last p n f (inr high) same = absurd (omega arith)
 
-draw_is : {count : ℕ} {all : List Program} (stream : Random) (n : ℕ) (m : CloakedMemory) (draw : List ℕ × Random) →
-    HasDrawn count all stream n m.ledger → next_draw m.ledger.stream ≡ Some draw → draw_at n stream ≡ Some draw.0
-draw_is stream n m draw has is = ap (option_map (λ (d : List ℕ × Random). d.0)) (sym has.next ∙ is)
+draw_is : {count : ℕ} {all : List Program} (from : Beginning) (n : ℕ) (m : CloakedMemory) (draw : List ℕ × Random) →
+    HasDrawn count all from n m.ledger → next_draw m.ledger.stream ≡ Some draw → draw_at n (stream_of from) ≡ Some draw.0
+draw_is from n m draw has is = ap (option_map (λ (d : List ℕ × Random). d.0)) (sym has.next ∙ is)
 
 -- the page that was placed last
-last_shows : {count : ℕ} {all : List Program} (stream : Random) (d k : ℕ) (p : Program) (n : ℕ) (m m' : CloakedMemory) →
-    HasDrawn count all stream (k + n) m.ledger → OnePlaced (first_page d n) (p.place + n)
-    (program_page p.bytes n) m m' → p.place + n < length m.ram → FrameShows stream d k p m' n
-last_shows stream d k p n m m' has one lt = record {
+last_shows : {count : ℕ} {all : List Program} (from : Beginning) (d k : ℕ) (p : Program) (n : ℕ) (m m' : CloakedMemory) →
+    HasDrawn count all from (k + n) m.ledger → OnePlaced (first_page d n) (p.place + n)
+    (program_page p.bytes n) m m' → p.place + n < length m.ram → FrameShows from d k p m' n
+last_shows from d k p n m m' has one lt = record {
   frame = ap (λ (ram : List (List ℕ)). frame_in ram (p.place + n)) one.ram
       ∙ (get_or-set_same m.ram (p.place + n) _ [] lt
       ∙ (ap (λ (keys : Keys). cbc (key_in keys (first_page d n)) one.draw.0 (program_page p.bytes n)) (sym one.keys)
       ∙ ap (λ (draw : Option (List ℕ)). shown_under (key_of m'.ledger (first_page d n)) draw (program_page p.bytes n))
-      (sym (draw_is stream (k + n) m one.draw has one.is))));
+      (sym (draw_is from (k + n) m one.draw has one.is))));
   page = ap (λ (plain : PageId → List ℕ). plain (first_page d n)) one.plain
       ∙ page_same m.plain (first_page d n) (first_page d n) (program_page p.bytes n) (same_number d n);
 }
 
 -- and one before it
-earlier_shows : (stream : Random) (d k : ℕ) (p : Program) (n i : ℕ) (m m' : CloakedMemory) →
+earlier_shows : (from : Beginning) (d k : ℕ) (p : Program) (n i : ℕ) (m m' : CloakedMemory) →
     OnePlaced (first_page d n) (p.place + n) (program_page p.bytes n) m m' → i < n →
-    FrameShows stream d k p m i → FrameShows stream d k p m' i
-earlier_shows stream d k p n i m m' one less shows = record {
+    FrameShows from d k p m i → FrameShows from d k p m' i
+earlier_shows from d k p n i m m' one less shows = record {
   frame = ap (λ (ram : List (List ℕ)). frame_in ram (p.place + i)) one.ram
       ∙ (get_or-set_other m.ram (p.place + n) (p.place + i) _ [] (λ same. absurd (omega (arith, same, less)))
       ∙ (shows.frame
-      ∙ ap (λ (keys : Keys). shown_under (key_in keys (first_page d i)) (draw_at (k + i) stream)
+      ∙ ap (λ (keys : Keys). shown_under (key_in keys (first_page d i)) (draw_at (k + i) (stream_of from))
       (program_page p.bytes i)) (sym one.keys)));
   page = ap (λ (plain : PageId → List ℕ). plain (first_page d i)) one.plain
       ∙ (page_other m.plain (first_page d n) (first_page d i) (program_page p.bytes n)
       (other_number d i n (λ same. absurd (omega (arith, same, less)))) ∙ shows.page);
 }
 
-pages_show : (all : List Program) (stream : Random) (d k : ℕ) (p : Program) (n : ℕ) (m m' : CloakedMemory) →
-    HasDrawn (length all) all stream k m.ledger → place_pages d p n m ≡ Some m' → PagesShow all stream d k p n m m'
-pages_show all stream d k p zero m m' has is =
+pages_show : (all : List Program) (from : Beginning) (d k : ℕ) (p : Program) (n : ℕ) (m m' : CloakedMemory) →
+    HasDrawn (length all) all from k m.ledger → place_pages d p n m ≡ Some m' → PagesShow all from d k p n m m'
+pages_show all from d k p zero m m' has is =
     let number : k ≡ k + 0 = omega arith in
-    subst (λ (x : CloakedMemory). PagesShow all stream d k p zero m x) (same_some m m' is) (record {
+    subst (λ (x : CloakedMemory). PagesShow all from d k p zero m x) (same_some m m' is) (record {
       count = refl;
-      drawn = subst (λ (x : ℕ). HasDrawn (length all) all stream x m.ledger) number has;
+      drawn = subst (λ (x : ℕ). HasDrawn (length all) all from x m.ledger) number has;
       keys = refl;
       others = λ q other. refl;
       apart = λ f away. refl;
       own = λ i less lt. absurd (omega (arith, less));
     })
-pages_show all stream d k p (suc n) m m' has is =
+pages_show all from d k p (suc n) m m' has is =
     let b = before (place (first_page d n) (p.place + n) (program_page p.bytes n)) (place_pages d p n m) m' is in
-    let first = pages_show all stream d k p n m b.value has b.was in
+    let first = pages_show all from d k p n m b.value has b.was in
     let one = one_placed (first_page d n) (p.place + n) (program_page p.bytes n) b.value m' b.then in
     let number : suc (k + n) ≡ k + suc n = omega arith in
     let count = first.count in
     record {
       count = ap length one.ram ∙ (length-set b.value.ram (p.place + n) _ ∙ first.count);
-      drawn = subst (λ (x : ℕ). HasDrawn (length all) all stream x m'.ledger) number
-          (draw_made stream (k + n) b.value.ledger m'.ledger one.draw first.drawn one.is one.keys
+      drawn = subst (λ (x : ℕ). HasDrawn (length all) all from x m'.ledger) number
+          (draw_made from (k + n) b.value.ledger m'.ledger one.draw first.drawn one.is one.keys
           (subst (OwesPagesOf (length all)) (sym one.owed) first.drawn.owed) one.stream);
       keys = one.keys ∙ first.keys;
       others = λ q other.
@@ -187,11 +190,11 @@ pages_show all stream d k p (suc n) m m' has is =
       own = λ i less lt. elim (cases_eq i n) [
         | inl same ↦
             let lt' : p.place + n < length b.value.ram = omega (arith, lt, same, count) in
-            subst (λ (x : ℕ). FrameShows stream d k p m' x) (sym same)
-            (last_shows stream d k p n b.value m' first.drawn one lt')
+            subst (λ (x : ℕ). FrameShows from d k p m' x) (sym same)
+            (last_shows from d k p n b.value m' first.drawn one lt')
         | inr other ↦
             let less' : i < n = omega (arith, less, other) in
-            earlier_shows stream d k p n i b.value m' one less' (first.own i less' lt)
+            earlier_shows from d k p n i b.value m' one less' (first.own i less' lt)
       ];
     }
 
@@ -201,15 +204,35 @@ pages_show all stream d k p (suc n) m m' has is =
 abbrev AreLater : List Program → ℕ → List Program → Type 0
 AreLater all d programs = (i : ℕ) → slice_get programs i ≡ slice_get all (d + i)
 
-record ProgramsShow (all : List Program) (stream : Random) (d k : ℕ) (programs : List Program) (m m' : CloakedMemory) :
+-- These bytes show a page of a program's own resource.
+record ShowsOwn (programs : List Program) (from : Beginning) (plain : PageId → List ℕ) (n : ℕ) (shown : List ℕ) :
+    Type 0 where
+  pub shows : ShowsPage programs from plain n shown
+  pub own : shows.page.resource ≡ 0
+
+-- so they do if these pages stay
+still_shown : (programs : List Program) (from : Beginning) (plain plain' : PageId → List ℕ) (n : ℕ) (shown : List ℕ) →
+    ShowsOwn programs from plain n shown → ((q : PageId) → q.resource ≡ 0 → plain' q ≡ plain q) →
+    ShowsPage programs from plain' n shown
+still_shown programs from plain plain' n shown s stay = (let was = s.shows in record {
+  page = was.page;
+  program = was.program;
+  is_of = was.is_of;
+  key = was.key;
+  is_key = was.is_key;
+  same = was.same ∙ ap (λ (bytes : List ℕ). shown_under was.key (draw_at n (stream_of from)) bytes)
+      (sym (stay was.page s.own));
+})
+
+record ProgramsShow (all : List Program) (from : Beginning) (d k : ℕ) (programs : List Program) (m m' : CloakedMemory) :
     Type 0 where
   pub count : length m'.ram ≡ length m.ram
-  pub drawn : HasDrawn (length all) all stream (k + pages_of_programs programs) m'.ledger
+  pub drawn : HasDrawn (length all) all from (k + pages_of_programs programs) m'.ledger
   pub keys : m'.ledger.keys ≡ m.ledger.keys
   pub below : (q : PageId) → q.domain < d → m'.plain q ≡ m.plain q
   pub away : (f : ℕ) → is_placed programs f ≡ false → frame_in m'.ram f ≡ frame_in m.ram f
   pub own : (f : ℕ) → is_placed programs f ≡ true → f < length m.ram →
-      ShowsPage all stream m'.plain (placing_draw k programs f) (frame_in m'.ram f)
+      ShowsOwn all from m'.plain (placing_draw k programs f) (frame_in m'.ram f)
 
 -- a frame of a program, or apart from it
 pub inside_or_apart : (p : Program) (f : ℕ) →
@@ -250,12 +273,12 @@ away_of p programs f away = elim (inside_or_apart p f) [
 ]
 
 -- a frame in which no later program was placed
-here_shows : (all : List Program) (stream : Random) (d k : ℕ) (p : Program) (programs : List Program)
-    (m m' m'' : CloakedMemory) → slice_get all d ≡ Some p → PagesShow all stream d k p p.start.pages m m' →
-    ProgramsShow all stream (d + 1) (k + p.start.pages) programs m' m'' → (f : ℕ) →
+here_shows : (all : List Program) (from : Beginning) (d k : ℕ) (p : Program) (programs : List Program)
+    (m m' m'' : CloakedMemory) → slice_get all d ≡ Some p → PagesShow all from d k p p.start.pages m m' →
+    ProgramsShow all from (d + 1) (k + p.start.pages) programs m' m'' → (f : ℕ) →
     p.place ≤ f → f < p.place + p.start.pages → is_placed programs f ≡ false → f < length m.ram →
-    ShowsPage all stream m''.plain (k + (f - p.place)) (frame_in m''.ram f)
-here_shows all stream d k p programs m m' m'' found first rest f at less away lt =
+    ShowsOwn all from m''.plain (k + (f - p.place)) (frame_in m''.ram f)
+here_shows all from d k p programs m m' m'' found first rest f at less away lt =
     let i : ℕ = f - p.place in
     let place : p.place + i ≡ f = omega (arith, at) in
     let less' : i < p.start.pages = omega (arith, at, less) in
@@ -263,6 +286,7 @@ here_shows all stream d k p programs m m' m'' found first rest f at less away lt
     let shows = first.own i less' lt' in
     let page = rest.below (first_page d i) (omega arith) in
     let key : List ℕ = key_of m'.ledger (first_page d i) in
+    let shown : ShowsPage all from m''.plain (k + (f - p.place)) (frame_in m''.ram f) =
     record {
       page = first_page d i;
       program = p;
@@ -272,59 +296,60 @@ here_shows all stream d k p programs m m' m'' found first rest f at less away lt
       same = rest.away f away
           ∙ (ap (λ (x : ℕ). frame_in m'.ram x) (sym place)
           ∙ (shows.frame
-          ∙ ap (λ (bytes : List ℕ). shown_under key (draw_at (k + i) stream) bytes) (sym (page ∙ shows.page))));
-    }
+          ∙ ap (λ (bytes : List ℕ). shown_under key (draw_at (k + i) (stream_of from)) bytes) (sym (page ∙ shows.page))));
+    } in
+    record { shows = shown; own = refl }
 
-frame_shows : (all : List Program) (stream : Random) (d k : ℕ) (p : Program) (programs : List Program)
-    (m m' m'' : CloakedMemory) → slice_get all d ≡ Some p → PagesShow all stream d k p p.start.pages m m' →
-    ProgramsShow all stream (d + 1) (k + p.start.pages) programs m' m'' → (f : ℕ) (later : Bool) →
+frame_shows : (all : List Program) (from : Beginning) (d k : ℕ) (p : Program) (programs : List Program)
+    (m m' m'' : CloakedMemory) → slice_get all d ≡ Some p → PagesShow all from d k p p.start.pages m m' →
+    ProgramsShow all from (d + 1) (k + p.start.pages) programs m' m'' → (f : ℕ) (later : Bool) →
     is_placed programs f ≡ later → is_placed (p ∷ programs) f ≡ true → f < length m.ram →
-    ShowsPage all stream m''.plain (placing_draw k (p ∷ programs) f) (frame_in m''.ram f)
-frame_shows all stream d k p programs m m' m'' found first rest f true is placed lt =
+    ShowsOwn all from m''.plain (placing_draw k (p ∷ programs) f) (frame_in m''.ram f)
+frame_shows all from d k p programs m m' m'' found first rest f true is placed lt =
     let count = first.count in
-    subst (λ (n : ℕ). ShowsPage all stream m''.plain n (frame_in m''.ram f))
+    subst (λ (n : ℕ). ShowsOwn all from m''.plain n (frame_in m''.ram f))
     (sym (ap (λ (b : Bool). cond b (placing_draw (k + p.start.pages) programs f) (k + (f - p.place))) is))
     (rest.own f is (omega (arith, count, lt)))
-frame_shows all stream d k p programs m m' m'' found first rest f false is placed lt =
+frame_shows all from d k p programs m m' m'' found first rest f false is placed lt =
     elim (inside_or_apart p f) [
       | inl there ↦
-          subst (λ (n : ℕ). ShowsPage all stream m''.plain n (frame_in m''.ram f))
+          subst (λ (n : ℕ). ShowsOwn all from m''.plain n (frame_in m''.ram f))
           (sym (ap (λ (b : Bool). cond b (placing_draw (k + p.start.pages) programs f) (k + (f - p.place))) is))
-          (here_shows all stream d k p programs m m' m'' found first rest f there.0 there.1 is lt)
+          (here_shows all from d k p programs m m' m'' found first rest f there.0 there.1 is lt)
       | inr apart ↦
           let clash : true ≡ false = sym placed ∙ (apart_later p programs f apart ∙ is) in absurd cc
     ]
 
-programs_show : (all : List Program) (stream : Random) (d k : ℕ) (programs : List Program) (m m' : CloakedMemory) →
-    AreLater all d programs → HasDrawn (length all) all stream k m.ledger → place_programs d programs m ≡ Some m' →
-    ProgramsShow all stream d k programs m m'
-programs_show all stream d k [] m m' from has is =
+programs_show : (all : List Program) (from : Beginning) (d k : ℕ) (programs : List Program) (m m' : CloakedMemory) →
+    AreLater all d programs → HasDrawn (length all) all from k m.ledger → place_programs d programs m ≡ Some m' →
+    ProgramsShow all from d k programs m m'
+programs_show all from d k [] m m' lies has is =
     let number : k ≡ k + 0 = omega arith in
-    subst (λ (x : CloakedMemory). ProgramsShow all stream d k [] m x) (same_some m m' is) (record {
+    subst (λ (x : CloakedMemory). ProgramsShow all from d k [] m x) (same_some m m' is) (record {
       count = refl;
-      drawn = subst (λ (x : ℕ). HasDrawn (length all) all stream x m.ledger) number has;
+      drawn = subst (λ (x : ℕ). HasDrawn (length all) all from x m.ledger) number has;
       keys = refl;
       below = λ q less. refl;
       away = λ f apart. refl;
       own = λ f placed lt. let clash : false ≡ true = placed in absurd cc;
     })
-programs_show all stream d k (p ∷ programs) m m' from has is =
+programs_show all from d k (p ∷ programs) m m' lies has is =
     let b = before (place_programs (d + 1) programs) (place_pages d p p.start.pages m) m' is in
-    let first = pages_show all stream d k p p.start.pages m b.value has b.was in
-    let later : AreLater all (d + 1) programs = λ i. from (suc i) ∙ ap (slice_get all) (omega arith) in
-    let rest = programs_show all stream (d + 1) (k + p.start.pages) programs b.value m' later first.drawn b.then in
-    let found : slice_get all d ≡ Some p = ap (slice_get all) (omega arith) ∙ sym (from 0) in
+    let first = pages_show all from d k p p.start.pages m b.value has b.was in
+    let later : AreLater all (d + 1) programs = λ i. lies (suc i) ∙ ap (slice_get all) (omega arith) in
+    let rest = programs_show all from (d + 1) (k + p.start.pages) programs b.value m' later first.drawn b.then in
+    let found : slice_get all d ≡ Some p = ap (slice_get all) (omega arith) ∙ sym (lies 0) in
     let number : (k + p.start.pages) + pages_of_programs programs ≡ k + pages_of_programs (p ∷ programs) =
     omega arith in
     record {
       count = rest.count ∙ first.count;
-      drawn = subst (λ (x : ℕ). HasDrawn (length all) all stream x m'.ledger) number rest.drawn;
+      drawn = subst (λ (x : ℕ). HasDrawn (length all) all from x m'.ledger) number rest.drawn;
       keys = rest.keys ∙ first.keys;
       below = λ q less.
           rest.below q (omega (arith, less)) ∙ first.others q (λ same. absurd (omega (arith, same, less)));
       away = λ f apart.
           let both = away_of p programs f apart in rest.away f both.1 ∙ first.apart f both.0;
-      own = λ f placed lt. frame_shows all stream d k p programs m b.value m' found first rest f _ refl placed lt;
+      own = λ f placed lt. frame_shows all from d k p programs m b.value m' found first rest f _ refl placed lt;
     }
 
 -- What the kernel is shown of it.
@@ -430,20 +455,20 @@ frame_at ram (g ∷ fs) zero f bytes is =
     let same : g ≡ f = cc in ap (λ (x : ℕ). Some x) same
 frame_at ram (g ∷ fs) (suc at) f bytes is = frame_at ram fs at f bytes is
 
--- Each frame that holds a page is shown once.
-pub record OpeningPlaces (b : Bundle) (o : Opened) : Type 0 where
-  pub placed : (at f : ℕ) (bytes : List ℕ) → slice_get o.items at ≡ Some (item.Cipher f bytes) →
+-- Each frame that holds a page is shown once among these items.
+pub record OpeningPlaces (b : Bundle) (items : List Item) : Type 0 where
+  pub placed : (at f : ℕ) (bytes : List ℕ) → slice_get items at ≡ Some (item.Cipher f bytes) →
       is_placed b.programs f ≡ true
-  pub once : (at at' f : ℕ) (bytes bytes' : List ℕ) → slice_get o.items at ≡ Some (item.Cipher f bytes) →
-      slice_get o.items at' ≡ Some (item.Cipher f bytes') → at ≡ at'
+  pub once : (at at' f : ℕ) (bytes bytes' : List ℕ) → slice_get items at ≡ Some (item.Cipher f bytes) →
+      slice_get items at' ≡ Some (item.Cipher f bytes') → at ≡ at'
 
 -- The opening shows each page as it begins, and the draws after it are known.
-pub record OpeningShows (b : Bundle) (stream : Random) (o : Opened) : Type 0 where
-  pub drawn : HasDrawn (length b.programs) b.programs stream (key_count b.programs + pages_of_programs b.programs)
+pub record OpeningShows (b : Bundle) (from : Beginning) (o : Opened) : Type 0 where
+  pub drawn : HasDrawn (length b.programs) b.programs from (keys_drawn b.programs from + pages_of_programs b.programs)
       o.joint.memory.ledger
   pub count : length o.joint.domains ≡ length b.programs
   pub shown : (at f : ℕ) (bytes : List ℕ) → slice_get o.items at ≡ Some (item.Cipher f bytes) →
-      ShowsPage b.programs stream o.joint.memory.plain (placing_draw (key_count b.programs) b.programs f) bytes
+      ShowsPage b.programs from o.joint.memory.plain (placing_draw (keys_drawn b.programs from) b.programs f) bytes
 
 one_is : (b : Bundle) (ram : List (List ℕ)) (at f : ℕ) (bytes : List ℕ) →
     slice_get (opening_items b.programs ram) at ≡ Some (item.Cipher f bytes) →
@@ -453,96 +478,92 @@ one_is b ram at f bytes there =
     (all_open b.programs ram (numbers_below (length ram)) (numbers_low (length ram) (length ram) (omega arith)))
     at (item.Cipher f bytes) there
 
-items_place : (b : Bundle) (m : CloakedMemory) →
-    OpeningPlaces b (record { joint = started_joint b m; items = opening_items b.programs m.ram })
-items_place b m = record {
-  placed = λ at f bytes there. (one_is b m.ram at f bytes there).1.0;
+items_place : (b : Bundle) (ram : List (List ℕ)) → OpeningPlaces b (opening_items b.programs ram)
+items_place b ram = record {
+  placed = λ at f bytes there. (one_is b ram at f bytes there).1.0;
   once = λ at at' f bytes bytes' there there'.
-      let fs : List ℕ = filter (is_placed b.programs) (numbers_below (length m.ram)) in
-      once_in fs 0 (length m.ram)
-      (filter_rises (is_placed b.programs) (numbers_below (length m.ram)) 0 (length m.ram)
-      (numbers_rise (length m.ram))) at at' f
-      (frame_at m.ram fs at f bytes there) (frame_at m.ram fs at' f bytes' there');
+      let fs : List ℕ = filter (is_placed b.programs) (numbers_below (length ram)) in
+      once_in fs 0 (length ram)
+      (filter_rises (is_placed b.programs) (numbers_below (length ram)) 0 (length ram) (numbers_rise (length ram)))
+      at at' f (frame_at ram fs at f bytes there) (frame_at ram fs at' f bytes' there');
 }
 
 started_count : (d : ℕ) (programs : List Program) → length (started_domains d programs) ≡ length programs
 started_count d [] = refl
 started_count d (p ∷ programs) = ap suc (started_count (d + 1) programs)
 
-memory_shows : (b : Bundle) (stream : Random) (first m : CloakedMemory) →
-    HasDrawn (length b.programs) b.programs stream (key_count b.programs) first.ledger →
-    place_programs 0 b.programs first ≡ Some m →
-    OpeningShows b stream (record { joint = started_joint b m; items = opening_items b.programs m.ram })
-unfolding started_joint
-memory_shows b stream first m has placed =
-    let k : ℕ = key_count b.programs in
+-- The memory in which the programs' pages were placed.
+record MemoryShows (b : Bundle) (from : Beginning) (m : CloakedMemory) : Type 0 where
+  pub drawn : HasDrawn (length b.programs) b.programs from (keys_drawn b.programs from + pages_of_programs b.programs)
+      m.ledger
+  pub shown : (at f : ℕ) (bytes : List ℕ) → slice_get (opening_items b.programs m.ram) at ≡ Some (item.Cipher f bytes) →
+      ShowsOwn b.programs from m.plain (placing_draw (keys_drawn b.programs from) b.programs f) bytes
+
+memory_shows : (b : Bundle) (from : Beginning) (first m : CloakedMemory) →
+    HasDrawn (length b.programs) b.programs from (keys_drawn b.programs from) first.ledger →
+    place_programs 0 b.programs first ≡ Some m → MemoryShows b from m
+memory_shows b from first m has placed =
+    let k : ℕ = keys_drawn b.programs from in
     let all : AreLater b.programs 0 b.programs = λ i. ap (slice_get b.programs) (omega arith) in
-    let shows = programs_show b.programs stream 0 k b.programs first m all has placed in
+    let shows = programs_show b.programs from 0 k b.programs first m all has placed in
     let count = shows.count in
     record {
       drawn = shows.drawn;
-      count = started_count 0 b.programs;
       shown = λ at f bytes there.
           let one : IsOpening b.programs m.ram (item.Cipher f bytes) = one_is b m.ram at f bytes there in
           let low = one.1.1 in
-          subst (λ (x : List ℕ). ShowsPage b.programs stream m.plain (placing_draw k b.programs f) x) (sym one.0)
+          subst (λ (x : List ℕ). ShowsOwn b.programs from m.plain (placing_draw k b.programs f) x) (sym one.0)
           (shows.own f one.1.0 (omega (arith, count, low)));
     }
-
--- With the memory in which the pages were placed.
-
-places_if : (b : Bundle) (m : Option CloakedMemory) (o : Opened) → opened_with b m ≡ Ok o → OpeningPlaces b o
-unfolding opened_with
-places_if b None o opens = absurd cc
-places_if b (Some m) o opens =
-    let same : record { joint = started_joint b m; items = opening_items b.programs m.ram } ≡ o = cc in
-    subst (OpeningPlaces b) same (items_place b m)
-
-shows_if : (b : Bundle) (stream : Random) (first : CloakedMemory) (m : Option CloakedMemory) (o : Opened) →
-    HasDrawn (length b.programs) b.programs stream (key_count b.programs) first.ledger →
-    place_programs 0 b.programs first ≡ m → opened_with b m ≡ Ok o → OpeningShows b stream o
-unfolding opened_with
-shows_if b stream first None o has placed opens = absurd cc
-shows_if b stream first (Some m) o has placed opens =
-    let same : record { joint = started_joint b m; items = opening_items b.programs m.ram } ≡ o = cc in
-    subst (OpeningShows b stream) same (memory_shows b stream first m has placed)
-
--- With the keys that were drawn.
-
-drawn_places : (b : Bundle) (draw : Option (List (List ℕ) × Random)) (o : Opened) → opened_by b draw ≡ Ok o →
-    OpeningPlaces b o
-unfolding opened_by
-drawn_places b None o opens = absurd cc
-drawn_places b (Some draw) o opens = places_if b _ o opens
 
 none_owed : (count n : ℕ) → OwesPagesOf count (replicate n None)
 none_owed count zero = tt
 none_owed count (suc n) = (tt, none_owed count n)
 
-started_drawn : (b : Bundle) (stream : Random) (draw : List (List ℕ) × Random) → IsInGrammar b →
-    drawn_keys (key_count b.programs) stream ≡ Some draw →
-    HasDrawn (length b.programs) b.programs stream (key_count b.programs)
-    (started_memory b.kernel (keys_for b.programs draw.0) draw.1).ledger
+-- With the keys of a beginning.
+started_drawn : (b : Bundle) (from : Beginning) (keys : Keys) (rest : Random) → IsInGrammar b →
+    HasKeys b from keys rest →
+    HasDrawn (length b.programs) b.programs from (keys_drawn b.programs from) (started_memory b.kernel keys rest).ledger
 unfolding started_memory started_ledger
-started_drawn b stream draw grammar is = record {
+started_drawn b (Fresh stream) keys rest grammar has = record {
   enough = omega arith;
-  keys = λ page program found. programs_have_keys b.programs stream draw grammar.few_programs
-      (λ d p there. (program_at b.kernel.frames b.programs grammar.programs d p there).key) is page program found;
+  keys = λ page program found.
+      programs_have_keys b.programs stream (has.drawn, rest) grammar.few_programs
+      (λ d p there. (program_at b.kernel.frames b.programs grammar.programs d p there).key) has.draws page program found
+      ∙ ap (λ (k : Keys). Some (key_in k page)) (sym has.are);
   owed = none_owed (length b.programs) b.kernel.frames;
-  next = (are_drawn (key_count b.programs) stream draw is).next;
+  next = (are_drawn (key_count b.programs) stream (has.drawn, rest) has.draws).next;
+}
+started_drawn b (Stored handed stream files) keys rest grammar has = record {
+  enough = omega arith;
+  keys = λ page program found.
+      handed_keys b handed grammar.few_programs page program found
+      ∙ ap (λ (k : Keys). Some (key_in k page)) (sym has.are);
+  owed = none_owed (length b.programs) b.kernel.frames;
+  next = ap next_draw has.stays;
 }
 
-drawn_shows : (b : Bundle) (stream : Random) (draw : Option (List (List ℕ) × Random)) (o : Opened) → IsInGrammar b →
-    drawn_keys (key_count b.programs) stream ≡ draw → opened_by b draw ≡ Ok o → OpeningShows b stream o
-unfolding opened_by
-drawn_shows b stream None o grammar is opens = absurd cc
-drawn_shows b stream (Some draw) o grammar is opens =
-    shows_if b stream _ _ o (started_drawn b stream draw grammar is) refl opens
+pub opening_places : (b : Bundle) (from : Beginning) (o : Opened) → opening_from b from ≡ Ok o →
+    OpeningPlaces b o.items
+opening_places b from o opens =
+    let over = opens_over b from o opens in
+    subst (OpeningPlaces b) (sym over.items) (items_place b over.memory.ram)
 
-pub opening_places : (b : Bundle) (stream : Random) (o : Opened) → opening b stream ≡ Ok o → OpeningPlaces b o
-opening_places b stream o opens = drawn_places b (drawn_keys (key_count b.programs) stream) o opens
-
-pub opening_shows : (b : Bundle) (stream : Random) (o : Opened) → IsInGrammar b → opening b stream ≡ Ok o →
-    OpeningShows b stream o
-opening_shows b stream o grammar opens =
-    drawn_shows b stream (drawn_keys (key_count b.programs) stream) o grammar refl opens
+pub opening_shows : (b : Bundle) (from : Beginning) (o : Opened) → IsInGrammar b → opening_from b from ≡ Ok o →
+    OpeningShows b from o
+unfolding started_joint
+opening_shows b from o grammar opens =
+    let over = opens_over b from o opens in
+    let m : CloakedMemory = over.memory in
+    let shows = memory_shows b from (started_memory b.kernel over.keys over.stream) m
+    (started_drawn b from over.keys over.stream grammar over.has_keys) over.placed in
+    let keeps = added_keep (files_of from) (started_joint b m) o.joint over.added in
+    let own = added_own (files_of from) b.programs (started_joint b m) o.joint over.added refl in
+    record {
+      drawn = draws_stay from _ m.ledger o.joint.memory.ledger shows.drawn keeps.memory.keys
+          (subst (OwesPagesOf (length b.programs)) (sym keeps.memory.owed) shows.drawn.owed) keeps.memory.stream;
+      count = keeps.count ∙ started_count 0 b.programs;
+      shown = λ at f bytes there.
+          still_shown b.programs from m.plain o.joint.memory.plain _ bytes
+          (shows.shown at f bytes (ap (λ (items : List Item). slice_get items at) (sym over.items) ∙ there)) own.plain;
+    }

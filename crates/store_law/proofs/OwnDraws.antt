@@ -1,15 +1,15 @@
 -- No two Ciphers of a run are under one draw.
 use Rattle.std.proofs.Common.{◌≡◌, ◌∙◌, ◌⊎◌, inl, inr, ℕ, zero, suc, ◌+◌, ◌-◌, ◌≤◌, ◌<◌, Bool, true, false, cond, List, [], ◌∷◌, length, take, slice_get, Option, Some, None, Ok, refl, sym, ap, subst, arith}
 use Rattle.std.proofs.lemmas.Bool.{cases_lt, cases_eq, false≢true}
-use Rattle.cloak_base.specs.Random.{Random}
 use Rattle.cloak_model.specs.declared.image.Bundle.{Bundle}
 use Rattle.cloak_model.specs.declared.image.Program.{Program}
 use Rattle.cloak_model.specs.declared.item.Item.{Item}
 use Rattle.cloak_model.specs.declared.item.Item.TheVariants as item
+use Rattle.cloak_model.specs.Beginning.{Beginning, opening_from}
 use Rattle.cloak_model.specs.Joint.{Turn}
-use Rattle.cloak_model.specs.Opening.{key_count, Opened, opening, is_placed}
+use Rattle.cloak_model.specs.Opening.{Opened, is_placed}
 use Rattle.cloak_model.specs.Run.{Run, run_of}
-use Rattle.store_law.specs.Ciphers.{cipher_count, ciphers_in, pages_of_programs, ciphers_of_steps, draws_before, placing_draw, ItemPlace, InOpening, InStep, InClosing, items_of_turn, item_at, draw_number, HaveOwnDraws, CiphersHaveOwnDraws}
+use Rattle.store_law.specs.Ciphers.{keys_drawn, cipher_count, ciphers_in, pages_of_programs, ciphers_of_steps, draws_before, placing_draw, ItemPlace, InOpening, InStep, InClosing, items_of_turn, item_at, draw_number, HaveOwnDraws, CiphersHaveOwnDraws}
 use Rattle.store_law.proofs.Opened.{inside_or_apart, apart_later, OpeningPlaces, opening_places}
 use Rattle.store_law.proofs.Ciphers.{of_opened, nothing_there}
 
@@ -143,16 +143,16 @@ is_step (x ∷ turns) zero t is = omega arith
 is_step (x ∷ turns) (suc n) t is = (let rest = is_step turns n t is in omega (arith, rest))
 
 -- A Cipher of a step is under a draw before those of what follows.
-record IsBefore (b : Bundle) (r : Run) (n at f : ℕ) : Type 0 where
+record IsBefore (b : Bundle) (from : Beginning) (r : Run) (n at f : ℕ) : Type 0 where
   pub step : n < length r.turns
-  pub before : (m : ℕ) → n < m → draw_number b r (InStep n at) f < draws_before b r m
+  pub before : (m : ℕ) → n < m → draw_number b from r (InStep n at) f < draws_before b from r m
 
-is_before : (b : Bundle) (r : Run) (n at f : ℕ) (bytes : List ℕ) →
-    item_at r (InStep n at) ≡ Some (item.Cipher f bytes) → IsBefore b r n at f
-is_before b r n at f bytes is = by (slice_get r.turns n) refl is
+is_before : (b : Bundle) (from : Beginning) (r : Run) (n at f : ℕ) (bytes : List ℕ) →
+    item_at r (InStep n at) ≡ Some (item.Cipher f bytes) → IsBefore b from r n at f
+is_before b from r n at f bytes is = by (slice_get r.turns n) refl is
   where
     by : (found : Option Turn) → slice_get r.turns n ≡ found →
-        slice_get (items_of_turn found) at ≡ Some (item.Cipher f bytes) → IsBefore b r n at f
+        slice_get (items_of_turn found) at ≡ Some (item.Cipher f bytes) → IsBefore b from r n at f
     by None found there = absurd (nothing_there at (item.Cipher f bytes) there)
     by (Some t) found there = record {
       step = is_step r.turns n t found;
@@ -166,32 +166,32 @@ is_before b r n at f bytes is = by (slice_get r.turns n) refl is
 
 -- The whole run.
 
-steps_apart : (b : Bundle) (r : Run) (n at f n' at' f' : ℕ) (bytes bytes' : List ℕ) →
+steps_apart : (b : Bundle) (from : Beginning) (r : Run) (n at f n' at' f' : ℕ) (bytes bytes' : List ℕ) →
     item_at r (InStep n at) ≡ Some (item.Cipher f bytes) → item_at r (InStep n' at') ≡ Some (item.Cipher f' bytes') →
-    draw_number b r (InStep n at) f ≡ draw_number b r (InStep n' at') f' → InStep n at ≡ InStep n' at'
-steps_apart b r n at f n' at' f' bytes bytes' is is' same = elim (cases_eq n n') [
+    draw_number b from r (InStep n at) f ≡ draw_number b from r (InStep n' at') f' → InStep n at ≡ InStep n' at'
+steps_apart b from r n at f n' at' f' bytes bytes' is is' same = elim (cases_eq n n') [
   | inl one ↦
       let is'' : item_at r (InStep n at') ≡ Some (item.Cipher f' bytes') =
       ap (λ (x : ℕ). item_at r (InStep x at')) one ∙ is' in
-      let number : draw_number b r (InStep n at) f ≡ draw_number b r (InStep n at') f' =
-      same ∙ ap (λ (x : ℕ). draw_number b r (InStep x at') f') (sym one) in
+      let number : draw_number b from r (InStep n at) f ≡ draw_number b from r (InStep n at') f' =
+      same ∙ ap (λ (x : ℕ). draw_number b from r (InStep x at') f') (sym one) in
       let items : List Item = items_of_turn (slice_get r.turns n) in
       let places : at ≡ at' = not_as_many items at at' f f' bytes bytes' is is'' (omega (arith, number)) in
       ap (λ (x : ℕ). InStep x at) one ∙ ap (λ (x : ℕ). InStep n' x) places
   | inr other ↦ elim (cases_lt n n') [
     | inl less ↦
-        let first = (is_before b r n at f bytes is).before n' less in absurd (omega (arith, first, same))
+        let first = (is_before b from r n at f bytes is).before n' less in absurd (omega (arith, first, same))
     | inr more ↦
-        let second = (is_before b r n' at' f' bytes' is').before n (omega (arith, other, more)) in
+        let second = (is_before b from r n' at' f' bytes' is').before n (omega (arith, other, more)) in
         absurd (omega (arith, second, same))
   ]
 ]
 
-own_draws : (b : Bundle) (r : Run) → OpeningPlaces b r.opened → HaveOwnDraws b r
-own_draws b r places = record { not_key = later; apart = apart }
+own_draws : (b : Bundle) (from : Beginning) (r : Run) → OpeningPlaces b r.opened.items → HaveOwnDraws b from r
+own_draws b from r places = record { not_key = later; apart = apart }
   where
     keys : ℕ
-    keys = key_count b.programs
+    keys = keys_drawn b.programs from
 
     within : (at f : ℕ) (bytes : List ℕ) → slice_get r.opened.items at ≡ Some (item.Cipher f bytes) →
         (keys ≤ placing_draw keys b.programs f)
@@ -199,14 +199,14 @@ own_draws b r places = record { not_key = later; apart = apart }
     within at f bytes is = placing_within keys b.programs f (places.placed at f bytes is)
 
     later : (place : ItemPlace) (f : ℕ) (bytes : List ℕ) → item_at r place ≡ Some (item.Cipher f bytes) →
-        keys ≤ draw_number b r place f
+        keys ≤ draw_number b from r place f
     later (InOpening at) f bytes is = (within at f bytes is).0
     later (InStep n at) f bytes is = omega arith
     later (InClosing at) f bytes is = omega arith
 
     apart : (place place' : ItemPlace) (f f' : ℕ) (bytes bytes' : List ℕ) →
         item_at r place ≡ Some (item.Cipher f bytes) → item_at r place' ≡ Some (item.Cipher f' bytes') →
-        draw_number b r place f ≡ draw_number b r place' f' → place ≡ place'
+        draw_number b from r place f ≡ draw_number b from r place' f' → place ≡ place'
     apart (InOpening at) (InOpening at') f f' bytes bytes' is is' same =
         let frames : f ≡ f' =
         placing_apart keys b.programs f f' (places.placed at f bytes is) (places.placed at' f' bytes' is') same in
@@ -219,29 +219,29 @@ own_draws b r places = record { not_key = later; apart = apart }
     apart (InStep n at) (InOpening at') f f' bytes bytes' is is' same =
         let high = (within at' f' bytes' is').1 in absurd (omega (arith, high, same))
     apart (InStep n at) (InStep n' at') f f' bytes bytes' is is' same =
-        steps_apart b r n at f n' at' f' bytes bytes' is is' same
+        steps_apart b from r n at f n' at' f' bytes bytes' is is' same
     apart (InStep n at) (InClosing at') f f' bytes bytes' is is' same =
-        let s = is_before b r n at f bytes is in
+        let s = is_before b from r n at f bytes is in
         let first = s.before (length r.turns) s.step in absurd (omega (arith, first, same))
     apart (InClosing at) (InOpening at') f f' bytes bytes' is is' same =
         let high = (within at' f' bytes' is').1 in absurd (omega (arith, high, same))
     apart (InClosing at) (InStep n' at') f f' bytes bytes' is is' same =
-        let s = is_before b r n' at' f' bytes' is' in
+        let s = is_before b from r n' at' f' bytes' is' in
         let first = s.before (length r.turns) s.step in absurd (omega (arith, first, same))
     apart (InClosing at) (InClosing at') f f' bytes bytes' is is' same =
         ap (λ (x : ℕ). InClosing x)
         (not_as_many r.closed.items at at' f f' bytes bytes' is is' (omega (arith, same)))
 
-run_opens : (b : Bundle) (stream : Random) (budget : ℕ) (o : Opened) → opening b stream ≡ Ok o →
-    OpeningPlaces b (run_of b budget o).opened
+run_opens : (b : Bundle) (from : Beginning) (budget : ℕ) (o : Opened) → opening_from b from ≡ Ok o →
+    OpeningPlaces b (run_of b budget o).opened.items
 unfolding run_of
-run_opens b stream budget o opens = opening_places b stream o opens
+run_opens b from budget o opens = opening_places b from o opens
 
-run_has_own_draws : (b : Bundle) (stream : Random) (budget : ℕ) (o : Opened) → opening b stream ≡ Ok o →
-    HaveOwnDraws b (run_of b budget o)
-run_has_own_draws b stream budget o opens =
-    own_draws b (run_of b budget o) (run_opens b stream budget o opens)
+run_has_own_draws : (b : Bundle) (from : Beginning) (budget : ℕ) (o : Opened) → opening_from b from ≡ Ok o →
+    HaveOwnDraws b from (run_of b budget o)
+run_has_own_draws b from budget o opens =
+    own_draws b from (run_of b budget o) (run_opens b from budget o opens)
 
 pub ciphers_have_own_draws : CiphersHaveOwnDraws
-ciphers_have_own_draws b stream budget r is =
-    of_opened b budget (λ (r : Run). HaveOwnDraws b r) (opening b stream) r is (run_has_own_draws b stream budget)
+ciphers_have_own_draws b from budget r is =
+    of_opened b budget (HaveOwnDraws b from) (opening_from b from) r is (run_has_own_draws b from budget)

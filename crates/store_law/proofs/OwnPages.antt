@@ -1,7 +1,6 @@
 -- A step of the kernel, or of another program, leaves the pages of a program as they are.
 use Rattle.std.proofs.Common.{◌≡◌, ◌≢◌, ◌∙◌, ℕ, zero, suc, ◌+◌, ◌%◌, Bool, true, false, List, length, take, slice_get, slice_index, Option, Some, None, Ok, refl, sym, ap, subst, arith, take_all}
 use Rattle.std.specs.Prelude.{option_map, ◌||◌}
-use Rattle.cloak_base.specs.Random.{Random}
 use Rattle.cloak_base.specs.declared.causes.Stop.{Stop}
 use Rattle.cloak_base.specs.declared.names.PageId.{PageId}
 use Rattle.cloak_model.specs.declared.image.Bundle.{Bundle}
@@ -9,6 +8,7 @@ use Rattle.cloak_model.specs.declared.inside.Went.{Went}
 use Rattle.cloak_model.specs.declared.inside.Went.TheVariants as went
 use Rattle.cloak_model.specs.declared.item.Item.{Item}
 use Rattle.cloak_model.specs.Asking.{Told}
+use Rattle.cloak_model.specs.Beginning.{Beginning, opening_from}
 use Rattle.cloak_model.specs.Cloaking.{CloakedMemory}
 use Rattle.cloak_model.specs.Contexts.{domain_of, slot_of}
 use Rattle.cloak_model.specs.DomainState.{Domain}
@@ -16,7 +16,7 @@ use Rattle.cloak_model.specs.DomainStep.{DomainStepped, domain_step}
 use Rattle.cloak_model.specs.Hart.{Hart}
 use Rattle.cloak_model.specs.Joint.{Moment, Turn, next_hart, hart_in, cloak_of, memory_of, domain_ended, after_domain_step, interrupt_ended, after_interrupt, by_interrupt, by_running, inside_step, turn_of, joint_step, after_turn, stop_of}
 use Rattle.cloak_model.specs.KernelStep.{ticked}
-use Rattle.cloak_model.specs.Opening.{Opened, opening}
+use Rattle.cloak_model.specs.Opening.{Opened}
 use Rattle.cloak_model.specs.Parts.{Joint, domain_pages}
 use Rattle.cloak_model.specs.Run.{Run, unless_stopped, turns_from, joint_after, first_moment, run_of, closing}
 use Rattle.cloak_model.specs.World.{World, Flat, Cloaked, Alone, plain_of}
@@ -223,15 +223,15 @@ joint_keeps d m programs other gone =
     answers_keep d h.inside _ m.joint (turn_of m.joint (next_hart m) h h.inside)
     (turn_keeps d m.joint (next_hart m) h h.inside programs other) gone
 
-steps_keep : (b : Bundle) (stream : Random) (budget : ℕ) (o : Opened) → opening b stream ≡ Ok o →
+steps_keep : (b : Bundle) (from : Beginning) (budget : ℕ) (o : Opened) → opening_from b from ≡ Ok o →
     let r = run_of b budget o in
     (n : ℕ) (t : Turn) → slice_get r.turns n ≡ Some t → (d : ℕ) → program_of_step b r n ≢ Some d →
     ends_in d t.items ≡ false → domain_pages d t.joint.memory.plain ≡ domain_pages d (joint_until n r).memory.plain
 unfolding run_of
-steps_keep b stream budget o opens n t is d other gone =
+steps_keep b from budget o opens n t is d other gone =
     let turns : List Turn = turns_from budget (first_moment b o.joint) in
     let low = is_step turns n t is in
-    let steady = (until_read b stream budget o opens n (omega (arith, low))).steady in
+    let steady = (until_read b from budget o opens n (omega (arith, low))).steady in
     let m : Moment = moment_behind (first_moment b o.joint) n turns in
     let number : m.steps ≡ n = omega arith in
     let hart = ap (λ (k : ℕ). option_map domain_of
@@ -255,14 +255,14 @@ closing_keeps b budget o =
     ∙ ap (λ (ts : List Turn). (joint_after o.joint ts).memory.plain) (sym all)
 
 pub steps_keep_pages : StepsKeepPages
-steps_keep_pages b stream budget r is =
+steps_keep_pages b from budget r is =
     of_opened b budget
     (λ (r : Run). (n : ℕ) (t : Turn) → slice_get r.turns n ≡ Some t → (d : ℕ) → program_of_step b r n ≢ Some d →
     ends_in d t.items ≡ false → domain_pages d t.joint.memory.plain ≡ domain_pages d (joint_until n r).memory.plain)
-    (opening b stream) r is (steps_keep b stream budget)
+    (opening_from b from) r is (steps_keep b from budget)
 
 pub closing_keeps_pages : ClosingKeepsPages
-closing_keeps_pages b stream budget r is =
+closing_keeps_pages b from budget r is =
     of_opened b budget
     (λ (r : Run). r.closed.joint.memory.plain ≡ (joint_until (length r.turns) r).memory.plain)
-    (opening b stream) r is (λ o opens. closing_keeps b budget o)
+    (opening_from b from) r is (λ o opens. closing_keeps b budget o)

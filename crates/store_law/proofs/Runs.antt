@@ -1,8 +1,8 @@
 -- The steps of a run one after another, and its closing.
 use Rattle.std.proofs.Common.{◌≡◌, ◌≤◌, ℕ, zero, suc, ◌+◌, List, [], ◌∷◌, length, take, slice_get, Option, Some, None, refl, subst, arith}
-use Rattle.cloak_base.specs.Random.{Random}
 use Rattle.cloak_base.specs.declared.causes.Stop.{Stop}
 use Rattle.cloak_model.specs.declared.image.Program.{Program}
+use Rattle.cloak_model.specs.Beginning.{Beginning}
 use Rattle.cloak_model.specs.Cloaking.{settle}
 use Rattle.cloak_model.specs.Hart.{Hart}
 use Rattle.cloak_model.specs.Joint.{Moment, Turn, joint_step, after_turn, stop_of, cloak_outside, hart_in}
@@ -51,27 +51,27 @@ steps_count (t ∷ turns) n =
     let one = draw_behind_counts t.items n in
     omega (arith, rest, one)
 
-pub drawn_behind : {count : ℕ} (programs : List Program) (stream : Random) (k n : ℕ) (j : Joint) (turns : List Turn) →
-    TurnsUse count j turns → HasDrawn count programs stream k j.memory.ledger →
-    HasDrawn count programs stream (behind_steps (take n turns) k) (joint_after j (take n turns)).memory.ledger
+pub drawn_behind : {count : ℕ} (programs : List Program) (from : Beginning) (k n : ℕ) (j : Joint) (turns : List Turn) →
+    TurnsUse count j turns → HasDrawn count programs from k j.memory.ledger →
+    HasDrawn count programs from (behind_steps (take n turns) k) (joint_after j (take n turns)).memory.ledger
 unfolding joint_after
-drawn_behind programs stream k zero j turns all has = has
-drawn_behind programs stream k (suc n) j [] all has = has
-drawn_behind programs stream k (suc n) j (t ∷ turns) all has =
-    drawn_behind programs stream (draw_behind t.items k) n t.joint turns all.1 (all.0.drawn programs stream k has)
+drawn_behind programs from k zero j turns all has = has
+drawn_behind programs from k (suc n) j [] all has = has
+drawn_behind programs from k (suc n) j (t ∷ turns) all has =
+    drawn_behind programs from (draw_behind t.items k) n t.joint turns all.1 (all.0.drawn programs from k has)
 
-pub step_shown : {count : ℕ} (programs : List Program) (stream : Random) (k n : ℕ) (j : Joint) (turns : List Turn)
-    (t : Turn) → TurnsUse count j turns → HasDrawn count programs stream k j.memory.ledger →
+pub step_shown : {count : ℕ} (programs : List Program) (from : Beginning) (k n : ℕ) (j : Joint) (turns : List Turn)
+    (t : Turn) → TurnsUse count j turns → HasDrawn count programs from k j.memory.ledger →
     slice_get turns n ≡ Some t →
-    AreShown programs stream (joint_after j (take n turns)).memory.plain (behind_steps (take n turns) k) t.items
+    AreShown programs from (joint_after j (take n turns)).memory.plain (behind_steps (take n turns) k) t.items
 unfolding joint_after
-step_shown programs stream k zero j [] t all has is = absurd cc
-step_shown programs stream k (suc n) j [] t all has is = absurd cc
-step_shown programs stream k zero j (x ∷ turns) t all has is =
+step_shown programs from k zero j [] t all has is = absurd cc
+step_shown programs from k (suc n) j [] t all has is = absurd cc
+step_shown programs from k zero j (x ∷ turns) t all has is =
     let same : x ≡ t = cc in
-    subst (λ (y : Turn). AreShown programs stream j.memory.plain k y.items) same (all.0.shown programs stream k has)
-step_shown programs stream k (suc n) j (x ∷ turns) t all has is =
-    step_shown programs stream (draw_behind x.items k) n x.joint turns t all.1 (all.0.drawn programs stream k has) is
+    subst (λ (y : Turn). AreShown programs from j.memory.plain k y.items) same (all.0.shown programs from k has)
+step_shown programs from k (suc n) j (x ∷ turns) t all has is =
+    step_shown programs from (draw_behind x.items k) n x.joint turns t all.1 (all.0.drawn programs from k has) is
 
 -- The closing.
 
@@ -84,15 +84,15 @@ below_draws (suc n) m h =
     draws_then m c.memory _ c.items (cipher_items (settle n c.memory).ciphers) (below_draws n m h)
     (settle_draws n c.memory)
 
-pub closing_shown : {count : ℕ} (programs : List Program) (stream : Random) (k : ℕ) (j : Joint) →
-    HasDrawn count programs stream k j.memory.ledger → AreShown programs stream j.memory.plain k (closing j).items
+pub closing_shown : {count : ℕ} (programs : List Program) (from : Beginning) (k : ℕ) (j : Joint) →
+    HasDrawn count programs from k j.memory.ledger → AreShown programs from j.memory.plain k (closing j).items
 unfolding closing
-closing_shown programs stream k j has =
-    (below_draws (length j.memory.ram) j.memory (hart_in j 0)).shown programs stream k has
+closing_shown programs from k j has =
+    (below_draws (length j.memory.ram) j.memory (hart_in j 0)).shown programs from k has
 
-pub closing_drawn : {count : ℕ} (programs : List Program) (stream : Random) (k : ℕ) (j : Joint) →
-    HasDrawn count programs stream k j.memory.ledger →
-    HasDrawn count programs stream (draw_behind (closing j).items k) (closing j).joint.memory.ledger
+pub closing_drawn : {count : ℕ} (programs : List Program) (from : Beginning) (k : ℕ) (j : Joint) →
+    HasDrawn count programs from k j.memory.ledger →
+    HasDrawn count programs from (draw_behind (closing j).items k) (closing j).joint.memory.ledger
 unfolding closing
-closing_drawn programs stream k j has =
-    (below_draws (length j.memory.ram) j.memory (hart_in j 0)).drawn programs stream k has
+closing_drawn programs from k j has =
+    (below_draws (length j.memory.ram) j.memory (hart_in j 0)).drawn programs from k has

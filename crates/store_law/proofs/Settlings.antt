@@ -10,6 +10,7 @@ use Rattle.cloak_model.specs.declared.image.Program.{Program}
 use Rattle.cloak_model.specs.declared.item.Item.{Item}
 use Rattle.cloak_model.specs.declared.item.Item.TheVariants as item
 use Rattle.cloak_model.specs.Ahead.{is_owed, settle_found, settle_while, settle_touched}
+use Rattle.cloak_model.specs.Beginning.{Beginning}
 use Rattle.cloak_model.specs.Cloaking.{CloakedMemory, AfterSettling, AfterOffer, Ready, Mismatch, owed_in, settle_owed, settle_if, settle, settle_frame_if, owing_frame, owes, with_owed, with_comparison, taken, compared, unless_missed, offer}
 use Rattle.cloak_model.specs.Hart.{Hart}
 use Rattle.cloak_model.specs.Ledger.{key_of, vector_of}
@@ -47,11 +48,11 @@ there_is (p ∷ programs) (suc d) low = there_is programs d (omega (arith, low))
 
 -- the page that a frame is owed, under its program's key
 owed_shown : {count : ℕ} {programs : List Program} (f : ℕ) (q : PageId) (draw : Option (List ℕ × Random))
-    (stream : Random) (n : ℕ) (m : CloakedMemory) → owed_in m f ≡ Some q → vector_of m.ledger q ≡ draw →
-    HasDrawn count programs stream n m.ledger →
-    ShowsPage programs stream m.plain n
+    (from : Beginning) (n : ℕ) (m : CloakedMemory) → owed_in m f ≡ Some q → vector_of m.ledger q ≡ draw →
+    HasDrawn count programs from n m.ledger →
+    ShowsPage programs from m.plain n
     (shown_under (key_of m.ledger q) (option_map (λ (d : List ℕ × Random). d.0) draw) (m.plain q))
-owed_shown {count} {programs} f q draw stream n m owed is has =
+owed_shown {count} {programs} f q draw from n m owed is has =
     let low = subst (λ (o : Option PageId). IfSome o (λ x. x.domain < length programs)) owed
     (owed_at (length programs) m.ledger.owed f has.owed) in
     let there = there_is programs q.domain low in
@@ -75,15 +76,15 @@ owed_draws : {count : ℕ} (f : ℕ) (q : PageId) (draw : Option (List ℕ × Ra
 unfolding settle_owed
 owed_draws f q None m owed is = record {
   plain = refl;
-  drawn = λ programs stream n has.
-      draw_missed stream n m.ledger _ has is refl (owes_less (length programs) f m has.owed) refl;
-  shown = λ programs stream n has. (owed_shown f q None stream n m owed is has, tt);
+  drawn = λ programs from n has.
+      draw_missed from n m.ledger _ has is refl (owes_less (length programs) f m has.owed) refl;
+  shown = λ programs from n has. (owed_shown f q None from n m owed is has, tt);
 }
 owed_draws f q (Some draw) m owed is = record {
   plain = refl;
-  drawn = λ programs stream n has.
-      draw_made stream n m.ledger _ draw has is refl (owes_less (length programs) f m has.owed) refl;
-  shown = λ programs stream n has. (owed_shown f q (Some draw) stream n m owed is has, tt);
+  drawn = λ programs from n has.
+      draw_made from n m.ledger _ draw has is refl (owes_less (length programs) f m has.owed) refl;
+  shown = λ programs from n has. (owed_shown f q (Some draw) from n m owed is has, tt);
 }
 
 if_draws : {count : ℕ} (f : ℕ) (o : Option PageId) (m : CloakedMemory) → owed_in m f ≡ o →

@@ -1,7 +1,6 @@
 -- A step of the joint run shows pages as it found them, under draws one after another.
 use Rattle.std.proofs.Common.{◌≡◌, ◌∙◌, ◌<◌, ◌≤◌, ℕ, Bool, true, false, List, [], ◌∷◌, ◌++◌, Option, Some, None, Result, Ok, Err, refl, sym, ap, subst, arith}
 use Rattle.std.proofs.lemmas.Option.{slice_get_within}
-use Rattle.cloak_base.specs.Random.{Random}
 use Rattle.cloak_base.specs.declared.causes.Shown.{Shown}
 use Rattle.cloak_base.specs.declared.names.PageId.{PageId}
 use Rattle.cloak_model.specs.declared.context.ResumeFault.{ResumeFault}
@@ -14,6 +13,7 @@ use Rattle.cloak_model.specs.declared.outcome.Kernel.{Kernel}
 use Rattle.cloak_model.specs.declared.outcome.Kernel.TheVariants.{Stay, Put, Halt, Resume, Trapped}
 use Rattle.cloak_model.specs.Ahead.{settled_step, made_after}
 use Rattle.cloak_model.specs.Asking.{Told}
+use Rattle.cloak_model.specs.Beginning.{Beginning}
 use Rattle.cloak_model.specs.Cloaking.{CloakedMemory}
 use Rattle.cloak_model.specs.Contexts.{Admitted, context_at, domain_of, slot_of}
 use Rattle.cloak_model.specs.DomainState.{Control, Domain}
@@ -44,10 +44,10 @@ use Rattle.store_law.proofs.Steps.{ends_domain_step, changes_forgets}
 
 -- From one memory to a later one these items were written, and their Ciphers show pages as they were at first.
 pub record Uses (count : ℕ) (m : CloakedMemory) (items : List Item) (m' : CloakedMemory) : Type 0 where
-  pub drawn : (programs : List Program) (stream : Random) (n : ℕ) → HasDrawn count programs stream n m.ledger →
-      HasDrawn count programs stream (draw_behind items n) m'.ledger
-  pub shown : (programs : List Program) (stream : Random) (n : ℕ) → HasDrawn count programs stream n m.ledger →
-      AreShown programs stream m.plain n items
+  pub drawn : (programs : List Program) (from : Beginning) (n : ℕ) → HasDrawn count programs from n m.ledger →
+      HasDrawn count programs from (draw_behind items n) m'.ledger
+  pub shown : (programs : List Program) (from : Beginning) (n : ℕ) → HasDrawn count programs from n m.ledger →
+      AreShown programs from m.plain n items
 
 abbrev pub TurnUses : ℕ → Joint → Turn → Type 0
 TurnUses count j t = Uses count j.memory t.items t.joint.memory
@@ -55,8 +55,8 @@ TurnUses count j t = Uses count j.memory t.items t.joint.memory
 -- Items without a Cipher.
 record IsSilent (items : List Item) : Type 0 where
   pub counts : (n : ℕ) → draw_behind items n ≡ n
-  pub shows : (programs : List Program) (stream : Random) (plain : PageId → List ℕ) (n : ℕ) →
-      AreShown programs stream plain n items
+  pub shows : (programs : List Program) (from : Beginning) (plain : PageId → List ℕ) (n : ℕ) →
+      AreShown programs from plain n items
 
 -- keys and stream are as they were, and what is owed
 record SameDraws (m m' : CloakedMemory) : Type 0 where
@@ -64,34 +64,34 @@ record SameDraws (m m' : CloakedMemory) : Type 0 where
   pub owed : m'.ledger.owed ≡ m.ledger.owed
   pub stream : m'.ledger.stream ≡ m.ledger.stream
 
-still_drawn : {count : ℕ} {programs : List Program} (stream : Random) (n : ℕ) (m m' : CloakedMemory) →
-    HasDrawn count programs stream n m.ledger → SameDraws m m' → HasDrawn count programs stream n m'.ledger
-still_drawn {count} {programs} stream n m m' has same =
-    draws_stay stream n m.ledger m'.ledger has same.keys
+still_drawn : {count : ℕ} {programs : List Program} (from : Beginning) (n : ℕ) (m m' : CloakedMemory) →
+    HasDrawn count programs from n m.ledger → SameDraws m m' → HasDrawn count programs from n m'.ledger
+still_drawn {count} {programs} from n m m' has same =
+    draws_stay from n m.ledger m'.ledger has same.keys
     (subst (OwesPagesOf (length programs)) (sym same.owed) has.owed) same.stream
 
 uses_draws : {count : ℕ} (m : CloakedMemory) (items : List Item) (m' m'' : CloakedMemory) → Draws count m items m' →
     SameDraws m' m'' → Uses count m items m''
 uses_draws m items m' m'' d same = record {
-  drawn = λ programs stream n has.
-      still_drawn stream (draw_behind items n) m' m'' (d.drawn programs stream n has) same;
+  drawn = λ programs from n has.
+      still_drawn from (draw_behind items n) m' m'' (d.drawn programs from n has) same;
   shown = d.shown;
 }
 
 uses_more : {count : ℕ} (m m' m'' : CloakedMemory) (items more : List Item) → Uses count m items m' → IsSilent more →
     SameDraws m' m'' → Uses count m (items ++ more) m''
 uses_more {count} m m' m'' items more u silent same = record {
-  drawn = λ programs stream n has.
-      subst (λ (k : ℕ). HasDrawn count programs stream k m''.ledger)
+  drawn = λ programs from n has.
+      subst (λ (k : ℕ). HasDrawn count programs from k m''.ledger)
       (sym (draw_behind-append items more n ∙ silent.counts (draw_behind items n)))
-      (still_drawn stream (draw_behind items n) m' m'' (u.drawn programs stream n has) same);
-  shown = λ programs stream n has.
-      shown-append programs stream m.plain n items more (u.shown programs stream n has)
-      (silent.shows programs stream m.plain (draw_behind items n));
+      (still_drawn from (draw_behind items n) m' m'' (u.drawn programs from n has) same);
+  shown = λ programs from n has.
+      shown-append programs from m.plain n items more (u.shown programs from n has)
+      (silent.shows programs from m.plain (draw_behind items n));
 }
 
 uses_none : {count : ℕ} (m : CloakedMemory) → Uses count m [] m
-uses_none m = record { drawn = λ programs stream n has. has; shown = λ programs stream n has. tt }
+uses_none m = record { drawn = λ programs from n has. has; shown = λ programs from n has. tt }
 
 -- A hart outside.
 
@@ -102,7 +102,7 @@ record ResumesSilently (j : Joint) (r : AfterResume) : Type 0 where
 
 violated_silently : (j : Joint) (r : AfterResume) → r.items ≡ [] → r.joint ≡ j → ResumesSilently j r
 violated_silently j r none stays = record {
-  items = subst IsSilent (sym none) (record { counts = λ n. refl; shows = λ programs stream plain n. tt });
+  items = subst IsSilent (sym none) (record { counts = λ n. refl; shows = λ programs from plain n. tt });
   same = subst (λ (x : Joint). SameDraws j.memory x.memory) (sym stays)
       (record { keys = refl; owed = refl; stream = refl });
 }
@@ -112,7 +112,7 @@ root_silently : (j : Joint) (satp ctx reply : ℕ) (d : Domain) (control : Contr
 unfolding by_root
 root_silently j satp ctx reply d control a (Err fault) = violated_silently j _ refl refl
 root_silently j satp ctx reply d control a (Ok done) = record {
-  items = record { counts = λ n. refl; shows = λ programs stream plain n. (tt, tt) };
+  items = record { counts = λ n. refl; shows = λ programs from plain n. (tt, tt) };
   same = record { keys = refl; owed = refl; stream = refl };
 }
 
@@ -153,7 +153,7 @@ outside_uses j number h =
 -- A hart inside.
 
 silent_leave : (s : Shown) → IsSilent (item.Leave s ∷ [])
-silent_leave s = record { counts = λ n. refl; shows = λ programs stream plain n. (tt, tt) }
+silent_leave s = record { counts = λ n. refl; shows = λ programs from plain n. (tt, tt) }
 
 domain_ends : {count : ℕ} (m : CloakedMemory) (j : Joint) (number : ℕ) (h : Hart) (d : ℕ) (w : World) (how : Went) →
     Uses count m (items_of w) j.memory → let t = domain_ended j number h d w how in Uses count m t.items t.joint.memory
@@ -184,7 +184,7 @@ told_uses {count} j number h d c told memory none e =
     (ended_uses j.memory c told.world none e))
 
 silent_timer : (d : ℕ) → IsSilent (item.Timer d ∷ [])
-silent_timer d = record { counts = λ n. refl; shows = λ programs stream plain n. (tt, tt) }
+silent_timer d = record { counts = λ n. refl; shows = λ programs from plain n. (tt, tt) }
 
 timer_uses : {count : ℕ} (m : CloakedMemory) (d : ℕ) → Uses count m (item.Timer d ∷ []) m
 timer_uses m d =
@@ -267,17 +267,17 @@ end_shows d w =
 uses_then : {count : ℕ} (m m' m'' : CloakedMemory) (a b : List Item) → Uses count m a m' → m'.plain ≡ m.plain →
     Uses count m' b m'' → Uses count m (a ++ b) m''
 uses_then {count} m m' m'' a b p plain q = record {
-  drawn = λ programs stream n has.
-      subst (λ (k : ℕ). HasDrawn count programs stream k m''.ledger) (sym (draw_behind-append a b n))
-      (q.drawn programs stream (draw_behind a n) (p.drawn programs stream n has));
-  shown = λ programs stream n has.
-      shown-append programs stream m.plain n a b (p.shown programs stream n has)
-      (subst (λ (plain : PageId → List ℕ). AreShown programs stream plain (draw_behind a n) b) plain
-      (q.shown programs stream (draw_behind a n) (p.drawn programs stream n has)));
+  drawn = λ programs from n has.
+      subst (λ (k : ℕ). HasDrawn count programs from k m''.ledger) (sym (draw_behind-append a b n))
+      (q.drawn programs from (draw_behind a n) (p.drawn programs from n has));
+  shown = λ programs from n has.
+      shown-append programs from m.plain n a b (p.shown programs from n has)
+      (subst (λ (plain : PageId → List ℕ). AreShown programs from plain (draw_behind a n) b) plain
+      (q.shown programs from (draw_behind a n) (p.drawn programs from n has)));
 }
 
 silent_end : (d : ℕ) → IsSilent (item.Ended d ∷ [])
-silent_end d = record { counts = λ n. refl; shows = λ programs stream plain n. (tt, tt) }
+silent_end d = record { counts = λ n. refl; shows = λ programs from plain n. (tt, tt) }
 
 end_uses : {count : ℕ} (d : ℕ) (was : Domain) (v : Violation) (j : Joint) (t : Turn) → TurnUses count j t →
     t.joint.memory.plain ≡ j.memory.plain → TurnUses count j (end_domain d was v t)

@@ -1,11 +1,11 @@
 -- What a part of a step shows: pages as they are, under draws one after another, and then pages may change.
 use Rattle.std.proofs.Common.{◌≡◌, ◌∙◌, ℕ, Bool, true, false, cond, List, [], ◌∷◌, ◌++◌, length, refl, sym, ap, subst, append_assoc}
 use Rattle.std.proofs.lemmas.List.{append-nil}
-use Rattle.cloak_base.specs.Random.{Random}
 use Rattle.cloak_base.specs.declared.names.PageId.{PageId}
 use Rattle.cloak_model.specs.declared.image.Program.{Program}
 use Rattle.cloak_model.specs.declared.item.Item.{Item}
 use Rattle.cloak_model.specs.Asking.{Told}
+use Rattle.cloak_model.specs.Beginning.{Beginning}
 use Rattle.cloak_model.specs.Memory.{Seen}
 use Rattle.cloak_model.specs.World.{World, Cloak, Flat, Cloaked, Alone, Handed}
 use Rattle.store_law.proofs.Draws.{OwesPagesOf, HasDrawn, draws_stay, draw_behind, draw_behind-append, draw_behind_one, IsShown, AreShown, shown-append, Draws}
@@ -16,10 +16,10 @@ pub record ShowsFirstFrom (count : ℕ) (c : Cloak) (v : World) : Type 0 where
   pub is : v ≡ Cloaked to
   pub items : List Item
   pub written : to.items ≡ c.items ++ items
-  pub drawn : (programs : List Program) (stream : Random) (n : ℕ) → HasDrawn count programs stream n c.memory.ledger →
-      HasDrawn count programs stream (draw_behind items n) to.memory.ledger
-  pub shown : (programs : List Program) (stream : Random) (n : ℕ) → HasDrawn count programs stream n c.memory.ledger →
-      AreShown programs stream c.memory.plain n items
+  pub drawn : (programs : List Program) (from : Beginning) (n : ℕ) → HasDrawn count programs from n c.memory.ledger →
+      HasDrawn count programs from (draw_behind items n) to.memory.ledger
+  pub shown : (programs : List Program) (from : Beginning) (n : ℕ) → HasDrawn count programs from n c.memory.ledger →
+      AreShown programs from c.memory.plain n items
 
 pub record ShowsFirst (count : ℕ) (w v : World) : Type 0 where
   pub by : (c : Cloak) → w ≡ Cloaked c → ShowsFirstFrom count c v
@@ -81,14 +81,14 @@ ended_then {count} a b v w p plain q = record {
   is = q.is;
   items = p.items ++ q.items;
   written = q.written ∙ (ap (λ (l : List Item). l ++ q.items) p.written ∙ append_assoc a.items p.items q.items);
-  drawn = λ programs stream n has.
-      subst (λ (k : ℕ). HasDrawn count programs stream k q.to.memory.ledger)
+  drawn = λ programs from n has.
+      subst (λ (k : ℕ). HasDrawn count programs from k q.to.memory.ledger)
       (sym (draw_behind-append p.items q.items n))
-      (q.drawn programs stream (draw_behind p.items n) (p.drawn programs stream n has));
-  shown = λ programs stream n has.
-      shown-append programs stream a.memory.plain n p.items q.items (p.shown programs stream n has)
-      (subst (λ (plain : PageId → List ℕ). AreShown programs stream plain (draw_behind p.items n) q.items) plain
-      (q.shown programs stream (draw_behind p.items n) (p.drawn programs stream n has)));
+      (q.drawn programs from (draw_behind p.items n) (p.drawn programs from n has));
+  shown = λ programs from n has.
+      shown-append programs from a.memory.plain n p.items q.items (p.shown programs from n has)
+      (subst (λ (plain : PageId → List ℕ). AreShown programs from plain (draw_behind p.items n) q.items) plain
+      (q.shown programs from (draw_behind p.items n) (p.drawn programs from n has)));
 }
 
 pub ShowsFirst-behind : {count : ℕ} (u v w : World) → OnlyShows count u v → ShowsFirst count v w → ShowsFirst count u w
@@ -139,10 +139,10 @@ OnlyChanges-ends u v p = record {
         is = s.is;
         items = [];
         written = s.items ∙ sym (append-nil c.items);
-        drawn = λ programs stream n has.
-            draws_stay stream n c.memory.ledger s.to.memory.ledger has s.keys
+        drawn = λ programs from n has.
+            draws_stay from n c.memory.ledger s.to.memory.ledger has s.keys
             (subst (OwesPagesOf (length programs)) (sym s.owed) has.owed) s.stream;
-        shown = λ programs stream n has. tt;
+        shown = λ programs from n has. tt;
       };
 }
 
@@ -154,8 +154,8 @@ OnlyShows-refl w = record {
       is = is;
       items = [];
       written = sym (append-nil c.items);
-      drawn = λ programs stream n has. has;
-      shown = λ programs stream n has. tt;
+      drawn = λ programs from n has. has;
+      shown = λ programs from n has. tt;
     };
     plain = refl;
   };
@@ -210,12 +210,12 @@ shows_by c c' items written draws = shows_from c (Cloaked c') (record {
 
 -- an item that is no Cipher is written
 pub shows_item : {count : ℕ} (c : Cloak) (i : Item) → ((n : ℕ) → draw_behind_one i n ≡ n) →
-    ((programs : List Program) (stream : Random) (plain : PageId → List ℕ) (n : ℕ) →
-    IsShown programs stream plain n i) →
+    ((programs : List Program) (from : Beginning) (plain : PageId → List ℕ) (n : ℕ) →
+    IsShown programs from plain n i) →
     OnlyShows count (Cloaked c) (Cloaked (record c { items = c.items ++ i ∷ [] }))
 shows_item {count} c i counts nothing = shows_by c _ (i ∷ []) refl (record {
   plain = refl;
-  drawn = λ programs stream n has.
-      subst (λ (k : ℕ). HasDrawn count programs stream k c.memory.ledger) (sym (counts n)) has;
-  shown = λ programs stream n has. (nothing programs stream c.memory.plain n, tt);
+  drawn = λ programs from n has.
+      subst (λ (k : ℕ). HasDrawn count programs from k c.memory.ledger) (sym (counts n)) has;
+  shown = λ programs from n has. (nothing programs from c.memory.plain n, tt);
 })

@@ -1,15 +1,15 @@
 -- A completed cloaked load gives what its page has newest.
 use Rattle.std.specs.Prelude.{ℕ, ◌≡◌, ◌%◌, List, [], ◌∷◌, ◌++◌, slice_get, Some, Ok}
-use Rattle.cloak_base.specs.Random.{Random}
 use Rattle.cloak_base.specs.declared.names.PageId.{PageId}
 use Rattle.cloak_model.specs.declared.image.Bundle.{Bundle}
+use Rattle.cloak_model.specs.Beginning.{Beginning}
 use Rattle.cloak_model.specs.Contexts.{Context, context_at}
 use Rattle.cloak_model.specs.DomainState.{Domain}
 use Rattle.cloak_model.specs.Effect.{IsWidth}
 use Rattle.cloak_model.specs.Joint.{Turn}
 use Rattle.cloak_model.specs.Memory.{value_in}
 use Rattle.cloak_model.specs.Resources.{Resources, page_at}
-use Rattle.cloak_model.specs.Run.{Run, joint_run}
+use Rattle.cloak_model.specs.Run.{Run, run_from}
 use Rattle.store_law.specs.Ciphers.{}
 use Rattle.kernel_isolation.specs.Isolation.{joint_until}
 
@@ -32,7 +32,7 @@ pub data LoadsNewest (was : Domain) (plain : PageId → List ℕ) (now : Domain)
 -- Each load that a step of a run completes gives the bytes that its page had as the step found it.
 abbrev pub StepsLoadNewest : Type 0
 StepsLoadNewest =
-    (b : Bundle) (stream : Random) (budget : ℕ) (r : Run) → joint_run b stream budget ≡ Ok r →
+    (b : Bundle) (from : Beginning) (budget : ℕ) (r : Run) → run_from b from budget ≡ Ok r →
     (n : ℕ) (t : Turn) → slice_get r.turns n ≡ Some t → (d : ℕ) (was now : Domain) →
     slice_get (joint_until n r).domains d ≡ Some was → slice_get t.joint.domains d ≡ Some now →
     LoadsNewest was (joint_until n r).memory.plain now

@@ -3,7 +3,8 @@
 //! nothing else is shown under, or zeros if the random stream has ended; no page is sealed under another program's key,
 //! unless the two have one; the newest bytes of a program's pages are changed by its own steps alone; and each cloaked
 //! load that a step completes gives them. The laws that name keys hold of the run of every bundle in the grammar, the
-//! others of every bundle, also of one that no file spells.
+//! others of every bundle, also of one that no file spells. All hold of both beginnings: of a run from a random stream
+//! alone, whose first draws are the keys, and of one over the files of an earlier run, to which the keys are handed.
 //!
 //! No body turns a law, so there is no wrong body to refuse here. These changed definitions were tried on a copy, and
 //! with none of them did the proofs of the law of Ciphers go through: a draw is not taken off the stream; without a

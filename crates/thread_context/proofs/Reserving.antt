@@ -1,10 +1,9 @@
 -- Reservations of contexts, where no context has one and where those of a word end.
-use Rattle.std.proofs.Common.{◌≡◌, ◌+◌, ◌≤◌, ◌<◌, ◌∙◌, ℕ, zero, suc, Bool, true, false, ◌||◌, List, [], ◌∷◌, ◌++◌, Option, Some, None, refl, ap, length, take, map, replicate, slice_index_or, slice_set, add-one, arith}
-use Rattle.std.proofs.lemmas.List.{append-nil, drop_all, set-set, take_all}
+use Rattle.std.proofs.Common.{◌≡◌, ◌+◌, ◌≤◌, ◌<◌, ◌∙◌, ℕ, zero, suc, Bool, true, false, ◌||◌, List, [], ◌∷◌, Option, Some, None, refl, ap, sym, length, map, replicate, slice_index_or, slice_set, add-one, arith}
 use Rattle.std.specs.Prelude.{is_some}
-use Rattle.std.specs.List.{list_any, refill}
+use Rattle.std.specs.List.{list_any}
 use Rattle.cloak_model.specs.declared.context.WordPlace.{WordPlace}
-use Rattle.cloak_model.specs.Contexts.{Context, context_at, with_context, end_at, is_reserved, unless_reserved}
+use Rattle.cloak_model.specs.Contexts.{Context, context_at, with_context, started_contexts, is_reserved, unless_reserved}
 use Rattle.thread_context.specs.Reserved.{has_mark, has_marks}
 
 -- Tests that no element passes.
@@ -22,11 +21,10 @@ none_with test [] i x fails none = none
 none_with test (y ∷ ys) zero x fails none = rw fails (not_second (test y) _ none)
 none_with test (y ∷ ys) (suc i) x fails none = rw (not_first (test y) _ none) (none_with test ys i x fails (not_second (test y) _ none))
 
--- none but one, and not that one
-none_at_all : {A : Type 0} (test : A → Bool) (xs : List A) (i : ℕ) (x d : A) → list_any test (slice_set xs i x) ≡ false → test (slice_index_or xs i d) ≡ false → list_any test xs ≡ false
-none_at_all test [] i x d others fails = refl
-none_at_all test (y ∷ ys) zero x d others fails = rw fails (not_second (test x) _ others)
-none_at_all test (y ∷ ys) (suc i) x d others fails = rw (not_first (test y) _ others) (none_at_all test ys i x d (not_second (test y) _ others) fails)
+none_at : {A : Type 0} (test : A → Bool) (xs : List A) (i : ℕ) (d : A) → test d ≡ false → list_any test xs ≡ false → test (slice_index_or xs i d) ≡ false
+none_at test [] i d fails none = fails
+none_at test (y ∷ ys) zero d fails none = not_first (test y) _ none
+none_at test (y ∷ ys) (suc i) d fails none = none_at test ys i d fails (not_second (test y) _ none)
 
 -- Contexts of which none has a reservation.
 
@@ -37,13 +35,19 @@ none_marked (suc n) = none_marked n
 pub none_marked-with : (contexts : List (Option Context)) (slot : ℕ) (c : Option Context) → has_mark c ≡ false → has_marks contexts ≡ false → has_marks (slice_set contexts slot c) ≡ false
 none_marked-with contexts slot c unmarked none = none_with has_mark contexts slot c unmarked none
 
--- one was lent, and the others have none
-pub none_marked-lent : (contexts : List (Option Context)) (slot : ℕ) (c : Context) → has_marks contexts ≡ false → has_marks (end_at slot (with_context slot c contexts)) ≡ false
-none_marked-lent contexts slot c none = rw (set-set contexts slot (Some c) None) (none_with has_mark contexts slot None refl none)
+-- so has none of them
+pub none_marked-at : (contexts : List (Option Context)) (slot : ℕ) → has_marks contexts ≡ false → has_mark (context_at contexts slot) ≡ false
+none_marked-at contexts slot none = none_at has_mark contexts slot None refl none
 
--- it is back, and has none either
-pub none_marked-back : (contexts : List (Option Context)) (slot : ℕ) → has_marks (end_at slot contexts) ≡ false → has_mark (context_at contexts slot) ≡ false → has_marks contexts ≡ false
-none_marked-back contexts slot others unmarked = none_at_all has_mark contexts slot None None others unmarked
+-- one was lent that came without one, and so it left
+pub none_marked-lent : (contexts : List (Option Context)) (slot : ℕ) (c changed : Context) → context_at contexts slot ≡ Some c → (is_some c.mark ≡ false → is_some changed.mark ≡ false) → has_marks contexts ≡ false → has_marks (with_context slot changed contexts) ≡ false
+none_marked-lent contexts slot c changed there kept none =
+    none_with has_mark contexts slot (Some changed) (kept (ap has_mark (sym there) ∙ none_marked-at contexts slot none)) none
+
+-- a program as it begins
+pub none_marked-started : (pc sp : ℕ) → has_marks (started_contexts pc sp) ≡ false
+unfolding started_contexts
+none_marked-started pc sp = refl
 
 -- A word is written that none has reserved.
 
@@ -89,15 +93,4 @@ mapped_below-all f zero (x ∷ xs) past = absurd (omega arith)
 mapped_below-all f (suc n) [] past = refl
 mapped_below-all f (suc n) (x ∷ xs) past = ap (λ ys. f x ∷ ys) (mapped_below-all f n xs (omega arith))
 
--- Slots that are written as a whole.
-
-pub refill_whole : {A : Type 0} (xs ys : List A) → length ys ≡ length xs → refill (length xs) xs ys ≡ ys
-refill_whole xs ys same =
-    ap (λ rest. take (length xs) (ys ++ rest)) (drop_all (length ys) xs (omega arith))
-    ∙ ap (take (length xs)) (append-nil ys)
-    ∙ take_all (length xs) ys (omega arith)
-
-pub ruleset reserving = (none_marked, none_marked-with, none_marked-back, same_contexts)
-
--- for who lends a context
-pub ruleset lending = (none_marked-lent)
+pub ruleset reserving = (none_marked, none_marked-with, none_marked-lent, none_marked-started, same_contexts)

@@ -19,6 +19,6 @@ pub fn sentence(status: Status) -> &'static str
         Status::BadRecord => {
             "tools: the file is no record, or does not fit the image, and it was shown where\n"
         }
-        Status::Done | Status::Violation | Status::NoRandom => "",
+        Status::Done | Status::Violation | Status::NoRandom | Status::BadStore => "",
     }
 }

@@ -223,7 +223,7 @@ The kernel's page table leads there to frame 8, and what that frame has is not w
             f302957da5220938a7e3e51a8718c79b9e00dc13ab2119e8cfc978f041720382
   step 3: the kernel, on hart 0, stored to frame 8: byte 0 was 5a and became 01
   step 6: the program asked for the page, and found in frame 8 bytes with the digest \
-            811b2e289684edd620a0b9664c689ef496559b5513ba1d8d18b51ab17d8b8d88, which were never shown
+            811b2e289684edd620a0b9664c689ef496559b5513ba1d8d18b51ab17d8b8d88, which were not shown in this run before
 The rule: a frame that the kernel presents for a cloaked page has exactly the bytes that were last shown of that page.
 So program 0 ended.
 The run has 7 steps; programs that ended: 1; resumes that were refused: 0.
@@ -252,7 +252,7 @@ The kernel's page table leads there to frame 8, and what that frame has is not w
             f302957da5220938a7e3e51a8718c79b9e00dc13ab2119e8cfc978f041720382
   step 9: the kernel, on hart 0, stored to frame 8: byte 0 was 5a and became 01
   step 12: the program asked for the page, and found in frame 8 bytes with the digest \
-            811b2e289684edd620a0b9664c689ef496559b5513ba1d8d18b51ab17d8b8d88, which were never shown
+            811b2e289684edd620a0b9664c689ef496559b5513ba1d8d18b51ab17d8b8d88, which were not shown in this run before
 The rule: a frame that the kernel presents for a cloaked page has exactly the bytes that were last shown of that page.
 So program 0 ended.
 The run has 13 steps; programs that ended: 1; resumes that were refused: 0.

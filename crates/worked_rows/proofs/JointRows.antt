@@ -167,6 +167,7 @@ looked_memory rest shown = record {
     stream = handed (drop 48 (numbers_below 256));
     draws = 2;
     recorded = with_page (with_page (λ q. None) page (Some opening_cipher)) page (Some closing_cipher);
+    iv = with_page (with_page (λ q. None) page (Some draw_1)) page (Some draw_2);
     owed = replicate 64 None;
     root = again_root;
     missed = false;
@@ -348,6 +349,7 @@ gone_memory = record exit_memory {
   plain = λ p. if is_of 0 0 p then zero_page else plain_of exit_page p;
   ledger = record exit_memory.ledger {
     recorded = λ p. if is_of 0 0 p then None else exit_memory.ledger.recorded p;
+    iv = λ p. if is_of 0 0 p then None else exit_memory.ledger.iv p;
     root = with_space bare_root (record { domain = 0; number = 0 }) None;
   };
 }

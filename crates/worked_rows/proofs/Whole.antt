@@ -73,6 +73,7 @@ memory_of bytes rest begun root plain owed = record {
     stream = begun.stream;
     draws = 1;
     recorded = with_page (λ q. None) page (Some (first_shown begun bytes));
+    iv = with_page (λ q. None) page (Some begun.draw);
     owed = owed;
     root = root;
     missed = false;

@@ -9,3 +9,4 @@ pub mod JointRows
 pub mod MemoryRows
 pub mod AloneRows
 pub mod AtomicRows
+pub mod StoreRows

@@ -31,8 +31,8 @@ use Rattle.worked_rows.specs.JointRuns.{one_key, key, draw_1, draw_2}
 
 -- Memory.
 
--- 64 frames, of which some are owed pages, with these pages and what was last shown of them; a key was drawn, and one
--- hart reserves nothing
+-- 64 frames, of which some are owed pages, with these pages and what was last shown of them, without the vectors, which no
+-- row reads; a key was drawn, and one hart reserves nothing
 abbrev pub memory : List (List ℕ) → (PageId → List ℕ) → (PageId → Option (List ℕ)) → List (Option PageId) →
     CloakedMemory
 memory ram plain recorded owed = record {
@@ -43,6 +43,7 @@ memory ram plain recorded owed = record {
     stream = handed (drop 16 (numbers_below 256));
     draws = 0;
     recorded = recorded;
+    iv = λ page. None;
     owed = owed;
     root = λ space. None;
     missed = false;

@@ -22,6 +22,7 @@ mod joint_runs;
 mod machines_alone;
 mod memory;
 mod programs;
+mod stores;
 
 pub use atomics::rows_of_atomics;
 pub use images::rows_of_images;
@@ -29,3 +30,4 @@ pub use joint_runs::rows_of_joint_runs;
 pub use machines_alone::rows_of_machines_alone;
 pub use memory::rows_of_cloaked_memory;
 pub use programs::rows_of_a_program;
+pub use stores::rows_of_stores;

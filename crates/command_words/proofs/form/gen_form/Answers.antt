@@ -7,5 +7,3 @@ returns c =
     let bundle = c.position-2.ensures in
     with_more c.in_ok-command.ensures bundle.local bundle.rule
     (with_more c.in_ok-arg.ensures number.local number.rule c.bare_form.ensures)
-
--- x

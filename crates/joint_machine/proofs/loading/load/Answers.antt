@@ -3,7 +3,7 @@ use Rattle.std.proofs.lemmas.List.{reverse-reverse}
 use Rattle.shadow_fold.specs.Table.{Table}
 use Rattle.cloak_model.specs.Bundle.{IsSegmentIn}
 use Rattle.cloak_model.specs.Ledger.{Keys}
-use Rattle.joint_machine.proofs.Stored.{loads_none, loads_next, back_fits, loads_outside, loads_ready, loaded, loaded_holds}
+use Rattle.joint_machine.proofs.Loaded.{loads_none, loads_next, back_fits, loads_outside, loads_ready, loaded, loaded_holds}
 use Rattle.joint_machine.proofs.loading.load.Goals as goal
 
 abbrev keys_given : List (List ℕ) → List ℕ → Keys

@@ -1,5 +1,5 @@
 use Rattle.std.proofs.Common.{length}
-use Rattle.joint_machine.proofs.Stored.{LoadsBack}
+use Rattle.joint_machine.proofs.Loaded.{LoadsBack}
 use Rattle.joint_machine.proofs.loading.load.Given as goal
 
 abbrev pub invariant-loop-segment : goal.invariant-loop-segment

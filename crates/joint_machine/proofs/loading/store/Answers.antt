@@ -1,6 +1,6 @@
 use Rattle.std.proofs.Common.{◌<◌, ◌∙◌, sym, refl, subst}
 use Rattle.std.proofs.lemmas.List.{get_or_default}
-use Rattle.joint_machine.proofs.Stored.{stores_more}
+use Rattle.joint_machine.proofs.Loaded.{stores_more}
 use Rattle.joint_machine.proofs.loading.store.Goals as goal
 
 pub loop-i-preserved : goal.loop-i-preserved

@@ -1,4 +1,4 @@
-use Rattle.joint_machine.proofs.Stored.{StoresFrom}
+use Rattle.joint_machine.proofs.Loaded.{StoresFrom}
 use Rattle.joint_machine.proofs.loading.store.Given as goal
 
 abbrev pub invariant-loop-i : goal.invariant-loop-i

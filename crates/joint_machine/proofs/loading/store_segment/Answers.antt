@@ -1,5 +1,5 @@
 use Rattle.std.proofs.Common.{◌∙◌, ap, reverse}
-use Rattle.joint_machine.proofs.Stored.{stores_back_none, stores_back_more}
+use Rattle.joint_machine.proofs.Loaded.{stores_back_none, stores_back_more}
 use Rattle.joint_machine.proofs.loading.store_segment.Goals as goal
 
 pub loop-pager-init : goal.loop-pager-init

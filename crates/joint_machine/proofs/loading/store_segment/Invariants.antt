@@ -1,5 +1,5 @@
 use Rattle.std.proofs.Common.{length}
-use Rattle.joint_machine.proofs.Stored.{StoresBack}
+use Rattle.joint_machine.proofs.Loaded.{StoresBack}
 use Rattle.joint_machine.proofs.loading.store_segment.Given as goal
 
 abbrev pub invariant-loop-pager : goal.invariant-loop-pager

@@ -1,6 +1,6 @@
 use Rattle.std.proofs.Common.{◌≡◌, refl, arith, true, false}
 use Rattle.joint_machine.proofs.Mapped.{ended_empty}
-use Rattle.joint_machine.proofs.Placed.{first_page, ready_next, page_placed}
+use Rattle.joint_machine.proofs.Placed.{first_page, ready_next, page_placed, unplaced_next}
 use Rattle.joint_machine.proofs.placing.place_page.Goals as goal
 
 pub overflow_add-f : goal.overflow_add-f
@@ -16,6 +16,16 @@ pub returns-clause-ready : goal.returns-clause-ready
 returns-clause-ready c =
     ready_next _ c.args.memory.now.stream c.place.new.s c.args.memory.now.pager c.place.new.self c.args.domain
     c.args.page _ c.args.bytes.now c.place.ensures.state c.place.ensures.rights c.requires.ready
+
+pub returns-clause-others : goal.returns-clause-others
+returns-clause-others c =
+    unplaced_next _ c.args.memory.now.stream c.place.new.s c.args.memory.now.pager c.place.new.self c.args.domain
+    c.args.page _ c.args.bytes.now c.place.ensures.state
+
+pub returns-then-not-place-clause-others : goal.returns-then-not-place-clause-others
+returns-then-not-place-clause-others c =
+    unplaced_next _ c.args.memory.now.stream c.place.new.s c.args.memory.now.pager c.place.new.self c.args.domain
+    c.args.page _ c.args.bytes.now c.place.ensures.state
 
 pub returns-clause-places : goal.returns-clause-places
 returns-clause-places c m holds =

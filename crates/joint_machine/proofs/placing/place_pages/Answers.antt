@@ -1,6 +1,6 @@
 use Rattle.std.proofs.Common.{◌≤◌, ◌+◌, ◌∙◌, false, true, arith}
 use Rattle.joint_machine.proofs.Backwards.{page_there, page_next, pages_behind}
-use Rattle.joint_machine.proofs.Placed.{pages_next, pages_missed}
+use Rattle.joint_machine.proofs.Placed.{pages_next, pages_missed, unplaced_then}
 use Rattle.joint_machine.proofs.placing.place_pages.Goals as goal
 
 pub take_page-requires : goal.take_page-requires
@@ -20,6 +20,10 @@ returns-then-not-place_page-clause-places c m holds =
     (c.loop-page.invariant.places m holds)
     (λ x held. c.if-not-place_page.ensures.places x held))
 
+pub returns-then-not-place_page-clause-others : goal.returns-then-not-place_page-clause-others
+returns-then-not-place_page-clause-others c =
+    unplaced_then c.args.memory.now.pager c.loop-page.memory.pager c.place_page.new.memory.pager c.loop-page.invariant.others c.place_page.ensures.others
+
 pub loop-page-preserved : goal.loop-page-preserved
 loop-page-preserved c =
     let p = c.args.p in
@@ -31,6 +35,7 @@ loop-page-preserved c =
         domains = c.place_page.ensures.size.domains ∙ c.loop-page.invariant.size.domains;
       };
       ready = c.place_page.ensures.ready;
+      others = unplaced_then c.args.memory.now.pager c.loop-page.memory.pager c.place_page.new.memory.pager c.loop-page.invariant.others c.place_page.ensures.others;
       empty = λ none. c.place_page.ensures.empty (c.loop-page.invariant.empty none);
       left =
           pages_behind back c.take_page.new.bytes.items p.bytes i c.loop-page.invariant.left c.take_page.ensures.rest;

@@ -4,7 +4,7 @@ use Rattle.cloak_model.specs.declared.image.Program.{Program}
 use Rattle.cloak_model.specs.Bundle.{IsProgramIn}
 use Rattle.cloaked_side.specs.Holding.{frames_of}
 use Rattle.joint_machine.proofs.Backwards.{back_next, next_of_all, others_of_all}
-use Rattle.joint_machine.proofs.Placed.{PlacesFrom, programs_none, programs_next, programs_missed, programs_all}
+use Rattle.joint_machine.proofs.Placed.{PlacesFrom, programs_none, programs_next, programs_missed, programs_all, unplaced_none, unplaced_then}
 use Rattle.joint_machine.proofs.placing.place_programs.Goals as goal
 
 pub loop-p-init : goal.loop-p-init
@@ -16,6 +16,7 @@ loop-p-init c =
     record {
       size = record { frames = refl; domains = refl };
       ready = c.requires.ready;
+      others = unplaced_none memory.pager;
       empty = λ none. none;
       count =
           (let long : length c.reverse.new.self.items ≡ length programs =
@@ -46,6 +47,10 @@ returns-then-not-place_pages-clause-places c m holds =
     (back_next c.loop-p.programs.items others c.in-Some.p c.in-Some.ensures.items) (c.loop-p.invariant.places m holds))
     (λ x held. c.if-not-place_pages.ensures.places x held)
 
+pub returns-then-not-place_pages-clause-others : goal.returns-then-not-place_pages-clause-others
+returns-then-not-place_pages-clause-others c =
+    unplaced_then c.args.memory.now.pager c.loop-p.memory.pager c.place_pages.new.memory.pager c.loop-p.invariant.others c.place_pages.ensures.others
+
 pub loop-p-preserved : goal.loop-p-preserved
 loop-p-preserved c =
     let back = c.loop-p.programs.items in
@@ -57,6 +62,7 @@ loop-p-preserved c =
         domains = c.place_pages.ensures.size.domains ∙ c.loop-p.invariant.size.domains;
       };
       ready = c.place_pages.ensures.ready;
+      others = unplaced_then c.args.memory.now.pager c.loop-p.memory.pager c.place_pages.new.memory.pager c.loop-p.invariant.others c.place_pages.ensures.others;
       empty = λ none. c.place_pages.ensures.empty (c.loop-p.invariant.empty none);
       count =
           (let long : length back ≡ length others + 1 =

@@ -2,7 +2,7 @@ use Rattle.std.proofs.Common.{◌≡◌, ◌+◌, [], All, length, reverse}
 use Rattle.cloak_model.specs.Bundle.{IsProgramIn}
 use Rattle.cloak_model.specs.Cloaking.{CloakedMemory}
 use Rattle.cloaked_side.specs.Holding.{Holds, SameSize, domains_in, frames_of}
-use Rattle.joint_machine.specs.Starting.{IsReady}
+use Rattle.joint_machine.specs.Starting.{IsReady, KeepsUnplaced}
 use Rattle.joint_machine.proofs.Placed.{PlacesFrom}
 use Rattle.joint_machine.proofs.placing.place_programs.Given as goal
 
@@ -11,6 +11,7 @@ abbrev pub invariant-loop-p : goal.invariant-loop-p
 invariant-loop-p l = record {
   size : SameSize l.fn.memory l.memory;
   ready : IsReady l.memory.pager l.domain 0;
+  others : KeepsUnplaced l.fn.memory.pager l.memory.pager;
   empty : l.fn.memory.shadows.live ≡ [] → l.memory.shadows.live ≡ [];
   count : l.domain + length l.programs.items ≡ domains_in l.fn.memory;
   fits : All (IsProgramIn (frames_of l.fn.memory)) (reverse l.programs.items);

@@ -6,7 +6,7 @@ use Rattle.run_command.proofs.AnswerFacts.{recorded_front, recorded_all}
 use Rattle.run_command.proofs.command.record_run.Goals as goal
 
 pub returns-then-is_err : goal.returns-then-is_err
-returns-then-is_err g c = λ b stream o opens same stands.
+returns-then-is_err g c = λ b from o opens same stands.
     let ill = sym c.is_err.ensures.value ∙ c.if-is_err.true in
     record {
       reading = c.begin.ensures.reading;
@@ -26,9 +26,9 @@ invariant_of-outlet g c =
     record { last = ∣ (λ fresh. succeeded c.begin.result _ well c.begin.ensures.last) ∣₁ }
 
 pub returns-then-outlet : goal.returns-then-outlet
-returns-then-outlet g c = λ b stream o opens same stands.
+returns-then-outlet g c = λ b from o opens same stands.
     let well = sym c.is_err.ensures.value ∙ c.if-is_err.false in
-    let due = c.write_run-status.ensures.runs b stream o opens same stands in
+    let due = c.write_run-status.ensures.runs b from o opens same stands in
     recorded_front _ _ _ _ (gave_all c.write_run-status.ensures.emits_some.1)
     (λ none. gave_all (due none).emits) refl c.if-outlet.true
     (c.shelf-1.given.1 (sym c.write_run-status.ensures.same_shelf))
@@ -37,9 +37,9 @@ returns-then-outlet g c = λ b stream o opens same stands.
     (counted _ _ c.begin.result well c.begin.ensures.writing)
 
 pub returns : goal.returns
-returns g c = λ b stream o opens same stands.
+returns g c = λ b from o opens same stands.
     let well = sym c.is_err.ensures.value ∙ c.if-is_err.false in
-    let due = c.write_run-status.ensures.runs b stream o opens same stands in
+    let due = c.write_run-status.ensures.runs b from o opens same stands in
     recorded_all _ _ _ _ _ (gave_all c.write_run-status.ensures.emits_some.1)
     (λ none. gave_all (due none).emits) refl c.if-outlet.false
     (c.shelf-1.given.1 (sym c.write_run-status.ensures.same_shelf))

@@ -1,4 +1,5 @@
 use Rattle.std.proofs.Common.{Some, refl}
+use Rattle.cloak_model.specs.Beginning.{Fresh}
 use Rattle.run_command.proofs.AnswerFacts.{asks_run, lawful_run, answers_no_run, answers_recorded, keeps_files}
 use Rattle.run_command.proofs.command.run_command.Goals as goal
 
@@ -7,7 +8,7 @@ returns-in-Ok-clause-answers g c =
     let run = c.args.run.now in
     let prepared = c.in-Ok.ensures.prepares (Some run.record_name.now) run.steps run.few_steps in
     answers_recorded (asks_run prepared.1) (lawful_run prepared.1) prepared.0 refl c.requires.writing c.requires.output
-    (c.record_run.ensures prepared.1.bundle prepared.1.stream prepared.1.opened prepared.1.opens prepared.1.placings
+    (c.record_run.ensures prepared.1.bundle (Fresh prepared.1.stream) prepared.1.opened prepared.1.opens prepared.1.placings
     prepared.1.stands)
 
 pub returns-in-Ok-clause-kept : goal.returns-in-Ok-clause-kept

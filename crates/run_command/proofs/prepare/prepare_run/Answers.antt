@@ -1,11 +1,9 @@
-use Rattle.std.proofs.Common.{◌∙◌, refl, subst}
-use Rattle.std.specs.List.{AllByRecursion}
-use Rattle.cloak_model.specs.declared.image.Program.{Program}
-use Rattle.cloak_model.specs.declared.image.Segment.{Segment}
+use Rattle.std.proofs.Common.{◌∙◌, Err, inl, refl, subst}
 use Rattle.command_words.specs.Request.{randomness_of}
-use Rattle.item_law.specs.Writing.{AreBytes}
 use Rattle.run_command.proofs.PrepareFacts.{run_named, stream_before}
 use Rattle.cloak_base.specs.Random.{Random}
+use Rattle.cloak_machine.specs.Standing.{Opens}
+use Rattle.joint_machine.specs.declared.opened.OpenFault.{OpenFault}
 use Rattle.program_parts.proofs.Refused.{no_bundle, no_file}
 use Rattle.run_command.proofs.prepare.prepare_run.Goals as goal
 
@@ -47,13 +45,32 @@ returns-in-Ok-open-clause-prepares g c = λ record_name steps few.
         stands = o.stands;
         placings = c.in-Ok-open.ensures.placings;
         few_steps = few;
-        image_bytes = record {
-          segments = subst (AllByRecursion (λ (x : Segment). AreBytes x.bytes)) c.as_slice.ensures
-              c.segments_are_bytes.ensures;
-          disk = subst AreBytes c.as_slice-2.ensures c.are_bytes.ensures;
-          programs = subst (AllByRecursion (λ (x : Program). AreBytes x.bytes)) c.as_slice-3.ensures
-              c.programs_are_bytes.ensures;
-        };
+        image_bytes = c.image_is_of_bytes.ensures;
         stream_bytes = s.stream.2;
       },
     )
+
+pub returns-in-Err-NoRandom-clause-prepares : goal.returns-in-Err-NoRandom-clause-prepares
+returns-in-Err-NoRandom-clause-prepares g c = λ record_name steps few.
+    let b = c.in-Ok.ensures in
+    let s = c.in-Ok-open_stream.ensures in
+    record {
+      cause = inl (record {
+        record_name = record_name;
+        steps = steps;
+        bundle = c.in-Ok.bundle;
+        stream = c.in-Ok-open_stream.stream;
+        asks = record {
+          bundle_name = c.args.bundle_name.now;
+          randomness = randomness_of c.args.randomness.now;
+          run = refl;
+          file = b.bundle.1;
+          source = stream_before _ _ _ _ b.files s.stream.1;
+        };
+        lacks = subst (λ (x : OpenFault). Opens c.in-Ok.bundle c.in-Ok-open_stream.stream (Err x)) c.in-Err-NoRandom.field-0-is
+            c.in-Err-NoRandom.ensures.opens;
+        reading = s.stream.0 ∙ b.bundle.0;
+      });
+      held = λ name. s.files name ∙ b.files name;
+      writing = s.writing ∙ b.writing;
+    }

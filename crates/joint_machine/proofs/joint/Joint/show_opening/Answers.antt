@@ -2,9 +2,9 @@ use Rattle.joint_machine.proofs.Showing.{opening_emits}
 use Rattle.joint_machine.proofs.joint.Joint.show_opening.Goals as goal
 
 pub returns-clause-shows : goal.returns-clause-shows
-returns-clause-shows g c b s o opens same stands = record {
+returns-clause-shows g c b from o opens same stands = record {
   emits =
-      opening_emits g.E.Emit.gave c.args.e.now c.show_placed.new.e c.args.self.now.memory c.args.placings.now b s o opens same
+      opening_emits g.E.Emit.gave c.args.e.now c.show_placed.new.e c.args.self.now.memory c.args.placings.now b from o opens same
       stands.memory c.requires.outside c.show_placed.ensures.emits;
   stands = record {
     harts = stands.harts;

@@ -1,0 +1,11 @@
+pub mod Zeros
+pub mod ZeroWorlds
+pub mod ZeroSteps
+pub mod ZeroRuns
+pub mod Contents
+pub mod Making
+pub mod Opened
+pub mod GoesOn
+pub mod Unmade
+pub mod Since
+pub mod Chains

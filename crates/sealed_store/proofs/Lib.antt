@@ -1,0 +1,10 @@
+pub mod Padding
+pub mod SpellsOne
+pub mod Written
+pub mod Rows
+pub mod Firsts
+pub mod Stands
+pub mod Spelled
+pub mod Sealed
+pub mod Again
+pub mod FaultOrTable

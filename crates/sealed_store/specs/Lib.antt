@@ -1,0 +1,4 @@
+pub mod Laws
+pub mod Writing
+pub mod Reading
+pub mod Moving

@@ -1,0 +1,23 @@
+//! Store files: what is known of the cloaked files of a run, sealed for the next one by a code (HMAC-SHA-256,
+//! FIPS 198-1 (2008)) that needs a key, and with a counter, so that an older file is not taken for the newest.
+//!
+//! `read_store` answers exactly the first test that a file fails, and otherwise the table that it spells; `write_store`
+//! spells a table; `law_of_stores` says that a file spells at most one, and has no fault exactly if it spells one. No
+//! call takes memory.
+//!
+//! The layer above may rely on this: which files and pages a table has is all that these bytes say. Whether a page's
+//! bytes fit what the table knows of them is seen as the page is offered.
+#![tactic(auto)]
+
+mod cursor;
+mod files;
+mod law;
+mod reading;
+mod seal;
+mod writing;
+
+pub use cloak_model::StoreFault;
+pub use law::law_of_stores;
+pub use reading::read_store;
+pub use seal::hmac;
+pub use writing::{LONGEST_STORE, write_store};

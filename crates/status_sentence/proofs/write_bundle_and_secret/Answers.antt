@@ -1,0 +1,15 @@
+use Rattle.std.proofs.Common.{◌≡◌, ◌∙◌, ◌++◌, ℕ, List, append_assoc, sym, subst}
+use Rattle.std.specs.Fmt.{HasWritten}
+use Rattle.std.specs.Prelude.{codes}
+use Rattle.status_sentence.proofs.write_bundle_and_secret.Goals as goal
+
+joined : (a b m s e : List ℕ) → a ++ b ++ m ++ s ++ e ≡ a ++ (b ++ (m ++ (s ++ e)))
+joined a b m s e =
+    append_assoc (a ++ b ++ m) s e ∙ append_assoc (a ++ b) m (s ++ e) ∙ append_assoc a b (m ++ (s ++ e))
+
+pub returns : goal.returns
+returns g c = λ plain ok.
+    subst (λ (text : List ℕ). HasWritten {W = g.row.W.Denot} g.W.Write.write_str_gives c.args.f.now text c.write.new.self)
+    (sym (joined (codes "the bundle `") c.args.files.now.bundle.now (codes "`, the secret `")
+    c.args.files.now.secret_name.now (codes "`")))
+    (c.write.ensures.writes plain ok)

@@ -1,0 +1,163 @@
+-- Why there is no run over cloaked files.
+use Rattle.std.proofs.Common.{◌≡◌, ◌<◌, ◌-◌, ◌^◌, ◌∙◌, ℕ, List, Option, IfSome, Err, refl, subst, inr}
+use Rattle.outside_io.specs.Told.{SameFiles}
+use Rattle.cloak_base.specs.Random.{Random}
+use Rattle.cloak_machine.specs.Standing.{OpensStored}
+use Rattle.cloak_model.specs.declared.image.Bundle.{Bundle}
+use Rattle.cloak_model.specs.StoredFiles.{StoredFile}
+use Rattle.cloak_model.specs.StoreFault.{store_fault}
+use Rattle.joint_machine.specs.declared.opened.StoredFault.{StoredFault}
+use Rattle.joint_machine.specs.declared.opened.StoredFault.TheVariants as fault
+use Rattle.command_words.specs.Command as spec
+use Rattle.program_parts.specs.declared.refusal.Refusal.{Refusal}
+use Rattle.program_parts.specs.declared.refusal.Refusal.TheVariants as refusal
+use Rattle.program_parts.specs.NoRun.{NoRun}
+use Rattle.program_parts.specs.Outside.{FilesOutside}
+use Rattle.program_parts.specs.Storing as given
+use Rattle.program_parts.specs.Storing.{AsksStored, IsOld, IsSecret, StoreSources, secret_length}
+use Rattle.program_parts.specs.Bundles.{IsInFileAs}
+use Rattle.program_parts.specs.Streams.{IsStream}
+use Rattle.program_parts.proofs.Refused.{no_file}
+use Rattle.run_command.proofs.PrepareFacts.{stream_before}
+use Rattle.store_command.specs.declared.secret.Secret.{Secret}
+use Rattle.store_command.specs.Preparing.{ReadsOld, ReadsSecret, refused_by}
+use Rattle.std.specs.Prelude.{length, Some}
+
+-- the secret was not read
+pub no_secret : {S : Type 0} (names : spec.StoreNames) (counter steps : ℕ) (randomness : spec.Randomness) (r : Refusal)
+    (before after : FilesOutside S) (told : Option (List ℕ)) (reading : ℕ) → told ≡ before.held names.secret_name →
+    reading ≡ before.reading → ReadsSecret told reading after.reading (Err r) → before.reading < 2 ^ 64 - 1 →
+    SameFiles before.held after.held → after.writing ≡ before.writing →
+    NoRun (spec.Store names counter steps randomness) r before after
+no_secret {S} names counter steps randomness refusal.ShortSecret before after told reading is same reads low held writing =
+    record {
+      cause = record {
+        names = names;
+        counter = counter;
+        steps = steps;
+        randomness = randomness;
+        store = refl;
+        short = subst (λ (t : Option (List ℕ)). IfSome t (λ bytes. length bytes < secret_length)) is reads.1;
+        reading = reads.0 ∙ same;
+      };
+      held = held;
+      writing = writing;
+    }
+no_secret {S} names counter steps randomness refusal.ReadFault before after told reading is same reads low held writing =
+    no_file Secret refusal.ReadFault before after reading refl same reads low held writing
+no_secret {S} names counter steps randomness refusal.NoMemory before after told reading is same reads low held writing =
+    no_file Secret refusal.NoMemory before after reading refl same reads low held writing
+no_secret {S} names counter steps randomness (refusal.Usage fault) before after told reading is same reads low held writing = absurd reads
+no_secret {S} names counter steps randomness (refusal.BadBundle fault) before after told reading is same reads low held writing = absurd reads
+no_secret {S} names counter steps randomness refusal.NoKey before after told reading is same reads low held writing = absurd reads
+no_secret {S} names counter steps randomness refusal.NoPageDraw before after told reading is same reads low held writing = absurd reads
+no_secret {S} names counter steps randomness refusal.NoSuchDomain before after told reading is same reads low held writing = absurd reads
+no_secret {S} names counter steps randomness (refusal.BadStore fault) before after told reading is same reads low held writing = absurd reads
+no_secret {S} names counter steps randomness (refusal.NoRoom domain) before after told reading is same reads low held writing = absurd reads
+
+-- what an earlier run left was not read
+pub no_old : {S : Type 0} (names : spec.StoreNames) (counter steps : ℕ) (randomness : spec.Randomness) (r : Refusal)
+    (before after : FilesOutside S) (told : Option (List ℕ)) (reading : ℕ) (secret : given.Secret)
+    (table : List StoredFile) → IsSecret (before.held names.secret_name) secret → told ≡ before.held names.old_name →
+    reading ≡ before.reading → ReadsOld told secret.mac counter reading after.reading table (Err r) →
+    before.reading < 2 ^ 64 - 1 → SameFiles before.held after.held → after.writing ≡ before.writing →
+    NoRun (spec.Store names counter steps randomness) r before after
+no_old {S} names counter steps randomness (refusal.BadStore fault) before after told reading secret table has is same reads low held writing =
+    record {
+      cause = record {
+        names = names;
+        counter = counter;
+        steps = steps;
+        randomness = randomness;
+        store = refl;
+        not_first = reads.1.0;
+        secret = secret;
+        is_secret = has;
+        first_fault = subst (λ (t : Option (List ℕ)). IfSome t (λ bytes. store_fault secret.mac counter bytes ≡ Some fault)) is
+            reads.1.1;
+        reading = reads.0 ∙ same;
+      };
+      held = held;
+      writing = writing;
+    }
+no_old {S} names counter steps randomness refusal.ReadFault before after told reading secret table has is same reads low held writing =
+    no_file Unit refusal.ReadFault before after reading refl same reads low held writing
+no_old {S} names counter steps randomness refusal.NoMemory before after told reading secret table has is same reads low held writing =
+    no_file Unit refusal.NoMemory before after reading refl same reads low held writing
+no_old {S} names counter steps randomness (refusal.Usage fault) before after told reading secret table has is same reads low held writing = absurd reads
+no_old {S} names counter steps randomness (refusal.BadBundle fault) before after told reading secret table has is same reads low held writing = absurd reads
+no_old {S} names counter steps randomness refusal.NoKey before after told reading secret table has is same reads low held writing = absurd reads
+no_old {S} names counter steps randomness refusal.NoPageDraw before after told reading secret table has is same reads low held writing = absurd reads
+no_old {S} names counter steps randomness refusal.NoSuchDomain before after told reading secret table has is same reads low held writing = absurd reads
+no_old {S} names counter steps randomness refusal.ShortSecret before after told reading secret table has is same reads low held writing = absurd reads
+no_old {S} names counter steps randomness (refusal.NoRoom domain) before after told reading secret table has is same reads low held writing = absurd reads
+
+-- there was no memory
+pub no_memory : {S : Type 0} (asked : spec.Asked) (before after : FilesOutside S) → after.reading ≡ before.reading →
+    SameFiles before.held after.held → after.writing ≡ before.writing → NoRun asked refusal.NoMemory before after
+no_memory {S} asked before after reading held writing =
+    record { cause = record { reading = reading }; held = held; writing = writing }
+
+-- the run does not open
+pub not_opened : {S : Type 0} (names : spec.StoreNames) (counter steps : ℕ) (randomness : spec.Randomness)
+    (f : StoredFault) (before after : FilesOutside S) (s : StoreSources) →
+    AsksStored names counter randomness before.held s →
+    OpensStored s.bundle s.secret.keys s.stream s.table (Err f) → after.reading ≡ before.reading →
+    SameFiles before.held after.held → after.writing ≡ before.writing →
+    NoRun (spec.Store names counter steps randomness) (refused_by f) before after
+not_opened {S} names counter steps randomness fault.NoRandom before after s asks lacks reading held writing = record {
+  cause = inr (record {
+    names = names;
+    counter = counter;
+    steps = steps;
+    randomness = randomness;
+    store = refl;
+    sources = s;
+    asks = asks;
+    lacks = lacks;
+    reading = reading;
+  });
+  held = held;
+  writing = writing;
+}
+not_opened {S} names counter steps randomness (fault.NoRoom domain) before after s asks lacks reading held writing =
+    record {
+      cause = record {
+        names = names;
+        counter = counter;
+        steps = steps;
+        randomness = randomness;
+        store = refl;
+        sources = s;
+        asks = asks;
+        lacks = lacks;
+        reading = reading;
+      };
+      held = held;
+      writing = writing;
+    }
+not_opened {S} names counter steps randomness fault.NoMemory before after s asks lacks reading held writing =
+    no_memory _ before after reading held writing
+
+-- What the words ask for, by what was read of the files one after another.
+pub asks_stored : {names : spec.StoreNames} {counter : ℕ} {randomness : spec.Randomness}
+    {held second third fourth : List ℕ → Option (List ℕ)} {version : ℕ} {bytes : List ℕ} {bundle : Bundle}
+    {secret : given.Secret} {table : List StoredFile} {stream : Random} →
+    IsInFileAs version (held names.bundle) bytes bundle → SameFiles held second →
+    IsSecret (second names.secret_name) secret → SameFiles held third →
+    IsOld (third names.old_name) secret.mac counter table → SameFiles held fourth → IsStream fourth randomness stream →
+    AsksStored names counter randomness held (record {
+      version = version;
+      bytes = bytes;
+      bundle = bundle;
+      secret = secret;
+      table = table;
+      stream = stream;
+    })
+asks_stored {names} {counter} {randomness} {held} {second} {third} {fourth} {version} {bytes} {bundle} {secret} {table}
+    {stream} file same2 has same3 old same4 source = record {
+      bundle = file;
+      secret = subst (λ (t : Option (List ℕ)). IsSecret t secret) (same2 names.secret_name) has;
+      old = subst (λ (t : Option (List ℕ)). IsOld t secret.mac counter table) (same3 names.old_name) old;
+      stream = stream_before held fourth randomness stream same4 source;
+    }

@@ -1,0 +1,5 @@
+pub mod Leaving
+pub mod Preparing
+pub mod Recording
+pub mod Writing
+pub mod Answering

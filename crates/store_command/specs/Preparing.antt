@@ -1,0 +1,99 @@
+-- What the files that the words of `store` name are read as, and the machine that is made of them.
+use Rattle.std.specs.Prelude.{ℕ, ◌≡◌, ◌≢◌, ◌≤◌, ◌<◌, ◌+◌, List, [], length, map, Option, IfSome, Some, Result, Ok, Err}
+use Rattle.std.specs.List.{flat_map}
+use Rattle.cloak_model.specs.declared.image.Bundle.{Bundle}
+use Rattle.cloak_model.specs.Beginning.{Beginning, opening_from}
+use Rattle.cloak_model.specs.Bundle.{segment_bytes}
+use Rattle.cloak_model.specs.Opening.{Opened}
+use Rattle.cloak_model.specs.Run.{first_moment}
+use Rattle.cloak_model.specs.StoredFiles.{StoredFile}
+use Rattle.cloak_model.specs.StoreFault.{largest_store, store_fault}
+use Rattle.cloak_machine.specs.Standing.{OpensStored, StandsForMoment, placings_of}
+use Rattle.cloak_machine.specs.declared.machine.Machine.{Machine}
+use Rattle.command_words.specs.Command as spec
+use Rattle.item_law.specs.Writing.{IsOfBytes, IsStreamOfBytes}
+use Rattle.joint_machine.specs.declared.opened.StoredFault.{StoredFault}
+use Rattle.joint_machine.specs.declared.opened.StoredFault.TheVariants as fault
+use Rattle.joint_machine.specs.Placings.{placing}
+use Rattle.program_parts.specs.declared.refusal.Refusal.{Refusal}
+use Rattle.program_parts.specs.declared.refusal.Refusal.TheVariants as refusal
+use Rattle.program_parts.specs.Files.{ReadsFile}
+use Rattle.program_parts.specs.NoRun.{NoRun}
+use Rattle.program_parts.specs.Outside.{FilesOutside, OnlyRead}
+use Rattle.program_parts.specs.Storing as given
+use Rattle.program_parts.specs.Storing.{AsksStored, IsOld, IsSecret, StoreSources, secret_length}
+use Rattle.store_command.specs.declared.prepare.Left.{Left}
+use Rattle.store_command.specs.declared.prepare.Prepared.{Prepared}
+use Rattle.store_command.specs.declared.secret.Secret.{Secret}
+
+-- Reading.
+
+abbrev pub keys_of : Secret → given.Secret
+keys_of secret = record { mac = secret.mac; keys = secret.keys }
+
+-- the secret that a file has, or why it was not read
+abbrev pub ReadsSecret : Option (List ℕ) → ℕ → ℕ → Result Secret Refusal → Type 0
+ReadsSecret told before now (Ok secret) = (now ≡ before) × IsSecret told (keys_of secret)
+ReadsSecret told before now (Err refusal.ShortSecret) =
+    (now ≡ before) × IfSome told (λ bytes. length bytes < secret_length)
+ReadsSecret told before now (Err other) = ReadsFile {A = Secret} before now (Err other)
+
+-- the table of what an earlier run left, or why it was not read
+abbrev pub ReadsOld : Option (List ℕ) → List ℕ → ℕ → ℕ → ℕ → List StoredFile → Result Unit Refusal → Type 0
+ReadsOld told mac counter before now table (Ok done) = (now ≡ before) × IsOld told mac counter table
+ReadsOld told mac counter before now table (Err (refusal.BadStore fault)) =
+    (now ≡ before) × ((counter ≢ 0) × IfSome told (λ bytes. store_fault mac counter bytes ≡ Some fault))
+ReadsOld told mac counter before now table (Err other) = ReadsFile {A = Unit} before now (Err other)
+
+-- The machine.
+
+-- where the disk begins in the bytes of a bundle
+abbrev pub disk_at : Bundle → ℕ
+disk_at b = 40 + length b.kernel.schedule + length (flat_map segment_bytes b.kernel.segments)
+
+-- why it does not open
+abbrev pub refused_by : StoredFault → Refusal
+refused_by fault.NoRandom = refusal.NoPageDraw
+refused_by (fault.NoRoom domain) = refusal.NoRoom domain
+refused_by fault.NoMemory = refusal.NoMemory
+
+-- There is room for what is known at the end, and there are no files yet.
+pub record CanEnd (left : Left) : Type 0 where
+  pub empty : left.table ≡ []
+  pub room : largest_store ≤ length left.room.items
+  pub place : left.disk_from ≤ left.disk_end
+  pub within : left.disk_end ≤ length left.next.items
+
+-- the files of the end are made of these sources
+pub record IsLeft (s : StoreSources) (left : Left) : Type 0 where
+  pub mac : left.mac ≡ s.secret.mac
+  pub next : left.next.items ≡ s.bytes
+  pub from : left.disk_from ≡ disk_at s.bundle
+  pub to : left.disk_end ≡ disk_at s.bundle + length s.bundle.kernel.disk
+
+-- The words ask for a run from these sources. For all contents that the table stands for, it opens, and the machine is
+-- that of its first moment. Image and stream are of bytes.
+pub record IsPrepared (names : spec.StoreNames) (counter : ℕ) (randomness : spec.Randomness)
+    (held : List ℕ → Option (List ℕ)) (prepared : Prepared) : Type 0 where
+  pub sources : StoreSources
+  pub asks : AsksStored names counter randomness held sources
+  pub opens : OpensStored sources.bundle sources.secret.keys sources.stream sources.table (Ok prepared.machine)
+  pub placings : placings_of prepared.machine ≡ map placing sources.bundle.programs
+  pub left : IsLeft sources prepared.left
+  pub image_bytes : IsOfBytes sources.bundle
+  pub stream_bytes : IsStreamOfBytes sources.stream
+
+-- a run that can begin, or why there is none; the files were at most read
+abbrev pub PreparesStored : {S : Type 0} → spec.StoreNames → (counter steps : ℕ) → spec.Randomness → FilesOutside S →
+    FilesOutside S → Result Prepared Refusal → Type 0
+PreparesStored names counter steps randomness before after (Ok prepared) =
+    OnlyRead before after × IsPrepared names counter randomness before.held prepared
+PreparesStored names counter steps randomness before after (Err refused) =
+    NoRun (spec.Store names counter steps randomness) refused before after
+
+-- The run of this bundle opens so, the machine is that of its first moment, and what is left has a place for its disk.
+pub record IsOpened (machine : Machine) (left : Left) (b : Bundle) (from : Beginning) (o : Opened) : Type 0 where
+  pub opens : opening_from b from ≡ Ok o
+  pub placings : placings_of machine ≡ map placing b.programs
+  pub stands : StandsForMoment machine (first_moment b o.joint)
+  pub disk : left.disk_end ≡ left.disk_from + length b.kernel.disk
