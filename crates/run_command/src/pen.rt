@@ -26,20 +26,24 @@ impl<'s, 'n, S: Shelf> RecordPen<'s, 'n, S> {
         self.failed
     }
 
-    /// Adds a piece.
+    /// Adds a piece. What failed is told only if it did, so that a step that goes well stores nothing here.
     #[inline(always)]
     pub fn append(&mut self, bytes: &[u8])
+        requires going { self.old.failed ≡ false }
         requires last { S.is_last self.old.shelf.now self.old.name.now }
         ensures same_shelf { self.new.shelf.ghost_name ≡ self.old.shelf.ghost_name }
         ensures same_name { self.new.name ≡ self.old.name }
         ensures adds { Adds self.new.failed self.old.name.now
             (files S.Shelf self.old.shelf.now) (files S.Shelf self.new.shelf.now) bytes.now }
     {
-        self.failed = self.shelf.append_last(self.name, bytes).is_err();
+        if self.shelf.append_last(self.name, bytes).is_err() {
+            self.failed = true;
+        }
     }
 
     /// Adds the last piece. Then all of the record is written out, so its fault comes before the report.
     pub fn append_end(&mut self, bytes: &[u8])
+        requires going { self.old.failed ≡ false }
         requires last { S.is_last self.old.shelf.now self.old.name.now }
         ensures same_shelf { self.new.shelf.ghost_name ≡ self.old.shelf.ghost_name }
         ensures same_name { self.new.name ≡ self.old.name }
@@ -50,6 +54,8 @@ impl<'s, 'n, S: Shelf> RecordPen<'s, 'n, S> {
         if self.failed {
             return;
         }
-        self.failed = self.shelf.flush().is_err();
+        if self.shelf.flush().is_err() {
+            self.failed = true;
+        }
     }
 }

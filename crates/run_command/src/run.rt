@@ -36,14 +36,15 @@ fn run_steps<S: Shelf, O: Sink>(
         RunsSteps (Gave S.Shelf O.Sink) outlet.new.pen.failed
         outlet.old outlet.new machine.new result m (turns_from steps m) }
 {
-    for made in 0..steps {
-        let _ = made;
+    let mut left = steps;
+    while left > 0 {
         if outlet.pen.failed {
             return None;
         }
         if let Some(stop) = machine.step(outlet) {
             return Some(stop);
         }
+        left -= 1;
     }
     None
 }

@@ -1,56 +1,72 @@
-use Rattle.std.proofs.Common.{[], ◌∙◌, ap, ◌+◌, ℕ, refl, arith}
+use Rattle.std.proofs.Common.{[], ◌∙◌, ◌≡◌, ◌+◌, ◌<◌, ℕ, List, refl, sym, subst, arith}
+use Rattle.cloak_model.specs.Exchange.{Piece}
+use Rattle.cloak_model.specs.Joint.{Moment}
+use Rattle.cloak_machine.specs.declared.machine.Machine.{Machine}
 use Rattle.run_command.proofs.OutletFacts.{gave_all, emits_none}
-use Rattle.run_command.proofs.RunFacts.{emits_nothing, some_then, unclashed-next, goes_on-start, goes_on-more, stops-more}
-use Rattle.run_command.proofs.RunFacts.{runs-all, runs-failed}
+use Rattle.run_command.proofs.RunFacts.{GoesOn, emits_nothing, some_then, unclashed-next, goes_on-start, goes_on-more}
+use Rattle.run_command.proofs.RunFacts.{runs-all, runs-failed, stops-more}
 use Rattle.run_command.proofs.run.run_steps.Goals as goal
 
-pub loop-made-init : goal.loop-made-init
-loop-made-init g c = record {
+-- the same number of steps under another name
+as_many : {E : Type 0} {gave : E → E → List Piece → Type 0} {e f : E} {machine : Machine} {n k budget : ℕ}
+    {m : Moment} → n ≡ k → GoesOn gave e f machine n budget m → GoesOn gave e f machine k budget m
+as_many {E} {gave} {e} {f} {machine} {n} {k} {budget} {m} same on =
+    subst (λ (number : ℕ). GoesOn gave e f machine number budget m) same on
+
+-- some steps are left, so that fewer than all were made
+fewer : (made left steps : ℕ) → made + left ≡ steps → 0 < left → made < steps
+fewer made left steps all some = omega (arith, all, some)
+
+pub loop-left-init : goal.loop-left-init
+loop-left-init g c = record {
   same_shelf = refl;
   same_out = refl;
-  made = c.requires.fresh;
+  made = (let none = c.requires.fresh in omega (arith, none));
   some = ([], emits_nothing _);
   runs = λ m stands none.
-      goes_on-start _ _ _ _ m stands;
+      as_many (sym c.requires.fresh) (goes_on-start _ _ _ _ m stands);
 }
 
-pub loop-made-preserved : goal.loop-made-preserved
-loop-made-preserved g c = let given = gave_all c.step.ensures.emits_some.1 in record {
-  same_shelf = given.shelf ∙ c.loop-made.invariant.same_shelf;
-  same_out = given.output ∙ c.loop-made.invariant.same_out;
-  made = c.step.ensures.steps ∙ ap (λ (n : ℕ). n + 1) c.loop-made.invariant.made;
-  some = some_then c.loop-made.invariant.some c.step.ensures.emits_some;
-  runs = λ m stands none.
-      let on = c.loop-made.invariant.runs m stands none in
-      goes_on-more _ _ _ _ _ _ c.step.result c.loop-made.made _ m on
-      (c.step.ensures.makes _ on.stands (unclashed-next _ _ _ _ _ _ _ on c.loop-made-test.true none))
-      c.loop-made-test.true c.in_default.is;
-}
+pub loop-left-preserved : goal.loop-left-preserved
+loop-left-preserved g c =
+    let given = gave_all c.step.ensures.emits_some.1 in
+    let so_far = c.loop-left.invariant.made in
+    let within = fewer _ _ _ so_far c.loop-left-test.true in
+    record {
+      same_shelf = given.shelf ∙ c.loop-left.invariant.same_shelf;
+      same_out = given.output ∙ c.loop-left.invariant.same_out;
+      made = (let one = c.step.ensures.steps in let some = c.loop-left-test.true in omega (arith, so_far, one, some));
+      some = some_then c.loop-left.invariant.some c.step.ensures.emits_some;
+      runs = λ m stands none.
+          let on = c.loop-left.invariant.runs m stands none in
+          as_many (sym c.step.ensures.steps) (goes_on-more _ _ _ _ _ _ c.step.result _ _ m on
+          (c.step.ensures.makes _ on.stands (unclashed-next _ _ _ _ _ _ _ on within none)) within c.in_default.is);
+    }
 
 pub returns-then-outlet-clause-runs : goal.returns-then-outlet-clause-runs
 returns-then-outlet-clause-runs g c = λ m stands none.
-    runs-failed _ _ _ _ _ _ _ c.loop-made.made m (c.loop-made.invariant.runs m stands none) c.if-outlet.true
+    runs-failed _ _ _ _ _ _ _ _ m (c.loop-left.invariant.runs m stands none) c.if-outlet.true
     (λ ps. emits_none _ _ _ ps c.if-outlet.true)
 
 pub returns-in-Some-clause-runs : goal.returns-in-Some-clause-runs
 returns-in-Some-clause-runs g c = λ m stands none.
-    let on = c.loop-made.invariant.runs m stands none in
-    stops-more _ _ _ _ _ _ _ c.step.result c.in-Some.stop c.loop-made.made c.args.steps m on
-    (c.step.ensures.makes _ on.stands (unclashed-next _ _ _ _ _ _ _ on c.loop-made-test.true none)) c.in-Some.is
-    c.loop-made-test.true
+    let on = c.loop-left.invariant.runs m stands none in
+    let within = fewer _ _ _ c.loop-left.invariant.made c.loop-left-test.true in
+    stops-more _ _ _ _ _ _ _ c.step.result c.in-Some.stop _ c.args.steps m on
+    (c.step.ensures.makes _ on.stands (unclashed-next _ _ _ _ _ _ _ on within none)) c.in-Some.is within
 
 pub returns-in-Some-clause-emits_some : goal.returns-in-Some-clause-emits_some
-returns-in-Some-clause-emits_some g c = some_then c.loop-made.invariant.some c.step.ensures.emits_some
+returns-in-Some-clause-emits_some g c = some_then c.loop-left.invariant.some c.step.ensures.emits_some
 
 pub returns-clause-runs : goal.returns-clause-runs
 returns-clause-runs g c =
-    λ m stands none. runs-all _ _ _ _ _ c.args.steps c.loop-made.made m (c.loop-made.invariant.runs m stands none)
-    (let low = c.loop-made-test.false in let high = c.loop-made.auto.made-end in omega (arith, low, high))
+    λ m stands none. runs-all _ _ _ _ _ c.args.steps _ m (c.loop-left.invariant.runs m stands none)
+    (let all = c.loop-left.invariant.made in let over = c.loop-left-test.false in omega (arith, all, over))
 
 pub returns-in-Some-clause-same_shelf : goal.returns-in-Some-clause-same_shelf
 returns-in-Some-clause-same_shelf g c = let given =
-    gave_all c.step.ensures.emits_some.1 in given.shelf ∙ c.loop-made.invariant.same_shelf
+    gave_all c.step.ensures.emits_some.1 in given.shelf ∙ c.loop-left.invariant.same_shelf
 
 pub returns-in-Some-clause-same_out : goal.returns-in-Some-clause-same_out
 returns-in-Some-clause-same_out g c = let given =
-    gave_all c.step.ensures.emits_some.1 in given.output ∙ c.loop-made.invariant.same_out
+    gave_all c.step.ensures.emits_some.1 in given.output ∙ c.loop-left.invariant.same_out
