@@ -3,3 +3,4 @@ pub mod Ending
 pub mod Lines
 pub mod Standing
 pub mod Turns
+pub mod Thawing

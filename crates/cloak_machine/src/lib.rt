@@ -11,10 +11,11 @@ mod closing;
 mod domains;
 mod end;
 mod frames;
+mod freezing;
 mod machine;
 mod schedule;
 
 pub use cloak_model::{Bundle, Emit, Item, KernelImage, Program, Segment};
 pub use end::{End, put_number, put_stop_line};
-pub use joint_machine::{OpenFault, StoredFault};
+pub use joint_machine::{OpenFault, StoredFault, ThawFault};
 pub use machine::Machine;

@@ -1,14 +1,16 @@
-ghost use Rattle.std.specs.Prelude.{◌≡◌, ◌≢◌, ◌+◌, ◌<◌, ◌≤◌, ◌^◌, ◌++◌, ℕ, List, [], Ok, All, IfOk, false, length, map};
+ghost use Rattle.std.specs.Prelude.{◌≡◌, ◌≢◌, ◌+◌, ◌<◌, ◌≤◌, ◌^◌, ◌++◌, ℕ, List, [], Ok, All, IfOk, None, false, length, map};
 ghost use Rattle.cloak_base.specs.Random.{Random};
 ghost use Rattle.cloak_model.specs.declared.image.Bundle.{Bundle};
 ghost use Rattle.cloak_model.specs.Beginning.{Beginning, opening_from};
 ghost use Rattle.cloak_model.specs.Bundle.{IsInGrammar};
+ghost use Rattle.cloak_model.specs.Cloaking.{owed_in};
 ghost use Rattle.cloak_model.specs.Exchange.{Emits, EmitsSome, shown_each};
 ghost use Rattle.cloak_model.specs.Joint.{Moment, joint_step};
 ghost use Rattle.cloak_model.specs.Opening.{Opened};
 ghost use Rattle.cloak_model.specs.Run.{closing, first_moment, most_steps};
 ghost use Rattle.cloak_model.specs.StoredFiles.{IsTable, StandsForFiles};
 ghost use Rattle.cloak_model.specs.StoredRun.{contents_of};
+ghost use Rattle.joint_machine.specs.Freezing.{AreOwedOrOutside};
 ghost use Rattle.joint_machine.specs.Placings.{placing};
 ghost use Rattle.joint_machine.specs.Standing.{AllOutside, LendsPager, harts_of, shown_byte};
 ghost use Rattle.kernel_report.specs.Console.{ConsoleShows};
@@ -30,17 +32,18 @@ use std::alloc::Global;
 /// A machine as its run goes on.
 #[derive(Drop)]
 pub struct Machine {
-    joint: Joint,
-    schedule: Schedule,
-    steps: u32,
-    console: Console,
+    pub(crate) joint: Joint,
+    pub(crate) schedule: Schedule,
+    pub(crate) steps: u32,
+    pub(crate) console: Console,
     /// The marker of the last step. It is kept, since an item has room for a page, and to build one clears it.
-    marker: Item,
+    pub(crate) marker: Item,
     /// Where the programs are placed, which is asked for once, by the opening.
-    placings: ArrayVec<Placing, 4>,
+    pub(crate) placings: ArrayVec<Placing, 4>,
     ghost turns: { All (λ h. h < harts_of joint) schedule.turns.items },
     ghost counted: { console.count ≤ steps },
-    ghost outside: { steps ≡ 0 → AllOutside joint },
+    ghost settled: { steps ≡ 0 → AreOwedOrOutside joint.memory.pager },
+    ghost outside: { steps ≡ 0 → placings.items ≢ [] → AllOutside joint },
 }
 
 /// Makes an item the marker of a step.
@@ -148,7 +151,7 @@ impl Machine {
             placings_of self.old ≡ map placing b.programs → StandsForMoment self.old (first_moment b o.joint) →
             ShowsOpening E.gave e.old e.new self.new b o }
     {
-        if self.steps == 0 {
+        if self.steps == 0 && !self.placings.as_slice().is_empty() {
             self.joint.show_opening(self.placings.as_slice(), e);
         }
     }
@@ -160,7 +163,7 @@ impl Machine {
         ensures placings { placings_of self.new ≡ placings_of self.old }
         ensures stands { (m : Moment) → StandsForMoment self.old m → StandsForMoment self.new m }
         ensures counts { steps_made self.old ≡ 0 → (m : Moment) → StandsForMoment self.old m →
-            Counts self.new (fresh_fold (length m.joint.memory.ram)) }
+            ((f : ℕ) → owed_in m.joint.memory f ≡ None) → Counts self.new (fresh_fold (length m.joint.memory.ram)) }
     {
         self.joint.count_accesses();
     }

@@ -24,6 +24,17 @@ impl Schedule {
         Ok(Schedule { turns, place: 0 })
     }
 
+    /// At the place of the step after so many.
+    pub fn open_at(alloc: Global, turns: &[u8], steps: u32) -> Result<Schedule, NoMemory>
+        requires { 0 < length turns.now }
+        ensures turns { IfOk result (λ schedule. schedule.turns.items ≡ turns.now) }
+        ensures place { IfOk result (λ schedule. IsAt schedule steps) }
+    {
+        let turns = Vec::from_slice(alloc, turns)?;
+        let place = steps as usize % turns.len();
+        Ok(Schedule { turns, place })
+    }
+
     /// The place behind this one: the first again behind the last.
     fn place_behind(&self) -> usize
         ensures inside { result < length self.now.turns.items }

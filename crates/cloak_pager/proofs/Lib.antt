@@ -12,3 +12,4 @@ pub mod Contents
 pub mod Behind
 pub mod Closing
 pub mod Opening
+pub mod Frozen

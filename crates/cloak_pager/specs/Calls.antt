@@ -19,6 +19,7 @@ use Rattle.cloak_pager.specs.declared.offering.Offered.{Offered}
 
 -- A call that changes the pager, or shows bytes or metadata, with what it is handed: a frame or a page, a place and a
 -- width in it, and so on, in the order of the call. For a restoring also the content that the page goes on with.
+-- Freezing and thawing are not among them: their clauses speak of no memory.
 pub data Call : Type 0 where
   Touch : ℕ → Call
   Offer : PageId → ℕ → Bool → Call

@@ -5,3 +5,4 @@ pub mod Relation
 pub mod Asking
 pub mod Lending
 pub mod Calls
+pub mod Freezing

@@ -1,5 +1,5 @@
 ghost use Rattle.std.specs.Prelude.{◌≡◌, ◌<◌, All};
-ghost use Rattle.cloak_model.specs.Ledger.{key_in};
+ghost use Rattle.cloak_model.specs.Ledger.{domain_key, key_in};
 
 use aes_block::Schedule;
 use cloak_base::PageId;
@@ -41,11 +41,18 @@ impl KeyRing {
         }
     }
 
-    /// What a page is sealed under: the key of its domain, and key 0 if there is no such domain.
+    /// What a page is sealed under: the key of its domain.
     pub(crate) fn of(&self, q: PageId) -> &Schedule
         ensures { result.now ≡ key_in self.now q }
     {
-        let number = self.group.get(q.domain as usize).copied().unwrap_or(0);
+        self.of_domain(q.domain)
+    }
+
+    /// The key of a domain, and key 0 if there is no such domain.
+    pub(crate) fn of_domain(&self, domain: u32) -> &Schedule
+        ensures { result.now ≡ domain_key self.now domain }
+    {
+        let number = self.group.get(domain as usize).copied().unwrap_or(0);
         &self.numbered[number as usize]
     }
 }

@@ -7,9 +7,12 @@
 //!
 //! The layer above may rely on this: for every memory that the pager stands for (`StandsForMemory`), each call answers
 //! and does what the rules of cloaking tell of it, and the pager then stands for the result; `law_of_calls` says so of
-//! every list of calls. In which order frames are touched before an offer is for the layer above.
+//! every list of calls. In which order frames are touched before an offer is for the layer above. What freezing and
+//! thawing a frame do is told of the pager alone (`specs/Freezing`): a pager with a frozen frame stands for no memory
+//! that has the newest bytes of its page.
 #![tactic(auto)]
 
+mod freezing;
 mod held;
 mod keys;
 mod law;

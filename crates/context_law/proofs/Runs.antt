@@ -29,7 +29,7 @@ use Rattle.kernel_isolation.specs.Isolation.{joint_until}
 use Rattle.kernel_isolation.proofs.FilesAdded.{IsGiven, KeepsDomainIf, given_keeps}
 use Rattle.kernel_isolation.proofs.Isolated.{until_read}
 use Rattle.resource_map.proofs.Lists.{get_or-replicate_none}
-use Rattle.limit_law.specs.Limits.{IsWordPlace, IsContext, KeepsLimits}
+use Rattle.frozen_state.specs.Limits.{IsWordPlace, IsContext, KeepsLimits}
 use Rattle.limit_law.proofs.Runs.{runs_keep_limits}
 use Rattle.limit_law.proofs.Openings.{begins}
 use Rattle.store_law.specs.Ciphers.{items_of_turn}

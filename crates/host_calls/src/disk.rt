@@ -41,6 +41,14 @@ impl Disk {
         self.blocks.as_slice()
     }
 
+    /// Gives up the bytes of all blocks, in order.
+    pub fn into_bytes(self) -> Vec<u8>
+        ensures { result.items ≡ self }
+    {
+        let Disk { blocks } = self;
+        blocks
+    }
+
     /// Copies the bytes of all blocks into as many.
     pub fn copy_to(&self, into: &mut [u8])
         requires { length into.old ≡ length self.now }

@@ -27,3 +27,14 @@ pub mod OpensOver
 pub mod Sorting
 pub mod Known
 pub mod Holding
+pub mod Rows
+pub mod Freezes
+pub mod Thaws
+pub mod Shown
+pub mod GoesOn
+pub mod ThawedParts
+pub mod KeptWords
+pub mod PageBytes
+pub mod Fits
+pub mod JointGoesOn
+pub mod Remade

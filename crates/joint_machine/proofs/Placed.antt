@@ -90,6 +90,7 @@ pub record KeepsLedger (m m' : CloakedMemory) : Type 0 where
   pub missed : m'.ledger.missed ≡ m.ledger.missed
   pub keys : m'.ledger.keys ≡ m.ledger.keys
   pub root : (s : SpaceId) → m'.ledger.root s ≡ m.ledger.root s
+  pub owed : m'.ledger.owed ≡ m.ledger.owed
 
 abbrev pub KeepsLedgerIf : CloakedMemory → Option CloakedMemory → Type 0
 KeepsLedgerIf m None = Unit {0}
@@ -99,7 +100,7 @@ keeps_with : (q : PageId) (f : ℕ) (bytes : List ℕ) (draw : Option (List ℕ 
     KeepsLedgerIf m (place_with q f bytes draw m)
 unfolding place_with
 keeps_with q f bytes None m = tt
-keeps_with q f bytes (Some draw) m = record { draws = refl; missed = refl; keys = refl; root = λ s. refl }
+keeps_with q f bytes (Some draw) m = record { draws = refl; missed = refl; keys = refl; root = λ s. refl; owed = refl }
 
 pub keeps_ledger : (q : PageId) (f : ℕ) (bytes : List ℕ) (m : CloakedMemory) → KeepsLedgerIf m (place q f bytes m)
 unfolding place
@@ -267,6 +268,7 @@ programs_all memory i (p ∷ rest) programs m from end = absurd (omega (arith, e
 pub record KeepsFixed (m m' : CloakedMemory) : Type 0 where
   pub keys : m'.ledger.keys ≡ m.ledger.keys
   pub roots : (s : SpaceId) → m'.ledger.root s ≡ m.ledger.root s
+  pub owed : m'.ledger.owed ≡ m.ledger.owed
 
 abbrev pub KeepsFixedIf : CloakedMemory → Option CloakedMemory → Type 0
 KeepsFixedIf m None = Unit {0}
@@ -274,12 +276,12 @@ KeepsFixedIf m (Some m') = KeepsFixed m m'
 
 fixed_of : (m : CloakedMemory) (o : Option CloakedMemory) → KeepsLedgerIf m o → KeepsFixedIf m o
 fixed_of m None keeps = tt
-fixed_of m (Some m') keeps = record { keys = keeps.keys; roots = keeps.root }
+fixed_of m (Some m') keeps = record { keys = keeps.keys; roots = keeps.root; owed = keeps.owed }
 
 fixed_before : (m x : CloakedMemory) (o : Option CloakedMemory) → KeepsFixed m x → KeepsFixedIf x o → KeepsFixedIf m o
 fixed_before m x None first keeps = tt
 fixed_before m x (Some m') first keeps =
-    record { keys = keeps.keys ∙ first.keys; roots = λ s. keeps.roots s ∙ first.roots s }
+    record { keys = keeps.keys ∙ first.keys; roots = λ s. keeps.roots s ∙ first.roots s; owed = keeps.owed ∙ first.owed }
 
 fixed_then : (m : CloakedMemory) (next : CloakedMemory → Option CloakedMemory) (o : Option CloakedMemory) →
     KeepsFixedIf m o → ((x : CloakedMemory) → KeepsFixedIf x (next x)) → KeepsFixedIf m (option_and_then next o)
@@ -287,13 +289,13 @@ fixed_then m next None keeps more = tt
 fixed_then m next (Some x) keeps more = fixed_before m x (next x) keeps (more x)
 
 pages_fixed : (d : ℕ) (p : Program) (n : ℕ) (m : CloakedMemory) → KeepsFixedIf m (place_pages d p n m)
-pages_fixed d p zero m = record { keys = refl; roots = λ s. refl }
+pages_fixed d p zero m = record { keys = refl; roots = λ s. refl; owed = refl }
 pages_fixed d p (suc n) m =
     fixed_then m (place (first_page d n) (p.place + n) (program_page p.bytes n)) (place_pages d p n m) (pages_fixed d p n m)
     (λ x. fixed_of x _ (keeps_ledger (first_page d n) (p.place + n) (program_page p.bytes n) x))
 
 pub programs_fixed : (d : ℕ) (programs : List Program) (m : CloakedMemory) → KeepsFixedIf m (place_programs d programs m)
-programs_fixed d [] m = record { keys = refl; roots = λ s. refl }
+programs_fixed d [] m = record { keys = refl; roots = λ s. refl; owed = refl }
 programs_fixed d (p ∷ programs) m =
     fixed_then m (place_programs (d + 1) programs) (place_pages d p p.start.pages m) (pages_fixed d p p.start.pages m)
     (λ x. programs_fixed (d + 1) programs x)

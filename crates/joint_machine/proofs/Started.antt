@@ -42,7 +42,7 @@ domains_next xs x i p programs are stands more read =
     subst (λ (ds : List model.Domain). AreDomains (xs ++ x ∷ []) ds) (sym more_is)
     (domains_more xs (started_domains 0 (take i programs)) x (started_domain i p.start) are stands)
 
-get_pushed : {A : Type 0} (xs : List A) (x : A) (d : ℕ) (y : A) → slice_get (xs ++ x ∷ []) d ≡ Some y →
+pub get_pushed : {A : Type 0} (xs : List A) (x : A) (d : ℕ) (y : A) → slice_get (xs ++ x ∷ []) d ≡ Some y →
     (slice_get xs d ≡ Some y) ⊎ ((d ≡ length xs) × (x ≡ y))
 get_pushed [] x zero y at = inr (refl, let e : x ≡ y = cc in e)
 get_pushed [] x (suc d) y at = absurd (let no : None ≡ Some y = at in cc)

@@ -41,6 +41,7 @@ impl Joint {
         ensures stands { (j : model.Joint) → StandsForJoint self.old j → StandsForJoint self.new j }
         ensures harts { harts_of self.new ≡ harts_of self.old }
         ensures outside { AllOutside self.old → AllOutside self.new }
+        ensures pager { self.new.memory.pager ≡ self.old.memory.pager }
         ensures counting { self.new.memory.counting ≡ true }
         ensures empty { self.new.memory.shadows.live ≡ [] }
         ensures tracks { AllOutside self.old → (frames : ℕ) → Tracks self.new.memory (fresh_fold frames) }

@@ -27,7 +27,7 @@ use Rattle.cloak_model.specs.InsideStep.{AfterInstruction, made, made_writing, t
 use Rattle.cloak_model.specs.KernelStep.{misaligned}
 use Rattle.cloak_model.specs.Resources.{Resources, page_at}
 use Rattle.cloak_model.specs.World.{World}
-use Rattle.limit_law.specs.Limits.{IsWordPlace, IsPhase, IsSteady}
+use Rattle.frozen_state.specs.Limits.{IsWordPlace, IsPhase, IsSteady}
 use Rattle.limit_law.proofs.Pages.{IsPage, AreInPages, place_there}
 
 -- A register is written.

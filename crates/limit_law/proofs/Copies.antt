@@ -18,7 +18,7 @@ use Rattle.cloak_model.specs.Calls.{call_number, call_length, buffer, area, take
 use Rattle.cloak_model.specs.Contexts.{Context, set_word, in_phase, has_buffer}
 use Rattle.cloak_model.specs.Resources.{Resources}
 use Rattle.cloak_model.specs.World.{World}
-use Rattle.limit_law.specs.Limits.{IsCall, IsCopyIn, IsCopyOut, IsPhase, WaitsOnNoHart, IsSteady}
+use Rattle.frozen_state.specs.Limits.{IsCall, IsCopyIn, IsCopyOut, IsPhase, WaitsOnNoHart, IsSteady}
 use Rattle.limit_law.proofs.Contexts.{with_register_length, with_register_zero}
 
 -- The same context in another phase, and with an answer.

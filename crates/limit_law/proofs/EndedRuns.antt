@@ -22,7 +22,8 @@ use Rattle.kernel_isolation.proofs.FilesAdded.{IsGiven}
 use Rattle.kernel_isolation.proofs.Isolated.{of_opened}
 use Rattle.resource_map.specs.Kept.{IsInUse}
 use Rattle.resource_map.proofs.Lists.{get_or-replicate_none}
-use Rattle.limit_law.specs.Endings.{HasNothing, EndedAreGone, has_ended, EndedAreTold, AreFew, RefusalsAreFew}
+use Rattle.frozen_state.specs.Limits.{has_ended}
+use Rattle.limit_law.specs.Endings.{HasNothing, EndedAreGone, EndedAreTold, AreFew, RefusalsAreFew}
 use Rattle.limit_law.proofs.Endings.{answers_give, answers_keep}
 use Rattle.limit_law.proofs.Gone.{Gone, AllGone, step_keeps_gone}
 use Rattle.limit_law.proofs.Moments.{IsKept, following, at_every_moment}

@@ -23,7 +23,8 @@ use Rattle.item_law.proofs.Controls.{slot_fits}
 use Rattle.item_law.proofs.Turns.{ProgramFits, JointFits, turn_fits}
 use Rattle.kernel_isolation.proofs.FilesAdded.{IsGiven, files_of, opens_over}
 use Rattle.resource_map.proofs.Lists.{get_or-replicate_none}
-use Rattle.limit_law.specs.Files.{HasOwnerWord, AreFileWords, RunsHaveFileWords}
+use Rattle.frozen_state.specs.Words.{HasOwnerWord, AreFileWords}
+use Rattle.limit_law.specs.Files.{RunsHaveFileWords}
 use Rattle.limit_law.proofs.Files.{file_words, step_file_words}
 use Rattle.limit_law.proofs.RootRuns.{slot_same, interrupt_same}
 use Rattle.limit_law.proofs.Moments.{IsKept, at_every_moment}

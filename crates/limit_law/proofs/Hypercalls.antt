@@ -28,7 +28,7 @@ use Rattle.cloak_model.specs.World.{World}
 use Rattle.resource_map.specs.Copying.{can_copy}
 use Rattle.resource_map.specs.Kept.{IsInUse}
 use Rattle.resource_map.proofs.Lists.{first_free-at}
-use Rattle.limit_law.specs.Limits.{WaitsOnNoHart, IsSteady, IsContext, KeepsLimits}
+use Rattle.frozen_state.specs.Limits.{WaitsOnNoHart, IsSteady, IsContext, KeepsLimits}
 use Rattle.limit_law.proofs.Contexts.{with_register_length, with_register_zero, moved_steady, word_steady}
 use Rattle.limit_law.proofs.Copies.{BegunIdle, begin_one}
 use Rattle.limit_law.proofs.Resources.{AreKept, StayKept, new_stays, file_stays, map_stays, unmap_stays, fork_stays, fork_used, forked_still, drop_kept, drop_used}

@@ -37,7 +37,8 @@ use Rattle.script_fold.proofs.Folding.{step_keeps}
 use Rattle.script_fold.proofs.Questions.{Kept}
 use Rattle.script_fold.proofs.ByQuestions.{kept_by}
 use Rattle.script_fold.proofs.Endings.{keeps_end}
-use Rattle.limit_law.specs.Owed.{IsOnce, PagesAreOwedOnce}
+use Rattle.frozen_state.specs.Limits.{IsOnce}
+use Rattle.limit_law.specs.Owed.{PagesAreOwedOnce}
 use Rattle.limit_law.proofs.Endings.{answers_keep}
 use Rattle.limit_law.proofs.Moments.{at_every_moment}
 use Rattle.limit_law.proofs.Openings.{begins_by_memory}

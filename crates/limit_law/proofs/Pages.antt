@@ -8,7 +8,7 @@ use Rattle.cloak_model.specs.Resources.{Resources, resource_at, regions_in, regi
 use Rattle.resource_map.specs.Kept.{IsMapped, IsSound}
 use Rattle.resource_map.proofs.Lists.{All-find}
 use Rattle.resource_map.proofs.Mapped.{HasPages-from_mapped}
-use Rattle.limit_law.specs.Limits.{IsWordPlace}
+use Rattle.frozen_state.specs.Limits.{IsWordPlace}
 
 -- a page of one of 16 resources, which have 1024 pages at most
 pub record IsPage (q : PageId) : Type 0 where

@@ -39,7 +39,7 @@ use Rattle.resource_map.specs.Kept.{IsInUse}
 use Rattle.script_fold.specs.Tables.{recorded_tables}
 use Rattle.kernel_isolation.proofs.FilesAdded.{IsGiven, given_keeps}
 use Rattle.script_fold.proofs.Rooted.{settle_root, rooted_domain_step, rooted_end}
-use Rattle.limit_law.specs.Limits.{IsContext, KeepsLimits}
+use Rattle.frozen_state.specs.Limits.{IsContext, KeepsLimits}
 use Rattle.limit_law.specs.Roots.{RootsAreOfSpacesInUse}
 use Rattle.limit_law.proofs.Roots.{LeavesUsed, step_uses}
 use Rattle.limit_law.proofs.Endings.{answers_keep}

@@ -18,7 +18,8 @@ use Rattle.cloak_model.specs.Resources.{regions_in, started_resources}
 use Rattle.resource_map.specs.Kept.{IsSoundRegion}
 use Rattle.resource_map.proofs.Lists.{get_or-replicate_none}
 use Rattle.resource_map.proofs.Soundness.{IsSound-started}
-use Rattle.limit_law.specs.Limits.{IsContext, IsSpace, RunsKeepLimits}
+use Rattle.frozen_state.specs.Limits.{IsContext, IsSpace}
+use Rattle.limit_law.specs.Limits.{RunsKeepLimits}
 use Rattle.limit_law.proofs.Resources.{no_regions, file_stays}
 use Rattle.limit_law.proofs.Hypercalls.{new_is_context, are_kept, resources_kept}
 use Rattle.limit_law.proofs.Moments.{IsKept, at_every_moment}

@@ -25,7 +25,7 @@ use Rattle.cloak_model.specs.Resources.{Resources}
 use Rattle.cloak_model.specs.World.{World}
 use Rattle.resource_map.specs.Kept.{IsInUse, IsHeld, IsMapped, IsSound}
 use Rattle.resource_map.proofs.Lists.{get_or-replicate_none}
-use Rattle.limit_law.specs.Limits.{IsPhase, WaitsOnNoHart, IsSteady, IsContext, IsSpace, KeepsLimits}
+use Rattle.frozen_state.specs.Limits.{IsPhase, WaitsOnNoHart, IsSteady, IsContext, IsSpace, KeepsLimits}
 use Rattle.limit_law.proofs.Contexts.{AfterOne, instruction_one}
 use Rattle.limit_law.proofs.Copies.{StaysIdle, AfterCopy, copy_in_one, copy_out_one, finish_one}
 use Rattle.limit_law.proofs.Hypercalls.{IsRunning, runs, stays_kept, leaves_kept, idle_plain, slot_kept, hypercall_kept}

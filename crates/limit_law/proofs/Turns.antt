@@ -2,7 +2,7 @@
 use Rattle.std.proofs.Common.{◌<◌, List, slice_get, Option, Some, None, IfSome}
 use Rattle.cloak_model.specs.DomainState.{Domain}
 use Rattle.cloak_model.specs.Joint.{Moment, next_hart, joint_step}
-use Rattle.limit_law.specs.Limits.{KeepsLimits}
+use Rattle.frozen_state.specs.Limits.{KeepsLimits}
 use Rattle.limit_law.proofs.Programs.{AllOf, KeptInside, step_all}
 use Rattle.limit_law.proofs.Steps.{step_kept, interrupt_kept, resume_kept, end_kept}
 

@@ -14,8 +14,9 @@ use Rattle.item_law.proofs.Controls.{SlotFits}
 use Rattle.item_law.proofs.Harts.{HartFits}
 use Rattle.item_law.proofs.Opened.{opened_fits}
 use Rattle.item_law.proofs.Turns.{ProgramFits, JointFits, turn_fits}
+use Rattle.frozen_state.specs.Words.{HasSlotWords}
 use Rattle.limit_law.proofs.Moments.{at_every_moment}
-use Rattle.limit_law.specs.Words.{HasHartWords, HasSlotWords, HasProgramWords, HasWords, RunsHaveWords}
+use Rattle.limit_law.specs.Words.{HasHartWords, HasProgramWords, HasWords, RunsHaveWords}
 
 each : {A : Type 0} (P Q : A → Type 0) (xs : List A) → ((a : A) → P a → Q a) → AllByRecursion P xs → AllByRecursion Q xs
 each P Q [] gives all = tt

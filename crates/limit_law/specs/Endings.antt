@@ -1,5 +1,5 @@
 -- What the end of a domain leaves, at every moment of a run: nothing of the program, and a place that tells what ended it.
-use Rattle.std.specs.Prelude.{ℕ, ◌≡◌, ◌<◌, ◌≤◌, ◌^◌, Bool, true, false, is_some, length, slice_get, slice_index_or, Option, Some, None, Ok}
+use Rattle.std.specs.Prelude.{ℕ, ◌≡◌, ◌<◌, ◌≤◌, ◌^◌, true, slice_get, slice_index_or, Some, None, Ok}
 use Rattle.cloak_base.specs.declared.names.SpaceId.{SpaceId}
 use Rattle.cloak_model.specs.declared.image.Bundle.{Bundle}
 use Rattle.cloak_model.specs.Beginning.{Beginning}
@@ -9,6 +9,7 @@ use Rattle.cloak_model.specs.DomainState.{Control, Domain}
 use Rattle.cloak_model.specs.Parts.{Joint}
 use Rattle.cloak_model.specs.Resources.{resource_at}
 use Rattle.cloak_model.specs.Run.{Run, run_from}
+use Rattle.frozen_state.specs.Limits.{TellsEnded}
 use Rattle.kernel_isolation.specs.Isolation.{joint_until}
 
 -- What has ended.
@@ -36,17 +37,6 @@ EndedAreGone =
     IsGone (joint_until n r) d program.control
 
 -- What is told of it.
-
--- there is such a program, and it has ended
-abbrev pub has_ended : Option Domain → Bool
-has_ended None = false
-has_ended (Some d) = d.control.ended
-
--- There are four places for what ended a program. That of a number is taken exactly if there is such a program and it has
--- ended.
-pub record TellsEnded (j : Joint) : Type 0 where
-  pub four : length j.ended ≡ 4
-  pub taken : (d : ℕ) → is_some (slice_index_or j.ended d None) ≡ has_ended (slice_get j.domains d)
 
 -- The law, of every moment of the run of an image in the grammar.
 abbrev pub EndedAreTold : Type 0

@@ -1,17 +1,12 @@
 -- A page table is recorded only of a space in use, of a program that there is.
-use Rattle.std.specs.Prelude.{ℕ, ◌≡◌, true, is_some, IsSomeAnd, slice_get, Ok}
+use Rattle.std.specs.Prelude.{ℕ, ◌≡◌, true, is_some, Ok}
 use Rattle.cloak_base.specs.declared.names.SpaceId.{SpaceId}
 use Rattle.cloak_model.specs.declared.image.Bundle.{Bundle}
 use Rattle.cloak_model.specs.Beginning.{Beginning}
 use Rattle.cloak_model.specs.Bundle.{IsInGrammar}
-use Rattle.cloak_model.specs.Parts.{Joint}
 use Rattle.cloak_model.specs.Run.{Run, run_from}
+use Rattle.frozen_state.specs.Limits.{IsThere}
 use Rattle.kernel_isolation.specs.Isolation.{joint_until}
-use Rattle.resource_map.specs.Kept.{IsInUse}
-
--- There is such a program, and this space of it is in use.
-abbrev pub IsThere : Joint → SpaceId → Type 0
-IsThere j s = IsSomeAnd (slice_get j.domains s.domain) (λ d. IsInUse d.control.resources s.number)
 
 -- The law, of every moment of the run of an image in the grammar.
 abbrev pub RootsAreOfSpacesInUse : Type 0

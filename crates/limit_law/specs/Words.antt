@@ -1,21 +1,17 @@
 -- Harts and contexts hold words, at every moment of a run.
-use Rattle.std.specs.Prelude.{ℕ, ◌≡◌, ◌<◌, List, IfSome, Option, Some, None, Ok}
+use Rattle.std.specs.Prelude.{ℕ, ◌≡◌, ◌<◌, IfSome, Ok}
 use Rattle.std.specs.List.{AllByRecursion}
 use Rattle.cloak_model.specs.declared.image.Bundle.{Bundle}
 use Rattle.cloak_model.specs.Beginning.{Beginning}
 use Rattle.cloak_model.specs.Bundle.{IsInGrammar}
-use Rattle.cloak_model.specs.Contexts.{Context}
 use Rattle.cloak_model.specs.DomainState.{Domain}
 use Rattle.cloak_model.specs.Hart.{Hart}
 use Rattle.cloak_model.specs.Parts.{Joint}
 use Rattle.cloak_model.specs.Record.{IsWord}
 use Rattle.cloak_model.specs.Run.{Run, run_from}
+use Rattle.frozen_state.specs.Words.{AreWords, HasSlotWords}
 use Rattle.item_law.specs.Writing.{IsOfBytes, IsBeginningOfBytes}
 use Rattle.kernel_isolation.specs.Isolation.{joint_until}
-
--- Words of 32 bits.
-abbrev pub AreWords : List ℕ → Type 0
-AreWords words = AllByRecursion IsWord words
 
 -- A hart has words in its registers, in its control and status registers (listed by their numbers), and as its program
 -- counter. The number of the context that it is inside is a word.
@@ -24,16 +20,6 @@ pub record HasHartWords (h : Hart) : Type 0 where
   pub csrs : AllByRecursion (λ (entry : ℕ × ℕ). IsWord entry.1) h.csrs
   pub pc : IsWord h.pc
   pub inside : IfSome h.inside IsWord
-
--- A context has words in its registers and as its program counter.
-pub record HasContextWords (c : Context) : Type 0 where
-  pub regs : AreWords c.regs
-  pub pc : IsWord c.pc
-
--- A slot is free, or has such a context.
-abbrev pub HasSlotWords : Option Context → Type 0
-HasSlotWords None = Unit {0}
-HasSlotWords (Some c) = HasContextWords c
 
 -- The number of a program is below 4, and its slots have words.
 pub record HasProgramWords (d : Domain) : Type 0 where

@@ -1,5 +1,6 @@
 pub mod Words
 pub mod Draws
+pub mod Skips
 pub mod ToldFacts
 pub mod Pieces
 pub mod Tables

@@ -5,3 +5,4 @@ pub mod Table
 pub mod Pieces
 pub mod Files
 pub mod Sinks
+pub mod Skipping

@@ -1,4 +1,5 @@
-ghost use Rattle.std.specs.Prelude.{◌≡◌, ◌≤◌, ◌<◌, ◌+◌, Some, None, MatchOption, length, take, drop};
+ghost use Rattle.std.specs.Prelude.{◌≡◌, ◌≤◌, ◌<◌, ◌+◌, ◌*◌, ◌%◌, ◌^◌, true, false, Some, None, MatchOption};
+ghost use Rattle.std.specs.Prelude.{length, take, drop};
 ghost use Rattle.std.specs.Int.{w32, to_le_bytes};
 ghost use Rattle.rand_core.specs.Steps.{word_bytes};
 ghost use Rattle.rand_chacha.specs.ChaCha.{next_word};
@@ -51,6 +52,20 @@ fn draw_handed(bytes: &[u8], at: &mut usize) -> Option<[u8; 16]>
     Some(iv)
 }
 
+fn skip_handed(bytes: &[u8], at: &mut usize, draws: u64) -> bool
+    requires { at.old ≤ length bytes.now }
+    ensures inside { at.new ≤ length bytes.now }
+    ensures enough { result ≡ true → (16 * draws ≤ length (drop at.old bytes.now)) × (at.new ≡ at.old + 16 * draws) }
+    ensures too_few { result ≡ false → (length (drop at.old bytes.now) < 16 * draws) × (at.new ≡ at.old) }
+{
+    let left = bytes[*at..].len() / 16;
+    if draws > left as u64 {
+        return false;
+    }
+    *at += 16 * draws as usize;
+    true
+}
+
 fn draw_words(rng: &mut ChaCha20Rng) -> [u8; 16]
     ensures { (result, rng.new) ≡ word_bytes (to_le_bytes w32) (next_word 10) 4 rng.old }
 {
@@ -64,8 +79,18 @@ fn draw_words(rng: &mut ChaCha20Rng) -> [u8; 16]
     ]
 }
 
+/// Moves the generator on by four words a draw. Its place is set, so any number of draws takes the same time.
+fn skip_words(rng: &mut ChaCha20Rng, draws: u64)
+    ensures inside { rng.old.word_pos < 2 ^ 68 }
+    ensures moved { rng.new ≡ record rng.old { word_pos = (rng.old.word_pos + 4 * draws) % 2 ^ 68 } }
+{
+    let place = rng.get_word_pos();
+    rng.set_word_pos(place + 4 * u128::from(draws));
+}
+
 impl Stream {
     ghost use Rattle.outside_io.specs.Source.{left_of};
+    ghost use Rattle.outside_io.specs.Skipping.{skipped};
 
     /// The bytes that are handed in, from the first on.
     pub fn bytes(b: Vec<u8>) -> Stream
@@ -96,6 +121,20 @@ impl Stream {
         match &mut self.source {
             Source::Handed { bytes, at } => draw_handed(bytes, at),
             Source::Numbered(rng) => Some(draw_words(rng)),
+        }
+    }
+
+    /// Leaves out so many draws, in the same time for any number. False, and nothing is left out, if fewer are left.
+    pub fn skip(&mut self, draws: u64) -> bool
+        ensures enough { result ≡ true → skipped draws self.old ≡ Some self.new }
+        ensures too_few { result ≡ false → (skipped draws self.old ≡ None) × (self.new ≡ self.old) }
+    {
+        match &mut self.source {
+            Source::Handed { bytes, at } => skip_handed(bytes, at, draws),
+            Source::Numbered(rng) => {
+                skip_words(rng, draws);
+                true
+            }
         }
     }
 

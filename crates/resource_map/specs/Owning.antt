@@ -1,5 +1,5 @@
 -- What is told of resources, and asked for them.
-use Rattle.std.specs.Prelude.{◌≡◌, ◌≢◌, ℕ, None, IsNone, is_some, position, slice_index_or}
+use Rattle.std.specs.Prelude.{◌≡◌, ◌≢◌, ℕ, Some, None, IsNone, is_some, position, slice_index_or, slice_set}
 use Rattle.cloak_model.specs.declared.resource.Owner.{Owner}
 use Rattle.cloak_model.specs.declared.resource.Owner.TheVariants.{Space, File}
 use Rattle.cloak_model.specs.declared.resource.Resource.{Resource}
@@ -23,3 +23,8 @@ SameSpacesBut space old new = (s : ℕ) → s ≢ space → is_some (slice_index
 abbrev pub MayOwn : Owner → Resources → Type 0
 MayOwn (Space space) r = IsInUse r space
 MayOwn (File number) r = IsNone (position (holds_file number) r.held)
+
+-- the resources with one more, at this number
+abbrev pub with_resource : ℕ → Owner → ℕ → Resources → Resources
+with_resource n owner pages r =
+    record r { held = slice_set r.held n (Some (record { owner = owner; pages = pages })) }

@@ -1,0 +1,5 @@
+pub mod Written
+pub mod Read
+pub mod Made
+pub mod Readable
+pub mod Again

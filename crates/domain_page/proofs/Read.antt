@@ -1,0 +1,325 @@
+-- What was written is read again, one piece after another.
+use Rattle.std.proofs.Common.{◌≡◌, ◌∙◌, ℕ, zero, suc, ◌+◌, ◌*◌, ◌/◌, ◌%◌, ◌^◌, ◌<◌, ◌≤◌, Bool, cond, List, [], ◌∷◌, ◌++◌, length, take, drop, map, get_or, set, Option, Some, None, refl, ap, sym, subst, append_assoc, arith}
+use Rattle.std.specs.Prelude.{option_map}
+use Rattle.std.specs.List.{flat_map}
+use Rattle.std.proofs.lemmas.Bool.{ne_eqb}
+use Rattle.std.proofs.lemmas.List.{take_all, drop_all, drop_more, take_more, take_more_set, map_more}
+use Rattle.cloak_base.specs.Registers.{with_register}
+use Rattle.cloak_base.specs.declared.names.HartId.{HartId}
+use Rattle.cloak_model.specs.declared.context.Phase.{Phase}
+use Rattle.cloak_model.specs.declared.context.Phase.TheVariants.{Plain, CopyIn, Waiting, CopyOut}
+use Rattle.cloak_model.specs.declared.context.WordPlace.{WordPlace}
+use Rattle.cloak_model.specs.declared.resource.Owner.{Owner}
+use Rattle.cloak_model.specs.declared.resource.Owner.TheVariants.{Space, File}
+use Rattle.cloak_model.specs.declared.resource.Resource.{Resource}
+use Rattle.cloak_model.specs.declared.resource.Region.{Region}
+use Rattle.cloak_model.specs.Bits.{word}
+use Rattle.cloak_model.specs.Contexts.{Context}
+use Rattle.cloak_model.specs.DomainState.{hart_byte, phase_bytes, slot_bytes, region_bytes, space_bytes, owner_bytes, resource_bytes}
+use Rattle.cloak_model.specs.Record.{IsWord}
+use Rattle.frozen_state.specs.DomainPage.{mark_bytes, slot_mark_bytes}
+use Rattle.frozen_state.specs.Words.{AreWords}
+use Rattle.domain_page.specs.Reading.{Reads, all, phase_in, hart_in, owner_in, HasPhaseWords, AreRegs, regs_bytes, HasMarkWords, IsReadableSlot, unmarked, HasRegionWords, AreRegions, IsReadableSpace, HasOwnerNumber, IsReadableNumber}
+use Rattle.domain_page.specs.Writing.{HasHart}
+
+abbrev pub ReadsByte : List ℕ → List ℕ → ℕ → Type 0
+ReadsByte old new given = (x : ℕ) (rest : List ℕ) → old ≡ x ∷ rest → (given ≡ x) × (new ≡ rest)
+
+abbrev pub ReadsWord : List ℕ → List ℕ → ℕ → Type 0
+ReadsWord old new given = Reads word IsWord all old new given
+
+-- A row of things.
+
+-- n of them were read: they are in `got`, and the bytes of the others are left
+pub record HasRead {A B : Type 0} (spell : A → List ℕ) (kept : A → B) (xs : List A) (rest : List ℕ) (n : ℕ)
+    (left : List ℕ) (got : List B) : Type 0 where
+  pub done : take n got ≡ map kept (take n xs)
+  pub others : left ≡ flat_map spell (drop n xs) ++ rest
+
+module _ {A B : Type 0} (spell : A → List ℕ) (kept : A → B) (xs : List A) (rest : List ℕ) where
+  pub none_read : (left : List ℕ) (got : List B) → left ≡ flat_map spell xs ++ rest → HasRead spell kept xs rest 0 left got
+  none_read left got e = record { done = refl; others = e }
+
+  pub one_read : (n : ℕ) (left left' : List ℕ) (got : List B) (y : B) (d : A) → n < length xs → n < length got →
+      HasRead spell kept xs rest n left got →
+      ((rest' : List ℕ) → left ≡ spell (get_or xs n d) ++ rest' → (y ≡ kept (get_or xs n d)) × (left' ≡ rest')) →
+      HasRead spell kept xs rest (n + 1) left' (set got n y)
+  one_read n left left' got y d inside room before reads =
+      let later : List ℕ = flat_map spell (drop (n + 1) xs) ++ rest in
+      let e : left ≡ spell (get_or xs n d) ++ later =
+      before.others
+      ∙ (ap (λ (l : List A). flat_map spell l ++ rest) (drop_more xs n d inside)
+      ∙ append_assoc (spell (get_or xs n d)) (flat_map spell (drop (n + 1) xs)) rest) in
+      let r = reads later e in
+      record {
+        done = take_more_set got n y room
+            ∙ (ap (λ (l : List B). l ++ y ∷ []) before.done
+            ∙ (ap (λ (z : B). map kept (take n xs) ++ z ∷ []) r.0 ∙ sym (map_more kept xs n d inside)));
+        others = r.1;
+      }
+
+  pub all_read : (n : ℕ) (left : List ℕ) (got : List B) → length xs ≤ n → length got ≤ n →
+      HasRead spell kept xs rest n left got → (got ≡ map kept xs) × (left ≡ rest)
+  all_read n left got last end before = (
+    sym (take_all n got end) ∙ (before.done ∙ ap (map kept) (take_all n xs last)),
+    before.others ∙ ap (λ (l : List A). flat_map spell l ++ rest) (drop_all n xs last),
+  )
+
+pub map_all : {A : Type 0} (xs : List A) → map all xs ≡ xs
+map_all [] = refl
+map_all (x ∷ xs) = ap (λ (l : List _). x ∷ l) (map_all xs)
+
+-- Phases.
+
+phase_at : (l0 l1 l2 l3 : List ℕ) (number done total tag a b : ℕ) → ReadsByte l0 l1 number → ReadsWord l1 l2 done →
+    ReadsWord l2 l3 total → (rest : List ℕ) → IsWord a → IsWord b → l0 ≡ (tag ∷ (word a ++ word b)) ++ rest →
+    (phase_in number done total ≡ phase_in tag a b) × (l3 ≡ rest)
+phase_at l0 l1 l2 l3 number done total tag a b first second third rest fits also e =
+    let r1 = first tag ((word a ++ word b) ++ rest) e in
+    let r2 = second a (word b ++ rest) fits (r1.1 ∙ append_assoc (word a) (word b) rest) in
+    let r3 = third b rest also r2.1 in
+    (rw (r1.0, r2.0, r3.0) refl, r3.1)
+
+pub phase_read : (l0 l1 l2 l3 : List ℕ) (number done total : ℕ) → ReadsByte l0 l1 number → ReadsWord l1 l2 done →
+    ReadsWord l2 l3 total → Reads phase_bytes HasPhaseWords all l0 l3 (phase_in number done total)
+phase_read l0 l1 l2 l3 n d t first second third Plain rest right e =
+    phase_at l0 l1 l2 l3 n d t 0 0 0 first second third rest (omega arith) (omega arith) e
+phase_read l0 l1 l2 l3 n d t first second third (CopyIn done) rest right e =
+    phase_at l0 l1 l2 l3 n d t 1 done 0 first second third rest right (omega arith) e
+phase_read l0 l1 l2 l3 n d t first second third Waiting rest right e =
+    phase_at l0 l1 l2 l3 n d t 2 0 0 first second third rest (omega arith) (omega arith) e
+phase_read l0 l1 l2 l3 n d t first second third (CopyOut done total) rest right e =
+    phase_at l0 l1 l2 l3 n d t 3 done total first second third rest right.0 right.1 e
+
+-- Slots.
+
+hart_read : (on : Option HartId) → HasHart on → hart_in (hart_byte on) ≡ on
+hart_read None right = refl
+hart_read (Some hart) right =
+    let other : hart.0 ≡ 255 → ⊥ = λ e. absurd (omega arith) in
+    ap (λ (t : Bool). cond t None (Some (record { 0 = hart.0 }))) (ne_eqb hart.0 255 other)
+
+pc_read : (pc : ℕ) → pc % 4 ≡ 0 → pc / 4 * 4 ≡ pc
+pc_read pc aligned = omega arith
+
+same_context : (c : Context) (pc : ℕ) (regs : List ℕ) (phase : Phase) (space : ℕ) (on : Option HartId) → pc ≡ c.pc →
+    regs ≡ c.regs → phase ≡ c.phase → space ≡ c.space → on ≡ c.on →
+    Some (record { pc = pc; regs = regs; phase = phase; space = space; on = on; mark = None }) ≡ unmarked (Some c)
+same_context c pc regs phase space on a b d e f = cc
+
+pub slot_none : (l0 l1 : List ℕ) (tag : ℕ) → ReadsByte l0 l1 tag → tag ≡ 0 →
+    Reads slot_bytes IsReadableSlot unmarked l0 l1 None
+slot_none l0 l1 tag first nil None rest right e = (refl, (first 0 rest e).1)
+slot_none l0 l1 tag first nil (Some c) rest right e =
+    let r = first 1 ((hart_byte c.on ∷ (phase_bytes c.phase ++ (word c.space ++ (word c.pc ++ regs_bytes c.regs)))) ++ rest) e in
+    absurd (omega (arith, r.0, nil))
+
+pub slot_some : (l0 l1 l2 l3 l4 l5 l6 : List ℕ) (tag byte : ℕ) (phase : Phase) (space pc : ℕ) (regs : List ℕ) →
+    ReadsByte l0 l1 tag → ReadsByte l1 l2 byte → Reads phase_bytes HasPhaseWords all l2 l3 phase → ReadsWord l3 l4 space →
+    ReadsWord l4 l5 pc → Reads regs_bytes AreRegs all l5 l6 regs → (tag ≡ 0 → ⊥) →
+    Reads slot_bytes IsReadableSlot unmarked l0 l6
+    (Some (record { pc = pc / 4 * 4; regs = regs; phase = phase; space = space; on = hart_in byte; mark = None }))
+slot_some l0 l1 l2 l3 l4 l5 l6 tag byte phase space pc regs a b c d e f used None rest right is =
+    absurd (used (a 0 rest is).0)
+slot_some l0 l1 l2 l3 l4 l5 l6 tag byte phase space pc regs a b c d e f used (Some x) rest right is =
+    let r1 = a 1 ((hart_byte x.on ∷ (phase_bytes x.phase ++ (word x.space ++ (word x.pc ++ regs_bytes x.regs)))) ++ rest) is in
+    let r2 = b (hart_byte x.on) ((phase_bytes x.phase ++ (word x.space ++ (word x.pc ++ regs_bytes x.regs))) ++ rest) r1.1 in
+    let r3 = c x.phase ((word x.space ++ (word x.pc ++ regs_bytes x.regs)) ++ rest) right.phase
+    (r2.1 ∙ append_assoc (phase_bytes x.phase) (word x.space ++ (word x.pc ++ regs_bytes x.regs)) rest) in
+    let r4 = d x.space ((word x.pc ++ regs_bytes x.regs) ++ rest) right.space
+    (r3.1 ∙ append_assoc (word x.space) (word x.pc ++ regs_bytes x.regs) rest) in
+    let r5 = e x.pc (regs_bytes x.regs ++ rest) right.pc
+    (r4.1 ∙ append_assoc (word x.pc) (regs_bytes x.regs) rest) in
+    let r6 = f x.regs rest right.regs r5.1 in (
+      same_context x (pc / 4 * 4) regs phase space (hart_in byte)
+          (ap (λ (n : ℕ). n / 4 * 4) r5.0 ∙ pc_read x.pc right.aligned) r6.0 r3.0 r4.0
+          (ap hart_in r2.0 ∙ hart_read x.on right.hart),
+      r6.1,
+    )
+
+-- Reservations.
+
+same_mark : (p : WordPlace) (resource page at : ℕ) → resource ≡ p.resource → page ≡ p.page → at ≡ p.at →
+    Some (record { resource = resource; page = page; at = at }) ≡ Some p
+same_mark p resource page at a b c = rw (a, b, c) refl
+
+pub mark_none : (l0 l1 : List ℕ) (tag : ℕ) → ReadsByte l0 l1 tag → tag ≡ 0 → Reads mark_bytes HasMarkWords all l0 l1 None
+mark_none l0 l1 tag first nil None rest right e = (refl, (first 0 rest e).1)
+mark_none l0 l1 tag first nil (Some p) rest right e =
+    let r = first 1 ((word p.resource ++ (word p.page ++ word p.at)) ++ rest) e in absurd (omega (arith, r.0, nil))
+
+pub mark_some : (l0 l1 l2 l3 l4 : List ℕ) (tag resource page at : ℕ) → ReadsByte l0 l1 tag → ReadsWord l1 l2 resource →
+    ReadsWord l2 l3 page → ReadsWord l3 l4 at → (tag ≡ 0 → ⊥) →
+    Reads mark_bytes HasMarkWords all l0 l4 (Some (record { resource = resource; page = page; at = at }))
+mark_some l0 l1 l2 l3 l4 tag resource page at a b c d used None rest right is = absurd (used (a 0 rest is).0)
+mark_some l0 l1 l2 l3 l4 tag resource page at a b c d used (Some p) rest right is =
+    let r1 = a 1 ((word p.resource ++ (word p.page ++ word p.at)) ++ rest) is in
+    let r2 = b p.resource ((word p.page ++ word p.at) ++ rest) right.resource
+    (r1.1 ∙ append_assoc (word p.resource) (word p.page ++ word p.at) rest) in
+    let r3 = c p.page (word p.at ++ rest) right.page (r2.1 ∙ append_assoc (word p.page) (word p.at) rest) in
+    let r4 = d p.at rest right.at r3.1 in
+    (same_mark p resource page at r2.0 r3.0 r4.0, r4.1)
+
+-- a slot with its reservation
+pub marked_none : (l0 l1 : List ℕ) (mark : Option WordPlace) → Reads mark_bytes HasMarkWords all l0 l1 mark →
+    (x : Option Context) (rest : List ℕ) → IsReadableSlot x → None ≡ unmarked x → l0 ≡ slot_mark_bytes x ++ rest →
+    (None ≡ x) × (l1 ≡ rest)
+marked_none l0 l1 mark reads None rest right same e = (refl, (reads None rest tt e).1)
+marked_none l0 l1 mark reads (Some c) rest right same e = cc
+
+with_mark : Option WordPlace → Option Context → Option Context
+with_mark mark slot = option_map (λ (c : Context). record c { mark = mark }) slot
+
+same_but_mark : (before c : Context) (mark : Option WordPlace) → Some before ≡ unmarked (Some c) → mark ≡ c.mark →
+    Some (record before { mark = mark }) ≡ Some c
+unfolding with_mark
+same_but_mark before c mark same is = ap (with_mark mark) same ∙ ap (λ (m : Option WordPlace). with_mark m (Some c)) is
+
+pub marked_some : (l0 l1 : List ℕ) (mark : Option WordPlace) (before : Context) →
+    Reads mark_bytes HasMarkWords all l0 l1 mark → (x : Option Context) (rest : List ℕ) → IsReadableSlot x →
+    Some before ≡ unmarked x → l0 ≡ slot_mark_bytes x ++ rest → (Some (record before { mark = mark }) ≡ x) × (l1 ≡ rest)
+marked_some l0 l1 mark before reads None rest right same e = cc
+marked_some l0 l1 mark before reads (Some c) rest right same e =
+    let r = reads c.mark rest right.mark e in (same_but_mark before c mark same r.0, r.1)
+
+-- Regions.
+
+same_region : (g : Region) (start pages resource first : ℕ) → start ≡ g.start → pages ≡ g.pages → resource ≡ g.resource →
+    first ≡ g.first → record { start = start; pages = pages; resource = resource; first = first } ≡ g
+same_region g start pages resource first a b c d = rw (a, b, c, d) refl
+
+pub region_read : (l0 l1 l2 l3 l4 : List ℕ) (start pages resource first : ℕ) → ReadsWord l0 l1 start →
+    ReadsWord l1 l2 pages → ReadsWord l2 l3 resource → ReadsWord l3 l4 first →
+    Reads region_bytes HasRegionWords all l0 l4
+    (record { start = start; pages = pages; resource = resource; first = first })
+region_read l0 l1 l2 l3 l4 start pages resource first a b c d g rest right is =
+    let r1 = a g.start ((word g.pages ++ (word g.resource ++ word g.first)) ++ rest) right.start
+    (is ∙ append_assoc (word g.start) (word g.pages ++ (word g.resource ++ word g.first)) rest) in
+    let r2 = b g.pages ((word g.resource ++ word g.first) ++ rest) right.pages
+    (r1.1 ∙ append_assoc (word g.pages) (word g.resource ++ word g.first) rest) in
+    let r3 = c g.resource (word g.first ++ rest) right.resource (r2.1 ∙ append_assoc (word g.resource) (word g.first) rest) in
+    let r4 = d g.first rest right.first r3.1 in
+    (same_region g start pages resource first r1.0 r2.0 r3.0 r4.0, r4.1)
+
+-- Spaces.
+
+pub space_none : (l0 l1 : List ℕ) (tag : ℕ) → ReadsByte l0 l1 tag → tag ≡ 0 →
+    Reads space_bytes IsReadableSpace all l0 l1 None
+space_none l0 l1 tag first nil None rest right e = (refl, (first 0 rest e).1)
+space_none l0 l1 tag first nil (Some list) rest right e =
+    let r = first 1 ((word (length list) ++ flat_map region_bytes list) ++ rest) e in absurd (omega (arith, r.0, nil))
+
+pub space_some : (l0 l1 l2 l3 : List ℕ) (tag count : ℕ) (list : List Region) → ReadsByte l0 l1 tag → ReadsWord l1 l2 count →
+    Reads (flat_map region_bytes) (AreRegions count) all l2 l3 list → (tag ≡ 0 → ⊥) →
+    Reads space_bytes IsReadableSpace all l0 l3 (Some list)
+space_some l0 l1 l2 l3 tag count list a b c used None rest right is = absurd (used (a 0 rest is).0)
+space_some l0 l1 l2 l3 tag count list a b c used (Some xs) rest right is =
+    let r1 = a 1 ((word (length xs) ++ flat_map region_bytes xs) ++ rest) is in
+    let r2 = b (length xs) (flat_map region_bytes xs ++ rest) (omega (arith, right.few))
+    (r1.1 ∙ append_assoc (word (length xs)) (flat_map region_bytes xs) rest) in
+    let r3 = c xs rest (subst (λ (n : ℕ). AreRegions n xs) (sym r2.0) right) r2.1 in
+    (ap Some r3.0, r3.1)
+
+-- Resources.
+
+abbrev kind_of : Owner → ℕ
+kind_of (Space number) = 1
+kind_of (File number) = 2
+
+abbrev number_of : Owner → ℕ
+number_of (Space number) = number
+number_of (File number) = number
+
+owner_spelled : (o : Owner) → owner_bytes o ≡ kind_of o ∷ word (number_of o)
+owner_spelled (Space number) = refl
+owner_spelled (File number) = refl
+
+kind_used : (o : Owner) → kind_of o ≡ 0 → ⊥
+kind_used (Space number) e = cc
+kind_used (File number) e = cc
+
+owner_fits : (o : Owner) → HasOwnerNumber o → IsWord (number_of o)
+owner_fits (Space number) fits = fits
+owner_fits (File number) fits = fits
+
+owner_read : (o : Owner) → owner_in (kind_of o) (number_of o) ≡ o
+owner_read (Space number) = refl
+owner_read (File number) = refl
+
+one_resource : Owner → ℕ → Option Resource
+one_resource owner pages = Some (record { owner = owner; pages = pages })
+
+same_resource : (held : Resource) (owner : Owner) (pages : ℕ) → owner ≡ held.owner → pages ≡ held.pages →
+    Some (record { owner = owner; pages = pages }) ≡ Some held
+unfolding one_resource
+same_resource held owner pages a b =
+    ap (λ (o : Owner). one_resource o pages) a ∙ ap (one_resource held.owner) b
+
+spelled : (held : Resource) (rest : List ℕ) →
+    resource_bytes (Some held) ++ rest ≡ kind_of held.owner ∷ (word (number_of held.owner) ++ (word held.pages ++ rest))
+spelled held rest =
+    append_assoc (owner_bytes held.owner) (word held.pages) rest
+    ∙ ap (λ (l : List ℕ). l ++ (word held.pages ++ rest)) (owner_spelled held.owner)
+
+pub number_none : (l0 l1 : List ℕ) (tag : ℕ) → ReadsByte l0 l1 tag → tag ≡ 0 →
+    Reads resource_bytes IsReadableNumber all l0 l1 None
+number_none l0 l1 tag first nil None rest right e = (refl, (first 0 rest e).1)
+number_none l0 l1 tag first nil (Some held) rest right e =
+    let r = first (kind_of held.owner) (word (number_of held.owner) ++ (word held.pages ++ rest)) (e ∙ spelled held rest) in
+    absurd (kind_used held.owner (sym r.0 ∙ nil))
+
+pub number_some : (l0 l1 l2 l3 : List ℕ) (tag number pages : ℕ) → ReadsByte l0 l1 tag → ReadsWord l1 l2 number →
+    ReadsWord l2 l3 pages → (tag ≡ 0 → ⊥) →
+    Reads resource_bytes IsReadableNumber all l0 l3 (Some (record { owner = owner_in tag number; pages = pages }))
+number_some l0 l1 l2 l3 tag number pages a b c used None rest right is = absurd (used (a 0 rest is).0)
+number_some l0 l1 l2 l3 tag number pages a b c used (Some held) rest right is =
+    let r1 = a (kind_of held.owner) (word (number_of held.owner) ++ (word held.pages ++ rest)) (is ∙ spelled held rest) in
+    let r2 = b (number_of held.owner) (word held.pages ++ rest) (owner_fits held.owner right.owner) r1.1 in
+    let r3 = c held.pages rest right.pages r2.1 in (
+      same_resource held (owner_in tag number) pages
+          (ap (λ (k : ℕ). owner_in k number) r1.0 ∙ (ap (owner_in (kind_of held.owner)) r2.0 ∙ owner_read held.owner)) r3.0,
+      r3.1,
+    )
+
+-- Registers.
+
+-- a write to another register than 0
+pub register_set : (regs : List ℕ) (i v : ℕ) → 1 ≤ i → with_register regs i v ≡ set regs i v
+register_set regs i v some =
+    let other : i ≡ 0 → ⊥ = λ e. absurd (omega arith) in
+    ap (λ (t : Bool). cond t regs (set regs i v)) (ne_eqb i 0 other)
+
+-- register 0 is there from the beginning
+pub regs_none : (xs rest left zeros : List ℕ) → AreRegs xs → take 1 zeros ≡ 0 ∷ [] → left ≡ regs_bytes xs ++ rest →
+    HasRead word all xs rest 1 left zeros
+regs_none [] rest left zeros right first e = absurd (omega (arith, right.count))
+regs_none (x ∷ xs) rest left zeros right first e = record {
+  done = first ∙ ap (λ (n : ℕ). n ∷ []) (sym right.zero_register);
+  others = e;
+}
+
+pub words_each : (xs : List ℕ) (i : ℕ) → AreWords xs → i < length xs → IsWord (get_or xs i 0)
+words_each [] i words inside = absurd (omega arith)
+words_each (x ∷ xs) zero words inside = words.0
+words_each (x ∷ xs) (suc i) words inside = words_each xs i words.1 (omega arith)
+
+pub words_from_each : (xs : List ℕ) → ((i : ℕ) → get_or xs i 0 < 2 ^ 32) → AreWords xs
+words_from_each [] each = tt
+words_from_each (x ∷ xs) each = (each 0, words_from_each xs (λ i. each (suc i)))
+
+-- One more of a list that grows.
+pub push_read : {A : Type 0} (spell : A → List ℕ) (xs : List A) (rest : List ℕ) (n : ℕ) (left left' : List ℕ)
+    (got : List A) (y d : A) → n < length xs → got ≡ take n xs → left ≡ flat_map spell (drop n xs) ++ rest →
+    ((rest' : List ℕ) → left ≡ spell (get_or xs n d) ++ rest' → (y ≡ get_or xs n d) × (left' ≡ rest')) →
+    (got ++ y ∷ [] ≡ take (n + 1) xs) × (left' ≡ flat_map spell (drop (n + 1) xs) ++ rest)
+push_read {A} spell xs rest n left left' got y d inside done others reads =
+    let later : List ℕ = flat_map spell (drop (n + 1) xs) ++ rest in
+    let e : left ≡ spell (get_or xs n d) ++ later =
+    others
+    ∙ (ap (λ (l : List A). flat_map spell l ++ rest) (drop_more xs n d inside)
+    ∙ append_assoc (spell (get_or xs n d)) (flat_map spell (drop (n + 1) xs)) rest) in
+    let r = reads later e in (
+      ap (λ (l : List A). l ++ y ∷ []) done
+          ∙ (ap (λ (z : A). take n xs ++ z ∷ []) r.0 ∙ sym (take_more xs n d inside)),
+      r.1,
+    )

@@ -1,0 +1,9 @@
+use resource_map::Resources;
+use thread_context::Contexts;
+
+/// Contexts and resources of a program.
+#[derive(Drop)]
+pub struct Program {
+    pub contexts: Contexts,
+    pub resources: Resources,
+}

@@ -1,0 +1,451 @@
+-- Pages that are owed or recorded are held: after each step of a program.
+use Rattle.std.proofs.Common.{◌≡◌, ◌≢◌, ◌∙◌, inl, inr, ℕ, ◌<◌, ◌%◌, Bool, true, false, cond, List, [], ◌∷◌, map, slice_index_or, Option, Some, None, IfSome, Result, Ok, Err, refl, sym, subst, zero-add}
+use Rattle.std.specs.Prelude.{◌==◌, All, IsSome, IsSomeAnd, is_some, nat_eq}
+use Rattle.std.specs.List.{list_any}
+use Rattle.std.proofs.lemmas.Bool.{false≢true, or_cases, eqb-true}
+use Rattle.std.proofs.lemmas.List.{length-set}
+use Rattle.std.proofs.lemmas.List.Elements.{All-nil, All-cons, All-head, All-tail}
+use Rattle.cloak_base.specs.Constants.{frame_of}
+use Rattle.cloak_base.specs.Pages.{is_of, page_in}
+use Rattle.cloak_base.specs.Registers.{register}
+use Rattle.cloak_base.specs.declared.names.PageId.{PageId}
+use Rattle.cloak_model.specs.declared.answer.Answer.{Answer}
+use Rattle.cloak_model.specs.declared.answer.Answer.TheVariants as told
+use Rattle.cloak_model.specs.declared.context.Phase.{Phase}
+use Rattle.cloak_model.specs.declared.context.Phase.TheVariants.{Plain, CopyIn, Waiting, CopyOut}
+use Rattle.cloak_model.specs.declared.context.WordPlace.{WordPlace}
+use Rattle.cloak_model.specs.declared.inside.Begun.{Begun}
+use Rattle.cloak_model.specs.declared.inside.Begun.TheVariants as begun
+use Rattle.cloak_model.specs.declared.inside.Copied.{Copied}
+use Rattle.cloak_model.specs.declared.inside.Copied.TheVariants as copied
+use Rattle.cloak_model.specs.declared.inside.Ran.{Ran}
+use Rattle.cloak_model.specs.declared.inside.Ran.TheVariants as ran
+use Rattle.cloak_model.specs.declared.item.Item.{Item}
+use Rattle.cloak_model.specs.declared.resource.MapFault.{MapFault}
+use Rattle.cloak_model.specs.declared.resource.Owner.TheVariants.{Space}
+use Rattle.cloak_model.specs.declared.resource.Resource.{Resource}
+use Rattle.cloak_model.specs.Asking.{Told}
+use Rattle.cloak_model.specs.AskPages.{ask_write, ask_clear, ask_copy, ask_forget}
+use Rattle.cloak_model.specs.Calls.{copy_in_step, copy_out_step}
+use Rattle.cloak_model.specs.Cloaking.{CloakedMemory}
+use Rattle.cloak_model.specs.Contexts.{Context, context_at}
+use Rattle.cloak_model.specs.DomainState.{Control, Domain}
+use Rattle.cloak_model.specs.DomainStep.{DomainStepped, instruction_ended, copy_ended, after_write, phase_step, step_if, domain_step}
+use Rattle.cloak_model.specs.Events.{Event}
+use Rattle.cloak_model.specs.Fork.{Fork, End, marked, private_numbers, copies, ask_copies, ask_forgets, forked, forked_resources, fork_cleared, fork_if, fork, end_cleared, end_if, end_context}
+use Rattle.cloak_model.specs.Hypercalls.{Stepped, with_spaces, remapped, new_call, map_call, unmap_call, file_call, thread_at, thread_call, fork_told, fork_call, end_told, exit_call, call_begun, kernel_call, Hypercall, New, Map, Unmap, File as FileCall, Thread, ForkSpace, Exit, Call, Unknown, hypercall, hypercall_of}
+use Rattle.cloak_model.specs.InsideStep.{instruction_inside}
+use Rattle.cloak_model.specs.Ledger.{Ledger}
+use Rattle.cloak_model.specs.PageMoves.{drop_pages}
+use Rattle.cloak_model.specs.Resources.{Resources, resource_at, first_free, is_private_to, without_space, drop_space}
+use Rattle.cloak_model.specs.World.{World, Flat, Cloaked, Alone, noted, stored_at, settled, written}
+use Rattle.kernel_isolation.proofs.Settlings.{HasPlaces}
+use Rattle.resource_map.specs.Kept.{IsSound}
+use Rattle.resource_map.proofs.Copies.{marked_all}
+use Rattle.resource_map.proofs.Lists.{get_or-map_all, inside_from_some}
+use Rattle.resource_map.proofs.Places.{any-places}
+use Rattle.chain_law.proofs.Zeros.{keeps_places, settle_fresh, offer_offered}
+use Rattle.chain_law.proofs.ZeroWorlds.{NoneOwedIn, MarkedClear}
+use Rattle.frozen_law.specs.Held.{IsHeldBy}
+use Rattle.frozen_law.proofs.Cleared.{clear_clears}
+use Rattle.frozen_law.proofs.HeldCopies.{closed_all, fork_stay}
+use Rattle.frozen_law.proofs.HeldPages.{IsKind, pages_held, HeldStay, new_stay, file_stay, map_stay, unmap_stay}
+use Rattle.frozen_law.proofs.Memories.{InWorld}
+use Rattle.frozen_law.proofs.Owned.{PagesAreOf, of_wide, settle_of, offer_of, copy_of_kind, Without, drop_of}
+use Rattle.frozen_law.proofs.Questions.{Kept, reach_keeps, clear_keeps}
+use Rattle.frozen_law.proofs.Walks.{Stores, instruction_keeps, copy_in_keeps, copy_out_keeps}
+
+abbrev pub OfIn : (PageId → Type 0) → World → Type 0
+OfIn P w = InWorld (PagesAreOf P) w
+
+wide_in : (P Q : PageId → Type 0) (w : World) → ((q : PageId) → P q → Q q) → OfIn P w → OfIn Q w
+wide_in P Q (Flat seen) wide of = tt
+wide_in P Q (Cloaked c) wide of = of_wide P Q c.memory wide of
+wide_in P Q (Alone h) wide of = tt
+
+-- Each change of a world, and so each question, for pages of a kind.
+
+module _ (P : PageId → Type 0) where
+  abbrev pub KnowsOf : CloakedMemory → Type 0
+  KnowsOf m = HasPlaces m × PagesAreOf P m
+
+  pub record Learns (n : ℕ) (w v : World) : Type 0 where
+    pub by : InWorld KnowsOf w → InWorld KnowsOf v
+
+  learns_none : (w : World) → Learns 0 w w
+  learns_none w = record { by = λ knows. knows }
+
+  learns_settled : (f : ℕ) (w : World) → Learns 0 w (settled f w)
+  learns_settled f (Flat seen) = learns_none (Flat seen)
+  learns_settled f (Cloaked c) = record {
+    by = λ knows. (keeps_places c.memory _ (settle_fresh f c.memory) knows.0, settle_of P f c.memory knows.1);
+  }
+  learns_settled f (Alone h) = learns_none (Alone h)
+
+  pub same_of : (m n : CloakedMemory) → n.ledger ≡ m.ledger → PagesAreOf P m → PagesAreOf P n
+  same_of m n same of = record {
+    owed = λ f. subst (λ (l : Ledger). IfSome (slice_index_or l.owed f None) P) (sym same) (of.owed f);
+    recorded = λ q some. of.recorded q (subst (λ (l : Ledger). is_some (l.recorded q) ≡ true) same some);
+  }
+
+  learns_stored : (pa width value : ℕ) (w : World) → Learns 0 w (stored_at pa width value w)
+  learns_stored pa width value (Flat seen) = record { by = λ knows. tt }
+  learns_stored pa width value (Cloaked c) = record {
+    by = λ knows. (knows.0 ∙ sym (length-set c.memory.ram (frame_of pa) _), same_of c.memory _ refl knows.1);
+  }
+  learns_stored pa width value (Alone h) = learns_none (Alone h)
+
+  learns_noted : (events : List Event) (w : World) → Learns 0 w (noted events w)
+  learns_noted events (Flat seen) = learns_none (Flat seen)
+  learns_noted events (Cloaked c) = record { by = λ knows. knows }
+  learns_noted events (Alone h) = learns_none (Alone h)
+
+  learns_written : (i : Item) (w : World) → Learns 0 w (written i w)
+  learns_written i (Flat seen) = learns_none (Flat seen)
+  learns_written i (Cloaked c) = record { by = λ knows. knows }
+  learns_written i (Alone h) = learns_none (Alone h)
+
+  pub changes : Kept P Learns
+  changes = record {
+    same = learns_none;
+    chained = λ a b u v w first second. record { by = λ knows. second.by (first.by knows) };
+    wider = λ a b w v low learns. record { by = learns.by };
+    settled = learns_settled;
+    stored_at = learns_stored;
+    noted = learns_noted;
+    written = learns_written;
+    offered = λ q own g write c. record {
+      by = λ knows. (keeps_places c.memory _ (offer_offered q g write c.memory).stay knows.0, offer_of P q own g write c.memory knows.1);
+    };
+    mismatched = λ q g c. record { by = λ knows. knows };
+    told = λ h rest. record { by = λ knows. tt };
+    unfit = λ h. record { by = λ knows. tt };
+  }
+
+  write_knows : (q : PageId) (at width value : ℕ) (w : World) → InWorld KnowsOf w →
+      InWorld KnowsOf (ask_write q at width value w).world
+  unfolding ask_write
+  write_knows q at width value (Flat seen) knows = tt
+  write_knows q at width value (Cloaked c) knows = (knows.0, same_of c.memory _ refl knows.1)
+  write_knows q at width value (Alone h) knows = tt
+
+  pub stores : Stores P Learns
+  stores q own va kind at width value w is ok = record {
+    by = λ knows. write_knows q at width value _ ((reach_keeps P Learns changes q own va kind w).by knows);
+  }
+
+  pub of_knows : (w : World) → InWorld KnowsOf w → OfIn P w
+  of_knows (Flat seen) knows = tt
+  of_knows (Cloaked c) knows = knows.1
+  of_knows (Alone h) knows = tt
+
+  pub places_know : (w : World) → InWorld KnowsOf w → InWorld HasPlaces w
+  places_know (Flat seen) knows = tt
+  places_know (Cloaked c) knows = knows.0
+  places_know (Alone h) knows = tt
+
+  -- Copies.
+
+  copy_in : (d from to : ℕ) (w : World) →
+      ((q : PageId) → is_of d to q ≡ true → P (page_in from q) → P q) → OfIn P w → OfIn P (ask_copy d from to w).world
+  unfolding ask_copy
+  copy_in d from to (Flat seen) closed of = tt
+  copy_in d from to (Cloaked c) closed of = copy_of_kind P d from to c.memory closed of
+  copy_in d from to (Alone h) closed of = tt
+
+  abbrev IsClosedAt : ℕ → ℕ × ℕ → Type 0
+  IsClosedAt d copy = (q : PageId) → is_of d copy.1 q ≡ true → P (page_in copy.0 q) → P q
+
+  pub copies_in : (d : ℕ) (list : List (ℕ × ℕ)) (w : World) → All (IsClosedAt d) list → OfIn P w →
+      OfIn P (ask_copies d list w).world
+  unfolding ask_copies
+  copies_in d [] w all of = of
+  copies_in d (copy ∷ rest) w all of =
+      copies_in d rest (ask_copy d copy.0 copy.1 w).world (All-tail (IsClosedAt d) copy rest all)
+      (copy_in d copy.0 copy.1 w (All-head (IsClosedAt d) copy rest all) of)
+
+-- Pages that are dropped, number after number.
+
+abbrev pub IsApart : ℕ → List ℕ → PageId → Type 0
+IsApart d numbers q = q.domain ≡ d → All (λ n. q.resource ≢ n) numbers
+
+drop_in : (P : PageId → Type 0) (d n : ℕ) (w : World) → NoneOwedIn d n w → OfIn P w →
+    OfIn (Without P d n) (ask_forget d n w).world
+unfolding ask_forget
+drop_in P d n (Flat seen) none of = tt
+drop_in P d n (Cloaked c) none of = drop_of P d n c.memory none of
+drop_in P d n (Alone h) none of = tt
+
+forget_owes : (d n : ℕ) (w : World) (resource : ℕ) → NoneOwedIn d resource w →
+    NoneOwedIn d resource (ask_forget d n w).world
+unfolding ask_forget drop_pages
+forget_owes d n (Flat seen) resource none = tt
+forget_owes d n (Cloaked c) resource none = none
+forget_owes d n (Alone h) resource none = tt
+
+pub forgets_in : (P : PageId → Type 0) (d : ℕ) (numbers : List ℕ) (w : World) → All (λ n. NoneOwedIn d n w) numbers →
+    OfIn P w → OfIn (λ q. P q × IsApart d numbers q) (ask_forgets d numbers w).world
+unfolding ask_forgets
+forgets_in P d [] w none of = wide_in P (λ q. P q × IsApart d [] q) w (λ q here. (here, (λ own. All-nil _))) of
+forgets_in P d (n ∷ numbers) w none of =
+    let v : World = (ask_forget d n w).world in
+    wide_in (λ q. Without P d n q × IsApart d numbers q) (λ q. P q × IsApart d (n ∷ numbers) q)
+    (ask_forgets d numbers v).world
+    (λ q here. (
+      here.0.0,
+      (λ own. All-cons (λ (k : ℕ). q.resource ≢ k) n numbers (here.0.1 own) (here.1 own)),
+    ))
+    (forgets_in (Without P d n) d numbers v
+    (λ k default low. forget_owes d n w _ (All-tail (λ (i : ℕ). NoneOwedIn d i w) n numbers none k default low))
+    (drop_in P d n w (All-head (λ (i : ℕ). NoneOwedIn d i w) n numbers none) of))
+
+-- A resource that is not private to a space is there after its end.
+
+apart_any : (n : ℕ) (xs : List ℕ) → list_any (λ m. nat_eq m n) xs ≡ true → All (λ k. n ≢ k) xs → ⊥
+apart_any n [] any apart = false≢true any
+apart_any n (x ∷ xs) any apart = elim (or_cases (nat_eq x n) (list_any (λ m. nat_eq m n) xs) any) [
+  | inl here ↦ All-head (λ (k : ℕ). n ≢ k) x xs apart (sym (eqb-true x n here))
+  | inr there ↦ apart_any n xs there (All-tail (λ (k : ℕ). n ≢ k) x xs apart)
+]
+
+some_private : (space : ℕ) (o : Option Resource) → is_private_to space o ≡ true → IsSome o
+some_private space None private = absurd (false≢true private)
+some_private space (Some x) private = refl
+
+not_private : (space : ℕ) (r : Resources) (n : ℕ) → All (λ k. n ≢ k) (private_numbers space r) → (t : Bool) →
+    is_private_to space (resource_at r n) ≡ t → t ≡ false
+not_private space r n apart false is = refl
+not_private space r n apart true is =
+    let inside = inside_from_some r.held n (some_private space (resource_at r n) is) in
+    absurd (apart_any n (private_numbers space r)
+    (subst (λ (k : ℕ). list_any (λ m. nat_eq m k) (private_numbers space r) ≡ true) (zero-add n)
+    (any-places (is_private_to space) None 0 n r.held inside is)) apart)
+
+kept_by : (o : Option Resource) (t : Bool) → t ≡ false → cond t None o ≡ o
+kept_by o true is = absurd (false≢true (sym is))
+kept_by o false is = refl
+
+dropped_held : (space : ℕ) (r : Resources) (q : PageId) → All (λ k. q.resource ≢ k) (private_numbers space r) →
+    IsHeldBy r q → IsHeldBy (drop_space space r) q
+unfolding drop_space
+dropped_held space r q apart here =
+    let o = resource_at r q.resource in
+    let same : slice_index_or (map (without_space space) r.held) q.resource None ≡ o =
+    get_or-map_all (without_space space) None None r.held q.resource refl
+    ∙ kept_by o (is_private_to space o) (not_private space r q.resource apart (is_private_to space o) refl) in
+    subst (λ (x : Option Resource). IsSomeAnd x (λ held. q.page < held.pages)) (sym same) here
+
+-- Hypercalls.
+
+module _ (Other : PageId → Type 0) (d : Control) (sound : IsSound d.resources) where
+  abbrev Kind : Resources → PageId → Type 0
+  Kind r = IsKind d.number r Other
+
+  abbrev Was : PageId → Type 0
+  Was = Kind d.resources
+
+  kind_wide : (r : Resources) → HeldStay d.resources r → (q : PageId) → Was q → Kind r q
+  kind_wide r stay q here = record { own = λ same. stay q (here.own same); other = here.other }
+
+  -- what holds of a call's answer
+  abbrev Holds : Told Stepped → Type 0
+  Holds t = OfIn (Kind t.answer.control.resources) t.world
+
+  later : (s : Stepped) (w : World) → HeldStay d.resources s.control.resources → OfIn Was w →
+      OfIn (Kind s.control.resources) w
+  later s w stay of = wide_in Was (Kind s.control.resources) w (kind_wide s.control.resources stay) of
+
+  remapped_same : (slot : ℕ) (c : Context) (answer : Result (Unit {0}) MapFault) (d' : Control) →
+      HeldStay d.resources d'.resources → HeldStay d.resources (remapped slot c answer d').control.resources
+  unfolding remapped
+  remapped_same slot c (Ok done) d' stay = stay
+  remapped_same slot c (Err fault) d' stay = stay
+
+  thread_at_same : (slot : ℕ) (c : Context) (o : Option ℕ) → HeldStay d.resources (thread_at slot c o d).control.resources
+  unfolding thread_at
+  thread_at_same slot c None q here = here
+  thread_at_same slot c (Some free) q here = here
+
+  either_same : (t : Bool) (x y : Stepped) → HeldStay d.resources x.control.resources →
+      HeldStay d.resources y.control.resources → HeldStay d.resources (cond t x y).control.resources
+  either_same true x y here there = here
+  either_same false x y here there = there
+
+  thread_same : (slot : ℕ) (c : Context) → HeldStay d.resources (thread_call slot c d).control.resources
+  unfolding thread_call
+  thread_same slot c =
+      either_same (register c.regs 10 % 4 == 0) (thread_at slot c (first_free d.contexts) d) _
+      (thread_at_same slot c (first_free d.contexts)) (λ q here. here)
+
+  begun_same : (slot : ℕ) (c : Context) (answer : Result Begun MapFault) →
+      HeldStay d.resources (call_begun slot c answer d).control.resources
+  unfolding call_begun
+  begun_same slot c (Err fault) q here = here
+  begun_same slot c (Ok begun.Copying) q here = here
+  begun_same slot c (Ok begun.Leave) q here = here
+
+  -- FORK
+
+  abbrev ForkHolds : ℕ → Context → Told Fork → Type 0
+  ForkHolds slot c t =
+      OfIn (Kind (fork_told slot c d t.answer.answer (with_spaces t.answer.spaces d)).control.resources) t.world
+
+  fork_cleared_holds : (slot free new : ℕ) (c : Context) (a : Answer) (w : World) → OfIn Was w →
+      ForkHolds slot c (fork_cleared d.number c free new d.resources d.contexts a w)
+  unfolding fork_cleared fork_told forked
+  fork_cleared_holds slot free new c told.Ok w of =
+      let r' : Resources = forked_resources c.space new d.resources in
+      copies_in (Kind r') d.number (copies c.space d.resources) w
+      (closed_all c.space new d.resources sound d.number Other)
+      (wide_in Was (Kind r') w (kind_wide r' (fork_stay c.space new d.resources sound)) of)
+  fork_cleared_holds slot free new c (told.Absent cause) w of = of
+  fork_cleared_holds slot free new c (told.Word value) w of = of
+  fork_cleared_holds slot free new c told.Stopped w of = of
+
+  fork_if_holds : (slot : ℕ) (fits : Result (Unit {0}) MapFault) (c : Context) (w : World) → InWorld (KnowsOf Was) w →
+      ForkHolds slot c (fork_if fits d.number c d.resources d.contexts w)
+  unfolding fork_if fork_told
+  fork_if_holds slot (Err fault) c w knows = of_knows Was w knows
+  fork_if_holds slot (Ok fits) c w knows =
+      let t = ask_clear d.number (marked c.space d.resources) w in
+      fork_cleared_holds slot _ _ c t.answer t.world
+      (of_knows Was t.world
+      ((clear_keeps Was (Learns Was) (changes Was) d.number (marked c.space d.resources) w).by knows))
+
+  fork_holds : (slot : ℕ) (c : Context) (w : World) → InWorld (KnowsOf Was) w → Holds (fork_call slot c d w)
+  unfolding fork_call fork
+  fork_holds slot c w knows = fork_if_holds slot _ c w knows
+
+  -- EXIT
+
+  abbrev EndHolds : ℕ → Context → Told End → Type 0
+  EndHolds slot c t =
+      OfIn (Kind (end_told slot c d t.answer.ending (with_spaces t.answer.spaces d)).control.resources) t.world
+
+  end_cleared_holds : (slot : ℕ) (c : Context) (a : Answer) (w : World) →
+      (a ≡ told.Ok → MarkedClear d.number (marked c.space d.resources) w) → OfIn Was w →
+      EndHolds slot c (end_cleared d.number slot c.space d.resources d.contexts a w)
+  unfolding end_cleared end_told
+  end_cleared_holds slot c told.Ok w clear of =
+      let r = d.resources in
+      let numbers = private_numbers c.space r in
+      let marks = marked_all c.space r in
+      wide_in (λ q. Was q × IsApart d.number numbers q) (Kind (drop_space c.space r))
+      (ask_forgets d.number numbers w).world
+      (λ q here. record {
+        own = λ same. dropped_held c.space r q (here.1 same) (here.0.own same);
+        other = here.0.other;
+      })
+      (forgets_in Was d.number numbers w (λ k default low. clear refl _ (marks k default low)) of)
+  end_cleared_holds slot c (told.Absent cause) w clear of = of
+  end_cleared_holds slot c (told.Word value) w clear of = of
+  end_cleared_holds slot c told.Stopped w clear of = of
+
+  end_if_holds : (others : Bool) (slot : ℕ) (c : Context) (w : World) → InWorld (KnowsOf Was) w →
+      EndHolds slot c (end_if others d.number slot c.space d.resources d.contexts w)
+  unfolding end_if end_told
+  end_if_holds true slot c w knows = of_knows Was w knows
+  end_if_holds false slot c w knows =
+      let marks = marked c.space d.resources in
+      let t = ask_clear d.number marks w in
+      end_cleared_holds slot c t.answer t.world (clear_clears d.number marks w (places_know Was w knows))
+      (of_knows Was t.world ((clear_keeps Was (Learns Was) (changes Was) d.number marks w).by knows))
+
+  exit_holds : (slot : ℕ) (c : Context) (w : World) → InWorld (KnowsOf Was) w → Holds (exit_call slot c d w)
+  unfolding exit_call end_context
+  exit_holds slot c w knows = end_if_holds _ slot c w knows
+
+  pub hypercall_holds : (h : Hypercall) (slot : ℕ) (c : Context) (w : World) → InWorld (KnowsOf Was) w →
+      Holds (hypercall h slot c d w)
+  unfolding hypercall new_call map_call unmap_call file_call kernel_call
+  hypercall_holds New slot c w knows =
+      later (new_call slot c d) w (new_stay (Space c.space) (register c.regs 10) d.resources) (of_knows Was w knows)
+  hypercall_holds Map slot c w knows =
+      later (map_call slot c d) w (remapped_same slot c _ _ (map_stay c.space _ d.resources)) (of_knows Was w knows)
+  hypercall_holds Unmap slot c w knows =
+      later (unmap_call slot c d) w (remapped_same slot c _ _ (unmap_stay c.space (register c.regs 10) d.resources)) (of_knows Was w knows)
+  hypercall_holds FileCall slot c w knows =
+      later (file_call slot c d) w (file_stay (register c.regs 10) (register c.regs 11) d.resources) (of_knows Was w knows)
+  hypercall_holds Thread slot c w knows = later (thread_call slot c d) w (thread_same slot c) (of_knows Was w knows)
+  hypercall_holds ForkSpace slot c w knows = fork_holds slot c w knows
+  hypercall_holds Exit slot c w knows = exit_holds slot c w knows
+  hypercall_holds Call slot c w knows = later (kernel_call slot c d) w (begun_same slot _ _) (of_knows Was w knows)
+  hypercall_holds Unknown slot c w knows = of_knows Was w knows
+
+-- The step.
+
+module _ (Other : PageId → Type 0) (d : Domain) (sound : IsSound d.control.resources) where
+  abbrev Mine : Resources → PageId → Type 0
+  Mine r = IsKind d.control.number r Other
+
+  abbrev Now : PageId → Type 0
+  Now = Mine d.control.resources
+
+  abbrev StepHolds : Told DomainStepped → Type 0
+  StepHolds t = OfIn (Mine t.answer.domain.control.resources) t.world
+
+  ended_holds : (slot : ℕ) (c : Context) (e : Ran) (w : World) → InWorld (KnowsOf Now) w →
+      StepHolds (instruction_ended slot d c e w)
+  unfolding instruction_ended
+  ended_holds slot c ran.Stay w knows = of_knows Now w knows
+  ended_holds slot c (ran.Loaded address value) w knows = of_knows Now w knows
+  ended_holds slot c (ran.Trap cause address) w knows = of_knows Now w knows
+  ended_holds slot c ran.Ecall w knows = hypercall_holds Other d.control sound (hypercall_of c) slot c w knows
+  ended_holds slot c ran.Stopped w knows = of_knows Now w knows
+
+  copied_same : (slot : ℕ) (c : Context) (e : Copied) →
+      (copy_ended slot d c e).domain.control.resources ≡ d.control.resources
+  unfolding copy_ended
+  copied_same slot c copied.Going = refl
+  copied_same slot c copied.CallReady = refl
+  copied_same slot c copied.Done = refl
+  copied_same slot c (copied.Absent cause address) = refl
+  copied_same slot c copied.Stopped = refl
+  copied_same slot c copied.Refused = refl
+  copied_same slot c (copied.Loaded address byte) = refl
+
+  written_same : (wrote : Option WordPlace) (s : DomainStepped) →
+      (after_write wrote s).domain.control.resources ≡ s.domain.control.resources
+  written_same None s = refl
+  written_same (Some place) s = refl
+
+  same_holds : (r : Resources) (w : World) → r ≡ d.control.resources → OfIn Now w → OfIn (Mine r) w
+  same_holds r w same of = subst (λ (x : Resources). OfIn (Mine x) w) (sym same) of
+
+  wrote_holds : (wrote : Option WordPlace) (s : DomainStepped) (w : World) → OfIn (Mine s.domain.control.resources) w →
+      OfIn (Mine (after_write wrote s).domain.control.resources) w
+  wrote_holds None s w of = of
+  wrote_holds (Some place) s w of = of
+
+  phase_holds : (phase : Phase) (slot : ℕ) (c : Context) (w : World) → InWorld (KnowsOf Now) w →
+      StepHolds (phase_step phase slot c d w)
+  unfolding phase_step
+  phase_holds Plain slot c w knows =
+      let t = instruction_inside d.control.number d.control.resources c w in
+      let there = (instruction_keeps Now (Learns Now) (changes Now) (stores Now) d.control.number d.control.resources c w
+      (pages_held d.control.number d.control.resources Other sound c.space)).by knows in
+      let s = instruction_ended slot d t.answer.context t.answer.ending t.world in
+      wrote_holds t.answer.wrote s.answer s.world (ended_holds slot t.answer.context t.answer.ending t.world there)
+  phase_holds (CopyIn done) slot c w knows =
+      let t = copy_in_step d.control.number d.control.resources c done w in
+      same_holds _ t.world (copied_same slot t.answer.context t.answer.ending)
+      (of_knows Now t.world
+      ((copy_in_keeps Now (Learns Now) (changes Now) (stores Now) d.control.number d.control.resources c done w
+      (pages_held d.control.number d.control.resources Other sound c.space)).by knows))
+  phase_holds Waiting slot c w knows = of_knows Now w knows
+  phase_holds (CopyOut done total) slot c w knows =
+      let t = copy_out_step d.control.number d.control.resources c done total w in
+      wrote_holds t.answer.wrote (copy_ended slot d t.answer.context t.answer.ending) t.world
+      (same_holds _ t.world (copied_same slot t.answer.context t.answer.ending)
+      (of_knows Now t.world
+      ((copy_out_keeps Now (Learns Now) (changes Now) (stores Now) d.control.number d.control.resources c done total w
+      (pages_held d.control.number d.control.resources Other sound c.space)).by knows)))
+
+  step_if_holds : (o : Option Context) (slot : ℕ) (w : World) → InWorld (KnowsOf Now) w → StepHolds (step_if o slot d w)
+  unfolding step_if
+  step_if_holds None slot w knows = of_knows Now w knows
+  step_if_holds (Some c) slot w knows = phase_holds c.phase slot c w knows
+
+  pub step_holds : (slot : ℕ) (w : World) → InWorld (KnowsOf Now) w → StepHolds (domain_step slot d w)
+  unfolding domain_step
+  step_holds slot w knows = step_if_holds (context_at d.control.contexts slot) slot w knows

@@ -1,0 +1,365 @@
+-- What is recorded of pages tells their newest bytes, after each step of a program.
+use Rattle.std.proofs.Common.{◌≡◌, ◌∙◌, ◌<◌, ◌+◌, ℕ, zero, suc, Bool, true, false, ◌&&◌, cond, List, [], ◌∷◌, zip, length, Option, Some, None, IfSome, Result, Ok, Err, refl, sym, subst, zero-add}
+use Rattle.std.specs.Prelude.{All, slice_index_or}
+use Rattle.std.proofs.lemmas.Bool.{false≢true, ltb-true}
+use Rattle.std.proofs.lemmas.List.{length-set}
+use Rattle.std.proofs.lemmas.List.Elements.{All-head, All-tail}
+use Rattle.cloak_base.specs.Constants.{frame_of}
+use Rattle.cloak_base.specs.declared.names.Kind.{Kind}
+use Rattle.cloak_base.specs.declared.names.Kind.TheVariants.{Fetch, Load, Store}
+use Rattle.cloak_base.specs.declared.names.PageId.{PageId}
+use Rattle.cloak_model.specs.declared.answer.Answer.{Answer}
+use Rattle.cloak_model.specs.declared.answer.Answer.TheVariants as told
+use Rattle.cloak_model.specs.declared.item.Item.{Item}
+use Rattle.cloak_model.specs.declared.resource.MapFault.{MapFault}
+use Rattle.cloak_model.specs.Asking.{Told, Asking}
+use Rattle.cloak_model.specs.AskPages.{replies, if_drawn, ask_inside_address, offered_by, ask_offer, reached, reach_by_table, settled_if_marked, next_answer, ask_reach, ask_write, ask_copy, ask_forget}
+use Rattle.cloak_model.specs.Cloaking.{CloakedMemory, Offer, Ready, Mismatch, Missed}
+use Rattle.cloak_model.specs.Contexts.{Context}
+use Rattle.cloak_model.specs.DomainState.{Control, Domain}
+use Rattle.cloak_model.specs.DomainStep.{domain_step}
+use Rattle.cloak_model.specs.Ending.{all_marked, settled_for, ask_end}
+use Rattle.cloak_model.specs.Events.{Event}
+use Rattle.cloak_model.specs.Fork.{marked, private_numbers, free_numbers, ask_copies, ask_forgets, fork_cleared, fork_if, fork, end_cleared, end_if, end_context}
+use Rattle.cloak_model.specs.Hypercalls.{Hypercall, New, Map, Unmap, File, Thread, ForkSpace, Exit, Call, Unknown, hypercall, fork_call, exit_call}
+use Rattle.cloak_model.specs.Memory.{is_in_ram}
+use Rattle.cloak_model.specs.Opening.{numbers_below}
+use Rattle.cloak_model.specs.PageMoves.{copy_pages, drop_pages}
+use Rattle.cloak_model.specs.Resources.{Resources, is_private_to, page_at}
+use Rattle.cloak_model.specs.World.{World, Handed, Flat, Cloaked, Alone, is_missed, ram_of, noted, stored_at, settled, written}
+use Rattle.kernel_isolation.proofs.Leading.{leads_inside}
+use Rattle.kernel_isolation.proofs.Settlings.{HasPlaces}
+use Rattle.resource_map.proofs.Places.{All-places, places-map}
+use Rattle.chain_law.proofs.Zeros.{keeps_places, settle_fresh, offer_offered}
+use Rattle.chain_law.proofs.ZeroWorlds.{NoneOwedIn, MarkedClear, copy_owes}
+use Rattle.frozen_law.specs.Records.{RecordsTell}
+use Rattle.frozen_law.proofs.Cleared.{clear_clears}
+use Rattle.frozen_law.proofs.Ends.{forgets_keep}
+use Rattle.frozen_law.proofs.Memories.{InWorld}
+use Rattle.frozen_law.proofs.Questions.{Kept, address_keeps, reach_keeps, clear_keeps}
+use Rattle.frozen_law.proofs.Records.{IsOwed, settle_tell, offer_tell, offer_owes, newest_tell, copy_tell, drop_tell}
+use Rattle.frozen_law.proofs.Walks.{AreOf, Stores, step_keeps}
+
+-- The changes of a world.
+
+abbrev pub Knows : CloakedMemory → Type 0
+Knows m = HasPlaces m × RecordsTell m
+
+abbrev KnowsIn : World → Type 0
+KnowsIn w = InWorld Knows w
+
+record Learns (n : ℕ) (w v : World) : Type 0 where
+  pub by : KnowsIn w → KnowsIn v
+
+learns_none : (w : World) → Learns 0 w w
+learns_none w = record { by = λ knows. knows }
+
+learns_then : (a b : ℕ) (u v w : World) → Learns a u v → Learns b v w → Learns (a + b) u w
+learns_then a b u v w first second = record { by = λ knows. second.by (first.by knows) }
+
+learns_settled : (f : ℕ) (w : World) → Learns 0 w (settled f w)
+learns_settled f (Flat seen) = learns_none (Flat seen)
+learns_settled f (Cloaked c) = record {
+  by = λ knows. (keeps_places c.memory _ (settle_fresh f c.memory) knows.0, settle_tell f c.memory knows.1);
+}
+learns_settled f (Alone h) = learns_none (Alone h)
+
+learns_stored : (pa width value : ℕ) (w : World) → Learns 0 w (stored_at pa width value w)
+learns_stored pa width value (Flat seen) = record { by = λ knows. tt }
+learns_stored pa width value (Cloaked c) = record {
+  by = λ knows. (knows.0 ∙ sym (length-set c.memory.ram (frame_of pa) _), knows.1);
+}
+learns_stored pa width value (Alone h) = learns_none (Alone h)
+
+learns_noted : (events : List Event) (w : World) → Learns 0 w (noted events w)
+learns_noted events (Flat seen) = learns_none (Flat seen)
+learns_noted events (Cloaked c) = record { by = λ knows. knows }
+learns_noted events (Alone h) = learns_none (Alone h)
+
+learns_written : (i : Item) (w : World) → Learns 0 w (written i w)
+learns_written i (Flat seen) = learns_none (Flat seen)
+learns_written i (Cloaked c) = record { by = λ knows. knows }
+learns_written i (Alone h) = learns_none (Alone h)
+
+abbrev AnyPage : PageId → Type 0
+AnyPage q = Unit {0}
+
+changes : Kept AnyPage Learns
+changes = record {
+  same = learns_none;
+  chained = learns_then;
+  wider = λ a b w v low learns. record { by = learns.by };
+  settled = learns_settled;
+  stored_at = learns_stored;
+  noted = learns_noted;
+  written = learns_written;
+  offered = λ q own g write c. record {
+    by = λ knows. (keeps_places c.memory _ (offer_offered q g write c.memory).stay knows.0, offer_tell q g write c.memory knows.1);
+  };
+  mismatched = λ q g c. record { by = λ knows. knows };
+  told = λ h rest. record { by = λ knows. tt };
+  unfit = λ h. record { by = λ knows. tt };
+}
+
+-- A page that was reached for a store is owed to a frame.
+
+abbrev OwedIn : PageId → World → Type 0
+OwedIn q w = InWorld (IsOwed q) w
+
+abbrev OwedIfOk : PageId → Told Answer → Type 0
+OwedIfOk q t = t.answer ≡ told.Ok → OwedIn q t.world
+
+owed_written : (q : PageId) (i : Item) (w : World) → OwedIn q w → OwedIn q (written i w)
+owed_written q i (Flat seen) owed = tt
+owed_written q i (Cloaked c) owed = owed
+owed_written q i (Alone h) owed = tt
+
+owed_noted : (q : PageId) (events : List Event) (w : World) → OwedIn q w → OwedIn q (noted events w)
+owed_noted q events (Flat seen) owed = tt
+owed_noted q events (Cloaked c) owed = owed
+owed_noted q events (Alone h) owed = tt
+
+owed_replies : (q : PageId) (a : Answer) (w : World) → (a ≡ told.Ok → OwedIn q w) → OwedIfOk q (replies a w)
+unfolding replies
+owed_replies q a w owed is = owed_written q _ w (owed is)
+
+stopped_ok : told.Stopped ≡ told.Ok → ⊥
+stopped_ok is = cc
+
+owed_offered : (q : PageId) (va : ℕ) (kind : Kind) (g : ℕ) (o : Offer) (w : World) → (o ≡ Ready → OwedIn q w) →
+    OwedIfOk q (offered_by q va kind g o w)
+unfolding offered_by
+owed_offered q va kind g Ready w owed = owed_replies q told.Ok _ (λ is. owed_noted q _ w (owed refl))
+owed_offered q va kind g Missed w owed = owed_replies q told.Stopped w (λ is. absurd (stopped_ok is))
+owed_offered q va kind g Mismatch (Flat seen) owed = owed_replies q told.Stopped _ (λ is. absurd (stopped_ok is))
+owed_offered q va kind g Mismatch (Cloaked c) owed = owed_replies q told.Stopped _ (λ is. absurd (stopped_ok is))
+owed_offered q va kind g Mismatch (Alone h) owed = owed_replies q told.Stopped _ (λ is. absurd (stopped_ok is))
+
+owed_offer : (q : PageId) (va g : ℕ) (w : World) → InWorld HasPlaces w → g < length (ram_of w) →
+    OwedIfOk q (ask_offer q va Store g w)
+unfolding ask_offer
+owed_offer q va g (Flat seen) places low is = absurd (stopped_ok is)
+owed_offer q va g (Cloaked c) places low is =
+    owed_offered q va Store g _ _ (offer_owes (length c.memory.ram) q g c.memory places low) is
+owed_offer q va g (Alone h) places low is = absurd (stopped_ok is)
+
+second_true : (a b : Bool) → a && b ≡ true → b ≡ true
+second_true true b is = is
+second_true false b is = absurd (false≢true is)
+
+owed_reached : (q : PageId) (va : ℕ) (to : Result ℕ ℕ) (w : World) → InWorld HasPlaces w →
+    ((pa : ℕ) → to ≡ Ok pa → is_in_ram (ram_of w) pa ≡ true) → OwedIfOk q (reached q va Store to w)
+unfolding reached
+owed_reached q va (Err cause) w places inside = owed_replies q (told.Absent cause) w (λ is. absurd cc)
+owed_reached q va (Ok pa) w places inside =
+    owed_offer q va (frame_of pa) w places
+    (ltb-true (frame_of pa) (length (ram_of w)) (second_true _ _ (inside pa refl)))
+
+owed_drawn : (q : PageId) (ask : Asking Answer) (w : World) → OwedIfOk q (ask w) → OwedIfOk q (if_drawn ask w)
+unfolding if_drawn
+owed_drawn q ask w owed = by (is_missed w)
+  where
+    by : (missed : Bool) → OwedIfOk q (cond missed (replies told.Stopped w) (ask w))
+    by true = owed_replies q told.Stopped w (λ is. absurd (stopped_ok is))
+    by false = owed
+
+places_of : (w : World) → KnowsIn w → InWorld HasPlaces w
+places_of (Flat seen) knows = tt
+places_of (Cloaked c) knows = knows.0
+places_of (Alone h) knows = tt
+
+owed_by_table : (q : PageId) (va : ℕ) (w : World) → KnowsIn w → OwedIfOk q (reach_by_table q va Store w)
+unfolding reach_by_table
+owed_by_table q va w knows =
+    let to = ask_inside_address va Store w in
+    owed_drawn q (reached q va Store to.answer) to.world
+    (owed_reached q va to.answer to.world
+    (places_of to.world ((address_keeps AnyPage Learns changes va Store w).by knows))
+    (λ pa is. ((leads_inside va Store w).inside pa is).0))
+
+either_owed : (q : PageId) (b : Bool) (x y : Told Answer) → OwedIn q x.world → OwedIn q y.world →
+    OwedIn q (cond b x y).world
+either_owed q true x y here there = here
+either_owed q false x y here there = there
+
+owed_alone : (q : PageId) (is_fit : Answer → Bool) (rest : List Answer) (h : Handed) →
+    OwedIn q (next_answer is_fit rest h).world
+unfolding next_answer
+owed_alone q is_fit [] h = tt
+owed_alone q is_fit (a ∷ rest) h = either_owed q (is_fit a) _ _ tt tt
+
+reach_owed : (q : PageId) (va : ℕ) (w : World) → KnowsIn w → OwedIfOk q (ask_reach q va Store w)
+unfolding ask_reach
+reach_owed q va (Flat seen) knows is = absurd (stopped_ok is)
+reach_owed q va (Cloaked c) knows is = owed_by_table q va (Cloaked c) knows is
+reach_owed q va (Alone h) knows is = owed_alone q _ _ h
+
+write_knows : (q : PageId) (at width value : ℕ) (w : World) → OwedIn q w → KnowsIn w →
+    KnowsIn (ask_write q at width value w).world
+unfolding ask_write
+write_knows q at width value (Flat seen) owed knows = tt
+write_knows q at width value (Cloaked c) owed knows = (knows.0, newest_tell q _ c.memory owed knows.1)
+write_knows q at width value (Alone h) owed knows = tt
+
+stores : Stores AnyPage Learns
+stores q own va Fetch at width value w is ok = absurd (false≢true is)
+stores q own va Load at width value w is ok = absurd (false≢true is)
+stores q own va Store at width value w is ok = record {
+  by = λ knows.
+      write_knows q at width value (ask_reach q va Store w).world (reach_owed q va w knows ok)
+      ((reach_keeps AnyPage Learns changes q own va Store w).by knows);
+}
+
+-- Forks and ends.
+
+learns_copy : (domain from to : ℕ) (w : World) → NoneOwedIn domain from w → Learns 0 w (ask_copy domain from to w).world
+unfolding ask_copy copy_pages
+learns_copy domain from to (Flat seen) none = learns_none (Flat seen)
+learns_copy domain from to (Cloaked c) none = record { by = λ knows. (knows.0, copy_tell domain from to c.memory none knows.1) }
+learns_copy domain from to (Alone h) none = record { by = λ knows. tt }
+
+learns_forget : (d n : ℕ) (w : World) → Learns 0 w (ask_forget d n w).world
+unfolding ask_forget drop_pages
+learns_forget d n (Flat seen) = learns_none (Flat seen)
+learns_forget d n (Cloaked c) = record { by = λ knows. (knows.0, drop_tell d n c.memory knows.1) }
+learns_forget d n (Alone h) = record { by = λ knows. tt }
+
+abbrev IsMarked : List Bool → ℕ → Type 0
+IsMarked marks n = slice_index_or marks n false ≡ true
+
+private_marked : (space : ℕ) (r : Resources) → All (IsMarked (marked space r)) (private_numbers space r)
+private_marked space r =
+    subst (λ (numbers : List ℕ). All (IsMarked (marked space r)) numbers) (places-map (is_private_to space) 0 r.held)
+    (All-places (λ (mark : Bool). mark) (IsMarked (marked space r)) false 0 (marked space r)
+    (λ i low pass. subst (IsMarked (marked space r)) (sym (zero-add i)) pass))
+
+learns_copies : (domain : ℕ) (marks : List Bool) (numbers free : List ℕ) (w : World) → All (IsMarked marks) numbers →
+    MarkedClear domain marks w → Learns 0 w (ask_copies domain (zip numbers free) w).world
+unfolding ask_copies
+learns_copies domain marks [] free w all clear = learns_none w
+learns_copies domain marks (n ∷ numbers) [] w all clear = learns_none w
+learns_copies domain marks (n ∷ numbers) (to ∷ free) w all clear =
+    learns_then 0 0 _ _ _ (learns_copy domain n to w (clear n (All-head (IsMarked marks) n numbers all)))
+    (learns_copies domain marks numbers free (ask_copy domain n to w).world (All-tail (IsMarked marks) n numbers all)
+    (λ resource is. copy_owes domain n to w resource (clear resource is)))
+
+fork_cleared_learns : (domain : ℕ) (c : Context) (slot new : ℕ) (r : Resources) (contexts : List (Option Context))
+    (a : Answer) (w : World) → (a ≡ told.Ok → MarkedClear domain (marked c.space r) w) →
+    Learns 0 w (fork_cleared domain c slot new r contexts a w).world
+unfolding fork_cleared
+fork_cleared_learns domain c slot new r contexts told.Ok w clear =
+    learns_copies domain (marked c.space r) (private_numbers c.space r) (free_numbers r) w (private_marked c.space r)
+    (clear refl)
+fork_cleared_learns domain c slot new r contexts (told.Absent cause) w clear = learns_none w
+fork_cleared_learns domain c slot new r contexts (told.Word value) w clear = learns_none w
+fork_cleared_learns domain c slot new r contexts told.Stopped w clear = learns_none w
+
+fork_if_learns : (fits : Result (Unit {0}) MapFault) (domain : ℕ) (c : Context) (r : Resources)
+    (contexts : List (Option Context)) (w : World) → Learns 0 w (fork_if fits domain c r contexts w).world
+unfolding fork_if
+fork_if_learns (Err fault) domain c r contexts w = learns_none w
+fork_if_learns (Ok fits) domain c r contexts w = record {
+  by = λ knows.
+      (fork_cleared_learns domain c _ _ r contexts _ _
+      (clear_clears domain (marked c.space r) w (places_of w knows))).by
+      ((clear_keeps AnyPage Learns changes domain (marked c.space r) w).by knows);
+}
+
+fork_learns : (domain : ℕ) (c : Context) (r : Resources) (contexts : List (Option Context)) (w : World) →
+    Learns 0 w (fork domain c r contexts w).world
+unfolding fork
+fork_learns domain c r contexts w = fork_if_learns _ domain c r contexts w
+
+end_cleared_learns : (domain slot space : ℕ) (r : Resources) (contexts : List (Option Context)) (a : Answer)
+    (w : World) → Learns 0 w (end_cleared domain slot space r contexts a w).world
+unfolding end_cleared
+end_cleared_learns domain slot space r contexts told.Ok w = forgets_keep AnyPage Learns changes learns_forget domain _ w
+end_cleared_learns domain slot space r contexts (told.Absent cause) w = learns_none w
+end_cleared_learns domain slot space r contexts (told.Word value) w = learns_none w
+end_cleared_learns domain slot space r contexts told.Stopped w = learns_none w
+
+end_if_learns : (others : Bool) (domain slot space : ℕ) (r : Resources) (contexts : List (Option Context)) (w : World) →
+    Learns 0 w (end_if others domain slot space r contexts w).world
+unfolding end_if
+end_if_learns true domain slot space r contexts w = learns_none w
+end_if_learns false domain slot space r contexts w =
+    learns_then 0 0 _ _ _ (clear_keeps AnyPage Learns changes domain (marked space r) w)
+    (end_cleared_learns domain slot space r contexts _ _)
+
+end_context_learns : (domain slot space : ℕ) (r : Resources) (contexts : List (Option Context)) (w : World) →
+    Learns 0 w (end_context domain slot space r contexts w).world
+unfolding end_context
+end_context_learns domain slot space r contexts w = end_if_learns _ domain slot space r contexts w
+
+hypercall_learns : (d : Control) (h : Hypercall) (slot : ℕ) (c : Context) (w : World) →
+    Learns 0 w (hypercall h slot c d w).world
+unfolding hypercall fork_call exit_call
+hypercall_learns d New slot c w = learns_none w
+hypercall_learns d Map slot c w = learns_none w
+hypercall_learns d Unmap slot c w = learns_none w
+hypercall_learns d File slot c w = learns_none w
+hypercall_learns d Thread slot c w = learns_none w
+hypercall_learns d ForkSpace slot c w = fork_learns d.number c d.resources d.contexts w
+hypercall_learns d Exit slot c w = end_context_learns d.number slot c.space d.resources d.contexts w
+hypercall_learns d Call slot c w = learns_none w
+hypercall_learns d Unknown slot c w = learns_none w
+
+-- The step, and the end of a domain.
+
+any_some : (o : Option PageId) → IfSome o AnyPage
+any_some None = tt
+any_some (Some q) = tt
+
+any_page : (domain : ℕ) (r : Resources) (space : ℕ) → AreOf AnyPage domain r space
+any_page domain r space va = any_some (page_at domain r space va)
+
+tells_of : (w : World) → KnowsIn w → InWorld RecordsTell w
+tells_of (Flat seen) knows = tt
+tells_of (Cloaked c) knows = knows.1
+tells_of (Alone h) knows = tt
+
+pub step_tells : (slot : ℕ) (d : Domain) (w : World) → InWorld Knows w →
+    InWorld RecordsTell (domain_step slot d w).world
+step_tells slot d w knows =
+    tells_of (domain_step slot d w).world
+    ((step_keeps AnyPage Learns changes stores d (any_page d.control.number d.control.resources)
+    (hypercall_learns d.control) slot w).by knows)
+
+abbrev TellIn : World → Type 0
+TellIn w = InWorld RecordsTell w
+
+settled_tells : (f : ℕ) (w : World) → TellIn w → TellIn (settled f w)
+settled_tells f (Flat seen) tell = tt
+settled_tells f (Cloaked c) tell = settle_tell f c.memory tell
+settled_tells f (Alone h) tell = tt
+
+either_tells : (b : Bool) (w v : World) → TellIn w → TellIn v → TellIn (cond b v w)
+either_tells true w v here there = there
+either_tells false w v here there = here
+
+marked_tells : (d : ℕ) (marks : List Bool) (f : ℕ) (w : World) → TellIn w → TellIn (settled_if_marked d marks f w)
+unfolding settled_if_marked
+marked_tells d marks f w tell = either_tells _ w (settled f w) tell (settled_tells f w tell)
+
+settled_for_tells : (d f n : ℕ) (w : World) → TellIn w → TellIn (settled_for d f n w)
+unfolding settled_for
+settled_for_tells d f zero w tell = tell
+settled_for_tells d f (suc n) w tell =
+    settled_for_tells d (f + 1) n (settled_if_marked d all_marked f w) (marked_tells d all_marked f w tell)
+
+forget_tells : (d n : ℕ) (w : World) → TellIn w → TellIn (ask_forget d n w).world
+unfolding ask_forget
+forget_tells d n (Flat seen) tell = tt
+forget_tells d n (Cloaked c) tell = drop_tell d n c.memory tell
+forget_tells d n (Alone h) tell = tt
+
+forgets_tell : (d : ℕ) (numbers : List ℕ) (w : World) → TellIn w → TellIn (ask_forgets d numbers w).world
+unfolding ask_forgets
+forgets_tell d [] w tell = tell
+forgets_tell d (n ∷ numbers) w tell = forgets_tell d numbers (ask_forget d n w).world (forget_tells d n w tell)
+
+pub end_tells : (d : ℕ) (w : World) → TellIn w → TellIn (ask_end d w).world
+unfolding ask_end
+end_tells d w tell =
+    forgets_tell d (numbers_below 16) (settled_for d 0 (length (ram_of w)) w)
+    (settled_for_tells d 0 (length (ram_of w)) w tell)

@@ -1,0 +1,255 @@
+-- What is recorded of pages tells their newest bytes, after settling and after offers.
+use Rattle.std.proofs.Common.{◌≡◌, ◌≢◌, ◌∙◌, ◌<◌, inl, inr, ℕ, Bool, true, false, cond, List, [], ◌++◌, length, Option, Some, None, refl, sym, ap, subst}
+use Rattle.std.specs.Prelude.{slice_index_or, slice_set}
+use Rattle.std.specs.Str.{bytes_eq}
+use Rattle.std.proofs.lemmas.Bool.{false≢true}
+use Rattle.std.proofs.lemmas.List.{get_or-set_same, get_or-set_other}
+use Rattle.cloak_base.specs.Pages.{same_page, is_of, page_in, zero_page}
+use Rattle.cloak_base.specs.Random.{Random}
+use Rattle.cloak_base.specs.declared.names.PageId.{PageId}
+use Rattle.cloak_base.proofs.Pages.{same_page_tells, is_of_tells}
+use Rattle.cloak_model.specs.Chain.{cbc}
+use Rattle.cloak_model.specs.Cloaking.{CloakedMemory, AfterSettling, AfterOffer, Ready, Mismatch, Missed, owed_in, settle_owed, settle_if, settle, settle_frame_if, owing_frame, owes, with_owed, with_comparison, taken, compared, unless_missed, offer}
+use Rattle.cloak_model.specs.Ledger.{key_of, vector_of}
+use Rattle.cloak_model.specs.PageMoves.{with_newest, copy_pages, drop_pages}
+use Rattle.domain_isolation.proofs.InOrder.{decided}
+use Rattle.item_law.proofs.Bounds.{either}
+use Rattle.chain_law.proofs.Zeros.{settle_cleans}
+use Rattle.chain_law.proofs.ZeroWorlds.{NoneOwedOf}
+use Rattle.frozen_law.specs.Records.{IsUnowed, RecordsTell}
+use Rattle.frozen_law.proofs.Counts.{HasCount, settle_count, frame_count}
+
+-- What is recorded by a test.
+pub told_by : (t : Bool) (key : List ℕ) (there here : Option (List ℕ)) (iv old : Option (List ℕ)) (now c v : List ℕ) →
+    (t ≡ true → there ≡ Some c → iv ≡ Some v → c ≡ cbc key v now) →
+    (t ≡ false → here ≡ Some c → old ≡ Some v → c ≡ cbc key v now) →
+    cond t there here ≡ Some c → cond t iv old ≡ Some v → c ≡ cbc key v now
+told_by true key there here iv old now c v first second = first refl
+told_by false key there here iv old now c v first second = second refl
+
+-- a ciphertext that was just made
+pub made_so : (key bytes iv c v : List ℕ) → Some (cbc key iv bytes) ≡ Some c → Some iv ≡ Some v → c ≡ cbc key v bytes
+made_so key bytes iv c v made under =
+    let is : cbc key iv bytes ≡ c = cc in
+    let same : iv ≡ v = cc in
+    sym is ∙ ap (λ (x : List ℕ). cbc key x bytes) same
+
+-- of one page
+pub page_tells : (p q : PageId) → same_page p q ≡ true → q ≡ p
+page_tells p q is = elim (same_page_tells p q) [
+  | inl same ↦ sym same.1
+  | inr differs ↦ absurd (false≢true (sym differs.0 ∙ is))
+]
+
+other_page : (p q : PageId) → same_page p q ≡ false → p ≢ q
+other_page p q is = elim (same_page_tells p q) [
+  | inl same ↦ absurd (false≢true (sym is ∙ same.0))
+  | inr differs ↦ differs.1
+]
+
+some_same : (p q : PageId) → Some p ≡ Some q → p ≡ q
+some_same p q is = cc
+
+none_some : (q : PageId) → None ≡ Some q → ⊥
+none_some q is = cc
+
+-- Settling.
+
+-- another page than the one that the frame was owed
+was_unowed : (f : ℕ) (p q : PageId) (m : CloakedMemory) → owed_in m f ≡ Some p → q ≢ p →
+    ((g : ℕ) → slice_index_or (slice_set m.ledger.owed f None) g None ≢ Some q) → IsUnowed q m
+was_unowed f p q m owed other unowed g is = elim (decided g f) [
+  | inl same ↦ other (some_same q p (sym is ∙ (ap (owed_in m) same ∙ owed)))
+  | inr apart ↦ unowed g (get_or-set_other m.ledger.owed f g None None apart ∙ is)
+]
+
+owed_tell : (f : ℕ) (p : PageId) (draw : Option (List ℕ × Random)) (m : CloakedMemory) → owed_in m f ≡ Some p →
+    RecordsTell m → RecordsTell (settle_owed f p draw m).memory
+unfolding settle_owed
+owed_tell f p None m owed tell = λ drawn. absurd (false≢true (sym drawn))
+owed_tell f p (Some draw) m owed tell =
+    λ drawn q c iv unowed recorded vector.
+    told_by (same_page q p) (key_of m.ledger q) _ (m.ledger.recorded q) _ (m.ledger.iv q) (m.plain q) c iv
+    (λ is made under.
+    let same = page_tells q p is in
+    made_so (key_of m.ledger q) (m.plain q) draw.0 c iv
+    (subst (λ (x : PageId). Some (cbc (key_of m.ledger x) draw.0 (m.plain x)) ≡ Some c) same made) under)
+    (λ is before under.
+    tell drawn q c iv (was_unowed f p q m owed (other_page q p is) unowed) before under)
+    recorded vector
+
+if_tell : (f : ℕ) (o : Option PageId) (m : CloakedMemory) → owed_in m f ≡ o → RecordsTell m →
+    RecordsTell (settle_if f o m).memory
+unfolding settle_if
+if_tell f None m owed tell = tell
+if_tell f (Some p) m owed tell = owed_tell f p (vector_of m.ledger p) m owed tell
+
+pub settle_tell : (f : ℕ) (m : CloakedMemory) → RecordsTell m → RecordsTell (settle f m).memory
+unfolding settle
+settle_tell f m tell = if_tell f (owed_in m f) m refl tell
+
+frame_tell : (o : Option ℕ) (m : CloakedMemory) → RecordsTell m → RecordsTell (settle_frame_if o m).memory
+frame_tell None m tell = tell
+frame_tell (Some f) m tell = settle_tell f m tell
+
+-- a frame that was owed nothing is so still
+still_clean : (f : ℕ) (m : CloakedMemory) (g : ℕ) → owed_in m g ≡ None → owed_in (settle f m).memory g ≡ None
+still_clean f m g none =
+    let s = settle_cleans f m in
+    elim (decided g f) [
+      | inl same ↦ ap (owed_in (settle f m).memory) same ∙ s.here
+      | inr other ↦ s.others g other ∙ none
+    ]
+
+frame_clean : (o : Option ℕ) (m : CloakedMemory) (g : ℕ) → owed_in m g ≡ None →
+    owed_in (settle_frame_if o m).memory g ≡ None
+frame_clean None m g none = none
+frame_clean (Some f) m g none = still_clean f m g none
+
+-- Offering.
+
+abbrev OfferTells : AfterOffer → Type 0
+OfferTells o = RecordsTell o.memory
+
+-- a frame that is owed nothing gets a page
+put_tell : (g : ℕ) (p : PageId) (m : CloakedMemory) → owed_in m g ≡ None → RecordsTell m →
+    RecordsTell (with_owed g (Some p) m)
+put_tell g p m clean tell drawn q c iv unowed recorded vector =
+    tell drawn q c iv
+    (λ f is.
+    unowed f (get_or-set_other m.ledger.owed g f (Some p) None
+    (λ same. none_some q (sym clean ∙ (ap (owed_in m) (sym same) ∙ is))) ∙ is)) recorded vector
+
+compared_tell : (q : PageId) (g : ℕ) (write : Bool) (o : Option (List ℕ)) (m : CloakedMemory) → owed_in m g ≡ None →
+    RecordsTell m → OfferTells (compared q g write o m)
+unfolding compared
+compared_tell q g write None m clean tell = put_tell g q m clean tell
+compared_tell q g write (Some c) m clean tell =
+    let there = slice_index_or m.ram g [] in
+    let m' : CloakedMemory = with_comparison there c m in
+    let tell' : RecordsTell m' = tell in
+    either OfferTells (bytes_eq there c) (record { memory = taken q g write m'; ciphers = []; answer = Ready })
+    (record { memory = m'; ciphers = []; answer = Mismatch })
+    (either RecordsTell write (with_owed g (Some q) m') m' (put_tell g q m' clean tell') tell') tell'
+
+unless_tell : (s : AfterSettling) (next : CloakedMemory → AfterOffer) → RecordsTell s.memory →
+    OfferTells (next s.memory) → OfferTells (unless_missed s next)
+unfolding unless_missed
+unless_tell s next tell later = either OfferTells s.missed _ _ tell later
+
+pub offer_tell : (q : PageId) (g : ℕ) (write : Bool) (m : CloakedMemory) → RecordsTell m →
+    RecordsTell (offer q g write m).memory
+unfolding offer
+offer_tell q g write m tell =
+    let m' : CloakedMemory = (settle g m).memory in
+    let s = settle_frame_if (owing_frame m' q) m' in
+    let tell' : RecordsTell m' = settle_tell g m tell in
+    let tell'' : RecordsTell s.memory = frame_tell (owing_frame m' q) m' tell' in
+    either OfferTells (owes q (owed_in m g)) _ _ tell
+    (unless_tell (settle g m) _ tell'
+    (unless_tell s _ tell''
+    (compared_tell q g write (s.memory.ledger.recorded q) s.memory
+    (frame_clean (owing_frame m' q) m' g (settle_cleans g m).here) tell'')))
+
+-- A page that was granted for a store is owed to a frame.
+
+abbrev pub IsOwed : PageId → CloakedMemory → Type 0
+IsOwed q m = (f : ℕ) × (owed_in m f ≡ Some q)
+
+abbrev OwesIfReady : PageId → AfterOffer → Type 0
+OwesIfReady q o = o.answer ≡ Ready → IsOwed q o.memory
+
+owes_page : (q : PageId) (o : Option PageId) → owes q o ≡ true → o ≡ Some q
+owes_page q None is = absurd (false≢true is)
+owes_page q (Some p) is = ap Some (sym (page_tells p q is))
+
+put_owes : (g : ℕ) (q : PageId) (m : CloakedMemory) → g < length m.ledger.owed → IsOwed q (with_owed g (Some q) m)
+put_owes g q m low = (g, get_or-set_same m.ledger.owed g (Some q) None low)
+
+compared_owes : (q : PageId) (g : ℕ) (o : Option (List ℕ)) (m : CloakedMemory) → g < length m.ledger.owed →
+    OwesIfReady q (compared q g true o m)
+unfolding compared
+compared_owes q g None m low = λ is. put_owes g q m low
+compared_owes q g (Some c) m low =
+    let there = slice_index_or m.ram g [] in
+    let m' : CloakedMemory = with_comparison there c m in
+    either (OwesIfReady q) (bytes_eq there c) (record { memory = taken q g true m'; ciphers = []; answer = Ready })
+    (record { memory = m'; ciphers = []; answer = Mismatch }) (λ is. put_owes g q m' low) (λ is. absurd cc)
+
+unless_owes : (q : PageId) (s : AfterSettling) (next : CloakedMemory → AfterOffer) → OwesIfReady q (next s.memory) →
+    OwesIfReady q (unless_missed s next)
+unfolding unless_missed
+unless_owes q s next later =
+    either (OwesIfReady q) s.missed (record { memory = s.memory; ciphers = s.ciphers; answer = Missed })
+    (let o = next s.memory in record { memory = o.memory; ciphers = s.ciphers ++ o.ciphers; answer = o.answer })
+    (λ is. absurd cc) later
+
+either_case : (P : AfterOffer → Type 0) (t : Bool) (x y : AfterOffer) → (t ≡ true → P x) → P y → P (cond t x y)
+either_case P true x y here there = here refl
+either_case P false x y here there = there
+
+pub offer_owes : (n : ℕ) (q : PageId) (g : ℕ) (m : CloakedMemory) → HasCount n m → g < n →
+    OwesIfReady q (offer q g true m)
+unfolding offer
+offer_owes n q g m count low =
+    let m' : CloakedMemory = (settle g m).memory in
+    let s = settle_frame_if (owing_frame m' q) m' in
+    let count'' : HasCount n s.memory = frame_count n (owing_frame m' q) m' (settle_count n g m count) in
+    either_case (OwesIfReady q) (owes q (owed_in m g)) (record { memory = m; ciphers = []; answer = Ready }) _
+    (λ is ready. (g, owes_page q (owed_in m g) is))
+    (unless_owes q (settle g m) _
+    (unless_owes q s _
+    (compared_owes q g (s.memory.ledger.recorded q) s.memory (subst (λ (k : ℕ). g < k) (sym count'') low))))
+
+-- Stores, copies, and dropping.
+
+-- a page that a frame is owed gets other bytes
+pub newest_tell : (q : PageId) (bytes : List ℕ) (m : CloakedMemory) → IsOwed q m → RecordsTell m →
+    RecordsTell (with_newest q bytes m)
+newest_tell q bytes m owed tell drawn p c iv unowed recorded vector =
+    let apart : p ≢ q = λ same. unowed owed.0 (owed.1 ∙ ap Some (sym same)) in
+    elim (same_page_tells p q) [
+      | inl same ↦ absurd (apart same.1)
+      | inr differs ↦
+          tell drawn p c iv unowed recorded vector
+          ∙ ap (λ (t : Bool). cbc (key_of m.ledger p) iv (cond t bytes (m.plain p))) (sym differs.0)
+    ]
+
+of_tells : (domain resource : ℕ) (q : PageId) → is_of domain resource q ≡ true → q.domain ≡ domain
+of_tells domain resource q is = elim (is_of_tells domain resource q) [
+  | inl of ↦ of.1.0
+  | inr differs ↦ absurd (false≢true (sym differs.0 ∙ is))
+]
+
+abbrev plain_by : Bool → List ℕ → List ℕ → List ℕ
+plain_by t there here = cond t there here
+
+-- the pages of a resource of which no frame is owed any are copied
+pub copy_tell : (domain from to : ℕ) (m : CloakedMemory) → NoneOwedOf domain from m → RecordsTell m →
+    RecordsTell (copy_pages domain from to m)
+unfolding copy_pages
+copy_tell domain from to m none tell drawn q c iv unowed recorded vector =
+    let t = is_of domain to q in
+    told_by t (key_of m.ledger q) (m.ledger.recorded (page_in from q)) (m.ledger.recorded q)
+    (m.ledger.iv (page_in from q)) (m.ledger.iv q) (plain_by t (m.plain (page_in from q)) (m.plain q)) c iv
+    (λ is there under.
+    tell drawn (page_in from q) c iv (none (page_in from q) (of_tells domain to q is) refl) there under
+    ∙ ap (λ (b : Bool). cbc (key_of m.ledger q) iv (plain_by b (m.plain (page_in from q)) (m.plain q))) (sym is))
+    (λ is here under.
+    tell drawn q c iv unowed here under
+    ∙ ap (λ (b : Bool). cbc (key_of m.ledger q) iv (plain_by b (m.plain (page_in from q)) (m.plain q))) (sym is))
+    recorded vector
+
+none_list : (c : List ℕ) → None ≡ Some c → ⊥
+none_list c is = cc
+
+pub drop_tell : (domain resource : ℕ) (m : CloakedMemory) → RecordsTell m → RecordsTell (drop_pages domain resource m)
+unfolding drop_pages
+drop_tell domain resource m tell drawn q c iv unowed recorded vector =
+    let t = is_of domain resource q in
+    told_by t (key_of m.ledger q) None (m.ledger.recorded q) None (m.ledger.iv q) (plain_by t zero_page (m.plain q)) c iv
+    (λ is there under. absurd (none_list c there))
+    (λ is here under.
+    tell drawn q c iv unowed here under
+    ∙ ap (λ (b : Bool). cbc (key_of m.ledger q) iv (plain_by b zero_page (m.plain q))) (sym is))
+    recorded vector

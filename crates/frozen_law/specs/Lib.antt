@@ -1,0 +1,11 @@
+pub mod Harts
+pub mod Draws
+pub mod Missed
+pub mod Records
+pub mod Held
+pub mod Streams
+pub mod Sizes
+pub mod Violations
+pub mod Pages
+pub mod Fit
+pub mod Frozen

@@ -1,0 +1,87 @@
+//! Laws on the definitions alone: what a run can be frozen with (`cloak_model`, `specs/Run`) is in the ranges that a
+//! frozen state has, at every moment of every run, whatever the kernel does. The limits of programs, page tables,
+//! words and refusals are in `limit_law`, and pages of which no ciphertext is recorded in `chain_law`. Program counters
+//! are multiples of 4, and control and status registers have no stray bit. A hart reserves words of RAM alone. The
+//! opening draws for 4096 pages at most, and a step offers two pages at most: each makes a frame owe a page, for which
+//! a draw is made once. The stream that is left is the beginning's without these draws. If no draw was missing, as in
+//! a run that goes on, a recorded ciphertext is that of its page's newest bytes. Each page that is owed or recorded,
+//! and each that is named by what ended its program, is one that this program can have. All these together: the state
+//! with which a fresh run is frozen is in range, and its machine can go on.
+#![tactic(auto)]
+
+ghost use Rattle.frozen_law.specs.Draws.{DrawsAreBelow, DrawsAreFew};
+ghost use Rattle.frozen_law.specs.Fit.{RunsFitPages};
+ghost use Rattle.frozen_law.specs.Frozen.{FrozenStatesGoOn};
+ghost use Rattle.frozen_law.specs.Harts.{HartsAreInRange, MarksAreInRam};
+ghost use Rattle.frozen_law.specs.Held.{RunsHoldPages};
+ghost use Rattle.frozen_law.specs.Missed.{NothingIsMissed, OnlyLastStops};
+ghost use Rattle.frozen_law.specs.Pages.{PagesAreWhole};
+ghost use Rattle.frozen_law.specs.Records.{RecordsTellPages};
+ghost use Rattle.frozen_law.specs.Sizes.{RunsKeepSizes};
+ghost use Rattle.frozen_law.specs.Streams.{RunsKeepStreams};
+ghost use Rattle.frozen_law.specs.Violations.{EndsAreInRange};
+
+/// A state with which a run is frozen is in range, and its machine can go on. It does nothing: its contract is the law.
+pub fn law_of_frozen_states()
+    ensures { FrozenStatesGoOn }
+{}
+
+/// Harts have no stray bit. It does nothing: its contract is the law.
+pub fn law_of_harts()
+    ensures { HartsAreInRange }
+{}
+
+/// Reservations are of words of RAM. It does nothing: its contract is the law.
+pub fn law_of_reservations()
+    ensures { MarksAreInRam }
+{}
+
+/// Draws are few: by the steps that were made, and so below 2^60. It does nothing: its contract is the law.
+pub fn law_of_draws()
+    ensures steps { DrawsAreFew }
+    ensures below { DrawsAreBelow }
+{}
+
+/// There is as much of all as the image says, each under its number. It does nothing: its contract is the law.
+pub fn law_of_sizes()
+    ensures { RunsKeepSizes }
+{}
+
+/// A run's keys are those of its beginning, and its stream is what is left after the draws that were made. It does
+/// nothing: its contract is the law.
+pub fn law_of_streams()
+    ensures { RunsKeepStreams }
+{}
+
+/// While a run goes on, no draw was missing. It does nothing: its contract is the law.
+pub fn law_of_misses()
+    ensures steps { OnlyLastStops }
+    ensures drawn { NothingIsMissed }
+{}
+
+/// What is recorded of a page that no frame is owed tells its newest bytes. It does nothing: its contract is the law.
+pub fn law_of_records()
+    ensures { RecordsTellPages }
+{}
+
+/// Each page has 4096 bytes, each below 256. It does nothing: its contract is the law.
+pub fn law_of_whole_pages()
+    ensures { PagesAreWhole }
+{}
+
+/// What is recorded of pages is enough to go on with them. It does nothing: its contract is the law.
+pub fn law_of_fit_pages()
+    ensures { RunsFitPages }
+{}
+
+/// Each page that is owed or recorded is of a program that there is, of a resource in use, below its size. It does
+/// nothing: its contract is the law.
+pub fn law_of_pages()
+    ensures { RunsHoldPages }
+{}
+
+/// What ended a program names, if it names a page, one that this program can have, and a frame of RAM. It does nothing:
+/// its contract is the law.
+pub fn law_of_ends()
+    ensures { EndsAreInRange }
+{}

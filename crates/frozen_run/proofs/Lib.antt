@@ -1,0 +1,15 @@
+pub mod Firsts
+pub mod Rows
+pub mod Stands
+pub mod Spelled
+pub mod Parts
+pub mod Frames
+pub mod Recorded
+pub mod Owed
+pub mod PageFields
+pub mod Steps
+pub mod Whole
+pub mod Again
+pub mod AgainParts
+pub mod Laws
+pub mod WritingFacts

@@ -1,0 +1,5 @@
+pub mod Laws
+pub mod OwedPages
+pub mod Reading
+pub mod Shapes
+pub mod Writing

@@ -1,0 +1,10 @@
+pub mod Words
+pub mod Limits
+pub mod DomainPage
+pub mod FrozenState
+pub mod Ranges
+pub mod FrozenFault
+pub mod Thawing
+pub mod Refusing
+pub mod Continuing
+pub mod Room

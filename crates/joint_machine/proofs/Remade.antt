@@ -1,0 +1,256 @@
+-- A machine that is made of a frozen state, over plain variables.
+use Rattle.std.proofs.Common.{◌≡◌, ◌≢◌, ◌∙◌, ◌<◌, ◌≤◌, ◌+◌, ◌%◌, ℕ, zero, suc, true, false, List, [], ◌∷◌, length, map, replicate, slice_get, slice_index_or, Option, Some, None, Result, Ok, Err, All, refl, ap, sym, subst, arith, inl, inr}
+use Rattle.std.specs.Prelude.{AllPairs, IfErr, IfOk, IfSome, IsSomeAnd, is_some, option_and_then, option_map}
+use Rattle.std.proofs.lemmas.Bool.{cases_lt}
+use Rattle.std.proofs.lemmas.List.{get_or_past, length-replicate}
+use Rattle.cloak_base.specs.Pages.{zero_page}
+use Rattle.cloak_base.specs.Random.{Random}
+use Rattle.cloak_base.specs.declared.names.PageId.{PageId}
+use Rattle.cloak_base.specs.declared.names.Meta.{Meta}
+use Rattle.cloak_model.specs.declared.image.Bundle.{Bundle}
+use Rattle.cloak_model.specs.DomainState as program
+use Rattle.cloak_model.specs.Ledger.{Keys}
+use Rattle.cloak_model.specs.Beginning.{stored_keys}
+use Rattle.cloak_model.specs.Opening.{drawn_keys, filled_up, key_count, keys_for}
+use Rattle.cloak_model.specs.declared.image.Program.{Program}
+use Rattle.cloak_model.specs.Parts as model
+use Rattle.protect_meta.specs.Pages.{IsIn}
+use Rattle.protect_meta.specs.Table.{domains_of, meta_at}
+use Rattle.shadow_fold.specs.Table as shadow
+use Rattle.frozen_state.specs.Continuing.{without_past}
+use Rattle.frozen_state.specs.Ranges.{IsFrozenHart, IsPage, owed_page}
+use Rattle.frozen_state.specs.Refusing.{IsFirstChanged, IsFirstWrong, IsProgramOf, IsWholeDomain, IsWholeFrame}
+use Rattle.frozen_state.specs.Thawing.{CanGoOn, keys_and_rest}
+use Rattle.frozen_state.specs.declared.frozen.Frozen.{Frozen}
+use Rattle.frozen_state.specs.declared.frozen.FrozenDomain.{FrozenDomain}
+use Rattle.frozen_state.specs.declared.frozen.FrozenFrame.{FrozenFrame}
+use Rattle.frozen_state.specs.declared.frozen.FrozenHart.{FrozenHart}
+use Rattle.frozen_state.specs.declared.frozen.FrozenPage.{FrozenPage}
+use Rattle.outside_io.specs.Skipping.{skipped}
+use Rattle.cloak_pager.specs.State as pager
+use Rattle.cloak_pager.specs.State.{PagerState, IsFresh, IsWholePager, bytes_in, held_in, owed_at, page_of, right_at}
+use Rattle.cloak_pager.specs.Turns.{IsNewPager, frame_numbered}
+use Rattle.cloak_pager.specs.declared.held.Held.{Held}
+use Rattle.cloak_pager.specs.declared.held.Held.TheVariants.{Outside, Clean, Changed, Spent}
+use Rattle.hypercalls.specs.declared.domain.Domain.{Domain}
+use Rattle.hypercalls.specs.Standing.{control_of}
+use Rattle.joint_machine.specs.Freezing.{AreOwedOrOutside}
+use Rattle.joint_machine.specs.Standing.{StandsForJoint}
+use Rattle.joint_machine.specs.Thawing.{AreFilled, AreHarts, AreThawedDomains, AreThawedFrames, FillsFrames, IsFaultUnder, IsThawedFrame, IsThawedPager, Restores, IsDomainFault, IsThawFault, ThawsJoint, ThawsUnder, UnderKeys}
+use Rattle.joint_machine.specs.declared.joint.Joint.{Joint}
+use Rattle.joint_machine.specs.declared.thaw_fault.ThawFault.{ThawFault}
+use Rattle.joint_machine.specs.declared.thaw_fault.ThawFault.TheVariants as fault
+use Rattle.joint_machine.proofs.JointGoesOn.{IsMadeOf, joint_goes_on}
+use Rattle.joint_machine.proofs.Opens.{HasKeys}
+use Rattle.joint_machine.proofs.Shown.{same_some}
+use Rattle.joint_machine.proofs.Thaws.{get_low, get_there, some_there}
+
+-- Ranges.
+
+page_in : (n m : ℕ) (o : Option PageId) → m ≡ n → IfSome o (IsPage n) → IfSome o (IsIn m)
+page_in n m None same is = tt
+page_in n m (Some q) same is = record {
+  domain = subst (λ (k : ℕ). q.domain < k) (sym same) is.domain;
+  resource = is.resource;
+  page = is.page;
+}
+
+pub owed_in_table : (n m : ℕ) (xs : List FrozenFrame) → m ≡ n →
+    All (λ (x : FrozenFrame). IfSome (owed_page x) (IsPage n)) xs →
+    All (λ (x : FrozenFrame). IfSome (owed_page x) (IsIn m)) xs
+owed_in_table n m xs same all = λ i x low. page_in n m (owed_page (slice_index_or xs i x)) same (all i x low)
+
+pub recorded_in_table : (n m : ℕ) (xs : List FrozenPage) → m ≡ n → All (λ (p : FrozenPage). IsPage n p.page) xs →
+    All (λ (p : FrozenPage). IsIn m p.page) xs
+recorded_in_table n m xs same all = λ i x low. page_in n m (Some (slice_index_or xs i x).page) same (all i x low)
+
+pub steady : (frames : ℕ) (hs : List FrozenHart) → All (IsFrozenHart frames) hs → AreHarts hs
+steady frames hs all = λ i h low. record { aligned = (all i h low).aligned; csrs = (all i h low).csrs }
+
+-- The pager.
+
+pub new_outside : (frames domains : ℕ) (keys : Keys) (p : PagerState) → IsNewPager frames domains keys p → (k : ℕ) →
+    held_in p k ≡ None
+new_outside frames domains keys p new k = elim (cases_lt k frames) [
+  | inl low ↦ ap page_of (new.outside k low)
+  | inr past ↦ ap page_of (get_or_past p.rights k Spent (let count = new.count in omega (arith, count, past)))
+]
+
+pub new_count : (frames domains : ℕ) (keys : Keys) (p : PagerState) → IsNewPager frames domains keys p →
+    length p.frames ≡ frames
+new_count frames domains keys p new = ap length new.zeros ∙ length-replicate frames zero_page
+
+pub filled_fresh : (frames domains : ℕ) (keys : Keys) (p p' : PagerState) (xs : List FrozenFrame) →
+    IsNewPager frames domains keys p → FillsFrames p p' xs → (q : PageId) → IsFresh p' q
+filled_fresh frames domains keys p p' xs new fills q = (
+  fills.metas q ∙ new.no_metas q,
+  λ k held.
+      let none : held_in p' k ≡ None =
+      ap (λ (rights : List Held). page_of (slice_index_or rights k Spent)) fills.rights
+      ∙ new_outside frames domains keys p new k in
+      let clash : None ≡ Some q = sym none ∙ held in
+      absurd (cc),
+)
+
+pub are_filled : (frames domains : ℕ) (keys : Keys) (p p' p'' : PagerState) (xs : List FrozenFrame)
+    (recorded : List FrozenPage) → IsNewPager frames domains keys p → frames ≡ length xs → FillsFrames p p' xs →
+    Restores p' p'' recorded → AreFilled p'' xs
+are_filled frames domains keys p p' p'' xs recorded new counted fills restores = record {
+  count = ap length (restores.rights ∙ fills.rights) ∙ (new.count ∙ counted);
+  rights = λ f low.
+      ap (λ (rights : List Held). slice_index_or rights f Spent) (restores.rights ∙ fills.rights)
+      ∙ new.outside f (omega (arith, low, counted));
+  bytes = λ f frame there.
+      ap (λ (l : List (List ℕ)). slice_index_or l f []) restores.frames ∙ fills.bytes f frame there;
+}
+
+pub filled_count : (frames domains : ℕ) (keys : Keys) (p p' p'' : PagerState) (xs : List FrozenFrame)
+    (recorded : List FrozenPage) → IsNewPager frames domains keys p → frames ≡ length xs → FillsFrames p p' xs →
+    Restores p' p'' recorded → length xs ≡ length p''.frames
+filled_count frames domains keys p p' p'' xs recorded new counted fills restores =
+    sym (ap length restores.frames ∙ (fills.count ∙ (new_count frames domains keys p new ∙ counted)))
+
+pub pager_thawed : (frames domains : ℕ) (keys : Keys) (p p' p'' q : PagerState) (xs : List FrozenFrame)
+    (recorded : List FrozenPage) (n : ℕ) → IsNewPager frames domains keys p → frames ≡ length xs → domains ≡ n →
+    FillsFrames p p' xs → Restores p' p'' recorded → AreThawedFrames p'' q xs → IsThawedPager q keys n xs recorded
+pager_thawed frames domains keys p p' p'' q xs recorded n new counted sized fills restores thaws = record {
+  keys_are = thaws.keys ∙ (restores.keys ∙ (fills.keys ∙ new.keys_are));
+  domains_are = thaws.domains ∙ (restores.domains ∙ (fills.domains ∙ (new.domains_are ∙ sized)));
+  count = thaws.count ∙ sym (filled_count frames domains keys p p' p'' xs recorded new counted fills restores);
+  each = thaws.each;
+  metas = λ o. thaws.metas o ∙ restores.metas o;
+}
+
+pub thawed_settled : (p : PagerState) (keys : Keys) (domains : ℕ) (frames : List FrozenFrame) (recorded : List FrozenPage) →
+    IsThawedPager p keys domains frames recorded → IsWholePager p → AreOwedOrOutside p
+thawed_settled p keys domains frames recorded thawed whole k = elim (cases_lt k (length frames)) [
+  | inl low ↦
+      let empty : FrozenFrame = record { bytes = []; owed = None } in
+      let frame = slice_index_or frames k empty in
+      by_owed frame frame.owed (thawed.each k frame (get_there frames k empty low))
+  | inr past ↦
+      let spent : right_at p k ≡ Spent =
+      get_or_past p.rights k Spent (let a = whole.count in let b = thawed.count in omega (arith, past, a, b)) in
+      ap page_of spent ∙ ap pager.owed_under (sym spent)
+]
+  where
+    by_owed : (frame : FrozenFrame) (owed : Option (PageId × Meta)) → IsThawedFrame p k frame owed →
+        held_in p k ≡ owed_at p k
+    by_owed frame None is = ap page_of is.0 ∙ sym (ap pager.owed_under is.0)
+    by_owed frame (Some owed) is = ap page_of is.0 ∙ sym (ap pager.owed_under is.0)
+
+-- The programs.
+
+pub all_programs : (keys : Keys) (f : Frozen) (xs : List Domain) → AreThawedDomains keys f xs → (d : ℕ) →
+    IfSome (slice_get f.domains d) (λ shown. (control : program.Control) × IsProgramOf keys f d shown control)
+all_programs keys f xs thawed d = by_shown (slice_get f.domains d) refl
+  where
+    by_shown : (o : Option FrozenDomain) → slice_get f.domains d ≡ o →
+        IfSome o (λ shown. (control : program.Control) × IsProgramOf keys f d shown control)
+    by_shown None is = tt
+    by_shown (Some shown) is =
+        let low = get_low f.domains d shown is in
+        let at = some_there xs d (let c = thawed.count in omega (arith, low, c)) in
+        (control_of at.0, (thawed.each d shown at.0 is at.1).is)
+
+-- The machine.
+
+pub made_under : (joint : Joint) (keys : Keys) (rest : Random) (f : Frozen) → IsMadeOf joint keys rest f →
+    All IsWholeFrame f.frames → length joint.harts.items ≡ length f.harts → ThawsUnder keys rest f joint
+made_under joint keys rest f made whole harts = record {
+  frames = whole;
+  programs = all_programs keys f joint.domains.items made.domains;
+  stands = λ b stream j goes same left. joint_goes_on joint keys rest b stream f j made goes same left;
+  harts = harts;
+  settled = thawed_settled joint.memory.pager keys (length f.domains) f.frames f.recorded made.pager made.whole;
+  empty = ap (λ (t : shadow.Table). t.live) made.shadows;
+}
+
+-- The stream.
+
+-- the keys of a run, and what is left after these draws more
+pub keys_then : (b : Bundle) (s rest left : Random) (keys : Keys) (draws : ℕ) → HasKeys b s rest keys →
+    skipped draws rest ≡ Some left → keys_and_rest b draws s ≡ Some (keys, left)
+unfolding keys_and_rest
+keys_then b s rest left keys draws has skips =
+    let then' : List (List ℕ) × Random → Option (Keys × Random) =
+    λ drawn. option_map (λ (r : Random). (keys_for b.programs drawn.0, r)) (skipped draws drawn.1) in
+    let named : Random → Keys × Random = λ r. (keys_for b.programs has.drawn, r) in
+    let told : Keys → Option (Keys × Random) = λ k. Some (k, left) in
+    ap (option_and_then then') has.are ∙ (ap (option_map named) skips ∙ ap told (sym has.keys_are))
+
+pub keys_short : (b : Bundle) (s rest : Random) (keys : Keys) (draws : ℕ) → HasKeys b s rest keys →
+    skipped draws rest ≡ None → keys_and_rest b draws s ≡ None
+unfolding keys_and_rest
+keys_short b s rest keys draws has short =
+    let then' : List (List ℕ) × Random → Option (Keys × Random) =
+    λ drawn. option_map (λ (r : Random). (keys_for b.programs drawn.0, r)) (skipped draws drawn.1) in
+    let named : Random → Keys × Random = λ r. (keys_for b.programs has.drawn, r) in
+    ap (option_and_then then') has.are ∙ ap (option_map named) short
+
+pub keys_there : (b : Bundle) (s rest : Random) (keys : Keys) → HasKeys b s rest keys →
+    is_some (drawn_keys (key_count b.programs) s) ≡ true
+keys_there b s rest keys has = ap is_some has.are
+
+pub joint_thawed : (b : Bundle) (s left : Random) (keys : Keys) (f : Frozen) (joint : Joint) →
+    keys_and_rest b f.draws s ≡ Some (keys, left) → All IsWholeDomain f.domains → ThawsUnder keys left f joint →
+    ThawsJoint b s f joint
+joint_thawed b s left keys f joint drawn domains under = record {
+  keys = keys;
+  rest = left;
+  drawn = drawn;
+  thawable = record { domains = domains; frames = under.frames; programs = under.programs };
+  stands = λ j goes.
+      let here : Keys × Random = (j.memory.ledger.keys, j.memory.ledger.stream) in
+      let there : Keys × Random = (keys, left) in
+      let same : here ≡ there = same_some here there (sym goes.keys ∙ drawn) in
+      under.stands b s j goes (ap (λ (p : Keys × Random). p.0) same) (ap (λ (p : Keys × Random). p.1) same);
+}
+
+-- Causes.
+
+pub keys_stored : (b : Bundle) (numbered : List (List ℕ)) (group : List ℕ) (programs : List Program) →
+    group ≡ filled_up 0 (map (λ (p : Program). p.key) programs) → programs ≡ b.programs →
+    (let keys : Keys = record { numbered = numbered; group = group } in keys) ≡ stored_keys b numbered
+keys_stored b numbered group programs is same = λ i. record {
+  numbered = numbered;
+  group = (is ∙ ap (λ (ps : List Program). filled_up 0 (map (λ (p : Program). p.key) ps)) same) i;
+}
+
+pub domain_fault : (keys other : Keys) (f : Frozen) (x : ThawFault) → other ≡ keys → All IsWholeFrame f.frames →
+    IsDomainFault other f x → IsFaultUnder keys f x
+domain_fault keys other f fault.NoKey same whole is = absurd is
+domain_fault keys other f fault.NoRandom same whole is = absurd is
+domain_fault keys other f (fault.Domain n) same whole is = absurd is
+domain_fault keys other f (fault.Frame n) same whole is = absurd is
+domain_fault keys other f (fault.Form at) same whole is = (whole, subst (λ (k : Keys). IsFirstWrong k f at) same is)
+domain_fault keys other f fault.NoMemory same whole is = tt
+
+pub under_keys : (b : Bundle) (s left : Random) (keys : Keys) (f : Frozen) (P : Keys → Type 0) →
+    keys_and_rest b f.draws s ≡ Some (keys, left) → P keys → UnderKeys b s f P
+under_keys b s left keys f P drawn is =
+    subst (λ (o : Option (Keys × Random)). IsSomeAnd o (λ (d : Keys × Random). P d.0)) (sym drawn) is
+
+fault_under : (b : Bundle) (s left : Random) (keys : Keys) (f : Frozen) (x : ThawFault) →
+    keys_and_rest b f.draws s ≡ Some (keys, left) → All IsWholeDomain f.domains → IsFaultUnder keys f x →
+    IsThawFault b s f x
+fault_under b s left keys f fault.NoKey drawn domains is = absurd is
+fault_under b s left keys f fault.NoRandom drawn domains is = absurd is
+fault_under b s left keys f (fault.Domain n) drawn domains is = absurd is
+fault_under b s left keys f (fault.Frame n) drawn domains is =
+    under_keys b s left keys f (λ k. All IsWholeDomain f.domains × IsFirstChanged IsWholeFrame f.frames n) drawn (domains, is)
+fault_under b s left keys f (fault.Form at) drawn domains is =
+    under_keys b s left keys f (λ k. All IsWholeDomain f.domains × (All IsWholeFrame f.frames × IsFirstWrong k f at)) drawn (domains, is)
+fault_under b s left keys f fault.NoMemory drawn domains is = tt
+
+pub thaws_result : (b : Bundle) (s left : Random) (keys : Keys) (f : Frozen) (r : Result Joint ThawFault) →
+    keys_and_rest b f.draws s ≡ Some (keys, left) → All IsWholeDomain f.domains → IfOk r (ThawsUnder keys left f) →
+    IfOk r (ThawsJoint b s f)
+thaws_result b s left keys f (Ok joint) drawn domains is = joint_thawed b s left keys f joint drawn domains is
+thaws_result b s left keys f (Err x) drawn domains is = tt
+
+pub faults_result : (b : Bundle) (s left : Random) (keys : Keys) (f : Frozen) (r : Result Joint ThawFault) →
+    keys_and_rest b f.draws s ≡ Some (keys, left) → All IsWholeDomain f.domains → IfErr r (IsFaultUnder keys f) →
+    IfErr r (IsThawFault b s f)
+faults_result b s left keys f (Ok joint) drawn domains is = tt
+faults_result b s left keys f (Err x) drawn domains is = fault_under b s left keys f x drawn domains is

@@ -1,0 +1,6 @@
+pub mod Programs
+pub mod Steps
+pub mod Runs
+pub mod TwoParts
+pub mod Pieces
+pub mod FreezeThaw
