@@ -9,6 +9,8 @@ use Rattle.program_parts.specs.Outside.{Outside, FilesOutside}
 use Rattle.program_parts.specs.Refusing.{Refuses}
 use Rattle.program_parts.proofs.FaultFacts.{raised}
 use Rattle.program_parts.proofs.Refused.{only_refuses}
+use Rattle.frozen_commands.proofs.FreezeFacts.{answers_no_run as frozen_no_run, same_files as frozen_same}
+use Rattle.frozen_commands.proofs.ThawFacts.{answers_no_run as thawed_no_run, same_files as thawed_same}
 use Rattle.image_commands.specs.Demonstrating.{DemoAnswers}
 use Rattle.image_commands.specs.Generating.{GenAnswers}
 use Rattle.image_commands.proofs.Upgraded.{upgrade_refuses}
@@ -79,6 +81,10 @@ wants_memory (spec.Upgrade old_name new_name) before after given same low refuse
 wants_memory (spec.Store names counter steps randomness) before after given same low refuses =
     stored_no_run {asked = spec.Store names counter steps randomness} {r = refusal.NoMemory} (no_run _ _ _ same) low
     refuses
+wants_memory (spec.Freeze names steps randomness) before after given same low refuses =
+    frozen_no_run {asked = spec.Freeze names steps randomness} {r = refusal.NoMemory} (no_run _ _ _ same) low refuses
+wants_memory (spec.Thaw names steps randomness) before after given same low refuses =
+    thawed_no_run {asked = spec.Thaw names steps randomness} {r = refusal.NoMemory} (no_run _ _ _ same) low refuses
 
 -- files that were not touched are kept, whatever the words ask for
 pub keeps_same : (asked : spec.Asked) (given : Status) (held : List ℕ → Option (List ℕ)) → KeepsOthers asked given held held
@@ -92,6 +98,8 @@ keeps_same (spec.Demo number steps) given held = λ name. refl
 keeps_same (spec.Stats bundle steps randomness) given held = λ name. refl
 keeps_same (spec.Upgrade old_name new_name) given held = λ other apart. refl
 keeps_same (spec.Store names counter steps randomness) given held = stored_same names given held held (λ name. refl)
+keeps_same (spec.Freeze names steps randomness) given held = frozen_same names given held held (λ name. refl)
+keeps_same (spec.Thaw names steps randomness) given held = thawed_same names given held held (λ name. refl)
 
 -- `gen` changes the file that it writes, and no other
 pub gen_keeps : {S O : Type 0} (number : ℕ) (name : List ℕ) (before after : Outside S O) (given : Status) →
@@ -110,3 +118,5 @@ gen_keeps number name before after status.ReadFault never = absurd never
 gen_keeps number name before after status.NoRandom never = absurd never
 gen_keeps number name before after status.BadRecord never = absurd never
 gen_keeps number name before after status.BadStore never = absurd never
+gen_keeps number name before after status.Frozen never = absurd never
+gen_keeps number name before after status.BadState never = absurd never

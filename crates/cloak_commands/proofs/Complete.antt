@@ -3,10 +3,12 @@ use Rattle.std.proofs.Common.{◌<◌, ◌-◌, ◌^◌, inl, inr}
 use Rattle.command_words.specs.Command as spec
 use Rattle.completeness.specs.Complete.{IsComplete}
 use Rattle.completeness.proofs.Faults.{never_rose}
+use Rattle.completeness.proofs.Freezes.{freezes_are_complete}
 use Rattle.completeness.proofs.Images.{demos_are_complete, gens_are_complete}
 use Rattle.completeness.proofs.Runs.{runs_are_complete}
 use Rattle.completeness.proofs.Stats.{stats_are_complete}
 use Rattle.completeness.proofs.Stores.{stores_are_complete}
+use Rattle.completeness.proofs.Thaws.{thaws_are_complete}
 use Rattle.completeness.proofs.Upgrades.{upgrades_are_complete}
 use Rattle.completeness.proofs.Views.{solos_are_complete, views_are_complete}
 use Rattle.program_parts.specs.declared.status.Status.{Status}
@@ -39,3 +41,7 @@ complete_by {S} {O} (spec.Upgrade old_name new_name) answer before after low giv
     upgrades_are_complete S O old_name new_name answer before after given
 complete_by {S} {O} (spec.Store names counter steps randomness) answer before after low given =
     stores_are_complete S O names counter steps randomness answer before after given
+complete_by {S} {O} (spec.Freeze names steps randomness) answer before after low given =
+    freezes_are_complete S O names steps randomness answer before after given
+complete_by {S} {O} (spec.Thaw names steps randomness) answer before after low given =
+    thaws_are_complete S O names steps randomness answer before after given

@@ -2,6 +2,8 @@
 use Rattle.std.specs.Prelude.{◌≡◌, ℕ, List, Option}
 use Rattle.outside_io.specs.Told.{SameFiles, OtherFiles}
 use Rattle.command_words.specs.Command as spec
+use Rattle.frozen_commands.specs.FreezeAnswering.{FreezeAnswers, KeepsFrozenFiles}
+use Rattle.frozen_commands.specs.ThawAnswering.{ThawAnswers, KeepsThawedFiles}
 use Rattle.image_commands.specs.Demonstrating.{DemoAnswers}
 use Rattle.image_commands.specs.Generating.{GenAnswers}
 use Rattle.image_commands.specs.Upgrading.{UpgradeAnswers}
@@ -33,9 +35,13 @@ Answers (spec.Stats bundle steps randomness) before after answer =
 Answers (spec.Upgrade old_name new_name) before after answer = UpgradeAnswers old_name new_name before after answer
 Answers (spec.Store names counter steps randomness) before after answer =
     StoreAnswers (spec.Store names counter steps randomness) before after answer
+Answers (spec.Freeze names steps randomness) before after answer =
+    FreezeAnswers (spec.Freeze names steps randomness) before after answer
+Answers (spec.Thaw names steps randomness) before after answer =
+    ThawAnswers (spec.Thaw names steps randomness) before after answer
 
 -- Every file keeps its bytes, save the record of a run that was begun, or might have been, the bundle that `gen` or
--- `upgrade` writes, and the files that `store` writes.
+-- `upgrade` writes, and the files that `store`, `freeze` and `thaw` write.
 abbrev pub KeepsOthers : spec.Asked → Status → (List ℕ → Option (List ℕ)) → (List ℕ → Option (List ℕ)) → Type 0
 KeepsOthers (spec.Faulty fault) answer held held' = SameFiles held held'
 KeepsOthers (spec.Run bundle record_name steps randomness) answer held held' =
@@ -47,3 +53,5 @@ KeepsOthers (spec.Demo number steps) answer held held' = SameFiles held held'
 KeepsOthers (spec.Stats bundle steps randomness) answer held held' = SameFiles held held'
 KeepsOthers (spec.Upgrade old_name new_name) answer held held' = OtherFiles new_name held held'
 KeepsOthers (spec.Store names counter steps randomness) answer held held' = stored.KeepsFiles names answer held held'
+KeepsOthers (spec.Freeze names steps randomness) answer held held' = KeepsFrozenFiles names answer held held'
+KeepsOthers (spec.Thaw names steps randomness) answer held held' = KeepsThawedFiles names answer held held'

@@ -6,6 +6,7 @@ ghost use Rattle.program_parts.specs.Outside.{outside};
 ghost use Rattle.completeness.specs.Complete.{IsComplete};
 
 use command_words::{Request, read_words};
+use frozen_commands::{freeze_command, thaw_command};
 use image_commands::{demo_command, gen_command, upgrade_command};
 use outside_io::{Shelf, Sink};
 use program_parts::{Refusal, Status, refuse};
@@ -47,6 +48,8 @@ fn carry_out<S: Shelf, O: Sink>(
             upgrade_command(alloc, upgrade.old_name, upgrade.new_name, shelf, out)
         }
         Request::Store(store) => store_command(alloc, &store, shelf, out),
+        Request::Freeze(freeze) => freeze_command(alloc, &freeze, shelf, out),
+        Request::Thaw(thaw) => thaw_command(alloc, &thaw, shelf, out),
     }
 }
 

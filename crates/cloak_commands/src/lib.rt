@@ -1,7 +1,8 @@
 //! The top call, `cloak`, over any words, files and output.
 //!
 //! `cloak` reads the words and hands them to the command that they name: `run` (`run_command`), `view` and `solo`
-//! (`read_back`), `gen`, `demo` and `upgrade` (`image_commands`), `stats` (`stats_command`).
+//! (`read_back`), `gen`, `demo` and `upgrade` (`image_commands`), `stats` (`stats_command`), `store` (`store_command`),
+//! `freeze` and `thaw` (`frozen_commands`).
 //! `run_program` also writes out what is gathered; its clause `exits` gives each status its cause and each command what it
 //! writes. `sentence` says why a status came. The program `cloak_cli` calls these two with the system's words, files and
 //! output.

@@ -1,5 +1,5 @@
 //! A machine that is frozen, and one that goes on from a frozen state.
-ghost use Rattle.std.specs.Prelude.{◌≡◌, IfErr, IfOk, false, length};
+ghost use Rattle.std.specs.Prelude.{◌≡◌, ◌≤◌, IfErr, IfOk, IfSome, false, length};
 ghost use Rattle.cloak_model.specs.Bundle.{IsInGrammar};
 ghost use Rattle.cloak_model.specs.Joint.{Moment};
 ghost use Rattle.frozen_state.specs.FrozenState.{frozen_of};
@@ -25,9 +25,10 @@ impl Machine {
     /// taken: the state has the memory of the room and of the disk. After a draw that was missing nothing is told, since
     /// newest bytes of a page were lost.
     pub fn freeze(self, ivs: &mut Stream, room: FrozenRoom) -> Option<Frozen>
-        ensures { (m : Moment) → StandsForMoment self m → m.joint.memory.ledger.missed ≡ false →
+        ensures state { (m : Moment) → StandsForMoment self m → m.joint.memory.ledger.missed ≡ false →
             HasRoom (length m.joint.harts) (length m.joint.memory.ram) (length m.joint.domains) room →
             result ≡ frozen_of m.joint m.steps ivs.old }
+        ensures few { IfSome result (λ f. length f.recorded ≤ 65536) }
     {
         let Machine { joint, steps, .. } = self;
         joint.freeze(steps, ivs, room)

@@ -3,8 +3,8 @@
 use crate::checks::same;
 use cloak_base::NoMemory;
 use command_words::{
-    Randomness, Request, RunRequest, SoloRequest, StatsRequest, StoreRequest, UsageFault,
-    read_words,
+    FreezeRequest, Randomness, Request, RunRequest, SoloRequest, StatsRequest, StoreRequest,
+    ThawRequest, UsageFault, read_words,
 };
 use std::alloc::{AllocError, Global};
 use std::test::*;
@@ -72,6 +72,40 @@ fn store_text(alloc: Global, store: &StoreRequest<'_>) -> Result<String, AllocEr
     }
 }
 
+/// A line of text, and then what a run's random bytes are.
+fn with_randomness(
+    alloc: Global,
+    line: &str,
+    randomness: &Randomness<'_>,
+) -> Result<String, AllocError> {
+    match randomness {
+        Randomness::Numbered(number) => format!(in alloc; "{line} number {number}"),
+        Randomness::FromFile(name) => format!(in alloc; "{line} stream {name}"),
+    }
+}
+
+fn freeze_text(alloc: Global, freeze: &FreezeRequest<'_>) -> Result<String, AllocError> {
+    let files = &freeze.files;
+    let names = format!(in alloc;
+        "{} {} {}",
+        files.bundle, files.record_name, files.state_name
+    )?;
+    let (vectors_name, steps) = (files.vectors_name, freeze.steps);
+    let line = format!(in alloc; "freeze {names} {vectors_name} {steps}")?;
+    with_randomness(alloc, line.as_str(), &freeze.randomness)
+}
+
+fn thaw_text(alloc: Global, thaw: &ThawRequest<'_>) -> Result<String, AllocError> {
+    let files = &thaw.files;
+    let names = format!(in alloc;
+        "{} {} {}",
+        files.bundle, files.record_name, files.state_name
+    )?;
+    let steps = thaw.steps;
+    let line = format!(in alloc; "thaw {names} {steps}")?;
+    with_randomness(alloc, line.as_str(), &thaw.randomness)
+}
+
 /// What is asked for, as a line of text.
 fn text_of(alloc: Global, request: &Request<'_>) -> Result<String, AllocError> {
     match request {
@@ -86,6 +120,8 @@ fn text_of(alloc: Global, request: &Request<'_>) -> Result<String, AllocError> {
             format!(in alloc; "upgrade {} {}", upgrade.old_name, upgrade.new_name)
         }
         Request::Store(store) => store_text(alloc, store),
+        Request::Freeze(freeze) => freeze_text(alloc, freeze),
+        Request::Thaw(thaw) => thaw_text(alloc, thaw),
     }
 }
 
@@ -339,6 +375,166 @@ static LINES: [(&[&str], &str); 57] = [
 #[test]
 fn lines_as_they_are_read(rt: HostRuntime) -> Result<(), Fail> {
     for &(line, want) in &LINES {
+        let text = shown(rt.alloc(), line).ok().ok_or("no memory")?;
+        let command = *line.first().unwrap_or(&"");
+        same(&rt, &text.as_str(), &want, command);
+    }
+    Ok(())
+}
+
+/// The same of `freeze` and `thaw`. A state that is written has another name than the record; one that is read may have the
+/// same.
+static FROZEN_LINES: [(&[&str], &str); 20] = [
+    (
+        &[
+            "freeze",
+            "a",
+            "b",
+            "c",
+            "--ivs=v",
+            "--steps=5",
+            "--number=7",
+        ],
+        "freeze a b c v 5 number 7",
+    ),
+    (
+        &[
+            "freeze",
+            "--stream",
+            "s",
+            "a",
+            "--ivs",
+            "v",
+            "b",
+            "--steps",
+            "1000000000",
+            "c",
+        ],
+        "freeze a b c v 1000000000 stream s",
+    ),
+    (
+        &["freeze", "a", "b", "--ivs=v", "--steps=5", "--number=7"],
+        "words",
+    ),
+    (
+        &["freeze", "a", "b", "c", "--steps=5", "--number=7"],
+        "words",
+    ),
+    (&["freeze", "a", "b", "c", "--ivs=v", "--number=7"], "words"),
+    (
+        &["freeze", "a", "b", "c", "--ivs=v", "--steps=5"],
+        "randomness",
+    ),
+    (
+        &[
+            "freeze",
+            "a",
+            "b",
+            "c",
+            "--ivs=v",
+            "--steps=5",
+            "--number=7",
+            "--stream=s",
+        ],
+        "randomness",
+    ),
+    (
+        &[
+            "freeze",
+            "a",
+            "b",
+            "c",
+            "--ivs=v",
+            "--steps=1000000001",
+            "--number=7",
+        ],
+        "number",
+    ),
+    (
+        &[
+            "freeze",
+            "a",
+            "b",
+            "b",
+            "--ivs=v",
+            "--steps=5",
+            "--number=7",
+        ],
+        "same name",
+    ),
+    (
+        &[
+            "freeze",
+            "a",
+            "b",
+            "b",
+            "--ivs=v",
+            "--steps=1000000001",
+            "--number=7",
+        ],
+        "number",
+    ),
+    (
+        &[
+            "freeze",
+            "a",
+            "a",
+            "c",
+            "--ivs=a",
+            "--steps=5",
+            "--number=7",
+        ],
+        "freeze a a c a 5 number 7",
+    ),
+    (
+        &["thaw", "a", "b", "c", "--steps=5", "--number=7"],
+        "thaw a b c 5 number 7",
+    ),
+    (
+        &[
+            "thaw",
+            "--stream",
+            "s",
+            "a",
+            "b",
+            "--steps",
+            "1000000000",
+            "c",
+        ],
+        "thaw a b c 1000000000 stream s",
+    ),
+    (&["thaw", "a", "b", "--steps=5", "--number=7"], "words"),
+    (&["thaw", "a", "b", "c", "--number=7"], "words"),
+    (
+        &["thaw", "a", "b", "c", "--ivs=v", "--steps=5", "--number=7"],
+        "words",
+    ),
+    (&["thaw", "a", "b", "c", "--steps=5"], "randomness"),
+    (
+        &[
+            "thaw",
+            "a",
+            "b",
+            "c",
+            "--steps=5",
+            "--number=7",
+            "--stream=s",
+        ],
+        "randomness",
+    ),
+    (
+        &["thaw", "a", "b", "c", "--steps=1000000001", "--number=7"],
+        "number",
+    ),
+    (
+        &["thaw", "a", "b", "b", "--steps=5", "--number=7"],
+        "thaw a b b 5 number 7",
+    ),
+];
+
+#[test]
+fn frozen_lines_as_they_are_read(rt: HostRuntime) -> Result<(), Fail> {
+    for &(line, want) in &FROZEN_LINES {
         let text = shown(rt.alloc(), line).ok().ok_or("no memory")?;
         let command = *line.first().unwrap_or(&"");
         same(&rt, &text.as_str(), &want, command);

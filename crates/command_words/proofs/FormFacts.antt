@@ -6,7 +6,7 @@ use Rattle.clap.specs.declared.builder.arg.Arg.{Arg}
 use Rattle.clap.specs.declared.builder.command.Command.{Command}
 use Rattle.command_words.specs.Forms.{form_of}
 use Rattle.command_words.specs.declared.command_name.CommandName.{CommandName}
-use Rattle.command_words.specs.declared.command_name.CommandName.TheVariants.{Run, View, Solo, Gen, Demo, Stats, Upgrade, Store}
+use Rattle.command_words.specs.declared.command_name.CommandName.TheVariants.{Run, View, Solo, Gen, Demo, Stats, Upgrade, Store, Freeze, Thaw}
 
 -- a command with one argument more
 pub with_more : {command more : Command} {argument : Arg} {form : App} {rule : Rule} → AddsArg command argument more →
@@ -22,6 +22,8 @@ simple Demo = refl
 simple Stats = refl
 simple Upgrade = refl
 simple Store = refl
+simple Freeze = refl
+simple Thaw = refl
 
 pub form_simple : (command : CommandName) (form : App) → form ≡ form_of command → is_simple_and_free form ≡ true
 form_simple command form same = ap (λ a. is_simple_and_free a) same ∙ simple command

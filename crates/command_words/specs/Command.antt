@@ -39,6 +39,20 @@ pub record StoreNames : Type 0 where
   pub next_name : List ℕ
   pub secret_name : List ℕ
 
+-- the files of a run that is frozen: the bundle, the record, the frozen state that is written, and the vectors under which
+-- programs and owed pages are shown in it
+pub record FreezeNames : Type 0 where
+  pub bundle : List ℕ
+  pub record_name : List ℕ
+  pub state_name : List ℕ
+  pub vectors_name : List ℕ
+
+-- the files of a run that goes on: the bundle, the record of its rest, and the frozen state
+pub record ThawNames : Type 0 where
+  pub bundle : List ℕ
+  pub record_name : List ℕ
+  pub state_name : List ℕ
+
 -- what is asked for
 pub data Asked : Type 0 where
   Faulty : UsageFault → Asked
@@ -59,6 +73,10 @@ pub data Asked : Type 0 where
   -- the joint run of a bundle over the cloaked files that a store file with this counter tells of, with its budget of steps
   -- and its randomness
   Store : StoreNames → (counter steps : ℕ) → Randomness → Asked
+  -- so many steps of the joint run of a bundle, with its randomness; then its state is frozen
+  Freeze : FreezeNames → (steps : ℕ) → Randomness → Asked
+  -- the rest of a run from its frozen state, with a budget of steps, and the randomness of the whole run
+  Thaw : ThawNames → (steps : ℕ) → Randomness → Asked
 
 -- the word is this text
 abbrev pub is : List ℕ → List ℕ → Bool
@@ -123,6 +141,19 @@ store_of_values names (Some counter) None (Ok randomness) = Faulty WrongNumber
 store_of_values names (Some counter) (Some steps) (Ok randomness) =
     if writes_one_twice names then Faulty SameName else Store names counter steps randomness
 
+-- a run that is frozen, whose values are read; the names of the two files that are written are compared last
+abbrev pub freeze_of_values : FreezeNames → (steps : Option ℕ) → Result Randomness UsageFault → Asked
+freeze_of_values names steps (Err fault) = Faulty fault
+freeze_of_values names None (Ok randomness) = Faulty WrongNumber
+freeze_of_values names (Some steps) (Ok randomness) =
+    if bytes_eq names.record_name names.state_name then Faulty SameName else Freeze names steps randomness
+
+-- a run that goes on, whose values are read
+abbrev pub thaw_of_values : ThawNames → (steps : Option ℕ) → Result Randomness UsageFault → Asked
+thaw_of_values names steps (Err fault) = Faulty fault
+thaw_of_values names None (Ok randomness) = Faulty WrongNumber
+thaw_of_values names (Some steps) (Ok randomness) = Thaw names steps randomness
+
 -- the last number of a program
 abbrev pub last_domain : ℕ
 last_domain = 3
@@ -173,6 +204,23 @@ asked_with name.Store rows =
     })
     (number_up_to last_counter (needed_text (codes "counter") rows)) (number_up_to most_steps (needed_text (codes "steps") rows))
     (given_randomness (first_of (codes "stream") rows) (first_of (codes "number") rows))
+asked_with name.Freeze rows =
+    freeze_of_values (record {
+      bundle = needed_text (codes "BUNDLE") rows;
+      record_name = needed_text (codes "RECORD") rows;
+      state_name = needed_text (codes "STATE") rows;
+      vectors_name = needed_text (codes "ivs") rows;
+    })
+    (number_up_to most_steps (needed_text (codes "steps") rows))
+    (given_randomness (first_of (codes "stream") rows) (first_of (codes "number") rows))
+asked_with name.Thaw rows =
+    thaw_of_values (record {
+      bundle = needed_text (codes "BUNDLE") rows;
+      record_name = needed_text (codes "RECORD") rows;
+      state_name = needed_text (codes "STATE") rows;
+    })
+    (number_up_to most_steps (needed_text (codes "steps") rows))
+    (given_randomness (first_of (codes "stream") rows) (first_of (codes "number") rows))
 
 -- the command of this name
 abbrev pub command_named : List ℕ → Option CommandName
@@ -184,7 +232,9 @@ command_named w =
     if is (codes "demo") w then Some name.Demo else
     if is (codes "stats") w then Some name.Stats else
     if is (codes "upgrade") w then Some name.Upgrade else
-    if is (codes "store") w then Some name.Store else None
+    if is (codes "store") w then Some name.Store else
+    if is (codes "freeze") w then Some name.Freeze else
+    if is (codes "thaw") w then Some name.Thaw else None
 
 -- the texts that a command finds in the words, where it refuses nothing
 abbrev pub unless_refused : Kinds → List Row → Option (List Row)

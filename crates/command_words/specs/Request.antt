@@ -1,7 +1,7 @@
 -- What a request stands for.
 use Rattle.command_words.specs.Command as spec
 use Rattle.command_words.specs.declared.request.Request.{Request}
-use Rattle.command_words.specs.declared.request.Request.TheVariants.{Faulty, Run, View, Solo, Gen, Demo, Stats, Upgrade, Store}
+use Rattle.command_words.specs.declared.request.Request.TheVariants.{Faulty, Run, View, Solo, Gen, Demo, Stats, Upgrade, Store, Freeze, Thaw}
 use Rattle.command_words.specs.declared.run_request.Randomness.{Randomness}
 use Rattle.command_words.specs.declared.run_request.Randomness.TheVariants.{Numbered, FromFile}
 use Rattle.command_words.specs.declared.run_request.RunRequest.{RunRequest}
@@ -13,6 +13,10 @@ use Rattle.command_words.specs.declared.generated_request.DemoRequest.{DemoReque
 use Rattle.command_words.specs.declared.upgrade_request.UpgradeRequest.{UpgradeRequest}
 use Rattle.command_words.specs.declared.store_request.StoreFiles.{StoreFiles}
 use Rattle.command_words.specs.declared.store_request.StoreRequest.{StoreRequest}
+use Rattle.command_words.specs.declared.frozen_request.FreezeFiles.{FreezeFiles}
+use Rattle.command_words.specs.declared.frozen_request.FreezeRequest.{FreezeRequest}
+use Rattle.command_words.specs.declared.frozen_request.ThawFiles.{ThawFiles}
+use Rattle.command_words.specs.declared.frozen_request.ThawRequest.{ThawRequest}
 
 abbrev pub randomness_of : Randomness → spec.Randomness
 randomness_of (Numbered number) = spec.Numbered number
@@ -52,6 +56,27 @@ names_of files = record {
 abbrev pub asked_of_store : StoreRequest → spec.Asked
 asked_of_store store = spec.Store (names_of store.files) store.counter store.steps (randomness_of store.randomness)
 
+abbrev pub freeze_names_of : FreezeFiles → spec.FreezeNames
+freeze_names_of files = record {
+  bundle = files.bundle.now;
+  record_name = files.record_name.now;
+  state_name = files.state_name.now;
+  vectors_name = files.vectors_name.now;
+}
+
+abbrev pub asked_of_freeze : FreezeRequest → spec.Asked
+asked_of_freeze freeze = spec.Freeze (freeze_names_of freeze.files) freeze.steps (randomness_of freeze.randomness)
+
+abbrev pub thaw_names_of : ThawFiles → spec.ThawNames
+thaw_names_of files = record {
+  bundle = files.bundle.now;
+  record_name = files.record_name.now;
+  state_name = files.state_name.now;
+}
+
+abbrev pub asked_of_thaw : ThawRequest → spec.Asked
+asked_of_thaw thaw = spec.Thaw (thaw_names_of thaw.files) thaw.steps (randomness_of thaw.randomness)
+
 abbrev pub asked_of : Request → spec.Asked
 asked_of (Faulty fault) = spec.Faulty fault
 asked_of (Run run) = asked_of_run run
@@ -62,3 +87,5 @@ asked_of (Demo demo) = asked_of_demo demo
 asked_of (Stats stats) = asked_of_stats stats
 asked_of (Upgrade upgrade) = asked_of_upgrade upgrade
 asked_of (Store store) = asked_of_store store
+asked_of (Freeze freeze) = asked_of_freeze freeze
+asked_of (Thaw thaw) = asked_of_thaw thaw

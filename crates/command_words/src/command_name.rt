@@ -10,4 +10,6 @@ pub enum CommandName {
     Stats,
     Upgrade,
     Store,
+    Freeze,
+    Thaw,
 }

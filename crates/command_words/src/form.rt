@@ -127,6 +127,33 @@ fn store_form<'a>(alloc: Global) -> Result<Command<'a>, NoMemory>
     Ok(store)
 }
 
+fn freeze_form<'a>(alloc: Global) -> Result<Command<'a>, NoMemory>
+    ensures { IfOk result (λ command. app_of command ≡ spec.form_of CommandName.Freeze) }
+{
+    let freeze = bare_form(alloc, "freeze")
+        .arg(position(alloc, "BUNDLE"))?
+        .arg(position(alloc, "RECORD"))?
+        .arg(position(alloc, "STATE"))?
+        .arg(needed_option(alloc, "ivs"))?
+        .arg(needed_option(alloc, "steps"))?
+        .arg(valued_option(alloc, "stream"))?
+        .arg(valued_option(alloc, "number"))?;
+    Ok(freeze)
+}
+
+fn thaw_form<'a>(alloc: Global) -> Result<Command<'a>, NoMemory>
+    ensures { IfOk result (λ command. app_of command ≡ spec.form_of CommandName.Thaw) }
+{
+    let thaw = bare_form(alloc, "thaw")
+        .arg(position(alloc, "BUNDLE"))?
+        .arg(position(alloc, "RECORD"))?
+        .arg(position(alloc, "STATE"))?
+        .arg(needed_option(alloc, "steps"))?
+        .arg(valued_option(alloc, "stream"))?
+        .arg(valued_option(alloc, "number"))?;
+    Ok(thaw)
+}
+
 /// What the command of this name takes.
 pub fn form_of<'a>(alloc: Global, name: CommandName) -> Result<Command<'a>, NoMemory>
     ensures { IfOk result (λ command. app_of command ≡ spec.form_of name) }
@@ -140,5 +167,7 @@ pub fn form_of<'a>(alloc: Global, name: CommandName) -> Result<Command<'a>, NoMe
         CommandName::Stats => stats_form(alloc),
         CommandName::Upgrade => upgrade_form(alloc),
         CommandName::Store => store_form(alloc),
+        CommandName::Freeze => freeze_form(alloc),
+        CommandName::Thaw => thaw_form(alloc),
     }
 }

@@ -7,6 +7,7 @@
 mod command_name;
 mod form;
 mod found;
+mod frozen_request;
 mod generated_request;
 mod number;
 mod record_request;
@@ -16,6 +17,7 @@ mod store_request;
 mod upgrade_request;
 mod usage_fault;
 
+pub use frozen_request::{FreezeFiles, FreezeRequest, ThawFiles, ThawRequest};
 pub use generated_request::{DemoRequest, GenRequest};
 pub use record_request::{RecordRequest, SoloRequest};
 pub use request::{Request, read_words};

@@ -4,11 +4,12 @@ ghost use Rattle.std.specs.Result.{result_map_both};
 ghost use Rattle.cloak_model.specs.Run.{most_steps};
 ghost use Rattle.clap.specs.Words.{found_of, rows_of};
 ghost use Rattle.command_words.specs.Command as spec;
-ghost use Rattle.command_words.specs.Request.{asked_of, names_of, randomness_of};
+ghost use Rattle.command_words.specs.Request.{asked_of, freeze_names_of, names_of, randomness_of, thaw_names_of};
 
 use crate::command_name::CommandName;
 use crate::form::form_of;
 use crate::found::{found_in, given_text, needed_text};
+use crate::frozen_request::{FreezeFiles, FreezeRequest, ThawFiles, ThawRequest};
 use crate::generated_request::{DemoRequest, GenRequest};
 use crate::number::number_up_to;
 use crate::record_request::{RecordRequest, SoloRequest};
@@ -41,6 +42,8 @@ pub enum Request<'a> {
     Stats(StatsRequest<'a>),
     Upgrade(UpgradeRequest<'a>),
     Store(StoreRequest<'a>),
+    Freeze(FreezeRequest<'a>),
+    Thaw(ThawRequest<'a>),
 }
 
 /// A run with its record, or with none.
@@ -151,6 +154,59 @@ fn store_of_texts<'a>(
     })
 }
 
+/// The run with these texts that is frozen. The names are compared last.
+fn freeze_of_texts<'a>(
+    files: FreezeFiles<'a>,
+    steps: &str,
+    stream: Option<&'a str>,
+    number: Option<&str>,
+) -> Request<'a>
+    ensures { asked_of result ≡ spec.freeze_of_values (freeze_names_of files.entry)
+        (spec.number_up_to most_steps steps.now)
+        (spec.given_randomness (option_copied stream.entry) (option_copied number.entry)) }
+{
+    let randomness = match given_randomness(stream, number) {
+        Ok(randomness) => randomness,
+        Err(fault) => return Request::Faulty(fault),
+    };
+    let Some(steps) = number_up_to(steps, MOST_STEPS) else {
+        return Request::Faulty(UsageFault::WrongNumber);
+    };
+    if files.record_name == files.state_name {
+        return Request::Faulty(UsageFault::SameName);
+    }
+    Request::Freeze(FreezeRequest {
+        files,
+        steps: steps as u32,
+        randomness,
+    })
+}
+
+/// The run with these texts that goes on.
+fn thaw_of_texts<'a>(
+    files: ThawFiles<'a>,
+    steps: &str,
+    stream: Option<&'a str>,
+    number: Option<&str>,
+) -> Request<'a>
+    ensures { asked_of result ≡ spec.thaw_of_values (thaw_names_of files.entry)
+        (spec.number_up_to most_steps steps.now)
+        (spec.given_randomness (option_copied stream.entry) (option_copied number.entry)) }
+{
+    let randomness = match given_randomness(stream, number) {
+        Ok(randomness) => randomness,
+        Err(fault) => return Request::Faulty(fault),
+    };
+    match number_up_to(steps, MOST_STEPS) {
+        Some(steps) => Request::Thaw(ThawRequest {
+            files,
+            steps: steps as u32,
+            randomness,
+        }),
+        None => Request::Faulty(UsageFault::WrongNumber),
+    }
+}
+
 /// What the program of this number makes of a record, where it is one.
 fn solo_of_number<'a>(domain: &str, files: RecordRequest<'a>) -> Request<'a>
     ensures { asked_of result ≡ spec.solo_of_number (spec.number_up_to spec.last_domain domain.now)
@@ -252,6 +308,33 @@ fn asked_with<'a>(command: CommandName, matches: &ArgMatches<'a>) -> Request<'a>
                 given_text(matches, "number"),
             )
         }
+        CommandName::Freeze => {
+            let files = FreezeFiles {
+                bundle: needed_text(matches, "BUNDLE"),
+                record_name: needed_text(matches, "RECORD"),
+                state_name: needed_text(matches, "STATE"),
+                vectors_name: needed_text(matches, "ivs"),
+            };
+            freeze_of_texts(
+                files,
+                needed_text(matches, "steps"),
+                given_text(matches, "stream"),
+                given_text(matches, "number"),
+            )
+        }
+        CommandName::Thaw => {
+            let files = ThawFiles {
+                bundle: needed_text(matches, "BUNDLE"),
+                record_name: needed_text(matches, "RECORD"),
+                state_name: needed_text(matches, "STATE"),
+            };
+            thaw_of_texts(
+                files,
+                needed_text(matches, "steps"),
+                given_text(matches, "stream"),
+                given_text(matches, "number"),
+            )
+        }
     }
 }
 
@@ -268,6 +351,8 @@ fn command_named(word: &str) -> Option<CommandName>
         "stats" => Some(CommandName::Stats),
         "upgrade" => Some(CommandName::Upgrade),
         "store" => Some(CommandName::Store),
+        "freeze" => Some(CommandName::Freeze),
+        "thaw" => Some(CommandName::Thaw),
         _ => None,
     }
 }

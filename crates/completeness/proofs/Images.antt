@@ -29,6 +29,8 @@ gens_are_complete S O n name status.ReadFault before after given nothing = absur
 gens_are_complete S O n name status.NoRandom before after given nothing = absurd given
 gens_are_complete S O n name status.BadRecord before after given nothing = absurd given
 gens_are_complete S O n name status.BadStore before after given nothing = absurd given
+gens_are_complete S O n name status.Frozen before after given nothing = absurd given
+gens_are_complete S O n name status.BadState before after given nothing = absurd given
 
 demonstrated : {O : Type 0} (n steps : ℕ) (answer : Status) (before after : Output O) →
     HasDemonstrated n steps answer before after → LacksMemory answer before after ⊎ Demonstrated n steps answer before after
@@ -54,3 +56,5 @@ demos_are_complete O n steps status.BadBundle before after given same = absurd g
 demos_are_complete O n steps status.ReadFault before after given same = absurd given
 demos_are_complete O n steps status.BadRecord before after given same = absurd given
 demos_are_complete O n steps status.BadStore before after given same = absurd given
+demos_are_complete O n steps status.Frozen before after given same = absurd given
+demos_are_complete O n steps status.BadState before after given same = absurd given

@@ -4,6 +4,9 @@ pub mod Runs
 pub mod Views
 pub mod Images
 pub mod Stats
+pub mod Sources
 pub mod Stores
+pub mod Freezes
+pub mod Thaws
 pub mod Upgrades
 pub mod ReadingBack

@@ -18,7 +18,8 @@ use Rattle.program_parts.specs.Outside.{Outside, NothingRose}
 use Rattle.program_parts.specs.Refusal.{status_of_refusal, refusal_line}
 use Rattle.run_command.proofs.PrepareFacts.{run_named}
 use Rattle.completeness.specs.Asked.{IsBundleFile, OnlyLine, WantsMemory}
-use Rattle.completeness.specs.Runs.{IsToldStream, Lacks}
+use Rattle.completeness.specs.Runs.{Lacks}
+use Rattle.program_parts.specs.Streams.{IsToldStream}
 use Rattle.completeness.proofs.Faults.{never_rose, no_fault, same_bundle}
 
 -- What is asked for.
@@ -110,14 +111,29 @@ run_no_store n (Some r) k x names counter steps x' same =
 run_no_store n None k x names counter steps x' same =
     let clash : spec.Stats n k x ≡ spec.Store names counter steps x' = same in cc
 
+run_no_freeze : (n : List ℕ) (r : Option (List ℕ)) (k : ℕ) (x : spec.Randomness) (names : spec.FreezeNames) (steps : ℕ)
+    (x' : spec.Randomness) → spec.asked_run n r k x ≡ spec.Freeze names steps x' → ⊥
+run_no_freeze n (Some r) k x names steps x' same =
+    let clash : spec.Run n r k x ≡ spec.Freeze names steps x' = same in cc
+run_no_freeze n None k x names steps x' same =
+    let clash : spec.Stats n k x ≡ spec.Freeze names steps x' = same in cc
+
+run_no_thaw : (n : List ℕ) (r : Option (List ℕ)) (k : ℕ) (x : spec.Randomness) (names : spec.ThawNames) (steps : ℕ)
+    (x' : spec.Randomness) → spec.asked_run n r k x ≡ spec.Thaw names steps x' → ⊥
+run_no_thaw n (Some r) k x names steps x' same =
+    let clash : spec.Run n r k x ≡ spec.Thaw names steps x' = same in cc
+run_no_thaw n None k x names steps x' same = let clash : spec.Stats n k x ≡ spec.Thaw names steps x' = same in cc
+
 refused : {S O : Type 0} (bundle_name : List ℕ) (record_name : Option (List ℕ)) (steps : ℕ) (from : spec.Randomness)
     (b : Bundle) (s : Random) (answer : Status) (before after : Outside S O) (r : Refusal) →
     IsBundleFile before.files.held bundle_name b → IsToldStream before.files.held from s → NothingRose before after →
     HasCause (spec.asked_run bundle_name record_name steps from) r before.files after.files →
     answer ≡ status_of_refusal r → OnlyLine (refusal_line r) before after →
     WantsMemory answer before after ⊎ OpensNot b s answer before after
-refused {S} {O} n m steps from b s answer before after (refusal.Usage fault) file told nothing cause is line =
+refused {S} {O} n m steps from b s answer before after (refusal.Usage fault) file told nothing (inl cause) is line =
     absurd (run_unfaulty n m steps from fault cause.faulty)
+refused {S} {O} n m steps from b s answer before after (refusal.Usage fault) file told nothing (inr cause) is line =
+    absurd (run_no_thaw n m steps from cause.names cause.steps cause.randomness cause.thaw)
 refused {S} {O} n m steps from b s answer before after (refusal.BadBundle fault) file told nothing cause is line =
     let name : Some n ≡ Some cause.bundle_name = sym (run_named n m steps from) ∙ cause.asks in
     let same : cause.bundle_name ≡ n = cc in
@@ -130,13 +146,21 @@ refused {S} {O} n m steps from b s answer before after refusal.ReadFault file to
     absurd (never_rose _ _ nothing.reading cause.reading)
 refused {S} {O} n m steps from b s answer before after refusal.NoMemory file told nothing cause is line =
     inl (record { status = is; line = line })
-refused {S} {O} n m steps from b s answer before after refusal.NoKey file told nothing cause is line =
+refused {S} {O} n m steps from b s answer before after refusal.NoKey file told nothing (inl cause) is line =
     inr (opens_not n m steps from b s NoKey answer before after file told cause (record { status = is; line = line }))
+refused {S} {O} n m steps from b s answer before after refusal.NoKey file told nothing (inr (inl cause)) is line =
+    absurd (run_no_freeze n m steps from cause.names cause.steps cause.randomness cause.freeze)
+refused {S} {O} n m steps from b s answer before after refusal.NoKey file told nothing (inr (inr cause)) is line =
+    absurd (run_no_thaw n m steps from cause.names cause.steps cause.randomness cause.thaw)
 refused {S} {O} n m steps from b s answer before after refusal.NoPageDraw file told nothing (inl cause) is line =
     inr (opens_not n m steps from b s NoPageDraw answer before after file told cause
     (record { status = is; line = line }))
-refused {S} {O} n m steps from b s answer before after refusal.NoPageDraw file told nothing (inr cause) is line =
+refused {S} {O} n m steps from b s answer before after refusal.NoPageDraw file told nothing (inr (inl cause)) is line =
     absurd (run_no_store n m steps from cause.names cause.counter cause.steps cause.randomness cause.store)
+refused {S} {O} n m steps from b s answer before after refusal.NoPageDraw file told nothing (inr (inr (inl cause))) is line =
+    absurd (run_no_freeze n m steps from cause.names cause.steps cause.randomness cause.freeze)
+refused {S} {O} n m steps from b s answer before after refusal.NoPageDraw file told nothing (inr (inr (inr cause))) is line =
+    absurd (run_no_thaw n m steps from cause.names cause.steps cause.randomness cause.thaw)
 refused {S} {O} n m steps from b s answer before after refusal.NoSuchDomain file told nothing cause is line =
     absurd (run_no_solo n m steps from cause.domain cause.bundle_name cause.record_name cause.solo)
 refused {S} {O} n m steps from b s answer before after refusal.ShortSecret file told nothing cause is line =
@@ -145,6 +169,14 @@ refused {S} {O} n m steps from b s answer before after (refusal.BadStore fault) 
     absurd (run_no_store n m steps from cause.names cause.counter cause.steps cause.randomness cause.store)
 refused {S} {O} n m steps from b s answer before after (refusal.NoRoom domain) file told nothing cause is line =
     absurd (run_no_store n m steps from cause.names cause.counter cause.steps cause.randomness cause.store)
+refused {S} {O} n m steps from b s answer before after (refusal.BadState fault) file told nothing (inl cause) is line =
+    absurd (run_no_thaw n m steps from cause.names cause.steps cause.randomness cause.thaw)
+refused {S} {O} n m steps from b s answer before after (refusal.BadState fault) file told nothing (inr cause) is line =
+    absurd (run_no_thaw n m steps from cause.names cause.steps cause.randomness cause.thaw)
+refused {S} {O} n m steps from b s answer before after (refusal.ChangedDomain domain) file told nothing cause is line =
+    absurd (run_no_thaw n m steps from cause.names cause.steps cause.randomness cause.thaw)
+refused {S} {O} n m steps from b s answer before after (refusal.ChangedFrame frame) file told nothing cause is line =
+    absurd (run_no_thaw n m steps from cause.names cause.steps cause.randomness cause.thaw)
 
 pub run_refused : {S O : Type 0} (bundle_name : List ℕ) (record_name : Option (List ℕ)) (steps : ℕ)
     (from : spec.Randomness) (b : Bundle) (s : Random) (answer : Status) (before after : Outside S O) →

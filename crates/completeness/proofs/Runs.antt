@@ -14,7 +14,8 @@ use Rattle.program_parts.specs.Outside.{Outside, NothingRose}
 use Rattle.run_command.specs.Answering.{HasRun, IsWriteFault}
 use Rattle.run_command.specs.Recording.{IsWritten}
 use Rattle.completeness.specs.Asked.{IsBundleFile, WantsMemory}
-use Rattle.completeness.specs.Runs.{ComesTo, IsToldStream, RunsAreComplete}
+use Rattle.completeness.specs.Runs.{ComesTo, RunsAreComplete}
+use Rattle.program_parts.specs.Streams.{IsToldStream}
 use Rattle.completeness.proofs.Faults.{never_failed, never_rose}
 use Rattle.completeness.proofs.Openings.{OpensNot, asked_is, run_refused}
 
@@ -91,3 +92,6 @@ runs_are_complete S O n r k x status.NoRandom before after (inr given) b s file 
 runs_are_complete S O n r k x status.BadRecord before after given b s file told nothing = absurd given
 runs_are_complete S O n r k x status.BadStore before after given b s file told nothing =
     by_refusal n r k x b s status.BadStore before after file told nothing given
+runs_are_complete S O n r k x status.Frozen before after given b s file told nothing = absurd given
+runs_are_complete S O n r k x status.BadState before after given b s file told nothing =
+    by_refusal n r k x b s status.BadState before after file told nothing given

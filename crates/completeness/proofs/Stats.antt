@@ -10,7 +10,7 @@ use Rattle.program_parts.specs.NoRun.{IsRefused}
 use Rattle.program_parts.specs.Outside.{Outside, NothingRose}
 use Rattle.stats_command.specs.Answering.{HasStats}
 use Rattle.completeness.specs.Asked.{IsBundleFile, WantsMemory}
-use Rattle.completeness.specs.Runs.{IsToldStream}
+use Rattle.program_parts.specs.Streams.{IsToldStream}
 use Rattle.completeness.specs.Stats.{ComesToCounts, ShowsCounts, StatsAreComplete}
 use Rattle.completeness.proofs.Faults.{never_rose}
 use Rattle.completeness.proofs.Openings.{OpensNot, asked_is, run_refused}
@@ -81,3 +81,6 @@ stats_are_complete S O n k x status.NoRandom before after (inr given) b s file t
 stats_are_complete S O n k x status.BadRecord before after given b s file told nothing = absurd given
 stats_are_complete S O n k x status.BadStore before after given b s file told nothing =
     by_refusal n k x b s status.BadStore before after file told nothing given
+stats_are_complete S O n k x status.Frozen before after given b s file told nothing = absurd given
+stats_are_complete S O n k x status.BadState before after given b s file told nothing =
+    by_refusal n k x b s status.BadState before after file told nothing given

@@ -1,22 +1,17 @@
 -- Of the causes of what `store` answers, those of faults do not come if no count rose, and what the files tell is one
 -- run over each contents.
 use native.Mathlib.Omega.{arith}
-use Rattle.std.proofs.Common.{◌≡◌, ◌∙◌, ◌⊎◌, ◌<◌, ◌≤◌, ◌%◌, ℕ, true, List, [], get_or, length, take, Option, Some, None, Result, Ok, Err, refl, sym, ap, subst, inl, inr}
-use Rattle.std.specs.Prelude.{◌≢◌, ◌==◌, ◌||◌, Bool, false, IfSome}
+use Rattle.std.proofs.Common.{◌≡◌, ◌∙◌, ◌⊎◌, ◌<◌, ℕ, List, [], length, take, Option, Some, None, Result, Err, sym, ap, subst, inl, inr}
+use Rattle.std.specs.Prelude.{◌≢◌, IfSome}
 use Rattle.std.specs.Result.{result_map_both}
-use Rattle.std.proofs.lemmas.Bool.{cases_eq, eqb-true}
-use Rattle.cloak_base.specs.Random.{Random}
-use Rattle.cloak_model.specs.declared.fault.StoreFault.{StoreFault}
-use Rattle.cloak_model.specs.declared.image.Bundle.{Bundle}
+use Rattle.std.proofs.lemmas.Bool.{cases_eq}
 use Rattle.cloak_model.specs.Beginning.{Stored, opening_stored}
-use Rattle.cloak_model.specs.Bundle.{IsBundleIn, bundle_bytes, is_version}
 use Rattle.cloak_model.specs.BundleFault.{bundle_fault}
 use Rattle.cloak_model.specs.Opening.{Lack, NoPageDraw, NoRoom, Opened}
 use Rattle.cloak_model.specs.Run.{Run, run_from, run_of}
 use Rattle.cloak_model.specs.StoredFiles.{FileContents, IsStore, StoredFile}
 use Rattle.cloak_model.specs.StoreFault.{store_fault}
 use Rattle.command_words.specs.Command as spec
-use Rattle.guest_bundle.proofs.Only.{one_bundle}
 use Rattle.program_parts.specs.declared.refusal.Refusal.{Refusal}
 use Rattle.program_parts.specs.declared.refusal.Refusal.TheVariants as refusal
 use Rattle.program_parts.specs.declared.status.Status.{Status}
@@ -31,10 +26,11 @@ use Rattle.sealed_store.proofs.SpellsOne.{spells_one}
 use Rattle.store_command.specs.Answering.{HasStored, StoringBrokeOff}
 use Rattle.store_command.specs.Recording.{StoresAll}
 use Rattle.completeness.specs.Asked.{OnlyLine, WantsMemory}
-use Rattle.completeness.specs.Runs.{Lacks, refusal_of_lack}
+use Rattle.completeness.specs.Runs.{Lacks}
 use Rattle.completeness.specs.Stores.{AreTold, ComesToStored, StoresAreComplete}
 use Rattle.completeness.proofs.Faults.{never_failed, never_rose, no_fault}
 use Rattle.completeness.proofs.Openings.{same_stream}
+use Rattle.completeness.proofs.Sources.{one_image}
 
 -- The words.
 
@@ -58,36 +54,15 @@ unfaulty names counter steps from n (Some r) k x same =
 unfaulty names counter steps from n None k x same =
     let clash : spec.Store names counter steps from ≡ spec.Stats n k x = same in absurd cc
 
+no_freeze : (names : spec.StoreNames) (counter steps : ℕ) (from : spec.Randomness) (n : spec.FreezeNames) (k : ℕ)
+    (x : spec.Randomness) → spec.Store names counter steps from ≡ spec.Freeze n k x → ⊥
+no_freeze names counter steps from n k x same = cc
+
+no_thaw : (names : spec.StoreNames) (counter steps : ℕ) (from : spec.Randomness) (n : spec.ThawNames) (k : ℕ)
+    (x : spec.Randomness) → spec.Store names counter steps from ≡ spec.Thaw n k x → ⊥
+no_thaw names counter steps from n k x same = cc
+
 -- What the files tell is one.
-
-version_at : (version : ℕ) (b : Bundle) → get_or (bundle_bytes version b) 8 0 ≡ version % 256
-unfolding bundle_bytes
-version_at version b = refl
-
-either : (a b : Bool) → (a || b) ≡ true → (a ≡ true) ⊎ (b ≡ true)
-either true b is = inl refl
-either false b is = inr is
-
-version_is : (version : ℕ) → is_version version ≡ true → (version ≡ 1) ⊎ (version ≡ 2)
-version_is version known = elim (either (version == 1) (version == 2) known) [
-  | inl one ↦ inl (eqb-true version 1 one)
-  | inr two ↦ inr (eqb-true version 2 two)
-]
-
-one_version : (bytes : List ℕ) (v w : ℕ) (a b : Bundle) → IsBundleIn v bytes a → IsBundleIn w bytes b → w ≡ v
-one_version bytes v w a b first second =
-    let same : w % 256 ≡ v % 256 =
-    sym (version_at w b) ∙ (ap (λ (l : List ℕ). get_or l 8 0) (second.spelled ∙ sym first.spelled) ∙ version_at v a) in
-    elim (version_is v first.known) [
-      | inl one ↦ elim (version_is w second.known) [
-        | inl here ↦ here ∙ sym one
-        | inr there ↦ omega (arith, same, one, there)
-      ]
-      | inr two ↦ elim (version_is w second.known) [
-        | inl here ↦ omega (arith, same, two, here)
-        | inr there ↦ there ∙ sym two
-      ]
-    ]
 
 one_secret : (told : Option (List ℕ)) (file : List ℕ) (s t : given.Secret) → told ≡ Some file →
     s ≡ secret_of (take secret_length file) → IsSecret told t → t ≡ s
@@ -109,13 +84,7 @@ one_table told file mac counter table other none tells spelled old = elim (cases
 one_source : (names : spec.StoreNames) (counter : ℕ) (from : spec.Randomness) (held : List ℕ → Option (List ℕ))
     (s t : StoreSources) → AreTold names counter from held s → AsksStored names counter from held t → t ≡ s
 one_source names counter from held s t told asks =
-    let bytes : t.bytes ≡ s.bytes =
-    sym (subst (λ (o : Option (List ℕ)). IfSome o (λ known. known ≡ t.bytes)) told.bundle asks.bundle.file) in
-    let is : IsBundleIn t.version s.bytes t.bundle =
-    subst (λ (l : List ℕ). IsBundleIn t.version l t.bundle) bytes asks.bundle.is in
-    let version : t.version ≡ s.version = one_version s.bytes s.version t.version s.bundle t.bundle told.is_bundle is in
-    let bundle : t.bundle ≡ s.bundle =
-    one_bundle s.bytes t.bundle s.bundle (t.version, is) (s.version, told.is_bundle) in
+    let image = one_image told.bundle told.is_bundle asks.bundle in
     let secret : t.secret ≡ s.secret =
     one_secret (held names.secret_name) told.secret_file s.secret t.secret told.secret told.is_secret asks.secret in
     let table : t.table ≡ s.table =
@@ -123,9 +92,9 @@ one_source names counter from held s t told asks =
     (subst (λ (x : given.Secret). IsOld (held names.old_name) x.mac counter t.table) secret asks.old) in
     let stream : t.stream ≡ s.stream = same_stream held from s.stream t.stream told.stream asks.stream in
     λ i. record {
-      version = version i;
-      bytes = bytes i;
-      bundle = bundle i;
+      version = image.version i;
+      bytes = image.bytes_are i;
+      bundle = image.bundle i;
       secret = secret i;
       table = table i;
       stream = stream i;
@@ -160,8 +129,10 @@ refused : {S O : Type 0} (names : spec.StoreNames) (counter steps : ℕ) (from :
     NothingRose before after → HasCause (spec.Store names counter steps from) r before.files after.files →
     answer ≡ status_of_refusal r → OnlyLine (refusal_line r) before after →
     Complete names counter steps s answer before after
-refused {S} {O} names counter steps from s answer before after (refusal.Usage fault) told nothing cause is line =
+refused {S} {O} names counter steps from s answer before after (refusal.Usage fault) told nothing (inl cause) is line =
     let clash : spec.Store names counter steps from ≡ spec.Faulty fault = cause.faulty in absurd cc
+refused {S} {O} names counter steps from s answer before after (refusal.Usage fault) told nothing (inr cause) is line =
+    absurd (no_thaw names counter steps from cause.names cause.steps cause.randomness cause.thaw)
 refused {S} {O} names counter steps from s answer before after (refusal.BadBundle fault) told nothing cause is line =
     let name : Some names.bundle ≡ Some cause.bundle_name = cause.asks in
     let same : cause.bundle_name ≡ names.bundle = cc in
@@ -174,12 +145,20 @@ refused {S} {O} names counter steps from s answer before after refusal.ReadFault
     absurd (never_rose _ _ nothing.reading cause.reading)
 refused {S} {O} names counter steps from s answer before after refusal.NoMemory told nothing cause is line =
     inl (record { status = is; line = line })
-refused {S} {O} names counter steps from s answer before after refusal.NoKey told nothing cause is line =
+refused {S} {O} names counter steps from s answer before after refusal.NoKey told nothing (inl cause) is line =
     absurd (unfaulty names counter steps from _ cause.record_name cause.steps _ cause.asks.run)
+refused {S} {O} names counter steps from s answer before after refusal.NoKey told nothing (inr (inl cause)) is line =
+    absurd (no_freeze names counter steps from cause.names cause.steps cause.randomness cause.freeze)
+refused {S} {O} names counter steps from s answer before after refusal.NoKey told nothing (inr (inr cause)) is line =
+    absurd (no_thaw names counter steps from cause.names cause.steps cause.randomness cause.thaw)
 refused {S} {O} names counter steps from s answer before after refusal.NoPageDraw told nothing (inl cause) is line =
     absurd (unfaulty names counter steps from _ cause.record_name cause.steps _ cause.asks.run)
-refused {S} {O} names counter steps from s answer before after refusal.NoPageDraw told nothing (inr cause) is line =
+refused {S} {O} names counter steps from s answer before after refusal.NoPageDraw told nothing (inr (inl cause)) is line =
     lacks names counter steps from s NoPageDraw answer before after told cause (record { status = is; line = line })
+refused {S} {O} names counter steps from s answer before after refusal.NoPageDraw told nothing (inr (inr (inl cause))) is line =
+    absurd (no_freeze names counter steps from cause.names cause.steps cause.randomness cause.freeze)
+refused {S} {O} names counter steps from s answer before after refusal.NoPageDraw told nothing (inr (inr (inr cause))) is line =
+    absurd (no_thaw names counter steps from cause.names cause.steps cause.randomness cause.thaw)
 refused {S} {O} names counter steps from s answer before after refusal.NoSuchDomain told nothing cause is line =
     let clash : spec.Store names counter steps from ≡ spec.Solo cause.domain cause.bundle_name cause.record_name =
     cause.solo in absurd cc
@@ -206,6 +185,14 @@ refused {S} {O} names counter steps from s answer before after (refusal.BadStore
     let clash : None ≡ Some fault = sym right ∙ faulty in absurd cc
 refused {S} {O} names counter steps from s answer before after (refusal.NoRoom domain) told nothing cause is line =
     lacks names counter steps from s (NoRoom domain) answer before after told cause (record { status = is; line = line })
+refused {S} {O} names counter steps from s answer before after (refusal.BadState fault) told nothing (inl cause) is line =
+    absurd (no_thaw names counter steps from cause.names cause.steps cause.randomness cause.thaw)
+refused {S} {O} names counter steps from s answer before after (refusal.BadState fault) told nothing (inr cause) is line =
+    absurd (no_thaw names counter steps from cause.names cause.steps cause.randomness cause.thaw)
+refused {S} {O} names counter steps from s answer before after (refusal.ChangedDomain domain) told nothing cause is line =
+    absurd (no_thaw names counter steps from cause.names cause.steps cause.randomness cause.thaw)
+refused {S} {O} names counter steps from s answer before after (refusal.ChangedFrame frame) told nothing cause is line =
+    absurd (no_thaw names counter steps from cause.names cause.steps cause.randomness cause.thaw)
 
 by_refusal : {S O : Type 0} (names : spec.StoreNames) (counter steps : ℕ) (from : spec.Randomness) (s : StoreSources)
     (answer : Status) (before after : Outside S O) → AreTold names counter from before.files.held s →
@@ -258,3 +245,6 @@ stores_are_complete S O n c k x status.NoRandom before after (inr given) s told 
 stores_are_complete S O n c k x status.BadRecord before after given s told nothing = absurd given
 stores_are_complete S O n c k x status.BadStore before after given s told nothing =
     by_refusal n c k x s status.BadStore before after told nothing given
+stores_are_complete S O n c k x status.Frozen before after given s told nothing = absurd given
+stores_are_complete S O n c k x status.BadState before after given s told nothing =
+    by_refusal n c k x s status.BadState before after told nothing given

@@ -28,7 +28,11 @@ only_memory {S} {O} n m b answer before after file nothing given =
     (λ cause. let clash : spec.Upgrade n m ≡ spec.Solo cause.domain cause.bundle_name cause.record_name = cause.solo in
     absurd cc)
     (λ lack cause. no_run n m cause.asks.bundle_name cause.record_name cause.steps cause.asks.randomness cause.asks.run)
-    (λ names counter steps x is. let clash : spec.Upgrade n m ≡ spec.Store names counter steps x = is in absurd cc)
+    (record {
+      store = λ names counter steps x is. let clash : spec.Upgrade n m ≡ spec.Store names counter steps x = is in absurd cc;
+      freeze = λ names steps x is. let clash : spec.Upgrade n m ≡ spec.Freeze names steps x = is in absurd cc;
+      thaw = λ names steps x is. let clash : spec.Upgrade n m ≡ spec.Thaw names steps x = is in absurd cc;
+    })
     file nothing given
 
 upgraded : {S O : Type 0} (n m : List ℕ) (b : Bundle) (before after : Outside S O) → IsBundleFile before.files.held n b →
@@ -70,3 +74,5 @@ upgrades_are_complete S O n m status.Usage before after given b file nothing = a
 upgrades_are_complete S O n m status.NoRandom before after given b file nothing = absurd given
 upgrades_are_complete S O n m status.BadRecord before after given b file nothing = absurd given
 upgrades_are_complete S O n m status.BadStore before after given b file nothing = absurd given
+upgrades_are_complete S O n m status.Frozen before after given b file nothing = absurd given
+upgrades_are_complete S O n m status.BadState before after given b file nothing = absurd given

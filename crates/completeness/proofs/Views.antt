@@ -160,55 +160,75 @@ shows_all {S} {O} unfit text name items answer before after file g held r =
 
 -- What refuses: nothing but want of memory is left.
 
--- the words do not ask for a run over cloaked files
-abbrev pub AsksNoStore : spec.Asked → Type 0
-AsksNoStore asked =
-    (names : spec.StoreNames) (counter steps : ℕ) (x : spec.Randomness) → asked ≡ spec.Store names counter steps x → ⊥
+-- the words do not ask for a run over cloaked files, and for none that is frozen or goes on
+pub record AsksNoOther (asked : spec.Asked) : Type 0 where
+  pub store : (names : spec.StoreNames) (counter steps : ℕ) (x : spec.Randomness) →
+      asked ≡ spec.Store names counter steps x → ⊥
+  pub freeze : (names : spec.FreezeNames) (steps : ℕ) (x : spec.Randomness) → asked ≡ spec.Freeze names steps x → ⊥
+  pub thaw : (names : spec.ThawNames) (steps : ℕ) (x : spec.Randomness) → asked ≡ spec.Thaw names steps x → ⊥
 
 refused : {S O : Type 0} (asked : spec.Asked) (name : List ℕ) (b : Bundle) (answer : Status) (before after : Outside S O)
     (r : Refusal) → bundle_named asked ≡ Some name →
     ((fault : UsageFault) → asked ≡ spec.Faulty fault → ⊥) →
     (IsNoSuchDomain asked before.files after.files → ⊥) → ((lack : Lack) → IsLack asked lack before.files after.files → ⊥) →
-    AsksNoStore asked →
+    AsksNoOther asked →
     IsBundleFile before.files.held name b → NothingRose before after → HasCause asked r before.files after.files →
     answer ≡ status_of_refusal r → OnlyLine (refusal_line r) before after → WantsMemory answer before after
-refused {S} {O} asked name b answer before after (refusal.Usage fault) named right has lacks unstored file nothing cause is line =
+refused {S} {O} asked name b answer before after (refusal.Usage fault) named right has lacks other file nothing (inl cause) is line =
     absurd (right fault cause.faulty)
-refused {S} {O} asked name b answer before after (refusal.BadBundle fault) named right has lacks unstored file nothing cause is line =
+refused {S} {O} asked name b answer before after (refusal.Usage fault) named right has lacks other file nothing (inr cause) is line =
+    absurd (other.thaw cause.names cause.steps cause.randomness cause.thaw)
+refused {S} {O} asked name b answer before after (refusal.BadBundle fault) named right has lacks other file nothing cause is line =
     let names : Some cause.bundle_name ≡ Some name = sym cause.asks ∙ named in
     let same : cause.bundle_name ≡ name = cc in
     let here : IfSome (before.files.held name) (λ bytes. bundle_fault bytes ≡ Some fault) =
     subst (λ (n : List ℕ). IfSome (before.files.held n) (λ bytes. bundle_fault bytes ≡ Some fault)) same cause.first_fault in
     absurd (no_fault file.bytes b fault file.is
     (subst (λ (t : Option (List ℕ)). IfSome t (λ bytes. bundle_fault bytes ≡ Some fault)) file.told here))
-refused {S} {O} asked name b answer before after refusal.ReadFault named right has lacks unstored file nothing cause is line =
+refused {S} {O} asked name b answer before after refusal.ReadFault named right has lacks other file nothing cause is line =
     absurd (never_rose _ _ nothing.reading cause.reading)
-refused {S} {O} asked name b answer before after refusal.NoMemory named right has lacks unstored file nothing cause is line =
+refused {S} {O} asked name b answer before after refusal.NoMemory named right has lacks other file nothing cause is line =
     record { status = is; line = line }
-refused {S} {O} asked name b answer before after refusal.NoKey named right has lacks unstored file nothing cause is line =
+refused {S} {O} asked name b answer before after refusal.NoKey named right has lacks other file nothing (inl cause) is line =
     absurd (lacks NoKey cause)
-refused {S} {O} asked name b answer before after refusal.NoPageDraw named right has lacks unstored file nothing (inl cause) is line =
+refused {S} {O} asked name b answer before after refusal.NoKey named right has lacks other file nothing (inr (inl cause)) is line =
+    absurd (other.freeze cause.names cause.steps cause.randomness cause.freeze)
+refused {S} {O} asked name b answer before after refusal.NoKey named right has lacks other file nothing (inr (inr cause)) is line =
+    absurd (other.thaw cause.names cause.steps cause.randomness cause.thaw)
+refused {S} {O} asked name b answer before after refusal.NoPageDraw named right has lacks other file nothing (inl cause) is line =
     absurd (lacks NoPageDraw cause)
-refused {S} {O} asked name b answer before after refusal.NoPageDraw named right has lacks unstored file nothing (inr cause) is line =
-    absurd (unstored cause.names cause.counter cause.steps cause.randomness cause.store)
-refused {S} {O} asked name b answer before after refusal.NoSuchDomain named right has lacks unstored file nothing cause is line =
+refused {S} {O} asked name b answer before after refusal.NoPageDraw named right has lacks other file nothing (inr (inl cause)) is line =
+    absurd (other.store cause.names cause.counter cause.steps cause.randomness cause.store)
+refused {S} {O} asked name b answer before after refusal.NoPageDraw named right has lacks other file nothing (inr (inr (inl cause))) is line =
+    absurd (other.freeze cause.names cause.steps cause.randomness cause.freeze)
+refused {S} {O} asked name b answer before after refusal.NoPageDraw named right has lacks other file nothing (inr (inr (inr cause))) is line =
+    absurd (other.thaw cause.names cause.steps cause.randomness cause.thaw)
+refused {S} {O} asked name b answer before after refusal.NoSuchDomain named right has lacks other file nothing cause is line =
     absurd (has cause)
-refused {S} {O} asked name b answer before after refusal.ShortSecret named right has lacks unstored file nothing cause is line =
-    absurd (unstored cause.names cause.counter cause.steps cause.randomness cause.store)
-refused {S} {O} asked name b answer before after (refusal.BadStore fault) named right has lacks unstored file nothing cause is line =
-    absurd (unstored cause.names cause.counter cause.steps cause.randomness cause.store)
-refused {S} {O} asked name b answer before after (refusal.NoRoom domain) named right has lacks unstored file nothing cause is line =
-    absurd (unstored cause.names cause.counter cause.steps cause.randomness cause.store)
+refused {S} {O} asked name b answer before after refusal.ShortSecret named right has lacks other file nothing cause is line =
+    absurd (other.store cause.names cause.counter cause.steps cause.randomness cause.store)
+refused {S} {O} asked name b answer before after (refusal.BadStore fault) named right has lacks other file nothing cause is line =
+    absurd (other.store cause.names cause.counter cause.steps cause.randomness cause.store)
+refused {S} {O} asked name b answer before after (refusal.NoRoom domain) named right has lacks other file nothing cause is line =
+    absurd (other.store cause.names cause.counter cause.steps cause.randomness cause.store)
+refused {S} {O} asked name b answer before after (refusal.BadState fault) named right has lacks other file nothing (inl cause) is line =
+    absurd (other.thaw cause.names cause.steps cause.randomness cause.thaw)
+refused {S} {O} asked name b answer before after (refusal.BadState fault) named right has lacks other file nothing (inr cause) is line =
+    absurd (other.thaw cause.names cause.steps cause.randomness cause.thaw)
+refused {S} {O} asked name b answer before after (refusal.ChangedDomain domain) named right has lacks other file nothing cause is line =
+    absurd (other.thaw cause.names cause.steps cause.randomness cause.thaw)
+refused {S} {O} asked name b answer before after (refusal.ChangedFrame frame) named right has lacks other file nothing cause is line =
+    absurd (other.thaw cause.names cause.steps cause.randomness cause.thaw)
 
 pub by_refusal : {S O : Type 0} (asked : spec.Asked) (name : List ℕ) (b : Bundle) (answer : Status)
     (before after : Outside S O) → bundle_named asked ≡ Some name →
     ((fault : UsageFault) → asked ≡ spec.Faulty fault → ⊥) →
     (IsNoSuchDomain asked before.files after.files → ⊥) → ((lack : Lack) → IsLack asked lack before.files after.files → ⊥) →
-    AsksNoStore asked →
+    AsksNoOther asked →
     IsBundleFile before.files.held name b → NothingRose before after → IsRefused asked answer before after →
     WantsMemory answer before after
-by_refusal {S} {O} asked name b answer before after named right has lacks unstored file nothing given =
-    refused asked name b answer before after given.refused named right has lacks unstored file nothing given.no_run.cause
+by_refusal {S} {O} asked name b answer before after named right has lacks other file nothing given =
+    refused asked name b answer before after given.refused named right has lacks other file nothing given.no_run.cause
     given.status (record { held = given.no_run.held; shown = given.line })
 
 -- `view`
@@ -228,7 +248,11 @@ view_refused {S} {O} n r b answer before after file nothing given =
     absurd cc)
     (λ lack cause. views_no_run n r cause.asks.bundle_name cause.record_name cause.steps cause.asks.randomness
     cause.asks.run)
-    (λ names counter steps x is. let clash : spec.View n r ≡ spec.Store names counter steps x = is in absurd cc)
+    (record {
+      store = λ names counter steps x is. let clash : spec.View n r ≡ spec.Store names counter steps x = is in absurd cc;
+      freeze = λ names steps x is. let clash : spec.View n r ≡ spec.Freeze names steps x = is in absurd cc;
+      thaw = λ names steps x is. let clash : spec.View n r ≡ spec.Thaw names steps x = is in absurd cc;
+    })
     file nothing given
 
 view_names : (n n' r r' : List ℕ) → spec.View n r ≡ spec.View n' r' → (n' ≡ n) × (r' ≡ r)
@@ -270,6 +294,8 @@ views_are_complete S O n r status.NoRandom before after low given b items file t
 views_are_complete S O n r status.BadRecord before after low given b items file there fits nothing =
     inr (viewed n r b items status.BadRecord before after low file there fits nothing given)
 views_are_complete S O n r status.BadStore before after low given b items file there fits nothing = absurd given
+views_are_complete S O n r status.Frozen before after low given b items file there fits nothing = absurd given
+views_are_complete S O n r status.BadState before after low given b items file there fits nothing = absurd given
 
 -- `solo`
 
@@ -307,7 +333,11 @@ solo_refused {S} {O} d n r b p answer before after file there nothing given =
     (has_program d n r b p before.files after.files file there)
     (λ lack cause. solos_no_run d n r cause.asks.bundle_name cause.record_name cause.steps cause.asks.randomness
     cause.asks.run)
-    (λ names counter steps x is. let clash : spec.Solo d n r ≡ spec.Store names counter steps x = is in absurd cc)
+    (record {
+      store = λ names counter steps x is. let clash : spec.Solo d n r ≡ spec.Store names counter steps x = is in absurd cc;
+      freeze = λ names steps x is. let clash : spec.Solo d n r ≡ spec.Freeze names steps x = is in absurd cc;
+      thaw = λ names steps x is. let clash : spec.Solo d n r ≡ spec.Thaw names steps x = is in absurd cc;
+    })
     file nothing given
 
 soloed : {S O : Type 0} (d : ℕ) (n r : List ℕ) (b : Bundle) (p : Program) (items : List Item) (answer : Status)
@@ -358,3 +388,5 @@ solos_are_complete S O d n r status.NoRandom before after low given b p items fi
 solos_are_complete S O d n r status.BadRecord before after low given b p items file has there fits nothing =
     inr (soloed d n r b p items status.BadRecord before after low file has there fits nothing given)
 solos_are_complete S O d n r status.BadStore before after low given b p items file has there fits nothing = absurd given
+solos_are_complete S O d n r status.Frozen before after low given b p items file has there fits nothing = absurd given
+solos_are_complete S O d n r status.BadState before after low given b p items file has there fits nothing = absurd given

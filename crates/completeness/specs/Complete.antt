@@ -3,11 +3,13 @@ use Rattle.command_words.specs.Command as spec
 use Rattle.program_parts.specs.declared.status.Status.{Status}
 use Rattle.program_parts.specs.NoRun.{IsRefused}
 use Rattle.program_parts.specs.Outside.{Outside, NothingRose}
+use Rattle.completeness.specs.Freezes.{CompletesFreeze}
 use Rattle.completeness.specs.Images.{CompletesDemo, CompletesGen}
 use Rattle.completeness.specs.Runs.{CompletesRun}
 use Rattle.completeness.specs.Stats.{CompletesStats}
 use Rattle.completeness.specs.Upgrades.{CompletesUpgrade}
 use Rattle.completeness.specs.Stores.{CompletesStore}
+use Rattle.completeness.specs.Thaws.{CompletesThaw}
 use Rattle.completeness.specs.Views.{CompletesSolo, CompletesView}
 
 -- By what the words ask for: faulty ones are refused with their line.
@@ -27,3 +29,7 @@ IsComplete (spec.Upgrade old_name new_name) answer before after =
     CompletesUpgrade old_name new_name answer before after
 IsComplete (spec.Store names counter steps randomness) answer before after =
     CompletesStore names counter steps randomness answer before after
+IsComplete (spec.Freeze names steps randomness) answer before after =
+    CompletesFreeze names steps randomness answer before after
+IsComplete (spec.Thaw names steps randomness) answer before after =
+    CompletesThaw names steps randomness answer before after

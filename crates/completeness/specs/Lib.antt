@@ -5,5 +5,7 @@ pub mod Images
 pub mod Stats
 pub mod Upgrades
 pub mod Stores
+pub mod Freezes
+pub mod Thaws
 pub mod Complete
 pub mod ReadingBack

@@ -1,6 +1,6 @@
 -- What `run` comes to where no call on files or output fails.
-use Rattle.std.specs.Prelude.{ℕ, ◌≡◌, ◌⊎◌, List, take, Option, Some, Result, Ok, Err}
-use Rattle.cloak_base.specs.Random.{Random, handed, numbered}
+use Rattle.std.specs.Prelude.{ℕ, ◌≡◌, ◌⊎◌, List, Result, Ok, Err}
+use Rattle.cloak_base.specs.Random.{Random}
 use Rattle.cloak_model.specs.declared.image.Bundle.{Bundle}
 use Rattle.cloak_model.specs.Opening.{Lack, NoKey, NoPageDraw, NoRoom}
 use Rattle.cloak_model.specs.Run.{Run, joint_run}
@@ -11,16 +11,11 @@ use Rattle.program_parts.specs.declared.refusal.Refusal.TheVariants as refusal
 use Rattle.program_parts.specs.declared.status.Status.{Status}
 use Rattle.program_parts.specs.Outside.{Outside, NothingRose}
 use Rattle.program_parts.specs.Refusal.{refusal_line, status_of_refusal}
+use Rattle.program_parts.specs.Streams.{IsToldStream}
 use Rattle.run_command.specs.Answering.{RunAnswers}
 use Rattle.run_command.specs.Recording.{IsWritten}
 use Rattle.run_command.specs.Running.{NoClash}
 use Rattle.completeness.specs.Asked.{IsBundleFile, OnlyLine, WantsMemory}
-
--- the stream of a number, or of the first bytes of a file
-abbrev pub IsToldStream : (List ℕ → Option (List ℕ)) → spec.Randomness → Random → Type 0
-IsToldStream held (spec.Numbered number) stream = stream ≡ numbered number
-IsToldStream held (spec.FromFile name) stream =
-    (bytes : List ℕ) × (held name ≡ Some bytes) × (stream ≡ handed (take spec.longest_stream bytes))
 
 abbrev pub refusal_of_lack : Lack → Refusal
 refusal_of_lack NoKey = refusal.NoKey

@@ -12,7 +12,8 @@ use Rattle.run_command.specs.Running.{NoClash, run_status}
 use Rattle.stats_command.specs.Answering.{StatsAnswers}
 use Rattle.stats_command.specs.Showing.{run_lines}
 use Rattle.completeness.specs.Asked.{IsBundleFile, WantsMemory}
-use Rattle.completeness.specs.Runs.{IsToldStream, Lacks}
+use Rattle.completeness.specs.Runs.{Lacks}
+use Rattle.program_parts.specs.Streams.{IsToldStream}
 
 -- No file was written. Where no pages clashed in the run, its lines were shown, and the answer is its status.
 pub record ShowsCounts {S O : Type 0} (b : Bundle) (steps : ℕ) (o : Opened) (answer : Status)

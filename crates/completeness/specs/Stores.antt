@@ -13,7 +13,8 @@ use Rattle.run_command.specs.Running.{NoClash}
 use Rattle.store_command.specs.Answering.{StoreAnswers}
 use Rattle.store_command.specs.Leaving.{LeavesAll, OtherThanStored}
 use Rattle.completeness.specs.Asked.{WantsMemory}
-use Rattle.completeness.specs.Runs.{IsToldStream, Lacks}
+use Rattle.completeness.specs.Runs.{Lacks}
+use Rattle.program_parts.specs.Streams.{IsToldStream}
 
 -- The files tell these bytes, and all of them are right: a bundle, a long enough secret, and, unless the counter is 0, a
 -- store file of this counter.

@@ -1,11 +1,13 @@
 //! Completeness: what a command comes to where no call on files or output fails. The causes that each command's table of
-//! answers gives (`run_command`, `store_command`, `stats_command`, `read_back`, `image_commands`) leave one answer then, or
-//! want of memory before anything is begun: so no body can answer a fault that did not come.
+//! answers gives (`run_command`, `store_command`, `frozen_commands`, `stats_command`, `read_back`, `image_commands`) leave one
+//! answer then, or want of memory before anything is begun: so no body can answer a fault that did not come.
 //!
 //! No body turns a law, so there is no wrong body to refuse here; `cloak_commands` has edits for its clause. These changed
 //! definitions were tried on a copy, and with none of them did the proof of its law go through. Of runs: the line for a
 //! key that is missing is that for the draw of a page. Of views: `solo` shows a record as one that was not read to its
-//! end. Of images: `gen` never lacks memory. Of reading back: `view` shows the parts that the run began with.
+//! end. Of images: `gen` never lacks memory. Of reading back: `view` shows the parts that the run began with. Of freezes: a
+//! run whose vectors are too few has the status of one that was frozen. Of thaws: a stream without the keys is named as one
+//! with too few draws.
 #![tactic(auto)]
 
 ghost use Rattle.completeness.specs.Runs.{RunsAreComplete};
@@ -14,6 +16,8 @@ ghost use Rattle.completeness.specs.Views.{SolosAreComplete, ViewsAreComplete};
 ghost use Rattle.completeness.specs.ReadingBack.{RunsAreSoloed, RunsAreViewed};
 ghost use Rattle.completeness.specs.Images.{DemosAreComplete, GensAreComplete};
 ghost use Rattle.completeness.specs.Stores.{StoresAreComplete};
+ghost use Rattle.completeness.specs.Freezes.{FreezesAreComplete};
+ghost use Rattle.completeness.specs.Thaws.{ThawsAreComplete};
 ghost use Rattle.completeness.specs.Upgrades.{UpgradesAreComplete};
 
 use outside_io::{Shelf, Sink};
@@ -27,6 +31,18 @@ pub fn law_of_complete_runs<S: Shelf, O: Sink>()
 /// for. It does nothing: its contract is the law.
 pub fn law_of_complete_stores<S: Shelf, O: Sink>()
     ensures { StoresAreComplete S O }
+{}
+
+/// If no call fails, `freeze` comes to what the opening and the joint run say, with these vectors. It does nothing: its
+/// contract is the law.
+pub fn law_of_complete_freezes<S: Shelf, O: Sink>()
+    ensures { FreezesAreComplete S O }
+{}
+
+/// If no call fails, `thaw` comes to what the tests of the state say, and the rest of each run that can go on from it. It does
+/// nothing: its contract is the law.
+pub fn law_of_complete_thaws<S: Shelf, O: Sink>()
+    ensures { ThawsAreComplete S O }
 {}
 
 /// Where no call fails, `stats` comes to what the opening, the joint run and its counts say. It does nothing: its

@@ -22,7 +22,7 @@ ghost use Rattle.frozen_law.specs.Streams.{RunsKeepStreams};
 ghost use Rattle.frozen_law.specs.Violations.{EndsAreInRange};
 
 /// A state with which a run is frozen is in range, and its machine can go on. It does nothing: its contract is the law.
-pub fn law_of_frozen_states()
+pub fn law_of_going_on()
     ensures { FrozenStatesGoOn }
 {}
 

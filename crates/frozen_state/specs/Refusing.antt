@@ -3,10 +3,13 @@
 use Rattle.std.specs.Prelude.{ℕ, ◌≡◌, ◌<◌, ◌+◌, List, ◌++◌, length, take, All, slice_get, slice_index_or, is_some, true, IfSome, IsSomeAnd, Option, Some, None}
 use Rattle.std.specs.List.{flat_map}
 use Rattle.sha2.specs.Sha256.{sha256}
+use Rattle.cloak_base.specs.Random.{Random}
 use Rattle.cloak_base.specs.declared.names.PageId.{PageId}
+use Rattle.cloak_model.specs.declared.image.Bundle.{Bundle}
 use Rattle.cloak_model.specs.Chain.{cbc}
 use Rattle.cloak_model.specs.DomainState.{Control}
 use Rattle.cloak_model.specs.Ledger.{Keys, domain_key}
+use Rattle.cloak_model.specs.Opening.{drawn_keys, key_count}
 use Rattle.cloak_model.specs.Resources.{Resources, resource_at}
 use Rattle.resource_map.specs.Kept.{IsInUse}
 use Rattle.frozen_state.specs.declared.frozen.Frozen.{Frozen}
@@ -16,6 +19,7 @@ use Rattle.frozen_state.specs.declared.frozen.FrozenPage.{FrozenPage}
 use Rattle.frozen_state.specs.DomainPage.{IsProgram, domain_page}
 use Rattle.frozen_state.specs.FrozenState.{domain_bytes, maybe_word, violation_bytes}
 use Rattle.frozen_state.specs.Ranges.{owed_page}
+use Rattle.frozen_state.specs.Thawing.{keys_and_rest}
 
 -- what it shows of a domain and of a frame has the digest that stands beside it
 abbrev pub IsWholeDomain : FrozenDomain → Type 0
@@ -59,3 +63,30 @@ pub record IsFirstWrong (keys : Keys) (f : Frozen) (at : ℕ) : Type 0 where
   pub offset : at ≡ page_offset f d shown
   pub wrong : (control : Control) → IsProgramOf keys f d shown control → ⊥
   pub earlier : (e : ℕ) → e < d → IfSome (slice_get f.domains e) (λ domain. (control : Control) × IsProgramOf keys f e domain control)
+
+-- The tests of a state, by what they find.
+
+-- the stream does not hold the keys
+abbrev pub LacksKeys : Bundle → Random → Type 0
+LacksKeys b stream = drawn_keys (key_count b.programs) stream ≡ None
+
+-- after them it has fewer draws than were made
+abbrev pub LacksDraws : Bundle → Random → Frozen → Type 0
+LacksDraws b stream f =
+    (is_some (drawn_keys (key_count b.programs) stream) ≡ true) × (keys_and_rest b f.draws stream ≡ None)
+
+-- a cause under the keys, if the stream has them and the draws that were made
+abbrev pub UnderKeys : Bundle → Random → Frozen → (Keys → Type 0) → Type 0
+UnderKeys b stream f P = IsSomeAnd (keys_and_rest b f.draws stream) (λ drawn. P drawn.0)
+
+abbrev pub HasChangedDomain : Bundle → Random → Frozen → ℕ → Type 0
+HasChangedDomain b stream f d = UnderKeys b stream f (λ keys. IsFirstChanged IsWholeDomain f.domains d)
+
+abbrev pub HasChangedFrame : Bundle → Random → Frozen → ℕ → Type 0
+HasChangedFrame b stream f n =
+    UnderKeys b stream f (λ keys. All IsWholeDomain f.domains × IsFirstChanged IsWholeFrame f.frames n)
+
+-- the page of a domain, which begins at this offset of the file, is that of no program
+abbrev pub HasWrongPage : Bundle → Random → Frozen → ℕ → Type 0
+HasWrongPage b stream f at =
+    UnderKeys b stream f (λ keys. All IsWholeDomain f.domains × (All IsWholeFrame f.frames × IsFirstWrong keys f at))

@@ -35,6 +35,9 @@ refused old_name new_name refusal.NoSuchDomain before after is given = absurd is
 refused old_name new_name refusal.ShortSecret before after is given = absurd is
 refused old_name new_name (refusal.BadStore fault) before after is given = absurd is
 refused old_name new_name (refusal.NoRoom domain) before after is given = absurd is
+refused old_name new_name (refusal.BadState fault) before after is given = absurd is
+refused old_name new_name (refusal.ChangedDomain domain) before after is given = absurd is
+refused old_name new_name (refusal.ChangedFrame frame) before after is given = absurd is
 
 pub upgrade_refuses : {S O : Type 0} {old_name new_name : List ℕ} {r : Refusal} {before after : Outside S O}
     {given : Status} → IsUnread r → NoRun (spec.Upgrade old_name new_name) r before.files after.files →
@@ -93,6 +96,9 @@ not_made old_name new_name b refusal.NoSuchDomain made file files low refuses = 
 not_made old_name new_name b refusal.ShortSecret made file files low refuses = absurd made
 not_made old_name new_name b (refusal.BadStore fault) made file files low refuses = absurd made
 not_made old_name new_name b (refusal.NoRoom domain) made file files low refuses = absurd made
+not_made old_name new_name b (refusal.BadState fault) made file files low refuses = absurd made
+not_made old_name new_name b (refusal.ChangedDomain domain) made file files low refuses = absurd made
+not_made old_name new_name b (refusal.ChangedFrame frame) made file files low refuses = absurd made
 
 -- It was written, or not, seen from before the bundle was read.
 
@@ -153,3 +159,5 @@ upgrades new_name before mid out after b file fits held reading writing status.N
 upgrades new_name before mid out after b file fits held reading writing status.NoRandom w = absurd w
 upgrades new_name before mid out after b file fits held reading writing status.BadRecord w = absurd w
 upgrades new_name before mid out after b file fits held reading writing status.BadStore w = absurd w
+upgrades new_name before mid out after b file fits held reading writing status.Frozen w = absurd w
+upgrades new_name before mid out after b file fits held reading writing status.BadState w = absurd w

@@ -19,7 +19,7 @@ use Rattle.protect_meta.specs.Table.{domains_of, meta_at}
 use Rattle.shadow_fold.specs.Table as shadow
 use Rattle.frozen_state.specs.Continuing.{without_past}
 use Rattle.frozen_state.specs.Ranges.{IsFrozenHart, IsPage, owed_page}
-use Rattle.frozen_state.specs.Refusing.{IsFirstChanged, IsFirstWrong, IsProgramOf, IsWholeDomain, IsWholeFrame}
+use Rattle.frozen_state.specs.Refusing.{IsFirstChanged, IsFirstWrong, IsProgramOf, IsWholeDomain, IsWholeFrame, UnderKeys}
 use Rattle.frozen_state.specs.Thawing.{CanGoOn, keys_and_rest}
 use Rattle.frozen_state.specs.declared.frozen.Frozen.{Frozen}
 use Rattle.frozen_state.specs.declared.frozen.FrozenDomain.{FrozenDomain}
@@ -36,7 +36,7 @@ use Rattle.hypercalls.specs.declared.domain.Domain.{Domain}
 use Rattle.hypercalls.specs.Standing.{control_of}
 use Rattle.joint_machine.specs.Freezing.{AreOwedOrOutside}
 use Rattle.joint_machine.specs.Standing.{StandsForJoint}
-use Rattle.joint_machine.specs.Thawing.{AreFilled, AreHarts, AreThawedDomains, AreThawedFrames, FillsFrames, IsFaultUnder, IsThawedFrame, IsThawedPager, Restores, IsDomainFault, IsThawFault, ThawsJoint, ThawsUnder, UnderKeys}
+use Rattle.joint_machine.specs.Thawing.{AreFilled, AreHarts, AreThawedDomains, AreThawedFrames, FillsFrames, IsFaultUnder, IsThawedFrame, IsThawedPager, Restores, IsDomainFault, IsThawFault, ThawsJoint, ThawsUnder}
 use Rattle.joint_machine.specs.declared.joint.Joint.{Joint}
 use Rattle.joint_machine.specs.declared.thaw_fault.ThawFault.{ThawFault}
 use Rattle.joint_machine.specs.declared.thaw_fault.ThawFault.TheVariants as fault

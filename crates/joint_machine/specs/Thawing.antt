@@ -1,5 +1,5 @@
 -- How a machine is thawed.
-use Rattle.std.specs.Prelude.{ℕ, ◌≡◌, ◌<◌, ◌%◌, true, List, [], ◌∷◌, All, length, slice_get, slice_index, slice_index_or, is_some, IfSome, IsSomeAnd, Option, Some, None, if◌then◌else◌}
+use Rattle.std.specs.Prelude.{ℕ, ◌≡◌, ◌<◌, ◌%◌, true, List, [], ◌∷◌, All, length, slice_get, slice_index, slice_index_or, is_some, IfSome, Option, Some, None, if◌then◌else◌}
 use Rattle.cloak_base.specs.Pages.{same_page}
 use Rattle.cloak_base.specs.Random.{Random}
 use Rattle.cloak_base.specs.declared.causes.Violation.{Violation}
@@ -10,14 +10,13 @@ use Rattle.cloak_model.specs.declared.image.Bundle.{Bundle}
 use Rattle.cloak_model.specs.DomainState as program
 use Rattle.cloak_model.specs.Hart.{Hart}
 use Rattle.cloak_model.specs.Ledger.{Keys}
-use Rattle.cloak_model.specs.Opening.{drawn_keys, key_count}
 use Rattle.cloak_model.specs.Parts as model
 use Rattle.cloak_model.specs.Resources.{Resources}
 use Rattle.resource_map.specs.Kept.{IsInUse}
 use Rattle.page_states.specs.Opening.{IsPlain}
 use Rattle.protect_meta.specs.Table.{domains_of, meta_at}
 use Rattle.frozen_state.specs.Continuing.{without_past}
-use Rattle.frozen_state.specs.Refusing.{IsFirstChanged, IsFirstWrong, IsProgramOf, IsWholeDomain, IsWholeFrame, LiesIn}
+use Rattle.frozen_state.specs.Refusing.{HasChangedDomain, HasChangedFrame, HasWrongPage, IsFirstChanged, IsFirstWrong, IsProgramOf, IsWholeDomain, IsWholeFrame, LacksDraws, LacksKeys, LiesIn}
 use Rattle.frozen_state.specs.Ranges.{has_only, kept_bits, owed_page}
 use Rattle.frozen_state.specs.Thawing.{CanGoOn, IsHart, keys_and_rest}
 use Rattle.frozen_state.specs.declared.frozen.Frozen.{Frozen}
@@ -186,18 +185,11 @@ pub record ThawsJoint (b : Bundle) (stream : Random) (f : Frozen) (joint : Joint
   pub thawable : IsThawable keys f
   pub stands : (j : model.Joint) → CanGoOn b stream f j → StandsForJoint joint (without_past j)
 
--- a cause under the keys, if the stream has them and the draws that were made
-abbrev pub UnderKeys : Bundle → Random → Frozen → (Keys → Type 0) → Type 0
-UnderKeys b stream f P = IsSomeAnd (keys_and_rest b f.draws stream) (λ drawn. P drawn.0)
-
 -- why there is no machine: the first test that fails
 abbrev pub IsThawFault : Bundle → Random → Frozen → ThawFault → Type 0
-IsThawFault b stream f fault.NoKey = drawn_keys (key_count b.programs) stream ≡ None
-IsThawFault b stream f fault.NoRandom =
-    (is_some (drawn_keys (key_count b.programs) stream) ≡ true) × (keys_and_rest b f.draws stream ≡ None)
-IsThawFault b stream f (fault.Domain d) = UnderKeys b stream f (λ keys. IsFirstChanged IsWholeDomain f.domains d)
-IsThawFault b stream f (fault.Frame n) =
-    UnderKeys b stream f (λ keys. All IsWholeDomain f.domains × IsFirstChanged IsWholeFrame f.frames n)
-IsThawFault b stream f (fault.Form at) =
-    UnderKeys b stream f (λ keys. All IsWholeDomain f.domains × (All IsWholeFrame f.frames × IsFirstWrong keys f at))
+IsThawFault b stream f fault.NoKey = LacksKeys b stream
+IsThawFault b stream f fault.NoRandom = LacksDraws b stream f
+IsThawFault b stream f (fault.Domain d) = HasChangedDomain b stream f d
+IsThawFault b stream f (fault.Frame n) = HasChangedFrame b stream f n
+IsThawFault b stream f (fault.Form at) = HasWrongPage b stream f at
 IsThawFault b stream f fault.NoMemory = Unit {0}

@@ -1,5 +1,5 @@
 //! A machine that is frozen: what it goes on with later, without a plain byte of any program.
-ghost use Rattle.std.specs.Prelude.{◌≡◌, ◌≤◌, ◌<◌, ◌+◌, ◌*◌, ◌++◌, ℕ, Bool, [], false, IsTrue, length, map, option_map, slice_index_or, vec_capacity};
+ghost use Rattle.std.specs.Prelude.{◌≡◌, ◌≤◌, ◌<◌, ◌+◌, ◌*◌, ◌++◌, ℕ, Bool, [], false, IfSome, IsTrue, length, map, option_map, slice_index_or, vec_capacity};
 ghost use Rattle.cloak_base.specs.declared.names.PageId.{PageId as AnyPage};
 ghost use Rattle.cloak_model.specs.Cloaking.{CloakedMemory, owed_in};
 ghost use Rattle.cloak_model.specs.DomainState as program;
@@ -256,7 +256,8 @@ fn freeze_recorded(pager: &Pager, domains: u32, room: Vec<FrozenPage>) -> Vec<Fr
     requires domains { domains ≡ domains_of pager.now.table }
     requires empty { room.items ≡ [] }
     requires room { domains * 16384 ≤ vec_capacity room }
-    ensures { result.items ≡ pages_known pager.now.table (pages_of_domains domains) }
+    ensures known { result.items ≡ pages_known pager.now.table (pages_of_domains domains) }
+    ensures few { length result.items ≤ domains * 16384 }
 {
     let mut frozen = room;
     for domain in 0..domains {
@@ -289,9 +290,10 @@ impl Joint {
     /// resealed before, and nothing is drawn of the run's stream. No memory is taken: the state has the memory of the room
     /// and of the disk. After a draw that was missing nothing is told, since newest bytes of a page were lost.
     pub fn freeze(self, steps: u32, ivs: &mut Stream, room: FrozenRoom) -> Option<Frozen>
-        ensures { (j : model.Joint) → StandsForJoint self j → j.memory.ledger.missed ≡ false →
+        ensures state { (j : model.Joint) → StandsForJoint self j → j.memory.ledger.missed ≡ false →
             HasRoom (length j.harts) (length j.memory.ram) (length j.domains) room →
             result ≡ frozen.frozen_of j steps ivs.old }
+        ensures few { IfSome result (λ f. length f.recorded ≤ 65536) }
     {
         let Joint {
             harts,

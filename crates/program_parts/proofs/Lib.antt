@@ -4,3 +4,4 @@ pub mod FileFacts
 pub mod PutFacts
 pub mod RefusalFacts
 pub mod Refused
+pub mod StreamFacts

@@ -56,6 +56,9 @@ no_bundle {S} {asked} {name} refusal.NoSuchDomain before after asks reads low he
 no_bundle {S} {asked} {name} refusal.ShortSecret before after asks reads low held writing = absurd reads
 no_bundle {S} {asked} {name} (refusal.BadStore fault) before after asks reads low held writing = absurd reads
 no_bundle {S} {asked} {name} (refusal.NoRoom domain) before after asks reads low held writing = absurd reads
+no_bundle {S} {asked} {name} (refusal.BadState fault) before after asks reads low held writing = absurd reads
+no_bundle {S} {asked} {name} (refusal.ChangedDomain domain) before after asks reads low held writing = absurd reads
+no_bundle {S} {asked} {name} (refusal.ChangedFrame frame) before after asks reads low held writing = absurd reads
 
 -- a reason for which a bundle is not read
 abbrev pub IsUnread : Refusal → Type 0
@@ -75,6 +78,9 @@ unread refusal.NoSuchDomain told m n reads = absurd reads
 unread refusal.ShortSecret told m n reads = absurd reads
 unread (refusal.BadStore fault) told m n reads = absurd reads
 unread (refusal.NoRoom domain) told m n reads = absurd reads
+unread (refusal.BadState fault) told m n reads = absurd reads
+unread (refusal.ChangedDomain domain) told m n reads = absurd reads
+unread (refusal.ChangedFrame frame) told m n reads = absurd reads
 
 -- a file was not read, after the bundle
 pub no_file : {S : Type 0} (A : Type 0) {asked : spec.Asked} {name : List ℕ} (r : Refusal) (before after : FilesOutside S) (reading : ℕ) →
@@ -96,3 +102,6 @@ no_file {S} A {asked} {name} refusal.NoSuchDomain before after reading asks same
 no_file {S} A {asked} {name} refusal.ShortSecret before after reading asks same reads low held writing = absurd reads
 no_file {S} A {asked} {name} (refusal.BadStore fault) before after reading asks same reads low held writing = absurd reads
 no_file {S} A {asked} {name} (refusal.NoRoom domain) before after reading asks same reads low held writing = absurd reads
+no_file {S} A {asked} {name} (refusal.BadState fault) before after reading asks same reads low held writing = absurd reads
+no_file {S} A {asked} {name} (refusal.ChangedDomain domain) before after reading asks same reads low held writing = absurd reads
+no_file {S} A {asked} {name} (refusal.ChangedFrame frame) before after reading asks same reads low held writing = absurd reads

@@ -6,4 +6,6 @@ pub mod Refusing
 pub mod Bundles
 pub mod Streams
 pub mod Storing
+pub mod Freezing
+pub mod Thawing
 pub mod NoRun

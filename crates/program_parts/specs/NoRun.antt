@@ -8,6 +8,9 @@ use Rattle.cloak_model.specs.BundleFault.{bundle_fault}
 use Rattle.cloak_model.specs.Opening.{Lack, NoKey, NoPageDraw, NoRoom, opening}
 use Rattle.command_words.specs.declared.usage_fault.UsageFault.{UsageFault}
 use Rattle.command_words.specs.Command as spec
+use Rattle.frozen_state.specs.declared.fault.FrozenFault.{FrozenFault}
+use Rattle.frozen_state.specs.declared.fault.FrozenFault.TheVariants as state
+use Rattle.frozen_state.specs.Refusing.{HasChangedDomain, HasChangedFrame, HasWrongPage, LacksDraws, LacksKeys}
 use Rattle.program_parts.specs.declared.refusal.Refusal.{Refusal}
 use Rattle.program_parts.specs.declared.refusal.Refusal.TheVariants as refusal
 use Rattle.program_parts.specs.declared.status.Status.{Status}
@@ -15,8 +18,10 @@ use Rattle.program_parts.specs.declared.status.Status.TheVariants as status
 use Rattle.program_parts.specs.Bundles.{IsInFile}
 use Rattle.program_parts.specs.Outside.{FilesOutside, Outside, Raised}
 use Rattle.program_parts.specs.Refusal.{status_of_refusal, refusal_line}
+use Rattle.program_parts.specs.Freezing.{IsFreezeLack}
 use Rattle.program_parts.specs.Storing.{IsShortSecret, IsBadStore, IsStoredLack}
 use Rattle.program_parts.specs.Streams.{IsStream}
+use Rattle.program_parts.specs.Thawing.{IsBadState, IsTooLong, IsUnthawed}
 
 -- What is asked for.
 
@@ -31,6 +36,8 @@ bundle_named (spec.Demo number steps) = None
 bundle_named (spec.Stats bundle steps randomness) = Some bundle
 bundle_named (spec.Upgrade old_name new_name) = Some old_name
 bundle_named (spec.Store names counter steps randomness) = Some names.bundle
+bundle_named (spec.Freeze names steps randomness) = Some names.bundle
+bundle_named (spec.Thaw names steps randomness) = Some names.bundle
 
 abbrev pub AsksFile : spec.Asked → List ℕ → Type 0
 AsksFile asked bundle_name = bundle_named asked ≡ Some bundle_name
@@ -90,18 +97,41 @@ pub record IsNoSuchDomain {S : Type 0} (asked : spec.Asked) (before after : File
   pub too_few : length bundle.programs ≤ domain
   pub reading : after.reading ≡ before.reading
 
+-- the stream holds no key: of a run that begins, or of one that goes on
+abbrev pub LacksKey : {S : Type 0} → spec.Asked → FilesOutside S → FilesOutside S → Type 0
+LacksKey asked before after =
+    IsLack asked NoKey before after ⊎ (IsFreezeLack asked NoKey before after
+    ⊎ IsUnthawed asked (λ b s f. LacksKeys b s) before after)
+
+-- a page found no draw, or a run that goes on has fewer draws than it made
+abbrev pub LacksPageDraw : {S : Type 0} → spec.Asked → FilesOutside S → FilesOutside S → Type 0
+LacksPageDraw asked before after =
+    IsLack asked NoPageDraw before after ⊎ (IsStoredLack asked NoPageDraw before after
+    ⊎ (IsFreezeLack asked NoPageDraw before after ⊎ IsUnthawed asked LacksDraws before after))
+
+-- the file is no frozen state of the image, or the page of a domain, which begins at this offset, is that of no program
+abbrev pub HasBadState : {S : Type 0} → spec.Asked → FrozenFault → FilesOutside S → FilesOutside S → Type 0
+HasBadState asked fault before after =
+    IsBadState asked fault before after
+    ⊎ IsUnthawed asked (λ b s f. (at : ℕ) × (fault ≡ state.Form at) × HasWrongPage b s f at) before after
+
 abbrev pub HasCause : {S : Type 0} → spec.Asked → Refusal → FilesOutside S → FilesOutside S → Type 0
-HasCause asked (refusal.Usage fault) before after = IsUsage asked fault before after
+HasCause asked (refusal.Usage fault) before after =
+    IsUsage asked fault before after ⊎ IsTooLong asked fault before after
 HasCause asked (refusal.BadBundle fault) before after = IsBadBundle asked fault before after
 HasCause asked refusal.ReadFault before after = IsReadFault asked before after
 HasCause asked refusal.NoMemory before after = IsNoMemory before after
-HasCause asked refusal.NoKey before after = IsLack asked NoKey before after
-HasCause asked refusal.NoPageDraw before after =
-    IsLack asked NoPageDraw before after ⊎ IsStoredLack asked NoPageDraw before after
+HasCause asked refusal.NoKey before after = LacksKey asked before after
+HasCause asked refusal.NoPageDraw before after = LacksPageDraw asked before after
 HasCause asked refusal.NoSuchDomain before after = IsNoSuchDomain asked before after
 HasCause asked refusal.ShortSecret before after = IsShortSecret asked before after
 HasCause asked (refusal.BadStore fault) before after = IsBadStore asked fault before after
 HasCause asked (refusal.NoRoom domain) before after = IsStoredLack asked (NoRoom domain) before after
+HasCause asked (refusal.BadState fault) before after = HasBadState asked fault before after
+HasCause asked (refusal.ChangedDomain domain) before after =
+    IsUnthawed asked (λ b s f. HasChangedDomain b s f domain) before after
+HasCause asked (refusal.ChangedFrame frame) before after =
+    IsUnthawed asked (λ b s f. HasChangedFrame b s f frame) before after
 
 -- There is no run for this reason, and no file was written.
 pub record NoRun {S : Type 0} (asked : spec.Asked) (refused : Refusal) (before after : FilesOutside S) : Type 0 where

@@ -5,6 +5,8 @@ use Rattle.cloak_model.specs.declared.fault.BundleFault.TheVariants as fault
 use Rattle.cloak_model.specs.declared.fault.StoreFault.{StoreFault}
 use Rattle.cloak_model.specs.declared.fault.StoreFault.TheVariants as store
 use Rattle.command_words.specs.Command.{usage_line}
+use Rattle.frozen_state.specs.declared.fault.FrozenFault.{FrozenFault}
+use Rattle.frozen_state.specs.declared.fault.FrozenFault.TheVariants as state
 use Rattle.program_parts.specs.declared.refusal.Refusal.{Refusal}
 use Rattle.program_parts.specs.declared.refusal.Refusal.TheVariants as refusal
 use Rattle.program_parts.specs.declared.status.Status.{Status}
@@ -21,6 +23,9 @@ status_of_refusal refusal.NoSuchDomain = status.Usage
 status_of_refusal refusal.ShortSecret = status.BadStore
 status_of_refusal (refusal.BadStore fault) = status.BadStore
 status_of_refusal (refusal.NoRoom domain) = status.BadStore
+status_of_refusal (refusal.BadState fault) = status.BadState
+status_of_refusal (refusal.ChangedDomain domain) = status.BadState
+status_of_refusal (refusal.ChangedFrame frame) = status.BadState
 
 -- a line that ends with a number
 abbrev pub numbered_line : List ℕ → ℕ → List ℕ
@@ -44,6 +49,14 @@ store_line store.Seal = codes "store: seal\n"
 store_line (store.Counter counter) = numbered_line (codes "store: counter ") counter
 store_line (store.Form at) = numbered_line (codes "store: form at ") at
 
+abbrev pub state_line : FrozenFault → List ℕ
+state_line (state.Short n) = numbered_line (codes "state: short at ") n
+state_line state.BadMagic = codes "state: magic\n"
+state_line state.Digest = codes "state: digest\n"
+state_line state.OtherBundle = codes "state: bundle\n"
+state_line (state.Form at) = numbered_line (codes "state: form at ") at
+state_line state.NoMemory = codes "no memory\n"
+
 unfoldable pub refusal_line : Refusal → List ℕ
 refusal_line (refusal.Usage fault) = usage_line fault
 refusal_line (refusal.BadBundle fault) = bundle_line fault
@@ -55,3 +68,6 @@ refusal_line refusal.NoSuchDomain = codes "usage: no such domain\n"
 refusal_line refusal.ShortSecret = codes "secret: short\n"
 refusal_line (refusal.BadStore fault) = store_line fault
 refusal_line (refusal.NoRoom domain) = numbered_line (codes "store: no room ") domain
+refusal_line (refusal.BadState fault) = state_line fault
+refusal_line (refusal.ChangedDomain domain) = numbered_line (codes "state: changed domain ") domain
+refusal_line (refusal.ChangedFrame frame) = numbered_line (codes "state: changed frame ") frame

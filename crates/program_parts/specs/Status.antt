@@ -14,3 +14,5 @@ status_number status.NoMemory = 6
 status_number status.NoRandom = 7
 status_number status.BadRecord = 8
 status_number status.BadStore = 10
+status_number status.Frozen = 11
+status_number status.BadState = 12

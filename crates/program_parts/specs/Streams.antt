@@ -1,5 +1,5 @@
 -- The random stream of a run.
-use Rattle.std.specs.Prelude.{ℕ, ◌≡◌, ◌≤◌, List, length, take, Option, IfSome}
+use Rattle.std.specs.Prelude.{ℕ, ◌≡◌, ◌≤◌, List, length, take, Option, Some, IfSome}
 use Rattle.cloak_base.specs.Random.{Random, handed, numbered}
 use Rattle.command_words.specs.Command as spec
 
@@ -13,3 +13,9 @@ pub record IsOfFile (told : Option (List ℕ)) (stream : Random) : Type 0 where
 abbrev pub IsStream : (List ℕ → Option (List ℕ)) → spec.Randomness → Random → Type 0
 IsStream held (spec.Numbered number) stream = stream ≡ numbered number
 IsStream held (spec.FromFile name) stream = IsOfFile (held name) stream
+
+-- the stream of a number, or of the first bytes of a file
+abbrev pub IsToldStream : (List ℕ → Option (List ℕ)) → spec.Randomness → Random → Type 0
+IsToldStream held (spec.Numbered number) stream = stream ≡ numbered number
+IsToldStream held (spec.FromFile name) stream =
+    (bytes : List ℕ) × (held name ≡ Some bytes) × (stream ≡ handed (take spec.longest_stream bytes))

@@ -4,12 +4,13 @@ ghost use Rattle.outside_io.specs.Sinks.{PutsTo};
 ghost use Rattle.command_words.specs.Command.{usage_line};
 ghost use Rattle.program_parts.specs.Outside.{output};
 ghost use Rattle.program_parts.specs.Refusing.{Refuses};
-ghost use Rattle.program_parts.specs.Refusal.{bundle_line, numbered_line, refusal_line, status_of_refusal, store_line};
+ghost use Rattle.program_parts.specs.Refusal.{bundle_line, numbered_line, refusal_line, state_line, status_of_refusal, store_line};
 
 use crate::status::Status;
 use cloak_base::Failed;
 use cloak_model::{BundleFault, StoreFault};
 use command_words::UsageFault;
+use frozen_state::FrozenFault;
 use outside_io::{Sink, put_all};
 
 /// Why there is no run.
@@ -32,6 +33,12 @@ pub enum Refusal {
     BadStore(StoreFault),
     /// There is no room for a cloaked file of this domain.
     NoRoom(u32),
+    /// The file that was to be a frozen state of the bundle is none.
+    BadState(FrozenFault),
+    /// In a frozen state the page of this domain has not its digest.
+    ChangedDomain(u32),
+    /// In a frozen state the page that this frame is owed has not its digest.
+    ChangedFrame(u32),
 }
 
 /// The status that a refusal is answered with.
@@ -45,6 +52,8 @@ fn status(refusal: &Refusal) -> Status
         Refusal::NoMemory => Status::NoMemory,
         Refusal::NoKey | Refusal::NoPageDraw => Status::NoRandom,
         Refusal::ShortSecret | Refusal::BadStore(_) | Refusal::NoRoom(_) => Status::BadStore,
+        Refusal::BadState(_) | Refusal::ChangedDomain(_) | Refusal::ChangedFrame(_) =>
+            Status::BadState,
     }
 }
 
@@ -115,6 +124,20 @@ fn show_store_fault<O: Sink>(out: &mut O, fault: StoreFault) -> Result<(), Faile
     }
 }
 
+/// Shows why a file is no frozen state.
+fn show_state_fault<O: Sink>(out: &mut O, fault: FrozenFault) -> Result<(), Failed>
+    ensures { PutsTo O.Sink out.old out.new (state_line fault) result }
+{
+    match fault {
+        FrozenFault::Short(length) => show_numbered(out, b"state: short at ", length),
+        FrozenFault::BadMagic => show(out, b"state: magic\n"),
+        FrozenFault::Digest => show(out, b"state: digest\n"),
+        FrozenFault::OtherBundle => show(out, b"state: bundle\n"),
+        FrozenFault::Form(at) => show_numbered(out, b"state: form at ", at),
+        FrozenFault::NoMemory => show(out, b"no memory\n"),
+    }
+}
+
 /// Shows the line of a refusal.
 #[tactic(auto, unfolding(crate::specs::Refusal::refusal_line))]
 fn show_line<O: Sink>(out: &mut O, refusal: &Refusal) -> Result<(), Failed>
@@ -131,6 +154,11 @@ fn show_line<O: Sink>(out: &mut O, refusal: &Refusal) -> Result<(), Failed>
         Refusal::ShortSecret => show(out, b"secret: short\n"),
         Refusal::BadStore(fault) => show_store_fault(out, fault),
         Refusal::NoRoom(domain) => show_numbered(out, b"store: no room ", domain as u64),
+        Refusal::BadState(fault) => show_state_fault(out, fault),
+        Refusal::ChangedDomain(domain) => {
+            show_numbered(out, b"state: changed domain ", domain as u64)
+        }
+        Refusal::ChangedFrame(frame) => show_numbered(out, b"state: changed frame ", frame as u64),
     }
 }
 

@@ -14,6 +14,9 @@ pub enum Status {
     NoRandom,
     BadRecord,
     BadStore,
+    /// A run was frozen.
+    Frozen,
+    BadState,
 }
 
 impl Status {
@@ -32,6 +35,8 @@ impl Status {
             Status::NoRandom => 7,
             Status::BadRecord => 8,
             Status::BadStore => 10,
+            Status::Frozen => 11,
+            Status::BadState => 12,
         }
     }
 }

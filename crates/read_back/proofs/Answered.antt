@@ -33,6 +33,9 @@ view_refused asked refusal.NoSuchDomain before after is refused = absurd is
 view_refused asked refusal.ShortSecret before after is refused = absurd is
 view_refused asked (refusal.BadStore fault) before after is refused = absurd is
 view_refused asked (refusal.NoRoom domain) before after is refused = absurd is
+view_refused asked (refusal.BadState fault) before after is refused = absurd is
+view_refused asked (refusal.ChangedDomain domain) before after is refused = absurd is
+view_refused asked (refusal.ChangedFrame frame) before after is refused = absurd is
 
 pub view_refuses : {S O : Type 0} {asked : spec.Asked} {r : Refusal} {before after : Outside S O} {given : Status} →
     IsUnread r → NoRun asked r before.files after.files → before.output.faults < 2 ^ 64 - 1 →
@@ -63,6 +66,9 @@ unread_or_none refusal.NoPageDraw is = absurd is
 unread_or_none refusal.ShortSecret is = absurd is
 unread_or_none (refusal.BadStore fault) is = absurd is
 unread_or_none (refusal.NoRoom domain) is = absurd is
+unread_or_none (refusal.BadState fault) is = absurd is
+unread_or_none (refusal.ChangedDomain domain) is = absurd is
+unread_or_none (refusal.ChangedFrame frame) is = absurd is
 unread_or_none refusal.NoSuchDomain is = absurd is
 
 solo_refused : {S O : Type 0} (asked : spec.Asked) (r : Refusal) (before after : Outside S O) → IsUnreadOrNone r →
@@ -77,6 +83,9 @@ solo_refused asked refusal.NoPageDraw before after is refused = absurd is
 solo_refused asked refusal.ShortSecret before after is refused = absurd is
 solo_refused asked (refusal.BadStore fault) before after is refused = absurd is
 solo_refused asked (refusal.NoRoom domain) before after is refused = absurd is
+solo_refused asked (refusal.BadState fault) before after is refused = absurd is
+solo_refused asked (refusal.ChangedDomain domain) before after is refused = absurd is
+solo_refused asked (refusal.ChangedFrame frame) before after is refused = absurd is
 
 pub solo_refuses : {S O : Type 0} {asked : spec.Asked} {r : Refusal} {before after : Outside S O} {given : Status} →
     IsUnreadOrNone r → NoRun asked r before.files after.files → before.output.faults < 2 ^ 64 - 1 →

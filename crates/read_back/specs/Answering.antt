@@ -100,6 +100,8 @@ ViewAnswers asked before after status.NoMemory = IsRefused asked status.NoMemory
 ViewAnswers asked before after status.NoRandom = ⊥
 ViewAnswers asked before after status.BadRecord = HasView asked status.BadRecord before after
 ViewAnswers asked before after status.BadStore = ⊥
+ViewAnswers asked before after status.Frozen = ⊥
+ViewAnswers asked before after status.BadState = ⊥
 
 -- The same of `solo`, for which the bundle may lack the program.
 abbrev pub SoloAnswers : {S O : Type 0} → spec.Asked → Outside S O → Outside S O → Status → Type 0
@@ -114,3 +116,5 @@ SoloAnswers asked before after status.NoMemory = IsRefused asked status.NoMemory
 SoloAnswers asked before after status.NoRandom = ⊥
 SoloAnswers asked before after status.BadRecord = HasSolo asked status.BadRecord before after
 SoloAnswers asked before after status.BadStore = ⊥
+SoloAnswers asked before after status.Frozen = ⊥
+SoloAnswers asked before after status.BadState = ⊥

@@ -1,6 +1,6 @@
 -- What the commands answer.
-use Rattle.std.proofs.Common.{◌≡◌, ◌<◌, ◌≤◌, ◌-◌, ◌^◌, ℕ, Bool, true, false, List, [], ◌++◌, refl, sym, ◌∙◌, ap, subst, inl}
-use Rattle.std.proofs.Common.{inr, Option, Some, Result, Ok}
+use Rattle.std.proofs.Common.{◌≡◌, ◌<◌, ◌-◌, ◌^◌, ℕ, Bool, true, false, List, [], refl, sym, ◌∙◌, ap, subst, inl}
+use Rattle.std.proofs.Common.{inr, Option, Some, Result}
 use Rattle.cloak_base.specs.declared.causes.Stop.{Stop}
 use Rattle.cloak_base.specs.declared.causes.Stop.TheVariants as stop
 use Rattle.cloak_machine.specs.declared.machine.Machine.{Machine}
@@ -45,6 +45,9 @@ answers_refused asked refusal.NoSuchDomain before after refused = refused
 answers_refused asked refusal.ShortSecret before after refused = refused
 answers_refused asked (refusal.BadStore fault) before after refused = refused
 answers_refused asked (refusal.NoRoom domain) before after refused = refused
+answers_refused asked (refusal.BadState fault) before after refused = refused
+answers_refused asked (refusal.ChangedDomain domain) before after refused = refused
+answers_refused asked (refusal.ChangedFrame frame) before after refused = refused
 
 -- what is answered where there is no run
 pub answers_no_run : {S O : Type 0} {asked : spec.Asked} {r : Refusal} {before after : Outside S O} {given : Status} →
@@ -325,6 +328,8 @@ same_files (spec.Demo number steps) answer held held' same = same
 same_files (spec.Stats bundle_name steps from) answer held held' same = same
 same_files (spec.Upgrade old_name new_name) answer held held' same = same
 same_files (spec.Store names counter steps from) answer held held' same = same
+same_files (spec.Freeze names steps from) answer held held' same = same
+same_files (spec.Thaw names steps from) answer held held' same = same
 same_files (spec.Run bundle_name record_name steps from) status.Done held held' same = λ other apart. same other
 same_files (spec.Run bundle_name record_name steps from) status.Violation held held' same = λ other apart. same other
 same_files (spec.Run bundle_name record_name steps from) status.Usage held held' same = same
@@ -335,6 +340,8 @@ same_files (spec.Run bundle_name record_name steps from) status.NoMemory held he
 same_files (spec.Run bundle_name record_name steps from) status.NoRandom held held' same = λ other apart. same other
 same_files (spec.Run bundle_name record_name steps from) status.BadRecord held held' same = same
 same_files (spec.Run bundle_name record_name steps from) status.BadStore held held' same = same
+same_files (spec.Run bundle_name record_name steps from) status.Frozen held held' same = same
+same_files (spec.Run bundle_name record_name steps from) status.BadState held held' same = same
 
 -- a run that was made changed its record at most
 keeps_record : {S O : Type 0} (asked : spec.Asked) (before after : Outside S O) (answer given : Status) →
@@ -369,3 +376,5 @@ keeps_files asked before after status.NoRandom (inr run) =
     keeps_record asked before after status.NoRandom status.NoRandom run (λ b r n f others. others)
 keeps_files asked before after status.BadRecord never = absurd never
 keeps_files asked before after status.BadStore refused = same_files asked status.BadStore _ _ refused.no_run.held
+keeps_files asked before after status.Frozen never = absurd never
+keeps_files asked before after status.BadState refused = same_files asked status.BadState _ _ refused.no_run.held

@@ -7,3 +7,4 @@ pub mod PrepareFacts
 pub mod RunFacts
 pub mod StepFacts
 pub mod EndFacts
+pub mod BegunFacts

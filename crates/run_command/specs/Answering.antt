@@ -106,6 +106,8 @@ RunAnswers asked before after status.NoRandom =
     IsRefused asked status.NoRandom before after ⊎ HasRun asked status.NoRandom before after
 RunAnswers asked before after status.BadRecord = ⊥
 RunAnswers asked before after status.BadStore = IsRefused asked status.BadStore before after
+RunAnswers asked before after status.Frozen = ⊥
+RunAnswers asked before after status.BadState = IsRefused asked status.BadState before after
 
 -- Every file keeps its bytes, save the record's of a run that was begun, or might have been. (A write fault and want
 -- of randomness say by their causes which.)

@@ -3,7 +3,8 @@
 //! The layer above may rely on this: `run_command` answers each status by its cause, and writes what is due of the run
 //! (`cloak_model`, `specs/Run`) to record and output, or a front of it where writing fails. Other commands that make a
 //! run take `prepare_run`, which opens its machine from the files that the words name, or says why there is none;
-//! `Unheard`, which writes nothing; and `stop_status`.
+//! `write_steps`, `run_steps` and `write_end`, which write its parts; `Unheard`, which writes nothing; and
+//! `stop_status`.
 #![tactic(auto)]
 
 mod command;
@@ -17,5 +18,5 @@ pub use command::run_command;
 pub use outlet::Outlet;
 pub use pen::RecordPen;
 pub use prepare::{image_is_of_bytes, open_stream, prepare_run};
-pub use run::{stop_status, write_steps};
+pub use run::{run_steps, stop_status, write_end, write_steps};
 pub use unheard::Unheard;

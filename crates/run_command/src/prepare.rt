@@ -65,6 +65,7 @@ pub fn open_stream<S: Shelf>(
         (S.reading_faults shelf.old) (S.reading_faults shelf.new) result }
     ensures files { SameFiles (S.held shelf.old) (S.held shelf.new) }
     ensures writing { S.writing_faults shelf.new ≡ S.writing_faults shelf.old }
+    ensures settled { S.is_settled shelf.new }
 {
     match *randomness {
         Randomness::Numbered(number) => Ok(Stream::numbered(number)),

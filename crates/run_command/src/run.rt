@@ -1,5 +1,5 @@
 //! A run from its first step to its report.
-ghost use Rattle.std.specs.Prelude.{◌≡◌, ◌≤◌, [], Ok, Some, false, map};
+ghost use Rattle.std.specs.Prelude.{◌≡◌, ◌≤◌, ◌+◌, [], Ok, Some, false, map};
 ghost use Rattle.cloak_model.specs.declared.image.Bundle.{Bundle};
 ghost use Rattle.cloak_model.specs.Beginning.{Beginning, opening_from};
 ghost use Rattle.cloak_model.specs.Run.{most_steps};
@@ -21,13 +21,12 @@ use program_parts::Status;
 
 /// Makes up to this many steps, and answers why the last one stopped the run, if it did. Nothing more is
 /// done once the outlet failed.
-fn run_steps<S: Shelf, O: Sink>(
+pub fn run_steps<S: Shelf, O: Sink>(
     machine: &mut Machine,
     steps: u32,
     outlet: &mut Outlet<'_, '_, '_, S, O>,
 ) -> Option<Stop>
-    requires fresh { steps_made machine.old ≡ 0 }
-    requires few { steps ≤ most_steps }
+    requires few { steps_made machine.old + steps ≤ most_steps }
     ensures same_shelf { outlet.new.pen.shelf.ghost_name ≡ outlet.old.pen.shelf.ghost_name }
     ensures same_out { outlet.new.out.ghost_name ≡ outlet.old.out.ghost_name }
     ensures emits_some { EmitsSome (Gave S.Shelf O.Sink) outlet.old outlet.new }
@@ -95,7 +94,7 @@ fn ended_status(refused: bool) -> Status
 
 /// Writes the closing of the record, the rest of the console's line, and the report of a run that this
 /// stopped, and answers its status.
-fn write_end<S: Shelf, O: Sink>(
+pub fn write_end<S: Shelf, O: Sink>(
     machine: Machine,
     stop: Stop,
     outlet: &mut Outlet<'_, '_, '_, S, O>,

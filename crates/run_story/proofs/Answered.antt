@@ -44,6 +44,9 @@ by_line {S} {O} bundle_name record_name before after refusal.NoSuchDomain reads 
 by_line {S} {O} bundle_name record_name before after refusal.ShortSecret reads faults = absurd reads
 by_line {S} {O} bundle_name record_name before after (refusal.BadStore fault) reads faults = absurd reads
 by_line {S} {O} bundle_name record_name before after (refusal.NoRoom domain) reads faults = absurd reads
+by_line {S} {O} bundle_name record_name before after (refusal.BadState fault) reads faults = absurd reads
+by_line {S} {O} bundle_name record_name before after (refusal.ChangedDomain domain) reads faults = absurd reads
+by_line {S} {O} bundle_name record_name before after (refusal.ChangedFrame frame) reads faults = absurd reads
 
 -- there is no bundle
 pub no_bundle : {S O : Type 0} (bundle_name record_name : List ℕ) (before after : Outside S O) (r : Refusal)
@@ -70,6 +73,8 @@ shows_story {S} {O} bundle_name record_name before after status.NoMemory whole s
 shows_story {S} {O} bundle_name record_name before after status.NoRandom whole shows = absurd shows
 shows_story {S} {O} bundle_name record_name before after status.BadRecord whole shows = absurd shows
 shows_story {S} {O} bundle_name record_name before after status.BadStore whole shows = absurd shows
+shows_story {S} {O} bundle_name record_name before after status.Frozen whole shows = absurd shows
+shows_story {S} {O} bundle_name record_name before after status.BadState whole shows = absurd shows
 
 -- the line of an ending was shown
 shows_ending : {S O : Type 0} (bundle_name record_name : List ℕ) (before after : Outside S O) (ended : Ending)

@@ -100,3 +100,5 @@ ExplainAnswers bundle_name record_name before after status.NoMemory = Unit {0}
 ExplainAnswers bundle_name record_name before after status.NoRandom = ⊥
 ExplainAnswers bundle_name record_name before after status.BadRecord = IsRefusedRecord record_name before after
 ExplainAnswers bundle_name record_name before after status.BadStore = ⊥
+ExplainAnswers bundle_name record_name before after status.Frozen = ⊥
+ExplainAnswers bundle_name record_name before after status.BadState = ⊥

@@ -11,7 +11,7 @@ use std::process::Abort;
 use std::test::*;
 
 /// Shows a byte, and halts.
-const SMALLEST: &str = "addi x10, x0, 65\necall\naddi x17, x0, 4\necall";
+pub const SMALLEST: &str = "addi x10, x0, 65\necall\naddi x17, x0, 4\necall";
 
 /// The same code with an EBREAK in the place of its first word.
 const BREAKS: &str = "ebreak\necall\naddi x17, x0, 4\necall";

@@ -6,6 +6,8 @@ mod calls;
 #[cfg(test)]
 mod checks;
 #[cfg(test)]
+mod frozen;
+#[cfg(test)]
 mod images;
 #[cfg(test)]
 mod kernels;

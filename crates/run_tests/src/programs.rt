@@ -20,12 +20,12 @@ fn ran(alloc: Global, bundle: &[u8], steps: u32, bytes: u8) -> Result<Left, Fail
 }
 
 /// Sets the trap's vector to the handler behind it, and resumes context 0.
-const START: &str = "la x6, handler\ncsrrw x0, 0x105, x6\nlui x17, 0x4F560\necall\nhandler:";
+pub const START: &str = "la x6, handler\ncsrrw x0, 0x105, x6\nlui x17, 0x4F560\necall\nhandler:";
 
-const HALTS: &str = "addi x17, x0, 4\necall";
+pub const HALTS: &str = "addi x17, x0, 4\necall";
 
 /// Flips a bit of frame 8 and resumes.
-const FLIPS: &str = "
+pub const FLIPS: &str = "
     auipc x6, 8
     lw x7, 0(x6)
     xori x7, x7, 1
@@ -35,15 +35,15 @@ const FLIPS: &str = "
 ";
 
 /// Writes 0x00400000 to satp and resumes.
-const REMAPS: &str = "lui x6, 0x400\ncsrrw x0, 0x180, x6\nlui x17, 0x4F560\necall";
+pub const REMAPS: &str = "lui x6, 0x400\ncsrrw x0, 0x180, x6\nlui x17, 0x4F560\necall";
 
 /// Resumes what left.
-const RESUMES_AGAIN: &str = "lui x17, 0x4F560\necall";
+pub const RESUMES_AGAIN: &str = "lui x17, 0x4F560\necall";
 
 const RESUMES_CONTEXT_3: &str = "addi x5, x0, 3\nlui x17, 0x4F560\necall";
 
 /// Resumes context 3, which is not there, and whatever comes then, context 8, which is the second program's.
-const RESUMES_3_AND_8: &str = "
+pub const RESUMES_3_AND_8: &str = "
     la x6, handler
     csrrw x0, 0x105, x6
     addi x5, x0, 3
@@ -59,7 +59,7 @@ handler:
 const RESUMES_8: &str = "addi x5, x0, 8\nlui x17, 0x4F560\necall";
 
 /// Stores 7, loads it, and calls number 9.
-const CALLS: &str = "
+pub const CALLS: &str = "
     addi x10, x0, 7
     sw x10, 0(x2)
     lw x11, 0(x2)
@@ -70,7 +70,7 @@ const CALLS: &str = "
 ";
 
 /// Ends its context.
-const EXITS: &str = "lui x17, 0x4F560\naddi x17, x17, 7\necall";
+pub const EXITS: &str = "lui x17, 0x4F560\naddi x17, x17, 7\necall";
 
 const CALLED: Outcome = Outcome {
     ends: ("halt 7", 14, 2),
@@ -262,7 +262,7 @@ fn the_other_program_goes_on(rt: HostRuntime) -> Result<(), Fail> {
 }
 
 /// What is said of a status, with the names of the files that these words name.
-static SENTENCES: [(&str, Status, &str); 6] = [
+static SENTENCES: [(&str, Status, &str); 13] = [
     ("demo 9 --steps 10", Status::Done, ""),
     (
         "run a.b a.r --steps 10 --number 7",
@@ -282,12 +282,47 @@ static SENTENCES: [(&str, Status, &str); 6] = [
     (
         "view a.b a.r",
         Status::BadRecord,
-        "cloak: the record `a.r` is damaged, or is none of the bundle `a.b`, and the line `record` says where\n",
+        "cloak: the record `a.r` is damaged, or is none of the bundle `a.b`, and the line `record` says where (one without magic may be the rest of a frozen run, to be put after its first part)\n",
     ),
     (
         "gen 9 a.b",
         Status::WriteFault,
         "cloak: the bundle `a.b` or the output cannot be written, and what was written before stands\n",
+    ),
+    (
+        "freeze a.b a.r f --ivs v --steps 10 --number 7",
+        Status::Frozen,
+        "cloak: the run is frozen, and `thaw` goes on from the state `f`\n",
+    ),
+    (
+        "freeze a.b a.r f --ivs v --steps 10 --stream s",
+        Status::ReadFault,
+        "cloak: the bundle `a.b`, the vectors `v` or the stream `s` cannot be read\n",
+    ),
+    (
+        "freeze a.b a.r f --ivs v --steps 10 --number 7",
+        Status::WriteFault,
+        "cloak: the record `a.r`, the state `f` or the output cannot be written, and what was written before stands\n",
+    ),
+    (
+        "thaw a.b a.r f --steps 10 --number 7",
+        Status::ReadFault,
+        "cloak: the bundle `a.b` or the state `f` cannot be read\n",
+    ),
+    (
+        "thaw a.b a.r f --steps 10 --stream s",
+        Status::NoRandom,
+        "cloak: the stream `s` has too few bytes for this run\n",
+    ),
+    (
+        "thaw a.b a.r f --steps 10 --number 7",
+        Status::Usage,
+        "cloak: with the steps before the state `f` the run would have more than 1000000000 steps\n",
+    ),
+    (
+        "thaw a.b a.r f --steps 10 --number 7",
+        Status::BadState,
+        "cloak: no run goes on from the state `f`, and the line `state` says why\n",
     ),
 ];
 

@@ -1,5 +1,5 @@
 -- What `stats` answers.
-use Rattle.std.proofs.Common.{◌≡◌, ◌<◌, ◌-◌, ◌^◌, ◌∙◌, ℕ, Bool, true, false, List, None, ap, refl, sym, subst, inl, inr}
+use Rattle.std.proofs.Common.{◌≡◌, ◌<◌, ◌-◌, ◌^◌, ◌∙◌, ℕ, Bool, true, false, List, None, refl, sym, subst, inl, inr}
 use Rattle.cloak_base.specs.declared.causes.Stop.{Stop}
 use Rattle.cloak_base.specs.declared.causes.Stop.TheVariants as stop
 use Rattle.cloak_model.specs.declared.image.Bundle.{Bundle}
@@ -77,6 +77,9 @@ answers_refused asked refusal.NoSuchDomain before after refused = refused
 answers_refused asked refusal.ShortSecret before after refused = refused
 answers_refused asked (refusal.BadStore fault) before after refused = refused
 answers_refused asked (refusal.NoRoom domain) before after refused = refused
+answers_refused asked (refusal.BadState fault) before after refused = refused
+answers_refused asked (refusal.ChangedDomain domain) before after refused = refused
+answers_refused asked (refusal.ChangedFrame frame) before after refused = refused
 
 -- what is answered where there is no run
 pub answers_no_run : {S O : Type 0} {asked : spec.Asked} {r : Refusal} {before after : Outside S O} {given : Status} →

@@ -62,3 +62,5 @@ StatsAnswers asked before after status.NoRandom =
     IsRefused asked status.NoRandom before after ⊎ HasStats asked status.NoRandom before after
 StatsAnswers asked before after status.BadRecord = ⊥
 StatsAnswers asked before after status.BadStore = IsRefused asked status.BadStore before after
+StatsAnswers asked before after status.Frozen = ⊥
+StatsAnswers asked before after status.BadState = IsRefused asked status.BadState before after

@@ -25,6 +25,8 @@ bundle_of (Some (spec.Solo domain bundle record_name)) = bundle_named bundle
 bundle_of (Some (spec.Stats bundle steps randomness)) = bundle_named bundle
 bundle_of (Some (spec.Upgrade old_name new_name)) = bundle_named old_name
 bundle_of (Some (spec.Store names counter steps randomness)) = bundle_named names.bundle
+bundle_of (Some (spec.Freeze names steps randomness)) = bundle_named names.bundle
+bundle_of (Some (spec.Thaw names steps randomness)) = bundle_named names.bundle
 bundle_of _ = codes "the bundle"
 
 -- the record that is read
@@ -38,10 +40,15 @@ abbrev pub randomness_named : spec.Randomness → List ℕ
 randomness_named (spec.FromFile name) = codes "the stream `" ++ name ++ codes "`"
 randomness_named (spec.Numbered number) = codes "the random stream"
 
+abbrev pub or_vectors : List ℕ → List ℕ
+or_vectors name = codes " or the vectors `" ++ name ++ codes "`"
+
 abbrev pub stream_of : Option spec.Asked → List ℕ
 stream_of (Some (spec.Run bundle record_name steps randomness)) = randomness_named randomness
 stream_of (Some (spec.Stats bundle steps randomness)) = randomness_named randomness
 stream_of (Some (spec.Store names counter steps randomness)) = randomness_named randomness
+stream_of (Some (spec.Freeze names steps randomness)) = randomness_named randomness ++ or_vectors names.vectors_name
+stream_of (Some (spec.Thaw names steps randomness)) = randomness_named randomness
 stream_of _ = codes "the random stream"
 
 -- the files that a run reads
@@ -65,6 +72,18 @@ abbrev pub store_sources_named : spec.StoreNames → spec.Randomness → List �
 store_sources_named names randomness =
     bundle_and_secret names.bundle names.secret_name ++ last_sources names.old_name randomness
 
+-- the files that a run that is frozen reads, after the bundle
+abbrev pub vectors_and_stream : (vectors : List ℕ) → spec.Randomness → List ℕ
+vectors_and_stream vectors (spec.Numbered number) = or_vectors vectors
+vectors_and_stream vectors (spec.FromFile name) =
+    codes ", the vectors `" ++ vectors ++ codes "` or the stream `" ++ name ++ codes "`"
+
+-- the files that a run that goes on reads, after the bundle
+abbrev pub state_and_stream : (state : List ℕ) → spec.Randomness → List ℕ
+state_and_stream state (spec.Numbered number) = codes " or the state `" ++ state ++ codes "`"
+state_and_stream state (spec.FromFile name) =
+    codes ", the state `" ++ state ++ codes "` or the stream `" ++ name ++ codes "`"
+
 -- the files that are read
 abbrev pub read_of : Option spec.Asked → List ℕ
 read_of (Some (spec.Run bundle record_name steps randomness)) = sources_named bundle randomness
@@ -73,6 +92,10 @@ read_of (Some (spec.View bundle record_name)) = files_named bundle record_name
 read_of (Some (spec.Solo domain bundle record_name)) = files_named bundle record_name
 read_of (Some (spec.Upgrade old_name new_name)) = bundle_named old_name
 read_of (Some (spec.Store names counter steps randomness)) = store_sources_named names randomness
+read_of (Some (spec.Freeze names steps randomness)) =
+    bundle_named names.bundle ++ vectors_and_stream names.vectors_name randomness
+read_of (Some (spec.Thaw names steps randomness)) =
+    bundle_named names.bundle ++ state_and_stream names.state_name randomness
 read_of _ = codes "a file"
 
 -- a bundle that is written, and the output
@@ -86,22 +109,34 @@ record_and_store record_name new = codes "the record `" ++ record_name ++ codes 
 abbrev pub next_bundle : List ℕ → List ℕ
 next_bundle next = codes ", the bundle `" ++ next ++ codes "` or the output"
 
+-- the state that a run that is frozen writes, and the output
+abbrev pub written_state : List ℕ → List ℕ
+written_state name = codes ", the state `" ++ name ++ codes "` or the output"
+
+-- a record that is written, and the output
+abbrev pub written_record : List ℕ → List ℕ
+written_record name = codes "the record `" ++ name ++ codes "` or the output"
+
 -- what is written
 abbrev pub written_of : Option spec.Asked → List ℕ
-written_of (Some (spec.Run bundle record_name steps randomness)) =
-    codes "the record `" ++ record_name ++ codes "` or the output"
+written_of (Some (spec.Run bundle record_name steps randomness)) = written_record record_name
 written_of (Some (spec.Gen number bundle_name)) = written_bundle bundle_name
 written_of (Some (spec.Upgrade old_name new_name)) = written_bundle new_name
 written_of (Some (spec.Store names counter steps randomness)) =
     record_and_store names.record_name names.new_name ++ next_bundle names.next_name
+written_of (Some (spec.Freeze names steps randomness)) =
+    record_named names.record_name ++ written_state names.state_name
+written_of (Some (spec.Thaw names steps randomness)) = written_record names.record_name
 written_of (Some _) = codes "the output"
 written_of None = codes "a file or the output"
 
 -- what is wrong with the words
 abbrev pub usage_of : UsageFault → List ℕ
-usage_of usage.NoCommand = codes "there is no command: it is one of run, view, solo, gen, demo, stats, upgrade and store"
+usage_of usage.NoCommand =
+    codes "there is no command: it is one of run, view, solo, gen, demo, stats, upgrade, store, freeze and thaw"
 usage_of usage.UnknownCommand =
-    codes "the first word is no command: it is one of run, view, solo, gen, demo, stats, upgrade and store"
+    codes "the first word is no command: it is one of run, view, solo, gen, demo, stats, upgrade, store, "
+    ++ codes "freeze and thaw"
 usage_of usage.WrongWords = codes "these are not the words that the command takes"
 usage_of usage.NoRandomness = codes "a run takes its random bytes from exactly one of --number and --stream"
 usage_of usage.WrongNumber = codes "a number is not written in decimal digits, or is out of its range"
@@ -111,6 +146,9 @@ abbrev pub words_fault_of : Option spec.Asked → List ℕ
 words_fault_of (Some (spec.Faulty fault)) = usage_of fault
 words_fault_of (Some (spec.Solo domain bundle record_name)) =
     codes "program " ++ decimal domain ++ codes " is not in the bundle `" ++ bundle ++ codes "`"
+words_fault_of (Some (spec.Thaw names steps randomness)) =
+    codes "with the steps before the state `" ++ names.state_name
+    ++ codes "` the run would have more than 1000000000 steps"
 words_fault_of _ = codes "the words are faulty"
 
 -- what is wrong with the bundle, which `upgrade` also refuses if it would be too large in version 2
@@ -131,6 +169,18 @@ store_of (Some (spec.Store names counter steps randomness)) =
     store_and_secret names.old_name names.secret_name ++ and_counter counter
 store_of _ = codes "the run cannot go on over the store file"
 
+-- that a run was frozen
+abbrev pub frozen_of : Option spec.Asked → List ℕ
+frozen_of (Some (spec.Freeze names steps randomness)) =
+    codes "the run is frozen, and `thaw` goes on from the state `" ++ names.state_name ++ codes "`"
+frozen_of _ = codes "the run is frozen"
+
+-- why a run does not go on from a state
+abbrev pub state_of : Option spec.Asked → List ℕ
+state_of (Some (spec.Thaw names steps randomness)) =
+    codes "no run goes on from the state `" ++ names.state_name ++ codes "`, and the line `state` says why"
+state_of _ = codes "no run goes on from the state"
+
 -- what is said between the program's name and the line feed
 abbrev pub cause_of : Option spec.Asked → Status → List ℕ
 cause_of asked status.Done = []
@@ -145,7 +195,10 @@ cause_of asked status.NoMemory = codes "there is not enough memory"
 cause_of asked status.NoRandom = stream_of asked ++ codes " has too few bytes for this run"
 cause_of asked status.BadRecord = record_of asked ++ codes " is damaged, or is none of "
     ++ bundle_of asked ++ codes ", and the line `record` says where"
+    ++ codes " (one without magic may be the rest of a frozen run, to be put after its first part)"
 cause_of asked status.BadStore = store_of asked
+cause_of asked status.Frozen = frozen_of asked
+cause_of asked status.BadState = state_of asked
 
 -- The sentence. The status 0 has none.
 abbrev pub sentence : Option spec.Asked → Status → List ℕ

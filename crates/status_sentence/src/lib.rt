@@ -11,7 +11,7 @@ ghost use Rattle.command_words.specs.Command as words;
 ghost use Rattle.status_sentence.specs.Sentence as spec;
 ghost use Rattle.status_sentence.specs.Showing.{sentence_text};
 
-use command_words::{Randomness, Request, StoreFiles, UsageFault};
+use command_words::{FreezeFiles, Randomness, Request, StoreFiles, UsageFault};
 use program_parts::Status;
 use std::fmt;
 
@@ -75,9 +75,14 @@ fn write_cause<W: fmt::Write>(
             write_record(request, f)?;
             f.write_str(" is damaged, or is none of ")?;
             write_bundle(request, f)?;
-            f.write_str(", and the line `record` says where")
+            f.write_str(", and the line `record` says where")?;
+            f.write_str(
+                " (one without magic may be the rest of a frozen run, to be put after its first part)",
+            )
         }
         Status::BadStore => write_store(request, f),
+        Status::Frozen => write_frozen(request, f),
+        Status::BadState => write_state(request, f),
     }
 }
 
@@ -96,6 +101,8 @@ fn write_bundle<W: fmt::Write>(
         Some(Request::Stats(stats)) => write!(f, "the bundle `{}`", stats.bundle),
         Some(Request::Upgrade(upgrade)) => write!(f, "the bundle `{}`", upgrade.old_name),
         Some(Request::Store(store)) => write!(f, "the bundle `{}`", store.files.bundle),
+        Some(Request::Freeze(freeze)) => write!(f, "the bundle `{}`", freeze.files.bundle),
+        Some(Request::Thaw(thaw)) => write!(f, "the bundle `{}`", thaw.files.bundle),
         _ => f.write_str("the bundle"),
     }
 }
@@ -156,6 +163,42 @@ fn write_store<W: fmt::Write>(
     }
 }
 
+/// Writes that a run was frozen.
+fn write_frozen<W: fmt::Write>(
+    request: &Option<Request<'_>>,
+    f: &mut fmt::Formatter<W>,
+) -> fmt::Result
+    ensures { DisplaysOnOk W.write_str_gives f.old result
+        (Some (spec.frozen_of (option_map asked_of request.now))) f.new }
+{
+    match request {
+        Some(Request::Freeze(freeze)) => write!(
+            f,
+            "the run is frozen, and `thaw` goes on from the state `{}`",
+            freeze.files.state_name
+        ),
+        _ => f.write_str("the run is frozen"),
+    }
+}
+
+/// Writes why a run does not go on from a state.
+fn write_state<W: fmt::Write>(
+    request: &Option<Request<'_>>,
+    f: &mut fmt::Formatter<W>,
+) -> fmt::Result
+    ensures { DisplaysOnOk W.write_str_gives f.old result
+        (Some (spec.state_of (option_map asked_of request.now))) f.new }
+{
+    match request {
+        Some(Request::Thaw(thaw)) => write!(
+            f,
+            "no run goes on from the state `{}`, and the line `state` says why",
+            thaw.files.state_name
+        ),
+        _ => f.write_str("no run goes on from the state"),
+    }
+}
+
 /// Writes where the random bytes come from.
 fn write_stream<W: fmt::Write>(
     request: &Option<Request<'_>>,
@@ -168,6 +211,11 @@ fn write_stream<W: fmt::Write>(
         Some(Request::Run(run)) => write_randomness(&run.randomness, f),
         Some(Request::Stats(stats)) => write_randomness(&stats.randomness, f),
         Some(Request::Store(store)) => write_randomness(&store.randomness, f),
+        Some(Request::Freeze(freeze)) => {
+            write_randomness(&freeze.randomness, f)?;
+            write_or_vectors(freeze.files.vectors_name, f)
+        }
+        Some(Request::Thaw(thaw)) => write_randomness(&thaw.randomness, f),
         _ => f.write_str("the random stream"),
     }
 }
@@ -186,6 +234,13 @@ fn write_randomness<W: fmt::Write>(
     }
 }
 
+/// Writes the name of a file of vectors, after another one.
+fn write_or_vectors<W: fmt::Write>(name: &str, f: &mut fmt::Formatter<W>) -> fmt::Result
+    ensures { DisplaysOnOk W.write_str_gives f.old result (Some (spec.or_vectors name.now)) f.new }
+{
+    write!(f, " or the vectors `{name}`")
+}
+
 /// Writes which files are read.
 fn write_read<W: fmt::Write>(
     request: &Option<Request<'_>>,
@@ -201,6 +256,14 @@ fn write_read<W: fmt::Write>(
         Some(Request::Stats(stats)) => write_sources(stats.bundle, &stats.randomness, f),
         Some(Request::Upgrade(upgrade)) => write!(f, "the bundle `{}`", upgrade.old_name),
         Some(Request::Store(store)) => write_store_sources(&store.files, &store.randomness, f),
+        Some(Request::Freeze(freeze)) => {
+            write!(f, "the bundle `{}`", freeze.files.bundle)?;
+            write_vectors_and_stream(freeze.files.vectors_name, &freeze.randomness, f)
+        }
+        Some(Request::Thaw(thaw)) => {
+            write!(f, "the bundle `{}`", thaw.files.bundle)?;
+            write_state_and_stream(thaw.files.state_name, &thaw.randomness, f)
+        }
         _ => f.write_str("a file"),
     }
 }
@@ -234,6 +297,60 @@ fn write_store_sources<W: fmt::Write>(
         Randomness::FromFile(name) => write_last_sources(files.old_name, name, f),
         Randomness::Numbered(_) => write!(f, " or the store file `{}`", files.old_name),
     }
+}
+
+/// Writes the names of the files that a run that is frozen reads, after the bundle.
+fn write_vectors_and_stream<W: fmt::Write>(
+    vectors: &str,
+    randomness: &Randomness<'_>,
+    f: &mut fmt::Formatter<W>,
+) -> fmt::Result
+    ensures { DisplaysOnOk W.write_str_gives f.old result
+        (Some (spec.vectors_and_stream vectors.now (randomness_of randomness.now))) f.new }
+{
+    match *randomness {
+        Randomness::FromFile(name) => write_vectors_with(vectors, name, f),
+        Randomness::Numbered(_) => write_or_vectors(vectors, f),
+    }
+}
+
+/// Writes the names of vectors and stream.
+fn write_vectors_with<W: fmt::Write>(
+    vectors: &str,
+    stream: &str,
+    f: &mut fmt::Formatter<W>,
+) -> fmt::Result
+    ensures { DisplaysOnOk W.write_str_gives f.old result
+        (Some (spec.vectors_and_stream vectors.now (words.FromFile stream.now))) f.new }
+{
+    write!(f, ", the vectors `{vectors}` or the stream `{stream}`")
+}
+
+/// Writes the names of the files that a run that goes on reads, after the bundle.
+fn write_state_and_stream<W: fmt::Write>(
+    state: &str,
+    randomness: &Randomness<'_>,
+    f: &mut fmt::Formatter<W>,
+) -> fmt::Result
+    ensures { DisplaysOnOk W.write_str_gives f.old result
+        (Some (spec.state_and_stream state.now (randomness_of randomness.now))) f.new }
+{
+    match *randomness {
+        Randomness::FromFile(name) => write_state_with(state, name, f),
+        Randomness::Numbered(_) => write!(f, " or the state `{state}`"),
+    }
+}
+
+/// Writes the names of state and stream.
+fn write_state_with<W: fmt::Write>(
+    state: &str,
+    stream: &str,
+    f: &mut fmt::Formatter<W>,
+) -> fmt::Result
+    ensures { DisplaysOnOk W.write_str_gives f.old result
+        (Some (spec.state_and_stream state.now (words.FromFile stream.now))) f.new }
+{
+    write!(f, ", the state `{state}` or the stream `{stream}`")
 }
 
 /// Writes the names of bundle and secret.
@@ -284,7 +401,9 @@ fn write_written<W: fmt::Write>(
         (Some (spec.written_of (option_map asked_of request.now))) f.new }
 {
     match request {
-        Some(Request::Run(run)) => write!(f, "the record `{}` or the output", run.record_name),
+        Some(Request::Run(run)) => write_new_record(run.record_name, f),
+        Some(Request::Freeze(freeze)) => write_recorded(&freeze.files, f),
+        Some(Request::Thaw(thaw)) => write_new_record(thaw.files.record_name, f),
         Some(Request::Gen(image)) => write!(f, "the bundle `{}` or the output", image.bundle),
         Some(Request::Upgrade(upgrade)) => {
             write!(f, "the bundle `{}` or the output", upgrade.new_name)
@@ -293,6 +412,22 @@ fn write_written<W: fmt::Write>(
         Some(_) => f.write_str("the output"),
         None => f.write_str("a file or the output"),
     }
+}
+
+/// Writes the name of a record that is written, and the output.
+fn write_new_record<W: fmt::Write>(name: &str, f: &mut fmt::Formatter<W>) -> fmt::Result
+    ensures { DisplaysOnOk W.write_str_gives f.old result (Some (spec.written_record name.now)) f.new }
+{
+    write!(f, "the record `{name}` or the output")
+}
+
+/// Writes the names of the files that a run that is frozen writes.
+fn write_recorded<W: fmt::Write>(files: &FreezeFiles<'_>, f: &mut fmt::Formatter<W>) -> fmt::Result
+    ensures { DisplaysOnOk W.write_str_gives f.old result
+        (Some (spec.record_named files.now.record_name.now ++ spec.written_state files.now.state_name.now)) f.new }
+{
+    write!(f, "the record `{}`", files.record_name)?;
+    write!(f, ", the state `{}` or the output", files.state_name)
 }
 
 /// Writes the names of the files that a run over cloaked files writes.
@@ -323,6 +458,11 @@ fn write_words_fault<W: fmt::Write>(
             let (bundle, domain) = (solo.files.bundle, solo.domain);
             write!(f, "program {domain} is not in the bundle `{bundle}`")
         }
+        Some(Request::Thaw(thaw)) => write!(
+            f,
+            "with the steps before the state `{}` the run would have more than 1000000000 steps",
+            thaw.files.state_name
+        ),
         _ => f.write_str("the words are faulty"),
     }
 }
@@ -332,9 +472,10 @@ fn write_usage<W: fmt::Write>(fault: UsageFault, f: &mut fmt::Formatter<W>) -> f
 {
     f.write_str(match fault {
         UsageFault::NoCommand =>
-            "there is no command: it is one of run, view, solo, gen, demo, stats, upgrade and store",
+            "there is no command: it is one of run, view, solo, gen, demo, stats, upgrade, store, freeze and thaw",
         UsageFault::UnknownCommand => {
-            "the first word is no command: it is one of run, view, solo, gen, demo, stats, upgrade and store"
+            "the first word is no command: it is one of run, view, solo, gen, demo, stats, upgrade, \
+             store, freeze and thaw"
         }
         UsageFault::WrongWords => "these are not the words that the command takes",
         UsageFault::NoRandomness => {

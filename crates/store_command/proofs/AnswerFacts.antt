@@ -1,5 +1,5 @@
 -- What the command answers.
-use Rattle.std.proofs.Common.{◌≡◌, ◌<◌, ◌-◌, ◌^◌, ℕ, Bool, true, false, List, refl, sym, subst, inl, inr, Option}
+use Rattle.std.proofs.Common.{◌<◌, ◌-◌, ◌^◌, ℕ, Bool, true, false, List, refl, sym, subst, inl, inr, Option}
 use Rattle.cloak_base.specs.declared.causes.Stop.{Stop}
 use Rattle.cloak_base.specs.declared.causes.Stop.TheVariants as stop
 use Rattle.outside_io.specs.Told.{SameFiles}
@@ -15,9 +15,9 @@ use Rattle.program_parts.specs.Refusing.{Refuses}
 use Rattle.program_parts.specs.Storing.{AsksStored, StoreSources}
 use Rattle.program_parts.proofs.FaultFacts.{raised}
 use Rattle.run_command.specs.Running.{IsStatusOfStop, status_of, unless_refused}
-use Rattle.store_command.specs.Answering.{HasStored, KeepsFiles, StoreAnswers, StoringBrokeOff}
+use Rattle.store_command.specs.Answering.{HasStored, KeepsFiles, StoreAnswers}
 use Rattle.store_command.specs.Leaving.{OtherThanStored}
-use Rattle.store_command.specs.Recording.{StoresAll, Stores}
+use Rattle.store_command.specs.Recording.{Stores}
 
 -- A line that refuses.
 
@@ -33,6 +33,9 @@ answers_refused asked refusal.NoSuchDomain before after refused = refused
 answers_refused asked refusal.ShortSecret before after refused = refused
 answers_refused asked (refusal.BadStore fault) before after refused = refused
 answers_refused asked (refusal.NoRoom domain) before after refused = refused
+answers_refused asked (refusal.BadState fault) before after refused = refused
+answers_refused asked (refusal.ChangedDomain domain) before after refused = refused
+answers_refused asked (refusal.ChangedFrame frame) before after refused = refused
 
 -- what is answered where there is no run
 pub answers_no_run : {S O : Type 0} {asked : spec.Asked} {r : Refusal} {before after : Outside S O} {given : Status} →
@@ -108,6 +111,8 @@ same_files names status.NoMemory held held' same = same
 same_files names status.NoRandom held held' same = λ other one two three. same other
 same_files names status.BadRecord held held' same = same
 same_files names status.BadStore held held' same = same
+same_files names status.Frozen held held' same = same
+same_files names status.BadState held held' same = same
 
 keeps_unless : (names : spec.StoreNames) (refused : Bool) (held held' : List ℕ → Option (List ℕ)) →
     OtherThanStored names held held' → KeepsFiles names (unless_refused refused) held held'

@@ -1,5 +1,5 @@
 -- Where the disk stands in the bytes of a bundle.
-use Rattle.std.proofs.Common.{◌≡◌, ◌∙◌, ◌+◌, ◌/◌, ◌<◌, ◌≤◌, ◌^◌, ℕ, List, ◌++◌, length, take, drop, refl, sym, ap, append_assoc, length-append, length-drop, arith, codes}
+use Rattle.std.proofs.Common.{◌≡◌, ◌∙◌, ◌+◌, ◌/◌, ◌<◌, ◌≤◌, ◌^◌, ℕ, List, ◌++◌, length, take, drop, sym, ap, append_assoc, length-append, length-drop, arith, codes}
 use Rattle.std.specs.List.{flat_map}
 use Rattle.std.proofs.lemmas.List.{drop-drop, drop_at, length-take, take_at}
 use Rattle.cloak_model.specs.declared.image.Bundle.{Bundle}

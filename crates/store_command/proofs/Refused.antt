@@ -1,5 +1,5 @@
 -- Why there is no run over cloaked files.
-use Rattle.std.proofs.Common.{◌≡◌, ◌<◌, ◌-◌, ◌^◌, ◌∙◌, ℕ, List, Option, IfSome, Err, refl, subst, inr}
+use Rattle.std.proofs.Common.{◌≡◌, ◌<◌, ◌-◌, ◌^◌, ◌∙◌, ℕ, List, Option, IfSome, Err, refl, subst, inl, inr}
 use Rattle.outside_io.specs.Told.{SameFiles}
 use Rattle.cloak_base.specs.Random.{Random}
 use Rattle.cloak_machine.specs.Standing.{OpensStored}
@@ -54,6 +54,9 @@ no_secret {S} names counter steps randomness refusal.NoPageDraw before after tol
 no_secret {S} names counter steps randomness refusal.NoSuchDomain before after told reading is same reads low held writing = absurd reads
 no_secret {S} names counter steps randomness (refusal.BadStore fault) before after told reading is same reads low held writing = absurd reads
 no_secret {S} names counter steps randomness (refusal.NoRoom domain) before after told reading is same reads low held writing = absurd reads
+no_secret {S} names counter steps randomness (refusal.BadState fault) before after told reading is same reads low held writing = absurd reads
+no_secret {S} names counter steps randomness (refusal.ChangedDomain domain) before after told reading is same reads low held writing = absurd reads
+no_secret {S} names counter steps randomness (refusal.ChangedFrame frame) before after told reading is same reads low held writing = absurd reads
 
 -- what an earlier run left was not read
 pub no_old : {S : Type 0} (names : spec.StoreNames) (counter steps : ℕ) (randomness : spec.Randomness) (r : Refusal)
@@ -91,6 +94,9 @@ no_old {S} names counter steps randomness refusal.NoPageDraw before after told r
 no_old {S} names counter steps randomness refusal.NoSuchDomain before after told reading secret table has is same reads low held writing = absurd reads
 no_old {S} names counter steps randomness refusal.ShortSecret before after told reading secret table has is same reads low held writing = absurd reads
 no_old {S} names counter steps randomness (refusal.NoRoom domain) before after told reading secret table has is same reads low held writing = absurd reads
+no_old {S} names counter steps randomness (refusal.BadState fault) before after told reading secret table has is same reads low held writing = absurd reads
+no_old {S} names counter steps randomness (refusal.ChangedDomain domain) before after told reading secret table has is same reads low held writing = absurd reads
+no_old {S} names counter steps randomness (refusal.ChangedFrame frame) before after told reading secret table has is same reads low held writing = absurd reads
 
 -- there was no memory
 pub no_memory : {S : Type 0} (asked : spec.Asked) (before after : FilesOutside S) → after.reading ≡ before.reading →
@@ -106,7 +112,7 @@ pub not_opened : {S : Type 0} (names : spec.StoreNames) (counter steps : ℕ) (r
     SameFiles before.held after.held → after.writing ≡ before.writing →
     NoRun (spec.Store names counter steps randomness) (refused_by f) before after
 not_opened {S} names counter steps randomness fault.NoRandom before after s asks lacks reading held writing = record {
-  cause = inr (record {
+  cause = inr (inl (record {
     names = names;
     counter = counter;
     steps = steps;
@@ -116,7 +122,7 @@ not_opened {S} names counter steps randomness fault.NoRandom before after s asks
     asks = asks;
     lacks = lacks;
     reading = reading;
-  });
+  }));
   held = held;
   writing = writing;
 }

@@ -1,11 +1,9 @@
 -- A run up to the closing of its record.
-use Rattle.std.proofs.Common.{◌≡◌, ◌∙◌, ◌+◌, ◌≤◌, ℕ, Bool, true, false, List, [], ◌∷◌, ◌++◌, length, refl, sym, ap, subst, append_assoc, arith, Option, Some, None, Ok, is_none, Result}
+use Rattle.std.proofs.Common.{◌≡◌, ◌∙◌, ◌+◌, ◌≤◌, ℕ, Bool, false, List, [], ◌∷◌, ◌++◌, length, sym, ap, subst, append_assoc, arith, Option, Some, None, Ok, is_none, Result}
 use Rattle.std.specs.Prelude.{unwrap_or}
 use Rattle.std.specs.Result.{result_map_both}
 use Rattle.cloak_base.specs.declared.causes.Stop.{Stop}
 use Rattle.cloak_base.specs.declared.causes.Stop.TheVariants as stop
-use Rattle.outside_io.specs.declared.shelf.Shelf as shelves
-use Rattle.outside_io.specs.declared.sink.Sink as sinks
 use Rattle.cloak_model.specs.declared.image.Bundle.{Bundle}
 use Rattle.cloak_model.specs.declared.item.Item.TheVariants as item
 use Rattle.chain_law.proofs.Chains.{chains_give_latest}
@@ -21,10 +19,7 @@ use Rattle.cloak_machine.specs.declared.end.End.{End}
 use Rattle.cloak_machine.specs.declared.machine.Machine.{Machine}
 use Rattle.command_words.specs.Command as spec
 use Rattle.disk_law.proofs.Runs.{disk_stays}
-use Rattle.program_parts.specs.Outside.{outside}
-use Rattle.program_parts.specs.Storing.{AreFiles, StoreSources}
-use Rattle.run_command.specs.declared.outlet.Outlet.{Outlet}
-use Rattle.run_command.specs.Outlet.{Gave, Writes}
+use Rattle.program_parts.specs.Storing.{AreFiles}
 use Rattle.run_command.specs.Running.{BeginsRun, MadeAll, NoClash, first_pieces, moment_behind}
 use Rattle.run_command.proofs.Lawful.{is_lawful}
 use Rattle.run_command.proofs.RunFacts.{emits_as, emits_then}
@@ -122,25 +117,11 @@ pub first_unended : {E : Type 0} {gave : E → E → List Piece → Type 0} {e f
     WritesFirst gave e f old new (Some end) r → WritesFirst gave e f old new None r
 first_unended {E} {gave} {e} {f} {old} {new} {end} {r} writes = record { emits = writes.emits; ends = tt }
 
--- What an outlet over a record that was begun wrote.
+-- The outlet failed exactly if there is no end.
 
-failed_is : (failed : Bool) (given : Option End) → EndsUnless failed given → failed ≡ is_none given
+pub failed_is : (failed : Bool) (given : Option End) → EndsUnless failed given → failed ≡ is_none given
 failed_is failed None ends = ends
 failed_is failed (Some end) ends = ends
-
-pub wrote_since : {S O : Type 0} {of_shelf : shelves.Ghosts S} {of_sink : sinks.Ghosts O} {first now : Outlet S O of_shelf}
-    {pieces : List Piece} (given : Option End) (s' : S) (o' : O) → Gave of_shelf of_sink first now pieces →
-    first.pen.failed ≡ false → EndsUnless now.pen.failed given → s' ≡ now.pen.shelf.now → o' ≡ now.out.now →
-    Writes (is_none given) first.pen.name.now (outside of_shelf of_sink first.pen.shelf.now first.out.now)
-    (outside of_shelf of_sink s' o') pieces
-wrote_since {S} {O} {of_shelf} {of_sink} {first} {now} {pieces} given s' o' gave fresh ends same_shelf same_out =
-    let before = outside of_shelf of_sink first.pen.shelf.now first.out.now in
-    subst (λ (b : Bool). Writes b first.pen.name.now before (outside of_shelf of_sink s' o') pieces)
-    (failed_is now.pen.failed given ends)
-    (subst (λ (s : S). Writes now.pen.failed first.pen.name.now before (outside of_shelf of_sink s o') pieces)
-    (sym same_shelf)
-    (subst (λ (o : O). Writes now.pen.failed first.pen.name.now before
-    (outside of_shelf of_sink now.pen.shelf.now o) pieces) (sym same_out) (gave.wrote fresh)))
 
 -- The runs over all contents.
 

@@ -1,11 +1,11 @@
 -- What a run that was made left, seen from before its files were read.
-use Rattle.std.proofs.Common.{◌≡◌, ◌<◌, ◌≤◌, ◌-◌, ◌^◌, ◌∙◌, ◌⊎◌, ℕ, suc, ◌+◌, Bool, true, false, List, [], ◌∷◌, ◌++◌, length, take, refl, sym, ap, subst, append_assoc, length-append, arith, inl, inr, Option, Some, None, Result, Ok, Err, OnOk, OnErr, is_err, IsOk, codes}
+use Rattle.std.proofs.Common.{◌≡◌, ◌∙◌, ◌⊎◌, ℕ, ◌+◌, true, false, List, [], ◌∷◌, ◌++◌, length, take, refl, sym, ap, subst, append_assoc, arith, inl, inr, Option, Result, Ok, Err, OnErr, is_err, IsOk, codes}
 use Rattle.std.specs.Prelude.{◌≢◌}
 use Rattle.std.proofs.lemmas.List.{append-nil}
 use Rattle.cloak_base.specs.declared.causes.Failed.{Failed}
 use Rattle.cloak_base.specs.declared.causes.Stop.{Stop}
 use Rattle.cloak_base.specs.declared.causes.Stop.TheVariants as stop
-use Rattle.outside_io.specs.Told.{Counts, Tells, Grows, GrowsByFront, Rose, OtherFiles, Puts}
+use Rattle.outside_io.specs.Told.{Counts, Tells, Grows, GrowsByFront, OtherFiles, Puts}
 use Rattle.outside_io.proofs.ToldFacts.{Grows-append, Grows-none, Tells_after, Rose-after}
 use Rattle.cloak_model.specs.Beginning.{AreContents}
 use Rattle.cloak_model.specs.Bundle.{bundle_bytes}
@@ -18,17 +18,17 @@ use Rattle.cloak_machine.specs.Ending.{end_is_refused, end_report}
 use Rattle.command_words.specs.Command as spec
 use Rattle.program_parts.specs.declared.status.Status.{Status}
 use Rattle.program_parts.specs.declared.status.Status.TheVariants as status
-use Rattle.program_parts.specs.Outside.{FilesOutside, NothingRose, OnlyRead, Output, Outside, Raised}
+use Rattle.program_parts.specs.Outside.{FilesOutside, NothingRose, OnlyRead, Output, Outside}
 use Rattle.program_parts.specs.Storing.{AreFiles, StoreSources}
 use Rattle.program_parts.proofs.FaultFacts.{raised, counted, failed, risen, succeeded}
-use Rattle.run_command.specs.Outlet.{FailedAt, WroteAll, WroteFront, pieces_left}
+use Rattle.run_command.specs.Outlet.{WroteAll, WroteFront, pieces_left}
 use Rattle.run_command.specs.Recording.{GrowsSome}
-use Rattle.run_command.specs.Running.{IsStatusOfStop, run_status, status_of}
-use Rattle.run_command.proofs.AnswerFacts.{failed_above, failed_since}
+use Rattle.run_command.specs.Running.{IsStatusOfStop, status_of}
+use Rattle.run_command.proofs.BegunFacts.{AreLow, AtPieces, Begun, fault_since, front_of_text, grows_from}
 use Rattle.run_command.proofs.OutletFacts.{Puts-parts, recorded_bytes-append, shown_bytes-append}
 use Rattle.store_command.specs.declared.prepare.Left.{Left}
-use Rattle.store_command.specs.Leaving.{BreaksOff, BreaksOffFirst, HasFiles, HasFirst, HasOldOrFront, LeavesAll, OtherThanStored, first_due, last_due, new_bytes, next_bytes, with_disk}
-use Rattle.store_command.specs.Preparing.{IsLeft, disk_at}
+use Rattle.store_command.specs.Leaving.{BreaksOff, BreaksOffFirst, HasFiles, HasFirst, HasOldOrFront, LeavesAll, OtherThanStored, first_due, last_due, new_bytes, next_bytes}
+use Rattle.store_command.specs.Preparing.{IsLeft}
 use Rattle.store_command.specs.Recording.{RunsOver, Stores}
 use Rattle.store_command.specs.Writing.{BrokeInNew, BrokeInNext, EndsAs, KeepsRoom, LeavesFiles, WritesFiles, WroteFiles, with_bytes_at}
 use Rattle.store_command.proofs.Lengths.{disk_replaced}
@@ -42,59 +42,6 @@ pub record Apart (names : spec.StoreNames) : Type 0 where
 flipped : {a b : List ℕ} → a ≢ b → b ≢ a
 flipped {a} {b} apart = λ same. apart (sym same)
 
--- No count stands at its last value.
-pub record AreLow {S O : Type 0} (before : Outside S O) : Type 0 where
-  pub writing : before.files.writing < 2 ^ 64 - 1
-  pub faults : before.output.faults < 2 ^ 64 - 1
-
--- The record was begun.
-
-pub record Begun {S O : Type 0} (name : List ℕ) (before mid : Outside S O) : Type 0 where
-  pub empty : Tells (mid.files.held name) []
-  pub others : OtherFiles name before.files.held mid.files.held
-  pub reading : mid.files.reading ≡ before.files.reading
-  pub writing : mid.files.writing ≡ before.files.writing
-  pub output : mid.output ≡ before.output
-
-pub begins : {S O : Type 0} (name : List ℕ) (before now mid : FilesOutside S) (out : Output O)
-    (r : Result Unit Failed) → OnlyRead before now → OnOk r (Tells (mid.held name) []) →
-    OtherFiles name now.held mid.held → Counts now.writing mid.writing r → mid.reading ≡ now.reading →
-    is_err r ≡ false → Begun name (record { files = before; output = out }) (record { files = mid; output = out })
-begins {S} {O} name before now mid out r read emptied others writing reading well = record {
-  empty = succeeded r _ well emptied;
-  others = λ other apart. others other apart ∙ read.held other;
-  reading = reading ∙ read.reading;
-  writing = counted _ _ r well writing ∙ read.writing;
-  output = refl;
-}
-
-pub are_low : {S O : Type 0} (before now : FilesOutside S) (out : Output O) → OnlyRead before now →
-    now.writing < 2 ^ 64 - 1 → out.faults < 2 ^ 64 - 1 → AreLow (record { files = before; output = out })
-are_low {S} {O} before now out read low_writing low_faults =
-    record { writing = subst (λ n. n < 2 ^ 64 - 1) read.writing low_writing; faults = low_faults }
-
--- what was written then, whatever run it is of
-pub record AtFirst {S O : Type 0} (names : spec.StoreNames) (before mid : Outside S O) : Type 0 where
-  pub grows : GrowsSome before.output.taken mid.output.taken
-  pub others : OtherFiles names.record_name before.files.held mid.files.held
-  pub nothing_rose : NothingRose before mid
-
-grows_from : {S O : Type 0} (before mid : Outside S O) (after : Option (List ℕ)) (text : List ℕ) →
-    mid.output ≡ before.output → Grows mid.output.taken after text → Grows before.output.taken after text
-grows_from {S} {O} before mid after text same grows = subst (λ (o : Output O). Grows o.taken after text) same grows
-
-pub at_first : {S O : Type 0} {names : spec.StoreNames} {before mid after : Outside S O} {pieces : List Piece} →
-    Begun names.record_name before mid → WroteAll names.record_name mid after pieces → AtFirst names before after
-at_first {S} {O} {names} {before} {mid} {after} {pieces} begun all = record {
-  grows = (shown_bytes pieces, grows_from before mid _ _ begun.output all.wrote.output);
-  others = λ other apart. all.wrote.others other apart ∙ begun.others other apart;
-  nothing_rose = record {
-    reading = all.nothing_rose.reading ∙ begun.reading;
-    writing = all.nothing_rose.writing ∙ begun.writing;
-    faults = all.nothing_rose.faults ∙ ap (λ (o : Output O). o.faults) begun.output;
-  };
-}
-
 pub has_first : {S O : Type 0} {names : spec.StoreNames} {before mid after : Outside S O} {r : Run} →
     Begun names.record_name before mid → WroteAll names.record_name mid after (first_due r) →
     HasFirst names r before after
@@ -103,12 +50,6 @@ has_first {S} {O} {names} {before} {mid} {after} {r} begun all = record {
       (recorded_bytes (first_due r)) begun.empty all.wrote.file;
   output = grows_from before mid _ _ begun.output all.wrote.output;
 }
-
-fault_since : {S O : Type 0} {name : List ℕ} {before mid : Outside S O} (after : Outside S O) (piece : Piece) →
-    AreLow before → Begun name before mid → FailedAt Rose piece mid after → FailedAt Raised piece before after
-fault_since {S} {O} {name} {before} {mid} after piece low begun fault =
-    failed_above piece before after low.writing low.faults
-    (failed_since piece before mid after begun.writing begun.output fault)
 
 pub breaks_first : {S O : Type 0} {names : spec.StoreNames} {before mid after : Outside S O} {r : Run} → AreLow before →
     Begun names.record_name before mid → WroteFront names.record_name mid after (first_due r) →
@@ -221,7 +162,7 @@ old_or_front name bytes first mid after same (inl old) = inl (old ∙ same)
 old_or_front name bytes first mid after same (inr front) = inr front
 
 pub breaks_files : {S O : Type 0} {names : spec.StoreNames} {counter : ℕ} {s : StoreSources} {r : Run} {new next : List ℕ}
-    {before mid after : Outside S O} → AreLow before → Apart names → AtFirst names before mid →
+    {before mid after : Outside S O} → AreLow before → Apart names → AtPieces names.record_name before mid →
     HasFirst names r before mid → after.output ≡ mid.output → r.stop ≢ stop.NoRandom → new ≡ new_bytes s counter r →
     next ≡ next_bytes s r →
     BrokeInNew names new mid.files after.files ⊎ BrokeInNext names new next mid.files after.files →
@@ -264,7 +205,7 @@ pub record AtFiles {S O : Type 0} (names : spec.StoreNames) (before mid : Outsid
   pub nothing_rose : NothingRose before mid
 
 pub at_files : {S O : Type 0} {stopped : Stop} {names : spec.StoreNames} {new next : List ℕ}
-    {before mid after : Outside S O} → AtFirst names before mid → after.output ≡ mid.output →
+    {before mid after : Outside S O} → AtPieces names.record_name before mid → after.output ≡ mid.output →
     FilesLeft stopped names new next mid.files after.files → AtFiles names before after
 at_files {S} {O} {stopped} {names} {new} {next} {before} {mid} {after} at same files = record {
   grows = (at.grows.0, subst (λ (o : Output O). Grows before.output.taken o.taken at.grows.0) (sym same) at.grows.1);
@@ -285,7 +226,7 @@ pub record HasBoth {S O : Type 0} (names : spec.StoreNames) (counter : ℕ) (s :
   pub unstored : r.stop ≡ stop.NoRandom → OtherFiles names.record_name before.files.held mid.files.held
 
 pub has_both : {S O : Type 0} {stopped : Stop} {names : spec.StoreNames} {counter : ℕ} {s : StoreSources} {r : Run}
-    {new next : List ℕ} {before mid after : Outside S O} → Apart names → AtFirst names before mid →
+    {new next : List ℕ} {before mid after : Outside S O} → Apart names → AtPieces names.record_name before mid →
     HasFirst names r before mid → stopped ≡ r.stop → after.output ≡ mid.output →
     (r.stop ≢ stop.NoRandom → new ≡ new_bytes s counter r) → next ≡ next_bytes s r →
     (r.stop ≢ stop.NoRandom → AreContents r.closed.joint.memory.ledger.keys (contents_of r.closed.joint)) →
@@ -306,18 +247,6 @@ has_both {S} {O} {stopped} {names} {counter} {s} {r} {new} {next} {before} {mid}
     }
 
 -- The lines at the end.
-
--- a front that was shown has one length, whatever stood before it
-fixed_front : (old new : Option (List ℕ)) (text : List ℕ) → GrowsByFront old new text →
-    (n : ℕ) × (n ≤ length text) × Grows old new (take n text)
-fixed_front (Some x) new text front =
-    let f = front x refl in
-    (f.0, f.1, λ before told. subst (λ (l : List ℕ). Tells new (l ++ take f.0 text)) told f.2)
-fixed_front None None text front = (0, omega arith, λ before told. tt)
-fixed_front None (Some y) text front =
-    let f = front (y ++ 0 ∷ []) tt in
-    absurd (let long = ap (λ (l : List ℕ). length l) f.2 in let one = length-append y (0 ∷ []) in let more =
-    length-append (y ++ 0 ∷ []) (take f.0 text) in omega (arith, long, one, more))
 
 -- what is due, by what is due first and last
 due_parts : (r : Run) → due r ≡ first_due r ++ (shown (codes "\n") ∷ shown (report_of r) ∷ [])
@@ -355,7 +284,7 @@ pub breaks_last : {S O : Type 0} {names : spec.StoreNames} {counter : ℕ} {s : 
     ShowsEnd end shows mid after → is_err shows ≡ true → BreaksOff names counter s r before after
 breaks_last {S} {O} {names} {counter} {s} {r} {old} {new} {end} {before} {mid} {after} shows low at has ends lines ill =
     let parts = Puts-parts _ _ _ _ (codes "\n" ++ end_report end) shows lines.puts in
-    let front = fixed_front mid.output.taken after.output.taken (last_due r)
+    let front = front_of_text mid.output.taken after.output.taken (last_due r)
     (subst (λ (text : List ℕ). GrowsByFront mid.output.taken after.output.taken text) (lines_of ends)
     (failed shows _ ill parts.1)) in
     inr (inr (inr (record {
@@ -445,7 +374,7 @@ front_of_first {S} {O} {names} {counter} {steps} {s} {before} {mid} {after} {pie
 )
 
 pub front_of_files : {S O : Type 0} {names : spec.StoreNames} {counter steps : ℕ} {s : StoreSources}
-    {new next : List ℕ} {before mid after : Outside S O} → AreLow before → AtFirst names before mid →
+    {new next : List ℕ} {before mid after : Outside S O} → AreLow before → AtPieces names.record_name before mid →
     after.output ≡ mid.output →
     BrokeInNew names new mid.files after.files ⊎ BrokeInNext names new next mid.files after.files →
     ((files : List FileContents) → AreFiles s files →
@@ -495,7 +424,7 @@ pub front_of_last : {S O : Type 0} {names : spec.StoreNames} {counter steps : �
 front_of_last {S} {O} {names} {counter} {steps} {s} end {before} {mid} {after} shows low at lines ill each =
     let text = codes "\n" ++ end_report end in
     let parts = Puts-parts _ _ _ _ text shows lines.puts in
-    let front = fixed_front mid.output.taken after.output.taken text (failed shows _ ill parts.1) in
+    let front = front_of_text mid.output.taken after.output.taken text (failed shows _ ill parts.1) in
     inr (
       refl,
       record {

@@ -46,6 +46,8 @@ StoreAnswers asked before after status.NoRandom =
     IsRefused asked status.NoRandom before after ⊎ HasStored asked status.NoRandom before after
 StoreAnswers asked before after status.BadRecord = ⊥
 StoreAnswers asked before after status.BadStore = IsRefused asked status.BadStore before after
+StoreAnswers asked before after status.Frozen = ⊥
+StoreAnswers asked before after status.BadState = IsRefused asked status.BadState before after
 
 -- Every file keeps its bytes, save the record, the store file and the bundle that are written.
 abbrev pub KeepsFiles : spec.StoreNames → Status → (List ℕ → Option (List ℕ)) → (List ℕ → Option (List ℕ)) → Type 0

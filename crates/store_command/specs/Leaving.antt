@@ -12,7 +12,6 @@ use Rattle.cloak_model.specs.StoredRun.{contents_of}
 use Rattle.command_words.specs.Command as spec
 use Rattle.outside_io.specs.Told.{Tells, Grows, OtherFiles}
 use Rattle.program_parts.specs.declared.status.Status.{Status}
-use Rattle.program_parts.specs.declared.status.Status.TheVariants as status
 use Rattle.program_parts.specs.Files.{TellsFront}
 use Rattle.program_parts.specs.Outside.{Outside, Raised}
 use Rattle.program_parts.specs.Storing.{StoreSources}

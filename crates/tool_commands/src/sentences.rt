@@ -19,6 +19,11 @@ pub fn sentence(status: Status) -> &'static str
         Status::BadRecord => {
             "tools: the file is no record, or does not fit the image, and it was shown where\n"
         }
-        Status::Done | Status::Violation | Status::NoRandom | Status::BadStore => "",
+        Status::Done
+        | Status::Violation
+        | Status::NoRandom
+        | Status::BadStore
+        | Status::Frozen
+        | Status::BadState => "",
     }
 }

@@ -1,11 +1,8 @@
-use Rattle.std.proofs.Common.{◌≡◌, ◌∙◌, ◌++◌, ℕ, List, append_assoc, sym, subst}
+use Rattle.std.proofs.Common.{ℕ, List, sym, subst}
 use Rattle.std.specs.Fmt.{HasWritten}
 use Rattle.std.specs.Prelude.{codes}
+use Rattle.status_sentence.proofs.Joined.{joined}
 use Rattle.status_sentence.proofs.write_bundle_and_secret.Goals as goal
-
-joined : (a b m s e : List ℕ) → a ++ b ++ m ++ s ++ e ≡ a ++ (b ++ (m ++ (s ++ e)))
-joined a b m s e =
-    append_assoc (a ++ b ++ m) s e ∙ append_assoc (a ++ b) m (s ++ e) ∙ append_assoc a b (m ++ (s ++ e))
 
 pub returns : goal.returns
 returns g c = λ plain ok.

@@ -1,4 +1,4 @@
-use Rattle.std.proofs.Common.{◌≡◌, ◌∙◌, List, ap, refl, sym, map, string_bytes}
+use Rattle.std.proofs.Common.{◌≡◌, ◌∙◌, List, ap, refl, sym, inl, map, string_bytes}
 use Rattle.command_words.specs.Command as spec
 use Rattle.command_words.specs.Request.{asked_of}
 use Rattle.program_parts.specs.declared.refusal.Refusal.TheVariants as refusal
@@ -19,5 +19,5 @@ returns-in-Faulty-clause-answers g c =
     ∙ ap (λ (ws : List _). spec.words_of (map string_bytes ws)) c.as_slice.ensures.value) in
     answers_asked (spec.Faulty c.in-Faulty.fault) _ _ _ _ is
     (only_refuses {asked = spec.Faulty c.in-Faulty.fault} {r = refusal.Usage c.in-Faulty.fault}
-    (record { cause = record { faulty = refl; untouched = refl }; held = λ name. refl; writing = refl })
+    (record { cause = inl (record { faulty = refl; untouched = refl }); held = λ name. refl; writing = refl })
     c.requires.output c.refuse-in-Faulty.ensures)

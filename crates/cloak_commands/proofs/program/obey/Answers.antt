@@ -1,4 +1,4 @@
-use Rattle.std.proofs.Common.{refl}
+use Rattle.std.proofs.Common.{refl, inl}
 use Rattle.command_words.specs.declared.usage_fault.UsageFault.TheVariants.{WrongWords}
 use Rattle.command_words.specs.Command.{Faulty}
 use Rattle.program_parts.specs.declared.refusal.Refusal.TheVariants as refusal
@@ -12,7 +12,7 @@ returns-in-Taken g c =
 pub returns-in-NotText : goal.returns-in-NotText
 returns-in-NotText g c =
     let answers = only_refuses {asked = Faulty WrongWords} {r = refusal.Usage WrongWords} (record {
-      cause = record { faulty = refl; untouched = refl };
+      cause = inl (record { faulty = refl; untouched = refl });
       held = λ name. refl;
       writing = refl;
     }) c.requires.output c.refuse.ensures in

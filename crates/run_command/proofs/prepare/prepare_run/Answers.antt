@@ -74,3 +74,28 @@ returns-in-Err-NoRandom-clause-prepares g c = λ record_name steps few.
       held = λ name. s.files name ∙ b.files name;
       writing = s.writing ∙ b.writing;
     }
+
+pub returns-in-Err-NoKey-clause-prepares : goal.returns-in-Err-NoKey-clause-prepares
+returns-in-Err-NoKey-clause-prepares g c = λ record_name steps few.
+    let b = c.in-Ok.ensures in
+    let s = c.in-Ok-open_stream.ensures in
+    record {
+      cause = inl (record {
+        record_name = record_name;
+        steps = steps;
+        bundle = c.in-Ok.bundle;
+        stream = c.in-Ok-open_stream.stream;
+        asks = record {
+          bundle_name = c.args.bundle_name.now;
+          randomness = randomness_of c.args.randomness.now;
+          run = refl;
+          file = b.bundle.1;
+          source = stream_before _ _ _ _ b.files s.stream.1;
+        };
+        lacks = subst (λ (x : OpenFault). Opens c.in-Ok.bundle c.in-Ok-open_stream.stream (Err x)) c.in-Err-NoKey.field-0-is
+            c.in-Err-NoKey.ensures.opens;
+        reading = s.stream.0 ∙ b.bundle.0;
+      });
+      held = λ name. s.files name ∙ b.files name;
+      writing = s.writing ∙ b.writing;
+    }

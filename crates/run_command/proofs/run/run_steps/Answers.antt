@@ -1,4 +1,4 @@
-use Rattle.std.proofs.Common.{[], ◌∙◌, ◌≡◌, ◌+◌, ◌<◌, ℕ, List, refl, sym, subst, arith}
+use Rattle.std.proofs.Common.{[], ◌∙◌, ◌≡◌, ◌+◌, ◌-◌, ◌<◌, ◌≤◌, ℕ, List, refl, subst, arith}
 use Rattle.cloak_model.specs.Exchange.{Piece}
 use Rattle.cloak_model.specs.Joint.{Moment}
 use Rattle.cloak_machine.specs.declared.machine.Machine.{Machine}
@@ -14,32 +14,40 @@ as_many {E} {gave} {e} {f} {machine} {n} {k} {budget} {m} same on =
     subst (λ (number : ℕ). GoesOn gave e f machine number budget m) same on
 
 -- some steps are left, so that fewer than all were made
-fewer : (made left steps : ℕ) → made + left ≡ steps → 0 < left → made < steps
-fewer made left steps all some = omega (arith, all, some)
+fewer : (left steps : ℕ) → 0 < left → left ≤ steps → steps - left < steps
+fewer left steps some few = omega (arith, some, few)
+
+-- and one more was made after the next
+one_more : (left steps : ℕ) → 0 < left → left ≤ steps → steps - left + 1 ≡ steps - (left - 1)
+one_more left steps some few = omega (arith, some, few)
 
 pub loop-left-init : goal.loop-left-init
 loop-left-init g c = record {
   same_shelf = refl;
   same_out = refl;
-  made = (let none = c.requires.fresh in omega (arith, none));
+  few = omega arith;
+  made = refl;
   some = ([], emits_nothing _);
   runs = λ m stands none.
-      as_many (sym c.requires.fresh) (goes_on-start _ _ _ _ m stands);
+      as_many (let none : 0 ≡ c.args.steps - c.args.steps = omega arith in none) (goes_on-start _ _ _ _ m stands);
 }
 
 pub loop-left-preserved : goal.loop-left-preserved
 loop-left-preserved g c =
     let given = gave_all c.step.ensures.emits_some.1 in
     let so_far = c.loop-left.invariant.made in
-    let within = fewer _ _ _ so_far c.loop-left-test.true in
+    let few = c.loop-left.invariant.few in
+    let some_left = c.loop-left-test.true in
+    let within = fewer _ _ some_left few in
     record {
       same_shelf = given.shelf ∙ c.loop-left.invariant.same_shelf;
       same_out = given.output ∙ c.loop-left.invariant.same_out;
-      made = (let one = c.step.ensures.steps in let some = c.loop-left-test.true in omega (arith, so_far, one, some));
+      few = omega (arith, few);
+      made = (let one = c.step.ensures.steps in omega (arith, so_far, one, some_left));
       some = some_then c.loop-left.invariant.some c.step.ensures.emits_some;
       runs = λ m stands none.
           let on = c.loop-left.invariant.runs m stands none in
-          as_many (sym c.step.ensures.steps) (goes_on-more _ _ _ _ _ _ c.step.result _ _ m on
+          as_many (one_more _ _ some_left few) (goes_on-more _ _ _ _ _ _ c.step.result _ _ m on
           (c.step.ensures.makes _ on.stands (unclashed-next _ _ _ _ _ _ _ on within none)) within c.in_default.is);
     }
 
@@ -51,7 +59,7 @@ returns-then-outlet-clause-runs g c = λ m stands none.
 pub returns-in-Some-clause-runs : goal.returns-in-Some-clause-runs
 returns-in-Some-clause-runs g c = λ m stands none.
     let on = c.loop-left.invariant.runs m stands none in
-    let within = fewer _ _ _ c.loop-left.invariant.made c.loop-left-test.true in
+    let within = fewer _ _ c.loop-left-test.true c.loop-left.invariant.few in
     stops-more _ _ _ _ _ _ _ c.step.result c.in-Some.stop _ c.args.steps m on
     (c.step.ensures.makes _ on.stands (unclashed-next _ _ _ _ _ _ _ on within none)) c.in-Some.is within
 
@@ -61,7 +69,7 @@ returns-in-Some-clause-emits_some g c = some_then c.loop-left.invariant.some c.s
 pub returns-clause-runs : goal.returns-clause-runs
 returns-clause-runs g c =
     λ m stands none. runs-all _ _ _ _ _ c.args.steps _ m (c.loop-left.invariant.runs m stands none)
-    (let all = c.loop-left.invariant.made in let over = c.loop-left-test.false in omega (arith, all, over))
+    (let over = c.loop-left-test.false in omega (arith, over))
 
 pub returns-in-Some-clause-same_shelf : goal.returns-in-Some-clause-same_shelf
 returns-in-Some-clause-same_shelf g c = let given =

@@ -1,4 +1,4 @@
-use Rattle.std.proofs.Common.{◌≡◌, ◌+◌}
+use Rattle.std.proofs.Common.{◌≡◌, ◌≤◌, ◌+◌, ◌-◌}
 use Rattle.cloak_model.specs.Exchange.{EmitsSome}
 use Rattle.cloak_model.specs.Joint.{Moment}
 use Rattle.cloak_model.specs.Run.{joint_after, turns_from}
@@ -13,10 +13,11 @@ abbrev pub invariant-loop-left : goal.invariant-loop-left
 invariant-loop-left g l = record {
   same_shelf : l.outlet.pen.shelf.ghost_name ≡ l.fn.outlet.pen.shelf.ghost_name;
   same_out : l.outlet.out.ghost_name ≡ l.fn.outlet.out.ghost_name;
-  made : steps_made l.machine + l.left ≡ l.steps;
+  few : l.left ≤ l.steps;
+  made : steps_made l.machine + l.left ≡ steps_made l.fn.machine + l.steps;
   some : EmitsSome (Gave g.S.Shelf g.O.Sink) l.fn.outlet l.outlet;
   runs : (m : Moment) → StandsForMoment l.fn.machine m → NoClashYet (joint_after m.joint (turns_from l.steps m)) →
-      GoesOn (Gave g.S.Shelf g.O.Sink) l.fn.outlet l.outlet l.machine (steps_made l.machine) l.steps m;
+      GoesOn (Gave g.S.Shelf g.O.Sink) l.fn.outlet l.outlet l.machine (l.steps - l.left) l.steps m;
 }
 
 abbrev pub decreases-loop-left : goal.decreases-loop-left

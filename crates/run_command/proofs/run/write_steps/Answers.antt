@@ -1,4 +1,3 @@
-use Rattle.std.proofs.Common.{◌∙◌}
 use Rattle.cloak_model.specs.Run.{first_moment}
 use Rattle.run_command.proofs.OutletFacts.{gave_all}
 use Rattle.run_command.proofs.RunFacts.{begins_run, some_then}

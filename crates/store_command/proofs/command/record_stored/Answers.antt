@@ -3,8 +3,9 @@ use Rattle.cloak_machine.specs.Ending.{end_is_refused}
 use Rattle.command_words.specs.Request.{names_of}
 use Rattle.program_parts.specs.Outside.{files, output}
 use Rattle.run_command.specs.Running.{status_of}
+use Rattle.run_command.proofs.BegunFacts.{are_low, at_pieces, begins}
 use Rattle.store_command.proofs.RunFacts.{closed_disk, runs_over}
-use Rattle.store_command.proofs.StoredFacts.{all_of_last, are_low, at_files, at_first, begins, breaks_files, breaks_first, breaks_last, files_failed, files_left, front_of_files, front_of_first, front_of_last, has_both, has_first, leaves_all, new_is, next_is, not_begun}
+use Rattle.store_command.proofs.StoredFacts.{all_of_last, at_files, breaks_files, breaks_first, breaks_last, files_failed, files_left, front_of_files, front_of_first, front_of_last, has_both, has_first, leaves_all, new_is, next_is, not_begun}
 use Rattle.store_command.proofs.command.record_stored.Goals as goal
 
 pub returns-then-is_err : goal.returns-then-is_err
@@ -38,7 +39,7 @@ returns-then-is_err-2 g c = λ before p.
     let begun = begins (names_of store.files).record_name before now (files g.S.Shelf c.begin.new.self) out
     c.begin.result p.0 c.begin.ensures.emptied c.begin.ensures.others c.begin.ensures.writing c.begin.ensures.reading
     (sym c.is_err.ensures.value ∙ c.if-is_err.false) in
-    let at = at_first begun c.in-Some.ensures.some.1 in
+    let at = at_pieces begun c.in-Some.ensures.some.1 in
     let failed = files_failed c.in-Some.end.stop c.leave_files.result c.leave_files.ensures
     (sym c.is_err-2.ensures.value ∙ c.if-is_err-2.true) in
     front_of_files low at refl failed.broke
@@ -60,7 +61,7 @@ returns-then-is_err-3 g c = λ before p.
     let begun = begins (names_of store.files).record_name before now (files g.S.Shelf c.begin.new.self) out
     c.begin.result p.0 c.begin.ensures.emptied c.begin.ensures.others c.begin.ensures.writing c.begin.ensures.reading
     (sym c.is_err.ensures.value ∙ c.if-is_err.false) in
-    let at = at_first begun c.in-Some.ensures.some.1 in
+    let at = at_pieces begun c.in-Some.ensures.some.1 in
     let left = files_left c.in-Some.end.stop c.leave_files.result c.leave_files.ensures
     (sym c.is_err-2.ensures.value ∙ c.if-is_err-2.false) in
     let ill = sym c.is_err-3.ensures.value ∙ c.if-is_err-3.true in
@@ -83,7 +84,7 @@ returns g c = λ before p.
     let begun = begins (names_of store.files).record_name before now (files g.S.Shelf c.begin.new.self) out
     c.begin.result p.0 c.begin.ensures.emptied c.begin.ensures.others c.begin.ensures.writing c.begin.ensures.reading
     (sym c.is_err.ensures.value ∙ c.if-is_err.false) in
-    let at = at_first begun c.in-Some.ensures.some.1 in
+    let at = at_pieces begun c.in-Some.ensures.some.1 in
     let left = files_left c.in-Some.end.stop c.leave_files.result c.leave_files.ensures
     (sym c.is_err-2.ensures.value ∙ c.if-is_err-2.false) in
     let well = sym c.is_err-3.ensures.value ∙ c.if-is_err-3.false in

@@ -1,4 +1,4 @@
-use Rattle.std.proofs.Common.{◌≡◌, ◌∙◌, ◌+◌, ◌≤◌, ℕ, List, Option, length, Ok, Err, refl, sym, ap, subst, arith}
+use Rattle.std.proofs.Common.{◌≡◌, ◌∙◌, ◌+◌, ℕ, List, Option, length, refl, sym, ap, subst, arith}
 use Rattle.cloak_base.specs.Random.{Random}
 use Rattle.command_words.specs.Request.{asked_of_store, names_of, randomness_of}
 use Rattle.program_parts.specs.declared.refusal.Refusal.{Refusal}
@@ -8,7 +8,7 @@ use Rattle.program_parts.specs.Storing.{IsSecret}
 use Rattle.program_parts.proofs.Refused.{no_bundle, no_file}
 use Rattle.store_command.specs.Preparing.{keys_of}
 use Rattle.store_command.proofs.Lengths.{place_small, place_within}
-use Rattle.store_command.proofs.Refused.{asks_stored, no_memory, no_old, no_secret, not_opened}
+use Rattle.store_command.proofs.Refused.{asks_stored, no_old, no_secret, not_opened}
 use Rattle.store_command.proofs.prepare.prepare_stored.Goals as goal
 
 pub returns-in-Err-clause-prepares : goal.returns-in-Err-clause-prepares

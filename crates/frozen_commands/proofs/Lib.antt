@@ -1,0 +1,8 @@
+pub mod WrittenFacts
+pub mod FirstFacts
+pub mod StateFacts
+pub mod FreezeFacts
+pub mod RestFacts
+pub mod ThawFacts
+mod JudgedFacts
+mod Refused

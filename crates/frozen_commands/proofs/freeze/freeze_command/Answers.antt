@@ -1,0 +1,18 @@
+use Rattle.command_words.specs.Request.{freeze_names_of}
+use Rattle.program_parts.specs.Outside.{files}
+use Rattle.frozen_commands.proofs.FreezeFacts.{answers_no_run, same_files}
+use Rattle.frozen_commands.proofs.freeze.freeze_command.Goals as goal
+
+pub returns-in-Ok-clause-answers : goal.returns-in-Ok-clause-answers
+returns-in-Ok-clause-answers g c =
+    let both = c.record_frozen.ensures (files g.S.Shelf c.args.shelf.now) c.in-Ok.ensures.prepares in both.0
+
+pub returns-in-Ok-clause-kept : goal.returns-in-Ok-clause-kept
+returns-in-Ok-clause-kept g c =
+    let both = c.record_frozen.ensures (files g.S.Shelf c.args.shelf.now) c.in-Ok.ensures.prepares in both.1
+
+pub returns-in-Err-clause-answers : goal.returns-in-Err-clause-answers
+returns-in-Err-clause-answers g c = answers_no_run c.in-Err.ensures.prepares c.requires.output c.refuse.ensures
+
+pub returns-in-Err-clause-kept : goal.returns-in-Err-clause-kept
+returns-in-Err-clause-kept g c = same_files (freeze_names_of c.args.freeze.now.files) _ _ _ c.in-Err.ensures.prepares.held

@@ -1,0 +1,6 @@
+pub mod Writing
+pub mod Freezing
+pub mod Saving
+pub mod FreezeAnswering
+pub mod Thawing
+pub mod ThawAnswering

@@ -1,0 +1,11 @@
+use Rattle.std.proofs.Common.{ℕ, List, sym, subst}
+use Rattle.std.specs.Fmt.{HasWritten}
+use Rattle.std.specs.Prelude.{codes}
+use Rattle.status_sentence.proofs.Joined.{joined}
+use Rattle.status_sentence.proofs.write_vectors_with.Goals as goal
+
+pub returns : goal.returns
+returns g c = λ plain ok.
+    subst (λ (text : List ℕ). HasWritten {W = g.row.W.Denot} g.W.Write.write_str_gives c.args.f.now text c.write.new.self)
+    (sym (joined (codes ", the vectors `") c.args.vectors.now (codes "` or the stream `") c.args.stream.now (codes "`")))
+    (c.write.ensures.writes plain ok)
